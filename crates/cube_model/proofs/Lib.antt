@@ -1,0 +1,6 @@
+mod AnswerLaws
+mod Entries
+mod FractionLaws
+mod GroupingLaws
+mod MemberCounts
+mod ValidityLaws

@@ -1,0 +1,5 @@
+use Rattle.cube_model.proofs.GroupingLaws.{rows_of_a_key}
+use Rattle.cube_model.proofs.laws.rows_of_a_key.Goals as goal
+
+pub returns : goal.returns
+returns c = rows_of_a_key

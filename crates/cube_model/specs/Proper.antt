@@ -1,0 +1,45 @@
+use Rattle.std.specs.Prelude.{◌≡◌, ◌≤◌, ◌<◌, Bool, true, false, List, [], ◌∷◌, length, IfSome, IsSomeAnd, slice_get}
+use Rattle.std.specs.List.{AllByRecursion, Contains}
+use Rattle.cube_model.specs.declared.attr.Attr.{Attr}
+use Rattle.cube_model.specs.declared.measure.Agg.{Agg}
+use Rattle.cube_model.specs.declared.measure.Agg.TheVariants.{Count, Sum, Min, Max, Avg}
+use Rattle.cube_model.specs.declared.query.Cond.{Cond}
+use Rattle.cube_model.specs.declared.query.Cond.TheVariants.{OneOf, Between, Quantity, Discount}
+use Rattle.cube_model.specs.declared.query.Kind.TheVariants.{Plain}
+use Rattle.cube_model.specs.declared.query.Order.{Order}
+use Rattle.cube_model.specs.declared.query.Query.{Query}
+
+-- no column stands twice
+abbrev pub IsFreeOfRepeats : List Attr → Type 0
+IsFreeOfRepeats [] = Unit {0}
+IsFreeOfRepeats (column ∷ columns) = (Contains columns column → ⊥) × IsFreeOfRepeats columns
+
+-- a list of texts has 1 to 64 of them
+abbrev pub IsFitCondition : Cond → Type 0
+IsFitCondition (OneOf attr texts) = (1 ≤ length texts) × (length texts ≤ 64)
+IsFitCondition (Between attr low high) = Unit {0}
+IsFitCondition (Quantity low high) = Unit {0}
+IsFitCondition (Discount low high) = Unit {0}
+
+abbrev pub is_average : Agg → Bool
+is_average Count = false
+is_average (Sum measure) = false
+is_average (Min measure) = false
+is_average (Max measure) = false
+is_average (Avg measure) = true
+
+-- an order names a column and an aggregate that is no average, of a plain query
+pub record IsFitOrder (query : Query) (order : Order) : Type 0 where
+  pub plain : query.kind ≡ Plain
+  pub column : order.column < length query.columns
+  pub aggregate : IsSomeAnd (slice_get query.aggregates order.aggregate) (λ agg. is_average agg ≡ false)
+
+-- a query that may be asked
+pub record IsProper (query : Query) : Type 0 where
+  pub few_columns : length query.columns ≤ 6
+  pub distinct_columns : IsFreeOfRepeats query.columns
+  pub some_aggregate : 1 ≤ length query.aggregates
+  pub few_aggregates : length query.aggregates ≤ 8
+  pub few_conditions : length query.conditions ≤ 16
+  pub fit_conditions : AllByRecursion IsFitCondition query.conditions
+  pub fit_order : IfSome query.order (IsFitOrder query)
