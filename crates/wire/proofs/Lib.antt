@@ -1,0 +1,2 @@
+pub mod CallerLemmas
+mod FieldLemmas

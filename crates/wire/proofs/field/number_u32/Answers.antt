@@ -1,0 +1,5 @@
+use Rattle.wire.proofs.CallerLemmas.{spelling-number}
+use Rattle.wire.proofs.field.number_u32.Goals as goal
+
+pub returns : goal.returns
+returns c = rw c.read_u32.ensures (spelling-number 4 c.args.field.now c.requires (λ k. (c.type_inv.field k).fits))

@@ -1,0 +1,13 @@
+//! Numbers as they stand on disk: the lowest byte first, signed ones in two's complement.
+#![tactic(auto)]
+
+mod cursor;
+mod field;
+mod push;
+#[cfg(test)]
+mod tests;
+mod write;
+
+pub use cursor::Cursor;
+pub use push::{push_bytes, push_i64, push_u8, push_u16, push_u32, push_u64};
+pub use write::{write_bytes, write_i64, write_u8, write_u16, write_u32, write_u64};
