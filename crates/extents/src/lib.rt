@@ -1,0 +1,12 @@
+//! Free sectors of a device: extents that are provably disjoint from all that is used.
+#![tactic(auto)]
+
+mod extent;
+mod free;
+mod gaps;
+mod join;
+#[cfg(test)]
+mod tests;
+
+pub use extent::Extent;
+pub use free::Free;
