@@ -31,7 +31,7 @@ module _ {K : Type 0} (R : K → K → Ordering) (o : IsTotalOrder R) (same : Is
     sorted_entries [] sorted = tt
     sorted_entries (e ∷ es) sorted = both _ _ (below e.0 es sorted.0) (sorted_entries es sorted.1)
 
-    find-lookup : (q : K) (es : List (K × X)) → find R q es ≡ lookup (is_at (R q)) es
+    pub find-lookup : (q : K) (es : List (K × X)) → find R q es ≡ lookup (is_at (R q)) es
     find-lookup q [] = refl
     find-lookup q (e ∷ es) = ap (cond (is_eq (R q e.0)) (Some e.1)) (find-lookup q es)
 

@@ -1,5 +1,5 @@
 mod AnswerLaws
-mod Entries
+pub mod Entries
 mod FractionLaws
 mod GroupingLaws
 mod MemberCounts

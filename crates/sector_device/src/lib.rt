@@ -1,0 +1,14 @@
+//! A device of sectors: what a read gives, what a stop may leave, and how often it failed.
+#![tactic(auto)]
+
+mod change;
+mod crash;
+mod device;
+mod fuse;
+mod memory;
+#[cfg(test)]
+mod tests;
+
+pub use device::{DeviceError, Sectors};
+pub use fuse::Fuse;
+pub use memory::MemDisk;
