@@ -1,0 +1,10 @@
+pub mod CallerLemmas
+pub mod LineFronts
+pub mod LineSpelling
+pub mod ColumnByColumn
+pub mod Digits
+pub mod Parts
+pub mod Spelling
+pub mod Splitting
+pub mod TakingRows
+pub mod Pieces

@@ -1,0 +1,12 @@
+pub mod Columns
+pub mod Fields
+pub mod Fronts
+pub mod Grammar
+pub mod LineFields
+pub mod Lines
+pub mod Numbers
+pub mod Parsing
+pub mod Reading
+pub mod Rows
+pub mod Tables
+pub mod Unread

@@ -1,0 +1,19 @@
+-- The number that digits spell.
+use Rattle.std.specs.Prelude.{ℕ, ◌+◌, ◌-◌, ◌*◌, ◌&&◌, nat_lt, nat_le, Bool, List, Option, Some, None, cond, length, fold}
+use Rattle.std.specs.List.{list_all}
+
+-- a byte is a digit
+abbrev pub is_digit : ℕ → Bool
+is_digit byte = nat_le 48 byte && nat_le byte 57
+
+-- the value of digits, the first one highest
+abbrev pub value_of : List ℕ → ℕ
+value_of digits = fold (λ so_far byte. so_far * 10 + (byte - 48)) 0 digits
+
+-- a text spells a number up to a limit: one digit or more, and a value in range
+abbrev pub spells_number : ℕ → List ℕ → Bool
+spells_number limit text = nat_lt 0 (length text) && (list_all is_digit text && nat_le (value_of text) limit)
+
+-- the number up to a limit that a text spells, if it spells one
+abbrev pub number_of : ℕ → List ℕ → Option ℕ
+number_of limit text = cond (spells_number limit text) (Some (value_of text)) None

@@ -1,0 +1,10 @@
+-- What is known of a text that is read line by line.
+use Rattle.std.specs.Prelude.{ℕ, List, Option}
+use Rattle.cube_model.specs.declared.fault.Fault.{Fault}
+
+-- the bytes that are left, where they are known; the line that was taken last; how many lines were taken; and the fault that ended it, if one did
+pub record Unread : Type 0 where
+  pub left : Option (List ℕ)
+  pub line : List ℕ
+  pub number : ℕ
+  pub fault : Option Fault

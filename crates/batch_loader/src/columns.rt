@@ -1,0 +1,98 @@
+//! The columns of the five tables, and what they make of a line's fields.
+ghost use Rattle.std.specs.Prelude.{◌≡◌, ◌<◌, ◌+◌, Some, None, IfOk, IfErr};
+ghost use Rattle.batch_loader.specs.Columns.{field_fault, fields_fault};
+ghost use Rattle.batch_loader.specs.LineFields.{texts_of};
+ghost use Rattle.batch_loader.specs.Numbers.{value_of};
+ghost use Rattle.batch_loader.specs.Parsing.{AreNumbers, FitsColumn};
+
+use crate::line_fields::LineFields;
+use crate::numbers::number;
+use cube_model::{Fault, Place};
+
+/// The most bytes of a text that is kept.
+const TEXT_LIMIT: usize = 255;
+
+/// What a column of a table holds.
+#[derive(Clone, Copy)]
+pub enum Column {
+    /// A number up to a limit.
+    Number(u64),
+    /// A text that is kept.
+    Text,
+    /// Any bytes, which are not kept.
+    Skipped,
+}
+
+const KEY: Column = Column::Number(4_294_967_295);
+
+const AMOUNT: Column = Column::Number(9_223_372_036_854_775_807);
+
+const SMALL: Column = Column::Number(255);
+
+const TEXT: Column = Column::Text;
+
+const SKIPPED: Column = Column::Skipped;
+
+pub const CUSTOMER: [Column; 8] = [KEY, SKIPPED, SKIPPED, TEXT, TEXT, TEXT, SKIPPED, SKIPPED];
+
+pub const SUPPLIER: [Column; 7] = [KEY, SKIPPED, SKIPPED, TEXT, TEXT, TEXT, SKIPPED];
+
+pub const PART: [Column; 9] = [
+    KEY, SKIPPED, TEXT, TEXT, TEXT, SKIPPED, SKIPPED, SKIPPED, SKIPPED,
+];
+
+pub const DATE: [Column; 17] = [
+    KEY, SKIPPED, SKIPPED, SKIPPED, TEXT, TEXT, TEXT, SKIPPED, SKIPPED, SKIPPED, SKIPPED, TEXT,
+    SKIPPED, SKIPPED, SKIPPED, SKIPPED, SKIPPED,
+];
+
+pub const LINEORDER: [Column; 17] = [
+    AMOUNT, KEY, KEY, KEY, KEY, KEY, TEXT, TEXT, SMALL, AMOUNT, AMOUNT, SMALL, AMOUNT, AMOUNT,
+    SMALL, TEXT, TEXT,
+];
+
+/// Reads the numbers of a line's fields, from left to right, and refuses the first field that does not fit its column.
+pub fn numbers_of<const N: usize>(
+    columns: &[Column; N],
+    fields: &LineFields<'_, N>,
+    line: u64,
+) -> Result<[u64; N], Fault>
+    requires { N < 255 }
+    ensures fits { IfOk result (λ _. fields_fault line 1 columns.now (texts_of fields.now) ≡ None) }
+    ensures numbers { IfOk result (λ numbers. AreNumbers 0 columns.now (texts_of fields.now) numbers) }
+    ensures refused { IfErr result (λ fault. fields_fault line 1 columns.now (texts_of fields.now) ≡ Some fault) }
+{
+    let mut numbers = [0u64; N];
+    for place in 0..N {
+        match read_field(columns[place], fields.get(place), line, place) {
+            Ok(number) => numbers[place] = number,
+            Err(fault) => return Err(fault),
+        }
+    }
+    Ok(numbers)
+}
+
+/// The number of a field that stands at a place from 0, if its column is one of numbers, and else 0.
+#[inline]
+fn read_field(column: Column, text: &[u8], line: u64, place: usize) -> Result<u64, Fault>
+    requires { place < 255 }
+    ensures fits { IfOk result (λ _. field_fault line (place + 1) column text.now ≡ None) }
+    ensures number { IfOk result (FitsColumn column (value_of text.now)) }
+    ensures refused { IfErr result (λ fault. field_fault line (place + 1) column text.now ≡ Some fault) }
+{
+    let field = place as u8 + 1;
+    match column {
+        Column::Number(limit) => match number(text, limit) {
+            Some(number) => Ok(number),
+            None => Err(Fault::BadNumber { line, field }),
+        },
+        Column::Text => {
+            if text.len() > TEXT_LIMIT {
+                let place = Place::Line(line);
+                return Err(Fault::FieldTooLong { place, field });
+            }
+            Ok(0)
+        }
+        Column::Skipped => Ok(0),
+    }
+}

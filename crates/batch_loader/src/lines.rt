@@ -1,0 +1,142 @@
+//! The lines of a text, one by one.
+ghost use Rattle.std.specs.Prelude.{◌≡◌, ◌⊎◌, ◌+◌, Some, None, MatchBool, MatchOption, MatchResult, IfOk, IfErr, IfSome, min, length, ◌≤◌};
+ghost use Rattle.std.specs.Io.KnownBytes.{IsAtEnd, Keeps};
+ghost use Rattle.batch_loader.specs.Reading.{TakesNext, IsAllTaken, RefusesNext, NextGives};
+ghost use Rattle.std.specs.Borrow.{sem};
+ghost use Rattle.std.specs.Io.BufRead.{Rests};
+ghost use Rattle.batch_loader.specs.contracts.lines.Lines.{the_row};
+
+use crate::reading::{LINE_LIMIT, LineFault, read_line};
+use crate::window::Window;
+use cube_model::{Fault, Place};
+use std::alloc::Global;
+use std::io::Read;
+use std::marker::Model;
+
+/// The lines of what a reader has left.
+#[derive(Drop)]
+pub struct Lines<R: Read> {
+    reader: R,
+    window: Window,
+    line: Vec<u8>,
+    number: u64,
+    fault: Option<Fault>,
+}
+
+impl<R: Read> Model for Lines<R> {
+    ghost use Rattle.std.specs.Prelude.{◌≤◌};
+    ghost use Rattle.std.specs.Vec.{vec_capacity};
+    ghost use Rattle.std.specs.Io.KnownBytes.{prepend_known};
+    ghost use Rattle.batch_loader.specs.Unread.{Unread};
+
+    ghost Value = { Unread };
+
+    ghost view = { λ lines. record {
+      left = prepend_known lines.window (R.remaining lines.reader);
+      line = lines.line.items;
+      number = lines.number;
+      fault = lines.fault;
+    } };
+
+    ghost invariant = { λ lines. 8192 ≤ vec_capacity lines.line };
+}
+
+impl<R: Read> Lines<R> {
+    /// The lines of what a reader gives. It fails only for want of memory.
+    pub fn new(alloc: Global, reader: R) -> Result<Self, Fault>
+    where
+        R: Drop,
+        ensures left { IfOk result (λ lines. Keeps (R.remaining reader) lines.left) }
+        ensures number { IfOk result (λ lines. lines.number ≡ 0) }
+        ensures fault { IfOk result (λ lines. lines.fault ≡ None) }
+        ensures err { IfErr result (λ fault. fault ≡ Fault.Memory) }
+    {
+        let Ok(window) = Window::new(alloc) else {
+            return Err(Fault::Memory);
+        };
+        let Ok(line) = Vec::with_capacity(alloc, LINE_LIMIT) else {
+            return Err(Fault::Memory);
+        };
+        Ok(Lines {
+            reader,
+            window,
+            line,
+            number: 0,
+            fault: None,
+        })
+    }
+
+    /// The line that was taken last.
+    pub(crate) fn line(&self) -> &[u8]
+        ensures { result.now ≡ self.now.line }
+    {
+        self.line.as_slice()
+    }
+
+    /// How many lines were taken, which is the number of the line that was taken last.
+    pub fn number(&self) -> u64
+        ensures { result ≡ self.now.number }
+    {
+        self.number
+    }
+
+    /// The fault that each call answers from now on, if there was one.
+    pub fn fault(&self) -> Option<Fault>
+        ensures { result ≡ self.now.fault }
+    {
+        self.fault
+    }
+
+    /// Holds a fault, which each call answers from now on.
+    pub(crate) fn refuse(&mut self, fault: Fault) -> Fault
+        ensures fault { result ≡ fault }
+        ensures held { self.new ≡ record self.old { fault = Some fault } }
+    {
+        self.fault = Some(fault);
+        fault
+    }
+
+    /// Takes the next line. It gives false at the end of the text.
+    pub(crate) fn advance(&mut self) -> Result<bool, Fault>
+        // After a refusal the same comes again.
+        ensures again { IfSome self.old.fault (λ fault. result ≡ Err fault) }
+        ensures held { IfErr result (λ fault. self.new.fault ≡ Some fault) }
+        ensures found { IfOk result (λ found. MatchBool found (TakesNext self.old self.new self.new.line) (IsAllTaken self.old self.new)) }
+        ensures refused { self.old.fault ≡ None → IfErr result (RefusesNext self.old) }
+    {
+        if let Some(fault) = self.fault {
+            return Err(fault);
+        }
+        let found = read_line(&mut self.reader, &mut self.window, &mut self.line);
+        if found != Ok(false) {
+            self.number = self.number.saturating_add(1);
+        }
+        match found {
+            Ok(found) => Ok(found),
+            Err(LineFault::Long) => {
+                let fault = Fault::FieldTooLong {
+                    place: Place::Line(self.number),
+                    field: 0,
+                };
+                self.fault = Some(fault);
+                Err(fault)
+            }
+            Err(LineFault::Input) => {
+                self.fault = Some(Fault::Input);
+                Err(Fault::Input)
+            }
+        }
+    }
+
+    /// The next line, without its LF, or nothing at the end of the text.
+    pub fn next(&mut self) -> Result<Option<&[u8]>, Fault>
+        ensures again { IfSome self.old.fault (λ fault. result ≡ Err fault) }
+        ensures* after_borrow { sem 𝓛 (Rests (the_row R.row R.Read) self.entry (λ new. NextGives self.old new result)) }
+    {
+        if self.advance()? {
+            Ok(Some(self.line.as_slice()))
+        } else {
+            Ok(None)
+        }
+    }
+}

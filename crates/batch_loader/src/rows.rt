@@ -1,0 +1,159 @@
+//! How a line becomes a row.
+ghost use Rattle.std.specs.Prelude.{◌≡◌, ◌⊎◌, ◌≤◌, Ok, Err, MatchResult, IfOk, IfErr, length};
+ghost use Rattle.batch_loader.specs.Columns.{row_of};
+
+use crate::columns::{CUSTOMER, DATE, LINEORDER, PART, SUPPLIER, numbers_of};
+use crate::line_fields::fields;
+use cube_model::{
+    Amount, CustomerRow, DateRow, Fault, Items, LineOrder, PartRow, RowText, SupplierRow, Text,
+};
+use std::alloc::Global;
+
+/// A row of a table, which a line of the table's text spells.
+pub trait TableRow {
+    ghost use Rattle.std.specs.Prelude.{ℕ, List};
+    ghost use Rattle.batch_loader.specs.declared.columns.Column.{Column};
+
+    ghost columns: { List Column };
+
+    ghost of_fields: { List (List ℕ) → Self };
+
+    /// Reads the row of a line with a number. It fails for want of memory, or with the line's first fault.
+    fn read(alloc: Global, line: &[u8], number: u64) -> Result<Self, Fault>
+    where
+        Self: Sized,
+        requires { length line.now ≤ 8192 }
+        ensures { MatchResult result (λ row. row_of columns of_fields number line.now ≡ Ok row)
+            (λ fault. (fault ≡ Fault.Memory) ⊎ (row_of columns of_fields number line.now ≡ Err fault)) };
+}
+
+impl TableRow for CustomerRow {
+    ghost use Rattle.batch_loader.specs.Tables.{customer_columns, customer_of_fields};
+
+    ghost columns = { customer_columns };
+
+    ghost of_fields = { customer_of_fields };
+
+    fn read(alloc: Global, line: &[u8], number: u64) -> Result<Self, Fault> {
+        let fields = fields::<8>(line, number)?;
+        let numbers = numbers_of(&CUSTOMER, &fields, number)?;
+        Ok(CustomerRow {
+            key: numbers[0] as u32,
+            city: text(alloc, fields.get(3))?,
+            nation: text(alloc, fields.get(4))?,
+            region: text(alloc, fields.get(5))?,
+        })
+    }
+}
+
+impl TableRow for SupplierRow {
+    ghost use Rattle.batch_loader.specs.Tables.{supplier_columns, supplier_of_fields};
+
+    ghost columns = { supplier_columns };
+
+    ghost of_fields = { supplier_of_fields };
+
+    fn read(alloc: Global, line: &[u8], number: u64) -> Result<Self, Fault> {
+        let fields = fields::<7>(line, number)?;
+        let numbers = numbers_of(&SUPPLIER, &fields, number)?;
+        Ok(SupplierRow {
+            key: numbers[0] as u32,
+            city: text(alloc, fields.get(3))?,
+            nation: text(alloc, fields.get(4))?,
+            region: text(alloc, fields.get(5))?,
+        })
+    }
+}
+
+impl TableRow for PartRow {
+    ghost use Rattle.batch_loader.specs.Tables.{part_columns, part_of_fields};
+
+    ghost columns = { part_columns };
+
+    ghost of_fields = { part_of_fields };
+
+    fn read(alloc: Global, line: &[u8], number: u64) -> Result<Self, Fault> {
+        let fields = fields::<9>(line, number)?;
+        let numbers = numbers_of(&PART, &fields, number)?;
+        Ok(PartRow {
+            key: numbers[0] as u32,
+            brand1: text(alloc, fields.get(4))?,
+            category: text(alloc, fields.get(3))?,
+            mfgr: text(alloc, fields.get(2))?,
+        })
+    }
+}
+
+impl TableRow for DateRow {
+    ghost use Rattle.batch_loader.specs.Tables.{date_columns, date_of_fields};
+
+    ghost columns = { date_columns };
+
+    ghost of_fields = { date_of_fields };
+
+    fn read(alloc: Global, line: &[u8], number: u64) -> Result<Self, Fault> {
+        let fields = fields::<17>(line, number)?;
+        let numbers = numbers_of(&DATE, &fields, number)?;
+        Ok(DateRow {
+            key: numbers[0] as u32,
+            year: text(alloc, fields.get(4))?,
+            yearmonthnum: text(alloc, fields.get(5))?,
+            yearmonth: text(alloc, fields.get(6))?,
+            weeknuminyear: text(alloc, fields.get(11))?,
+        })
+    }
+}
+
+impl TableRow for LineOrder {
+    ghost use Rattle.batch_loader.specs.Tables.{lineorder_columns, lineorder_of_fields};
+
+    ghost columns = { lineorder_columns };
+
+    ghost of_fields = { lineorder_of_fields };
+
+    fn read(alloc: Global, line: &[u8], number: u64) -> Result<Self, Fault> {
+        let fields = fields::<17>(line, number)?;
+        let numbers = numbers_of(&LINEORDER, &fields, number)?;
+        Ok(LineOrder {
+            orderkey: Amount::new(numbers[0]),
+            linenumber: numbers[1] as u32,
+            custkey: numbers[2] as u32,
+            partkey: numbers[3] as u32,
+            suppkey: numbers[4] as u32,
+            orderdate: numbers[5] as u32,
+            orderpriority: row_text(alloc, fields.get(6))?,
+            shippriority: row_text(alloc, fields.get(7))?,
+            quantity: numbers[8] as u8,
+            extendedprice: Amount::new(numbers[9]),
+            ordtotalprice: Amount::new(numbers[10]),
+            discount: numbers[11] as u8,
+            revenue: Amount::new(numbers[12]),
+            supplycost: Amount::new(numbers[13]),
+            tax: numbers[14] as u8,
+            commitdate: row_text(alloc, fields.get(15))?,
+            shipmode: row_text(alloc, fields.get(16))?,
+        })
+    }
+}
+
+/// A copy of a field as a text of its own.
+fn text(alloc: Global, bytes: &[u8]) -> Result<Text, Fault>
+    ensures ok { IfOk result (λ text. text ≡ bytes.now) }
+    ensures err { IfErr result (λ fault. fault ≡ Fault.Memory) }
+{
+    match Vec::from_slice(alloc, bytes) {
+        Ok(bytes) => Ok(Items::from_vec(bytes)),
+        Err(_) => Err(Fault::Memory),
+    }
+}
+
+/// A copy of a field as a text of a fact row.
+fn row_text(alloc: Global, bytes: &[u8]) -> Result<RowText, Fault>
+    ensures ok { IfOk result (λ text. text ≡ bytes.now) }
+    ensures err { IfErr result (λ fault. fault ≡ Fault.Memory) }
+{
+    match RowText::from_slice(alloc, bytes) {
+        Ok(text) => Ok(text),
+        Err(_) => Err(Fault::Memory),
+    }
+}

@@ -1,0 +1,4 @@
+pub mod Groups
+pub mod Limits
+pub mod Room
+pub mod Tallies

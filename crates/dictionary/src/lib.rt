@@ -1,0 +1,8 @@
+//! Texts with codes: the code of a text is the place where it was first seen.
+#![tactic(auto)]
+
+mod dictionary;
+#[cfg(test)]
+mod tests;
+
+pub use dictionary::Dictionary;

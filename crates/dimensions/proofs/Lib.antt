@@ -1,0 +1,11 @@
+pub mod Assembled
+pub mod Broken
+pub mod BuildSteps
+pub mod DayCauses
+pub mod Found
+pub mod Keys
+pub mod LevelCauses
+pub mod ApartTexts
+pub mod Refusals
+pub mod Rows
+pub mod Step

@@ -1,0 +1,6 @@
+pub mod Built
+pub mod Days
+pub mod Levels
+pub mod Tables
+pub mod Texts
+pub mod Whole

@@ -1,0 +1,178 @@
+//! The four dimensions.
+ghost use Rattle.std.specs.Prelude.{◌≡◌, ◌==◌, ◌⊎◌, Some, find, map, IfOk, OnOk, IfErr};
+ghost use Rattle.std.specs.Option.{option_map, option_and_then};
+ghost use Rattle.cube_model.specs.Attributes.{attribute_at, of_customer, of_supplier, of_part};
+ghost use Rattle.cube_model.specs.Places.{place_of, row_count_of};
+ghost use Rattle.cube_model.specs.Validity.{IsValid, invalid_cause};
+ghost use Rattle.dimensions.specs.Built.{as_customer, as_supplier, as_part};
+ghost use Rattle.dimensions.specs.Levels.{IsCoded, rows_of};
+ghost use Rattle.dimensions.specs.Tables.{coded_of};
+ghost use Rattle.dimensions.specs.Texts.{customer_level, supplier_level, part_level};
+
+use crate::build::{build_days, build_table};
+use crate::days::DayTable;
+use crate::levels::Table;
+use cube_model::{Attr, Axis, DimRows, Fault};
+use hierarchy::Level;
+use std::alloc::Global;
+use std::marker::Model;
+
+/// The rows of the four dimensions, all of them valid. Contracts see the lists of the rows.
+#[derive(Drop)]
+pub struct Dims {
+    customers: Table,
+    suppliers: Table,
+    parts: Table,
+    dates: DayTable,
+}
+
+impl Model for Dims {
+    ghost use Rattle.cube_model.specs.declared.rows.DimRows.{DimRows};
+    ghost use Rattle.dimensions.specs.Whole.{dim_rows, AreTables};
+
+    ghost Value = { DimRows };
+
+    ghost view = { λ d. dim_rows d.customers d.suppliers d.parts d.dates };
+
+    ghost invariant = { λ d. AreTables d.customers d.suppliers d.parts d.dates };
+}
+
+impl Dims {
+    /// The dimensions of some rows, or the first cause to refuse them: customer, supplier, part, date, each first for
+    /// too many rows and then row by row.
+    pub fn build(alloc: Global, rows: &DimRows) -> Result<Dims, Fault>
+        ensures ok { IfOk result (λ dims. dims ≡ rows.now) }
+        ensures valid { OnOk result (IsValid rows.now) }
+        ensures err { IfErr result (λ fault. (fault ≡ Fault.Memory) ⊎ (invalid_cause rows.now ≡ Some fault)) }
+    {
+        let customers = match build_table(alloc, Axis::Customer, rows.customers.as_slice()) {
+            Ok(table) => table,
+            Err(fault) => return Err(fault),
+        };
+        let suppliers = match build_table(alloc, Axis::Supplier, rows.suppliers.as_slice()) {
+            Ok(table) => table,
+            Err(fault) => return Err(fault),
+        };
+        let parts = match build_table(alloc, Axis::Part, rows.parts.as_slice()) {
+            Ok(table) => table,
+            Err(fault) => return Err(fault),
+        };
+        let dates = match build_days(alloc, rows.dates.as_slice()) {
+            Ok(table) => table,
+            Err(fault) => return Err(fault),
+        };
+        Ok(Dims {
+            customers,
+            suppliers,
+            parts,
+            dates,
+        })
+    }
+
+    /// How many rows a dimension has.
+    pub fn row_count(&self, axis: Axis) -> usize
+        ensures count { result ≡ row_count_of self.now axis }
+        ensures valid { IsValid self.now }
+    {
+        match axis {
+            Axis::Customer => self.customers.len(),
+            Axis::Supplier => self.suppliers.len(),
+            Axis::Part => self.parts.len(),
+            Axis::Date => self.dates.len(),
+        }
+    }
+
+    /// The place of the row with a key, or the number of rows where no row has the key. Places count from 0.
+    pub fn place(&self, axis: Axis, key: u32) -> usize
+        ensures { result ≡ place_of self.now axis key }
+    {
+        match axis {
+            Axis::Customer => self.customers.place(key),
+            Axis::Supplier => self.suppliers.place(key),
+            Axis::Part => self.parts.place(key),
+            Axis::Date => self.dates.place(key),
+        }
+    }
+
+    /// The attribute of the row with a key, if there is such a row and the attribute is of the dimension. That of a
+    /// day is its key in decimal.
+    pub fn attribute(&self, axis: Axis, key: u32, attr: Attr) -> Option<&[u8]>
+        ensures { option_map (λ text. text.now) result ≡ attribute_at self.now axis key attr }
+    {
+        match axis {
+            Axis::Customer => customer_text(&self.customers, key, attr),
+            Axis::Supplier => supplier_text(&self.suppliers, key, attr),
+            Axis::Part => part_text(&self.parts, key, attr),
+            Axis::Date => self.dates.attribute(key, attr),
+        }
+    }
+}
+
+// The level of an attribute of a customer.
+fn customer_level_of(attr: Attr) -> Option<Level>
+    ensures { result ≡ customer_level attr }
+{
+    match attr {
+        Attr::CustomerCity => Some(Level::Lowest),
+        Attr::CustomerNation => Some(Level::Middle),
+        Attr::CustomerRegion => Some(Level::Top),
+        _ => None,
+    }
+}
+
+// An attribute of the customer with a key.
+fn customer_text(table: &Table, key: u32, attr: Attr) -> Option<&[u8]>
+    requires { IsCoded (coded_of table.now) }
+    ensures { option_map (λ text. text.now) result ≡ option_and_then (of_customer attr) (find (λ row. row.key == key) (map as_customer (rows_of (coded_of table.now)))) }
+{
+    match customer_level_of(attr) {
+        None => None,
+        Some(level) => table.text_of(level, key),
+    }
+}
+
+// The level of an attribute of a supplier.
+fn supplier_level_of(attr: Attr) -> Option<Level>
+    ensures { result ≡ supplier_level attr }
+{
+    match attr {
+        Attr::SupplierCity => Some(Level::Lowest),
+        Attr::SupplierNation => Some(Level::Middle),
+        Attr::SupplierRegion => Some(Level::Top),
+        _ => None,
+    }
+}
+
+// An attribute of the supplier with a key.
+fn supplier_text(table: &Table, key: u32, attr: Attr) -> Option<&[u8]>
+    requires { IsCoded (coded_of table.now) }
+    ensures { option_map (λ text. text.now) result ≡ option_and_then (of_supplier attr) (find (λ row. row.key == key) (map as_supplier (rows_of (coded_of table.now)))) }
+{
+    match supplier_level_of(attr) {
+        None => None,
+        Some(level) => table.text_of(level, key),
+    }
+}
+
+// The level of an attribute of a part.
+fn part_level_of(attr: Attr) -> Option<Level>
+    ensures { result ≡ part_level attr }
+{
+    match attr {
+        Attr::PartBrand1 => Some(Level::Lowest),
+        Attr::PartCategory => Some(Level::Middle),
+        Attr::PartMfgr => Some(Level::Top),
+        _ => None,
+    }
+}
+
+// An attribute of the part with a key.
+fn part_text(table: &Table, key: u32, attr: Attr) -> Option<&[u8]>
+    requires { IsCoded (coded_of table.now) }
+    ensures { option_map (λ text. text.now) result ≡ option_and_then (of_part attr) (find (λ row. row.key == key) (map as_part (rows_of (coded_of table.now)))) }
+{
+    match part_level_of(attr) {
+        None => None,
+        Some(level) => table.text_of(level, key),
+    }
+}

@@ -1,0 +1,11 @@
+//! The four dimensions: their members, and the attributes of their rows.
+#![tactic(auto)]
+
+mod build;
+mod days;
+mod dims;
+mod levels;
+mod members;
+mod places;
+
+pub use dims::Dims;

@@ -1,0 +1,31 @@
+//! Texts as members.
+ghost use Rattle.std.specs.Prelude.{◌≡◌, codes, IfOk, IfErr};
+ghost use Rattle.std.specs.Str.{bytes_eq};
+ghost use Rattle.dictionary.specs.Dictionary.{Adds};
+
+use cube_model::Fault;
+use dictionary::Dictionary;
+use std::alloc::Global;
+
+/// How many members a level may have.
+pub const MEMBER_LIMIT: u32 = 65535;
+
+/// Whether a text is the one that stands for all members.
+pub fn is_all(text: &[u8]) -> bool
+    ensures { result ≡ bytes_eq (codes "ALL") text.now }
+{
+    text == b"ALL".as_slice()
+}
+
+/// The code of a text in a dictionary of members, which is added if it was not seen.
+pub fn number(dictionary: &mut Dictionary, alloc: Global, text: &[u8]) -> Result<Option<u16>, Fault>
+    requires { dictionary.old.limit ≡ 65535 }
+    ensures ok { IfOk result (λ code. Adds dictionary.old text.now code dictionary.new) }
+    ensures memory { IfErr result (λ fault. fault ≡ Fault.Memory) }
+{
+    match dictionary.add(alloc, text) {
+        Err(fault) => Err(fault),
+        Ok(None) => Ok(None),
+        Ok(Some(code)) => Ok(Some(code as u16)),
+    }
+}
