@@ -19,6 +19,10 @@ dim_rows customers suppliers parts dates = record {
   dates = days_of (day_coded_of dates);
 }
 
+-- The same, which callers do not look into: a proof that owns a `Dims` would otherwise open the tables.
+unfoldable pub shown_rows : Table → Table → Table → DayTable → DimRows
+shown_rows customers suppliers parts dates = dim_rows customers suppliers parts dates
+
 -- the tables are sound, each day has its text, and the rows keep the rules
 pub record AreTables (customers suppliers parts : Table) (dates : DayTable) : Type 0 where
   pub customers_sound : IsCoded (coded_of customers)

@@ -21,7 +21,6 @@ use std::alloc::Global;
 
 /// The days by codes: the key of each with the codes of its month and its week, the texts of the members, the year
 /// and the yearmonth of each month, and the days' own texts.
-#[derive(Drop)]
 pub struct DayTable {
     places: Places,
     codes: Vec<(u16, u16)>,
@@ -32,6 +31,23 @@ pub struct DayTable {
     year_of: Hierarchy,
     yearmonth_of: Hierarchy,
     texts: Vec<Text>,
+}
+
+// Written out, so that a proof has one call to follow where the days are let go.
+impl Drop for DayTable {
+    fn drop(self) {
+        let DayTable {
+            places: _,
+            codes: _,
+            months: _,
+            years: _,
+            yearmonths: _,
+            weeks: _,
+            year_of: _,
+            yearmonth_of: _,
+            texts: _,
+        } = self;
+    }
 }
 
 /// The codes of a day's members.

@@ -18,7 +18,6 @@ use std::alloc::Global;
 use std::marker::Model;
 
 /// The rows of the four dimensions, all of them valid. Contracts see the lists of the rows.
-#[derive(Drop)]
 pub struct Dims {
     customers: Table,
     suppliers: Table,
@@ -28,15 +27,28 @@ pub struct Dims {
 
 impl Model for Dims {
     ghost use Rattle.cube_model.specs.declared.rows.DimRows.{DimRows};
-    ghost use Rattle.dimensions.specs.Whole.{dim_rows, AreTables};
+    ghost use Rattle.dimensions.specs.Whole.{shown_rows, AreTables};
 
     ghost Value = { DimRows };
 
-    ghost view = { λ d. dim_rows d.customers d.suppliers d.parts d.dates };
+    ghost view = { λ d. shown_rows d.customers d.suppliers d.parts d.dates };
 
     ghost invariant = { λ d. AreTables d.customers d.suppliers d.parts d.dates };
 }
 
+// Written out, so that a caller's proof has one call to follow where it lets the dimensions go.
+impl Drop for Dims {
+    fn drop(self) {
+        let Dims {
+            customers: _,
+            suppliers: _,
+            parts: _,
+            dates: _,
+        } = self;
+    }
+}
+
+#[tactic(auto, unfolding(crate::specs::Whole::shown_rows))]
 impl Dims {
     /// The dimensions of some rows, or the first cause to refuse them: customer, supplier, part, date, each first for
     /// too many rows and then row by row.

@@ -19,7 +19,6 @@ use std::alloc::Global;
 
 /// The rows of a dimension by codes: the key and the lowest member of each, the texts of the members, and their
 /// upper members.
-#[derive(Drop)]
 pub struct Table {
     places: Places,
     codes: Vec<u16>,
@@ -27,6 +26,20 @@ pub struct Table {
     middle: Dictionary,
     top: Dictionary,
     links: Hierarchy,
+}
+
+// Written out, so that a proof has one call to follow where a table is let go.
+impl Drop for Table {
+    fn drop(self) {
+        let Table {
+            places: _,
+            codes: _,
+            lowest: _,
+            middle: _,
+            top: _,
+            links: _,
+        } = self;
+    }
 }
 
 /// The codes of a row's members.

@@ -1,3 +1,4 @@
+use Rattle.dimensions.specs.Whole.{shown_rows}
 use Rattle.std.proofs.Common.{rules, ◌≡◌, ◌∙◌, List, ap, sym, map, subst, None, Some, Ok, Err}
 use Rattle.cube_model.specs.declared.attr.Axis.TheVariants.{Customer, Supplier, Part}
 use Rattle.cube_model.specs.declared.fault.Fault.TheVariants.{Memory}
@@ -7,17 +8,20 @@ use Rattle.dimensions.proofs.Assembled.{refused_customers, refused_suppliers, re
 use Rattle.dimensions.proofs.dims.Dims.build.Goals as goal
 
 pub returns-in-Err-clause-err : goal.returns-in-Err-clause-err
+unfolding shown_rows
 returns-in-Err-clause-err c =
     let customers : BuildsTable Customer (map level_of_customer c.args.rows.now.customers) (Err c.in-Err.fault) = subst (λ l. BuildsTable Customer (map level_of_customer l) (Err c.in-Err.fault)) c.as_slice.ensures c.in-Err.ensures in
     refused_customers c.args.rows.now c.in-Err.fault customers
 
 pub returns-in-Err-build_table-clause-err : goal.returns-in-Err-build_table-clause-err
+unfolding shown_rows
 returns-in-Err-build_table-clause-err c =
     let customers : BuildsTable Customer (map level_of_customer c.args.rows.now.customers) (Ok c.in-Ok.table) = subst (λ l. BuildsTable Customer (map level_of_customer l) (Ok c.in-Ok.table)) c.as_slice.ensures c.in-Ok.ensures in
     let suppliers : BuildsTable Supplier (map level_of_supplier c.args.rows.now.suppliers) (Err c.in-Err-build_table.fault) = subst (λ l. BuildsTable Supplier (map level_of_supplier l) (Err c.in-Err-build_table.fault)) c.as_slice-2.ensures c.in-Err-build_table.ensures in
     refused_suppliers c.args.rows.now c.in-Err-build_table.fault customers.2 suppliers
 
 pub returns-in-Err-build_table-2-clause-err : goal.returns-in-Err-build_table-2-clause-err
+unfolding shown_rows
 returns-in-Err-build_table-2-clause-err c =
     let customers : BuildsTable Customer (map level_of_customer c.args.rows.now.customers) (Ok c.in-Ok.table) = subst (λ l. BuildsTable Customer (map level_of_customer l) (Ok c.in-Ok.table)) c.as_slice.ensures c.in-Ok.ensures in
     let suppliers : BuildsTable Supplier (map level_of_supplier c.args.rows.now.suppliers) (Ok c.in-Ok-build_table.table) = subst (λ l. BuildsTable Supplier (map level_of_supplier l) (Ok c.in-Ok-build_table.table)) c.as_slice-2.ensures c.in-Ok-build_table.ensures in
@@ -25,6 +29,7 @@ returns-in-Err-build_table-2-clause-err c =
     refused_parts c.args.rows.now c.in-Err-build_table-2.fault customers.2 suppliers.2 parts
 
 pub returns-in-Err-build_days-clause-err : goal.returns-in-Err-build_days-clause-err
+unfolding shown_rows
 returns-in-Err-build_days-clause-err c =
     let customers : BuildsTable Customer (map level_of_customer c.args.rows.now.customers) (Ok c.in-Ok.table) = subst (λ l. BuildsTable Customer (map level_of_customer l) (Ok c.in-Ok.table)) c.as_slice.ensures c.in-Ok.ensures in
     let suppliers : BuildsTable Supplier (map level_of_supplier c.args.rows.now.suppliers) (Ok c.in-Ok-build_table.table) = subst (λ l. BuildsTable Supplier (map level_of_supplier l) (Ok c.in-Ok-build_table.table)) c.as_slice-2.ensures c.in-Ok-build_table.ensures in
@@ -33,6 +38,7 @@ returns-in-Err-build_days-clause-err c =
     refused_dates c.args.rows.now c.in-Err-build_days.fault customers.2 suppliers.2 parts.2 dates
 
 pub invariant_of-result : goal.invariant_of-result
+unfolding shown_rows
 invariant_of-result c =
     let customers : BuildsTable Customer (map level_of_customer c.args.rows.now.customers) (Ok c.in-Ok.table) = subst (λ l. BuildsTable Customer (map level_of_customer l) (Ok c.in-Ok.table)) c.as_slice.ensures c.in-Ok.ensures in
     let suppliers : BuildsTable Supplier (map level_of_supplier c.args.rows.now.suppliers) (Ok c.in-Ok-build_table.table) = subst (λ l. BuildsTable Supplier (map level_of_supplier l) (Ok c.in-Ok-build_table.table)) c.as_slice-2.ensures c.in-Ok-build_table.ensures in
@@ -42,6 +48,7 @@ invariant_of-result c =
     are_tables c.args.rows.now c.in-Ok.table c.in-Ok-build_table.table c.in-Ok-build_table-2.table c.in-Ok-build_days.table customers.1 suppliers.1 parts.1 dates.1 customers.0 suppliers.0 parts.0 dates.0 dates.2 valid
 
 pub returns-clause-ok : goal.returns-clause-ok
+unfolding shown_rows
 returns-clause-ok c =
     let customers : BuildsTable Customer (map level_of_customer c.args.rows.now.customers) (Ok c.in-Ok.table) = subst (λ l. BuildsTable Customer (map level_of_customer l) (Ok c.in-Ok.table)) c.as_slice.ensures c.in-Ok.ensures in
     let suppliers : BuildsTable Supplier (map level_of_supplier c.args.rows.now.suppliers) (Ok c.in-Ok-build_table.table) = subst (λ l. BuildsTable Supplier (map level_of_supplier l) (Ok c.in-Ok-build_table.table)) c.as_slice-2.ensures c.in-Ok-build_table.ensures in
@@ -50,6 +57,7 @@ returns-clause-ok c =
     stands_for c.args.rows.now c.in-Ok.table c.in-Ok-build_table.table c.in-Ok-build_table-2.table c.in-Ok-build_days.table customers.1 suppliers.1 parts.1 dates.1
 
 pub returns-clause-valid : goal.returns-clause-valid
+unfolding shown_rows
 returns-clause-valid c =
     let customers : BuildsTable Customer (map level_of_customer c.args.rows.now.customers) (Ok c.in-Ok.table) = subst (λ l. BuildsTable Customer (map level_of_customer l) (Ok c.in-Ok.table)) c.as_slice.ensures c.in-Ok.ensures in
     let suppliers : BuildsTable Supplier (map level_of_supplier c.args.rows.now.suppliers) (Ok c.in-Ok-build_table.table) = subst (λ l. BuildsTable Supplier (map level_of_supplier l) (Ok c.in-Ok-build_table.table)) c.as_slice-2.ensures c.in-Ok-build_table.ensures in

@@ -1,0 +1,107 @@
+-- What the texts of the five tables and a query come to: the bytes of a report, or the first refusal. Our own.
+use Rattle.std.specs.Prelude.{◌≡◌, ℕ, zero, suc, ◌+◌, ◌⊎◌, ⊤, List, [], ◌∷◌, ◌++◌, length, take, drop, Option, Some, None, Result, Ok, Err}
+use Rattle.std.specs.Io.KnownBytes.{Appends, Keeps}
+use Rattle.batch_loader.specs.Lines.{lines_of}
+use Rattle.batch_loader.specs.Rows.{rows_of, number_after}
+use Rattle.batch_loader.specs.Tables.{customer_row, supplier_row, part_row, date_row, lineorder_row}
+use Rattle.cube_model.specs.declared.answer.Answer.{Answer}
+use Rattle.cube_model.specs.declared.fault.Fault.{Fault}
+use Rattle.cube_model.specs.declared.fault.Fault.TheVariants.{Memory, Input, Output}
+use Rattle.cube_model.specs.declared.query.Query.{Query}
+use Rattle.cube_model.specs.declared.rows.DimRows.{DimRows}
+use Rattle.cube_model.specs.declared.rows.LineOrder.{LineOrder}
+use Rattle.cube_model.specs.Admission.{all_rows, refusal}
+use Rattle.cube_model.specs.Answers.{answer}
+use Rattle.cube_model.specs.Validity.{invalid_cause}
+use Rattle.ssb_eval.specs.Report.{report_of}
+use Rattle.ssb_eval.specs.Writing.{AppendsBeginning}
+
+-- the texts of the tables
+pub record Texts : Type 0 where
+  pub customer : List ℕ
+  pub supplier : List ℕ
+  pub part : List ℕ
+  pub date : List ℕ
+  pub lineorder : List ℕ
+
+-- a next step, unless the first was refused
+abbrev pub and_then : {A B : Type 0} → Result A Fault → (A → Result B Fault) → Result B Fault
+and_then (Ok value) next = next value
+and_then (Err fault) next = Err fault
+
+-- an outcome, unless there is a cause to refuse it
+abbrev pub unless : {A : Type 0} → Option Fault → Result A Fault → Result A Fault
+unless None outcome = outcome
+unless (Some cause) outcome = Err cause
+
+-- the rows of a table's text, whose lines count from 1
+abbrev pub table_rows : {Row : Type 0} → (ℕ → List ℕ → Result Row Fault) → List ℕ → Result (List Row) Fault
+table_rows row text = rows_of row 1 (lines_of text)
+
+-- dimension rows that keep the rules
+abbrev pub valid_rows : DimRows → Result DimRows Fault
+valid_rows rows = unless (invalid_cause rows) (Ok rows)
+
+-- the rows of the four dimensions: all texts are read before the rules are looked at
+abbrev pub dimensions_of : Texts → Result DimRows Fault
+dimensions_of texts =
+    and_then (table_rows customer_row texts.customer) (λ customers.
+    and_then (table_rows supplier_row texts.supplier) (λ suppliers.
+    and_then (table_rows part_row texts.part) (λ parts.
+    and_then (table_rows date_row texts.date) (λ dates.
+    valid_rows (record { customers = customers; suppliers = suppliers; parts = parts; dates = dates })))))
+
+-- a list cut into parts of so many items, of which the last may have fewer, in at most so many steps
+abbrev pub parts_in : {A : Type 0} → ℕ → ℕ → List A → List (List A)
+parts_in steps size [] = []
+parts_in zero size (item ∷ items) = []
+parts_in (suc steps) size (item ∷ items) = take size (item ∷ items) ∷ parts_in steps size (drop size (item ∷ items))
+
+-- the whole list
+abbrev pub parts_of : {A : Type 0} → ℕ → List A → List (List A)
+parts_of size items = parts_in (length items) size items
+
+-- the fact rows of the lines of batches, behind batches that were accepted: the lines of a batch are read, and then it is
+-- admitted. The number is that of the next line
+abbrev pub facts_behind : DimRows → List (List LineOrder) → ℕ → List (List (List ℕ)) → Result (List LineOrder) Fault
+facts_behind dimensions batches number [] = Ok (all_rows batches)
+facts_behind dimensions batches number (lines ∷ others) =
+    and_then (rows_of lineorder_row number lines) (λ rows.
+    unless (refusal dimensions batches (length batches + 1) rows)
+    (facts_behind dimensions (batches ++ rows ∷ []) (number_after (length rows) number) others))
+
+-- the fact rows of a text, in batches of 65,536 lines
+abbrev pub facts_of : DimRows → List ℕ → Result (List LineOrder) Fault
+facts_of dimensions text = facts_behind dimensions [] 1 (parts_of 65536 (lines_of text))
+
+-- the answer over them
+abbrev pub answer_of : Query → DimRows → List ℕ → Result Answer Fault
+answer_of query dimensions text = and_then (facts_of dimensions text) (λ rows. Ok (answer query dimensions rows))
+
+-- the bytes of the report
+abbrev pub eval_of : Query → Texts → Result (List ℕ) Fault
+eval_of query texts =
+    and_then (dimensions_of texts) (λ dimensions.
+    and_then (answer_of query dimensions texts.lineorder) (λ found.
+    Ok (report_of query found)))
+
+-- a call found what a definition says, or its refusal; or memory was refused, or a reader failed
+abbrev pub Gives : {A : Type 0} → Result A Fault → Result A Fault → Type 0
+Gives outcome (Ok value) = outcome ≡ Ok value
+Gives outcome (Err fault) = (fault ≡ Memory) ⊎ ((fault ≡ Input) ⊎ (outcome ≡ Err fault))
+
+-- readers have the bytes of texts left
+pub record HaveTexts (customer supplier part date lineorder : Option (List ℕ)) (texts : Texts) : Type 0 where
+  pub customer_left : customer ≡ Some texts.customer
+  pub supplier_left : supplier ≡ Some texts.supplier
+  pub part_left : part ≡ Some texts.part
+  pub date_left : date ≡ Some texts.date
+  pub lineorder_left : lineorder ≡ Some texts.lineorder
+
+-- The end of an evaluation: the report was written. Or the writer failed, behind a beginning of the report. Or nothing
+-- was written: for want of memory, since a reader failed, or since that is the first refusal
+abbrev pub Reports : Option (List ℕ) → Option (List ℕ) → Result (List ℕ) Fault → Result Unit Fault → Type 0
+Reports old new outcome (Ok done) = (bytes : List ℕ) × (outcome ≡ Ok bytes) × Appends old new bytes
+Reports old new outcome (Err fault) =
+    ((fault ≡ Output) × ((bytes : List ℕ) × (outcome ≡ Ok bytes) × AppendsBeginning old new bytes))
+    ⊎ (Keeps old new × ((fault ≡ Memory) ⊎ ((fault ≡ Input) ⊎ (outcome ≡ Err fault))))

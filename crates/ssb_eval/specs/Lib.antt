@@ -1,0 +1,9 @@
+pub mod Accepted
+pub mod Admission
+pub mod Evaluation
+pub mod Parted
+pub mod Report
+pub mod Taken
+pub mod Totals
+pub mod Words
+pub mod Writing

@@ -1,0 +1,51 @@
+//! A query over the texts of the five tables.
+ghost use Rattle.std.specs.Prelude.{◌≡◌, Err};
+ghost use Rattle.std.specs.Io.KnownBytes.{Keeps};
+ghost use Rattle.cube_model.specs.Proper.{IsProper};
+ghost use Rattle.cube_query.specs.Limits.{IsPlain};
+ghost use Rattle.ssb_eval.specs.Evaluation.{HaveTexts, Reports, Texts, eval_of};
+
+use crate::dimension_tables::read_dimensions;
+use crate::facts::answer_facts;
+use crate::report::write_report;
+use cube_model::{Fault, Query};
+use std::alloc::Global;
+use std::io::{Read, Write};
+
+/// Writes the report of the answer to a query over the rows that the texts of the five tables spell.
+///
+/// The first refusal decides, and nothing is written then: the query; the texts of customer,
+/// supplier, part and date; the dimensions; and then, for each batch of 65,536 fact rows, its
+/// lines and the check of the batch. Memory does not grow with the fact rows.
+pub fn eval_texts<
+    C: Read + Drop,
+    S: Read + Drop,
+    P: Read + Drop,
+    D: Read + Drop,
+    L: Read + Drop,
+    W: Write,
+>(
+    alloc: Global,
+    customer: C,
+    supplier: S,
+    part: P,
+    date: D,
+    lineorder: L,
+    query: &Query,
+    out: &mut W,
+) -> Result<(), Fault>
+    requires { IsPlain query.now }
+
+    // Of a proper query the outcome is that of the texts.
+    ensures proper { IsProper query.now → (texts : Texts)
+        → HaveTexts (C.remaining customer) (S.remaining supplier) (P.remaining part) (D.remaining date) (L.remaining lineorder) texts
+        → Reports (W.contents out.old) (W.contents out.new) (eval_of query.now texts) result }
+
+    // Any other query is refused before a text is read.
+    ensures improper { (IsProper query.now → ⊥) → (result ≡ Err Fault.BadQuery) × Keeps (W.contents out.old) (W.contents out.new) }
+{
+    query.check()?;
+    let dims = read_dimensions(alloc, customer, supplier, part, date)?;
+    let answer = answer_facts(alloc, &dims, query, lineorder)?;
+    write_report(query, &answer, out)
+}
