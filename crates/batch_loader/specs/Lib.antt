@@ -2,6 +2,7 @@ pub mod Columns
 pub mod Fields
 pub mod Fronts
 pub mod Grammar
+pub mod Leading
 pub mod LineFields
 pub mod Lines
 pub mod Numbers

@@ -10,7 +10,16 @@ use crate::numbers::number;
 use cube_model::{Fault, Place};
 
 /// The most bytes of a text that is kept.
-const TEXT_LIMIT: usize = 255;
+pub const TEXT_LIMIT: usize = 255;
+
+/// The greatest key.
+pub const KEY_LIMIT: u64 = 4_294_967_295;
+
+/// The greatest amount of money.
+pub const AMOUNT_LIMIT: u64 = 9_223_372_036_854_775_807;
+
+/// The greatest small count.
+pub const SMALL_LIMIT: u64 = 255;
 
 /// What a column of a table holds.
 #[derive(Clone, Copy)]
@@ -23,11 +32,11 @@ pub enum Column {
     Skipped,
 }
 
-const KEY: Column = Column::Number(4_294_967_295);
+const KEY: Column = Column::Number(KEY_LIMIT);
 
-const AMOUNT: Column = Column::Number(9_223_372_036_854_775_807);
+const AMOUNT: Column = Column::Number(AMOUNT_LIMIT);
 
-const SMALL: Column = Column::Number(255);
+const SMALL: Column = Column::Number(SMALL_LIMIT);
 
 const TEXT: Column = Column::Text;
 

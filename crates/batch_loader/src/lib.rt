@@ -6,6 +6,7 @@ mod laws;
 mod line_fields;
 mod lines;
 mod numbers;
+mod one_pass;
 mod reading;
 mod rows;
 mod tables;

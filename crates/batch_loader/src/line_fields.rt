@@ -5,6 +5,7 @@ ghost use Rattle.batch_loader.specs.Fields.{AreEnds, parts_at};
 mod split;
 
 pub use split::fields;
+pub(crate) use split::without_cr;
 
 /// The N fields of a line: the line, and where each field ends.
 #[derive(Clone, Copy, Drop)]

@@ -4,6 +4,7 @@ ghost use Rattle.batch_loader.specs.Columns.{row_of};
 
 use crate::columns::{CUSTOMER, DATE, LINEORDER, PART, SUPPLIER, numbers_of};
 use crate::line_fields::fields;
+use crate::one_pass::one_pass_row;
 use cube_model::{
     Amount, CustomerRow, DateRow, Fault, Items, LineOrder, PartRow, RowText, SupplierRow, Text,
 };
@@ -112,6 +113,10 @@ impl TableRow for LineOrder {
     ghost of_fields = { lineorder_of_fields };
 
     fn read(alloc: Global, line: &[u8], number: u64) -> Result<Self, Fault> {
+        if let Some(row) = one_pass_row(alloc, line) {
+            return Ok(row);
+        }
+        // A line of another form, or one with a fault, is read field by field.
         let fields = fields::<17>(line, number)?;
         let numbers = numbers_of(&LINEORDER, &fields, number)?;
         Ok(LineOrder {

@@ -1,7 +1,14 @@
-pub mod Copies
-pub mod Lines
+pub mod Columnwise
+pub mod Counting
+pub mod Folds
+pub mod Known
+pub mod Lengths
+pub mod Answered
 pub mod Loops
+pub mod Marking
 pub mod OneRow
-pub mod PlainKeys
+pub mod Placing
 pub mod Ranges
+pub mod Seen
+pub mod Steps
 pub mod Sums

@@ -1,4 +1,6 @@
+pub mod Columns
 pub mod Groups
 pub mod Limits
-pub mod Room
+pub mod Slots
+pub mod Standing
 pub mod Tallies

@@ -1,11 +1,11 @@
 //! The answer to a plain query over fact rows.
 #![tactic(auto)]
 
-mod groups;
-mod keys;
-mod select;
+mod columns;
+mod lines;
+mod marks;
+mod slots;
 mod state;
-mod tallies;
 mod tally;
 mod whole;
 

@@ -1,16 +1,25 @@
 //! A fold over fact rows that come in any number of calls.
-ghost use Rattle.std.specs.Prelude.{◌≡◌, ◌≢◌, List, Err, IfOk, IfErr, OnOk, OnErr};
+ghost use Rattle.std.specs.Prelude.{◌≡◌, ◌≢◌, ◌≤◌, ℕ, List, length, Err, IfOk, IfErr, OnOk, OnErr};
+ghost use Rattle.std.specs.List.{All, AllByRecursion};
 ghost use Rattle.cube_model.specs.Answers.{answer};
 ghost use Rattle.cube_model.specs.Proper.{IsProper};
 ghost use Rattle.cube_model.specs.declared.rows.LineOrder.{LineOrder};
+ghost use Rattle.cube_query.specs.Columns.{tallies_at};
 ghost use Rattle.cube_query.specs.Groups.{StandsFor, Begins, CanTake, Takes};
 ghost use Rattle.cube_query.specs.Limits.{IsPlain};
+ghost use Rattle.group_plan.specs.Numbers.{group_count, IsKnown};
+ghost use Rattle.cube_query.specs.Slots.{entries_of, AreSlots, Cover, Grow};
+ghost use Rattle.cube_query.specs.Standing.{AreMarks};
 
-use crate::groups::{Groups, lines_of, with_rows};
+use crate::columns::{count_in_all, lengthen_all, no_columns};
+use crate::lines::lines_of;
+use crate::marks::marks_of;
+use crate::slots::Slots;
+use crate::tally::Tally;
 use cube_model::{Answer, Fault, LineOrder, Query};
 use dimensions::Dims;
-use std::alloc::Global;
-use std::collections::BTreeMap;
+use group_plan::Plan;
+use std::alloc::{AllocError, Global};
 use std::marker::Model;
 
 /// The groups of a plain query over the fact rows that were added so far.
@@ -21,24 +30,29 @@ use std::marker::Model;
 #[derive(Drop)]
 pub struct Fold<'a> {
     alloc: Global,
-    dims: &'a Dims,
+    plan: Plan<'a>,
     query: &'a Query,
-    groups: Groups,
+    slots: Slots,
+    columns: Vec<Vec<Tally>>,
 }
 
 impl<'a> Model for Fold<'a> {
+    ghost use Rattle.std.specs.Prelude.{◌≡◌};
+    ghost use Rattle.cube_query.specs.Columns.{seen_groups, tallies_at};
     ghost use Rattle.cube_query.specs.Groups.{FoldState};
-    ghost use Rattle.cube_query.specs.Limits.{IsPlain};
+    ghost use Rattle.group_plan.specs.Numbers.{key_at};
+    ghost use Rattle.cube_query.specs.Slots.{entries_of};
+    ghost use Rattle.cube_query.specs.Standing.{IsFold};
 
     ghost Value = { FoldState };
 
     ghost view = { λ fold. record {
-      dimensions = fold.dims.now;
-      query = fold.query.now;
-      groups = fold.groups.entries;
+      dimensions = fold.plan.dimensions;
+      query = fold.plan.query;
+      groups = seen_groups (key_at fold.plan.dimensions fold.plan.query.columns) (tallies_at fold.columns.items) (entries_of fold.slots);
     } };
 
-    ghost invariant = { λ fold. IsPlain fold.query.now };
+    ghost invariant = { λ fold. (fold.query.now ≡ fold.plan.query) × IsFold fold.plan.dimensions fold.plan.query fold.slots fold.columns.items };
 }
 
 impl<'a> Fold<'a> {
@@ -52,30 +66,29 @@ impl<'a> Fold<'a> {
         ensures only { IfErr result (λ fault. fault ≢ Fault.BadQuery → fault ≡ Fault.Memory) }
     {
         query.check()?;
-        Ok(Fold {
-            alloc,
-            dims,
-            query,
-            groups: BTreeMap::new(alloc),
-        })
+        match begin(alloc, dims, query) {
+            Ok(fold) => Ok(fold),
+            Err(_) => Err(Fault::Memory),
+        }
     }
 
     /// Counts fact rows in. A refusal leaves the fold as it was.
     ///
-    /// It works on a copy of the groups, and so takes memory for as many once more.
+    /// It takes all the memory that it needs before it counts the first row.
     pub fn add_rows(&mut self, rows: &[LineOrder]) -> Result<(), Fault>
         requires { CanTake self.old rows.now }
         ensures ok { OnOk result (Takes self.old rows.now self.new) }
         ensures err { OnErr result (self.new ≡ self.old) }
         ensures only { IfErr result (λ fault. fault ≡ Fault.Memory) }
     {
-        match with_rows(self.alloc, self.dims, self.query, &self.groups, rows) {
-            Ok(groups) => {
-                self.groups = groups;
-                Ok(())
-            }
-            Err(_) => Err(Fault::Memory),
-        }
+        let columns = &mut self.columns;
+        let marks = match ready(self.alloc, &self.plan, &mut self.slots, columns, rows) {
+            Ok(marks) => marks,
+            Err(_) => return Err(Fault::Memory),
+        };
+        let aggregates = self.query.aggregates.as_slice();
+        count_in_all(columns.as_mut_slice(), aggregates, rows, marks.as_slice());
+        Ok(())
     }
 
     /// The answer over the fact rows that were added.
@@ -84,9 +97,51 @@ impl<'a> Fold<'a> {
             → found ≡ answer self.now.query self.now.dimensions rows) }
         ensures only { IfErr result (λ fault. fault ≡ Fault.Memory) }
     {
-        match lines_of(self.alloc, &self.groups, self.query.aggregates.as_slice()) {
+        let aggregates = self.query.aggregates.as_slice();
+        let columns = self.columns.as_slice();
+        match lines_of(self.alloc, &self.plan, aggregates, columns, &self.slots) {
             Ok(lines) => Ok(Answer { lines }),
             Err(_) => Err(Fault::Memory),
         }
     }
+}
+
+// A fold of a proper query, with no row yet.
+fn begin<'a>(alloc: Global, dims: &'a Dims, query: &'a Query) -> Result<Fold<'a>, AllocError>
+    requires plain { IsPlain query.now }
+    requires proper { IsProper query.now }
+    ensures { IfOk result (Begins dims.now query.now) }
+{
+    let plan = Plan::new(alloc, dims, query)?;
+    let slots = Slots::new(alloc, plan.group_count());
+    let columns = no_columns(alloc, query.aggregates.as_slice())?;
+    Ok(Fold {
+        alloc,
+        plan,
+        query,
+        slots,
+        columns,
+    })
+}
+
+// Makes all ready for rows to be counted in: their marks, and a place for each slot. Nothing is counted yet.
+fn ready(
+    alloc: Global,
+    plan: &Plan,
+    slots: &mut Slots,
+    columns: &mut Vec<Vec<Tally>>,
+    rows: &[LineOrder],
+) -> Result<Vec<Option<u32>>, AllocError>
+    requires known { All (IsKnown plan.now.dimensions) rows.now }
+    requires numbers { AreSlots (group_count plan.now.dimensions plan.now.query.columns) (entries_of slots.old) }
+    requires cover { Cover (group_count plan.now.dimensions plan.now.query.columns) slots.old }
+    ensures marks { IfOk result (λ marks. AreMarks plan.now.dimensions plan.now.query (entries_of slots.new) rows.now marks.items) }
+    ensures long { OnOk result (AllByRecursion (λ column. length (entries_of slots.new) ≤ length column.items) columns.new.items) }
+    ensures same { (slot : ℕ) → tallies_at columns.new.items slot ≡ tallies_at columns.old.items slot }
+    ensures cover { Cover (group_count plan.now.dimensions plan.now.query.columns) slots.new }
+    ensures grow { Grow (group_count plan.now.dimensions plan.now.query.columns) (entries_of slots.old) (entries_of slots.new) }
+{
+    let marks = marks_of(alloc, plan, slots, rows)?;
+    lengthen_all(columns.as_mut_slice(), slots.len())?;
+    Ok(marks)
 }

@@ -2,6 +2,7 @@
 ghost use Rattle.std.specs.Prelude.{◌≡◌, ◌+◌, ◌+ℤ◌, ◌<◌, ◌^◌, false, [], ◌∷◌, FitsSigned};
 ghost use Rattle.std.specs.Int.{w64};
 ghost use Rattle.cube_model.specs.Proper.{is_average};
+ghost use Rattle.cube_query.specs.Columns.{no_tally, tally_after};
 ghost use Rattle.cube_query.specs.Tallies as spec;
 
 use cube_model::{Agg, Amount, Value};
@@ -16,6 +17,18 @@ pub struct Tally {
 }
 
 impl Tally {
+    /// The tally of no number.
+    pub fn none() -> Self
+        ensures { result ≡ no_tally }
+    {
+        Tally {
+            count: Amount::new(0),
+            sum: 0,
+            least: 0,
+            greatest: 0,
+        }
+    }
+
     /// The tally of one number.
     pub fn of(number: i64) -> Self
         ensures { result ≡ spec.tally_of (number ∷ []) }
@@ -39,6 +52,19 @@ impl Tally {
             sum: self.sum + number,
             least: self.least.min(number),
             greatest: self.greatest.max(number),
+        }
+    }
+
+    /// The tally with one number more, where it may be that of none.
+    pub fn after(self, number: i64) -> Self
+        requires count { self.count + 1 < 2 ^ 63 }
+        requires sum { FitsSigned w64 (self.sum +ℤ number) }
+        ensures { result ≡ tally_after self number }
+    {
+        if self.count.get() == 0 {
+            Tally::of(number)
+        } else {
+            self.with(number)
         }
     }
 

@@ -70,7 +70,7 @@ module _ {K : Type 0} (R : K → K → Ordering) (o : IsTotalOrder R) (same : Is
   below_none key [] all = refl
   below_none key (first ∷ keys) all = or_both _ _ (ap is_eq all.0) (below_none key keys all.1)
 
-  reflexive : (x : K) → R x x ≡ Equal
+  pub reflexive : (x : K) → R x x ≡ Equal
   reflexive x = elim (R x x) as (λ r. R x x ≡ r → r ≡ ordering_reverse r → r ≡ Equal) [
     | Less ↦ λ e f. cc
     | Equal ↦ λ e f. refl

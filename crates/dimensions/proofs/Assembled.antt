@@ -1,14 +1,14 @@
 -- The four dimensions from their tables.
-use Rattle.std.proofs.Common.{◌≡◌, ◌∙◌, ◌⊎◌, inl, inr, sym, ap, refl, subst, List, [], ◌∷◌, map, Option, Some, None}
+use Rattle.std.proofs.Common.{◌≡◌, ◌∙◌, ◌⊎◌, inl, inr, sym, ap, refl, subst, ◌≤◌, arith, length, nat_lt, Bool, true, false, List, [], ◌∷◌, map, Option, Some, None, Ok, Err, Result, OnOk}
 use Rattle.std.specs.Fmt.{decimal}
 use Rattle.cube_model.specs.declared.attr.Axis.TheVariants.{Customer, Supplier, Part}
 use Rattle.cube_model.specs.declared.fault.Fault.{Fault}
-use Rattle.cube_model.specs.declared.fault.Fault.TheVariants.{Memory}
+use Rattle.cube_model.specs.declared.fault.Fault.TheVariants.{Memory, TooManyRows}
 use Rattle.cube_model.specs.declared.rows.CustomerRow.{CustomerRow}
 use Rattle.cube_model.specs.declared.rows.SupplierRow.{SupplierRow}
 use Rattle.cube_model.specs.declared.rows.PartRow.{PartRow}
 use Rattle.cube_model.specs.declared.rows.DimRows.{DimRows}
-use Rattle.cube_model.specs.Causes.{first_cause}
+use Rattle.cube_model.specs.Causes.{first_cause, cause_if}
 use Rattle.cube_model.specs.Validity.{customer_rules, supplier_rules, part_rules, date_rules, dimension_cause, invalid_cause, IsValid}
 use Rattle.dimensions.specs.declared.levels.Table.{Table}
 use Rattle.dimensions.specs.declared.days.DayTable.{DayTable}
@@ -100,3 +100,25 @@ module _ (rows : DimRows) (customers suppliers parts : Table) (dates : DayTable)
     day_texts = texts ∙ ap (map (λ row. decimal row.key)) (sym dates_are);
     valid = subst IsValid (sym stands_for) valid;
   }
+
+-- what holds anyway holds on success
+pub holds_on_ok : {A E : Type 0} (result : Result A E) {P : Type 0} → P → OnOk result P
+holds_on_ok (Ok a) p = p
+holds_on_ok (Err e) p = tt
+
+last_cause : (c1 c2 c3 c4 : Option Fault) → first_cause (c1 ∷ c2 ∷ c3 ∷ c4 ∷ []) ≡ None → c4 ≡ None
+last_cause None None None None none = refl
+last_cause None None None (Some fault) none = none
+last_cause None None (Some fault) c4 none = absurd cc
+last_cause None (Some fault) c3 c4 none = absurd cc
+last_cause (Some fault) c2 c3 c4 none = absurd cc
+
+within_limit : (over : Bool) (rest : Option Fault) → first_cause (cause_if over TooManyRows ∷ rest ∷ []) ≡ None → over ≡ false
+within_limit true rest none = absurd cc
+within_limit false rest none = refl
+
+-- there are no more days than a rank can count
+pub few_days : (rows : DimRows) → IsValid rows → length rows.dates ≤ 65535
+few_days rows valid =
+    let within : nat_lt 65535 (length rows.dates) ≡ false = within_limit _ _ (last_cause (dimension_cause customer_rules rows.customers) (dimension_cause supplier_rules rows.suppliers) (dimension_cause part_rules rows.parts) (dimension_cause date_rules rows.dates) valid) in
+    grind arith

@@ -1,9 +1,12 @@
 pub mod Assembled
 pub mod Broken
+pub mod CodesAt
 pub mod BuildSteps
 pub mod DayCauses
 pub mod Found
 pub mod Keys
+pub mod RankLaws
+pub mod Ranking
 pub mod LevelCauses
 pub mod ApartTexts
 pub mod Refusals

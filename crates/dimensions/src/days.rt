@@ -1,5 +1,5 @@
 //! The days.
-ghost use Rattle.std.specs.Prelude.{◌≡◌, ◌<◌, ◌==◌, ◌||◌, ◌⊎◌, ℕ, List, true, false, [], ◌∷◌, ◌++◌, length, codes, IfOk, OnOk, IfErr, MatchOption, slice_get, map, find};
+ghost use Rattle.std.specs.Prelude.{◌≡◌, ◌<◌, ◌≤◌, ◌==◌, ◌||◌, ◌⊎◌, ℕ, List, true, false, [], ◌∷◌, ◌++◌, length, codes, IfOk, OnOk, IfErr, MatchOption, slice_get, map, find};
 ghost use Rattle.std.specs.Bool.{OnTrue, OnFalse};
 ghost use Rattle.std.specs.Fmt.{decimal};
 ghost use Rattle.std.specs.List.{position_or_len};
@@ -9,10 +9,13 @@ ghost use Rattle.cube_model.specs.Attributes.{of_date};
 ghost use Rattle.dimensions.specs.Texts.{day_attribute};
 ghost use Rattle.hierarchy.specs.Hierarchy.{PutsUpper};
 ghost use Rattle.dimensions.specs.Days.{IsDayCoded, LacksDayRoom, DayNumbered, AddsDay, day_with, days_of};
+ghost use Rattle.dimensions.specs.Ranked.{IsCodeAt};
+ghost use Rattle.dimensions.specs.RankedTables.{RanksDays};
 ghost use Rattle.dimensions.specs.Tables.{day_coded_of};
 
 use crate::members::{MEMBER_LIMIT, is_all, number};
 use crate::places::Places;
+use crate::ranks::{DayRanks, Ranks};
 use cube_model::{Attr, Axis, Fault, Items, Text};
 use dictionary::Dictionary;
 use hierarchy::{Hierarchy, Level};
@@ -290,6 +293,82 @@ impl DayTable {
             Attr::DateWeeknuminyear => self.weeks.text(u32::from(week)),
             _ => None,
         }
+    }
+
+    /// The code of the month of the day at a place.
+    pub fn month_code(&self, place: usize) -> u16
+        requires sound { IsDayCoded (day_coded_of self.now) }
+        requires within { place < length self.now.places }
+        ensures { IsCodeAt self.now.months.texts (map (λ row. row.yearmonthnum) (days_of (day_coded_of self.now))) place result }
+    {
+        self.codes[place].0
+    }
+
+    /// The code of the week of the day at a place.
+    pub fn week_code(&self, place: usize) -> u16
+        requires sound { IsDayCoded (day_coded_of self.now) }
+        requires within { place < length self.now.places }
+        ensures { IsCodeAt self.now.weeks.texts (map (λ row. row.weeknuminyear) (days_of (day_coded_of self.now))) place result }
+    {
+        self.codes[place].1
+    }
+
+    /// The code of the year of the day at a place.
+    pub fn year_code(&self, place: usize) -> u16
+        requires sound { IsDayCoded (day_coded_of self.now) }
+        requires within { place < length self.now.places }
+        ensures { IsCodeAt self.now.years.texts (map (λ row. row.year) (days_of (day_coded_of self.now))) place result }
+    {
+        self.year_of
+            .up(Level::Lowest, self.codes[place].0, Level::Middle)
+            .unwrap()
+    }
+
+    /// The code of the yearmonth of the day at a place.
+    pub fn yearmonth_code(&self, place: usize) -> u16
+        requires sound { IsDayCoded (day_coded_of self.now) }
+        requires within { place < length self.now.places }
+        ensures { IsCodeAt self.now.yearmonths.texts (map (λ row. row.yearmonth) (days_of (day_coded_of self.now))) place result }
+    {
+        self.yearmonth_of
+            .up(Level::Lowest, self.codes[place].0, Level::Middle)
+            .unwrap()
+    }
+
+    /// The ranks of the members. It can only fail for want of memory.
+    pub fn ranks(&self, alloc: Global) -> Result<DayRanks, Fault>
+        requires sound { IsDayCoded (day_coded_of self.now) }
+        requires few { length self.now.texts.items ≤ 65535 }
+        ensures ok { IfOk result (λ ranks. RanksDays (day_coded_of self.now) self.now.texts.items ranks) }
+        ensures memory { IfErr result (λ fault. fault ≡ Fault.Memory) }
+    {
+        let days = match Ranks::of(alloc, self.texts.as_slice()) {
+            Ok(ranks) => ranks,
+            Err(fault) => return Err(fault),
+        };
+        let months = match Ranks::of_dictionary(alloc, &self.months) {
+            Ok(ranks) => ranks,
+            Err(fault) => return Err(fault),
+        };
+        let years = match Ranks::of_dictionary(alloc, &self.years) {
+            Ok(ranks) => ranks,
+            Err(fault) => return Err(fault),
+        };
+        let yearmonths = match Ranks::of_dictionary(alloc, &self.yearmonths) {
+            Ok(ranks) => ranks,
+            Err(fault) => return Err(fault),
+        };
+        let weeks = match Ranks::of_dictionary(alloc, &self.weeks) {
+            Ok(ranks) => ranks,
+            Err(fault) => return Err(fault),
+        };
+        Ok(DayRanks {
+            days,
+            months,
+            years,
+            yearmonths,
+            weeks,
+        })
     }
 
     // The codes of the month and the week of the day at a place.

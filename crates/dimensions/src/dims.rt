@@ -1,17 +1,21 @@
 //! The four dimensions.
-ghost use Rattle.std.specs.Prelude.{◌≡◌, ◌==◌, ◌⊎◌, Some, find, map, IfOk, OnOk, IfErr};
+ghost use Rattle.std.specs.Prelude.{◌≡◌, ◌<◌, ◌≤◌, ◌==◌, ◌⊎◌, Some, find, map, IfOk, OnOk, IfErr, [], length, slice_index_or};
 ghost use Rattle.std.specs.Option.{option_map, option_and_then};
-ghost use Rattle.cube_model.specs.Attributes.{attribute_at, of_customer, of_supplier, of_part};
-ghost use Rattle.cube_model.specs.Places.{place_of, row_count_of};
-ghost use Rattle.cube_model.specs.Validity.{IsValid, invalid_cause};
+ghost use Rattle.cube_model.specs.Attributes.{attribute_at, axis_of, of_customer, of_supplier, of_part};
+ghost use Rattle.cube_model.specs.Places.{place_of, row_count_of, text_at, attr_members};
+ghost use Rattle.cube_model.specs.Validity.{IsValid, invalid_cause, members_of};
 ghost use Rattle.dimensions.specs.Built.{as_customer, as_supplier, as_part};
 ghost use Rattle.dimensions.specs.Levels.{IsCoded, rows_of};
+ghost use Rattle.dimensions.specs.Ranked.{IsCodeAt};
+ghost use Rattle.dimensions.specs.RankedTables.{RanksLevels};
 ghost use Rattle.dimensions.specs.Tables.{coded_of};
-ghost use Rattle.dimensions.specs.Texts.{customer_level, supplier_level, part_level};
+ghost use Rattle.dimensions.specs.Whole.{dim_rows, AreTables};
+ghost use Rattle.dimensions.specs.Texts.{level_text, customer_level, supplier_level, part_level};
 
 use crate::build::{build_days, build_table};
 use crate::days::DayTable;
 use crate::levels::Table;
+use crate::ranks::{DayRanks, LevelRanks, Ranks};
 use cube_model::{Attr, Axis, DimRows, Fault};
 use hierarchy::Level;
 use std::alloc::Global;
@@ -23,17 +27,23 @@ pub struct Dims {
     suppliers: Table,
     parts: Table,
     dates: DayTable,
+    customer_ranks: LevelRanks,
+    supplier_ranks: LevelRanks,
+    part_ranks: LevelRanks,
+    date_ranks: DayRanks,
 }
 
 impl Model for Dims {
     ghost use Rattle.cube_model.specs.declared.rows.DimRows.{DimRows};
+    ghost use Rattle.dimensions.specs.RankedTables.{AreRanked};
     ghost use Rattle.dimensions.specs.Whole.{shown_rows, AreTables};
 
     ghost Value = { DimRows };
 
     ghost view = { λ d. shown_rows d.customers d.suppliers d.parts d.dates };
 
-    ghost invariant = { λ d. AreTables d.customers d.suppliers d.parts d.dates };
+    ghost invariant = { λ d. AreTables d.customers d.suppliers d.parts d.dates
+        × AreRanked d.customers d.suppliers d.parts d.dates d.customer_ranks d.supplier_ranks d.part_ranks d.date_ranks };
 }
 
 // Written out, so that a caller's proof has one call to follow where it lets the dimensions go.
@@ -44,6 +54,10 @@ impl Drop for Dims {
             suppliers: _,
             parts: _,
             dates: _,
+            customer_ranks: _,
+            supplier_ranks: _,
+            part_ranks: _,
+            date_ranks: _,
         } = self;
     }
 }
@@ -73,12 +87,7 @@ impl Dims {
             Ok(table) => table,
             Err(fault) => return Err(fault),
         };
-        Ok(Dims {
-            customers,
-            suppliers,
-            parts,
-            dates,
-        })
+        with_ranks(alloc, customers, suppliers, parts, dates)
     }
 
     /// How many rows a dimension has.
@@ -117,6 +126,166 @@ impl Dims {
             Axis::Part => part_text(&self.parts, key, attr),
             Axis::Date => self.dates.attribute(key, attr),
         }
+    }
+
+    /// The number of members of an attribute.
+    pub fn members(&self, attr: Attr) -> usize
+        ensures count { result ≡ length (attr_members self.now attr) }
+        ensures few { result ≤ 65535 }
+    {
+        self.ranks_of(attr).count()
+    }
+
+    /// The rank of the text at a place: its place among the members, which stand in order by bytes.
+    pub fn code(&self, attr: Attr, place: usize) -> u16
+        requires { place < row_count_of self.now (axis_of attr) }
+        ensures below { result < length (attr_members self.now attr) }
+        ensures text { slice_index_or (attr_members self.now attr) result [] ≡ text_at self.now attr place }
+    {
+        match attr {
+            Attr::CustomerCity => level_rank(
+                &self.customers,
+                &self.customer_ranks,
+                Level::Lowest,
+                place,
+            ),
+            Attr::CustomerNation => level_rank(
+                &self.customers,
+                &self.customer_ranks,
+                Level::Middle,
+                place,
+            ),
+            Attr::CustomerRegion => level_rank(
+                &self.customers,
+                &self.customer_ranks,
+                Level::Top,
+                place,
+            ),
+            Attr::SupplierCity => level_rank(
+                &self.suppliers,
+                &self.supplier_ranks,
+                Level::Lowest,
+                place,
+            ),
+            Attr::SupplierNation => level_rank(
+                &self.suppliers,
+                &self.supplier_ranks,
+                Level::Middle,
+                place,
+            ),
+            Attr::SupplierRegion => level_rank(
+                &self.suppliers,
+                &self.supplier_ranks,
+                Level::Top,
+                place,
+            ),
+            Attr::PartBrand1 => level_rank(&self.parts, &self.part_ranks, Level::Lowest, place),
+            Attr::PartCategory => level_rank(&self.parts, &self.part_ranks, Level::Middle, place),
+            Attr::PartMfgr => level_rank(&self.parts, &self.part_ranks, Level::Top, place),
+            Attr::DateKey => self.date_ranks.days.rank(place),
+            Attr::DateYearmonthnum => self
+                .date_ranks
+                .months
+                .rank(usize::from(self.dates.month_code(place))),
+            Attr::DateYear => self
+                .date_ranks
+                .years
+                .rank(usize::from(self.dates.year_code(place))),
+            Attr::DateYearmonth => self
+                .date_ranks
+                .yearmonths
+                .rank(usize::from(self.dates.yearmonth_code(place))),
+            Attr::DateWeeknuminyear => self
+                .date_ranks
+                .weeks
+                .rank(usize::from(self.dates.week_code(place))),
+        }
+    }
+
+    /// The text of a rank.
+    pub fn member(&self, attr: Attr, code: u16) -> &[u8]
+        requires { code < length (attr_members self.now attr) }
+        ensures { result.now ≡ slice_index_or (attr_members self.now attr) code [] }
+    {
+        self.ranks_of(attr).member(code)
+    }
+
+    // The ranks of the members of an attribute.
+    fn ranks_of(&self, attr: Attr) -> &Ranks
+        ensures { members_of result.now ≡ attr_members self.now attr }
+    {
+        match attr {
+            Attr::CustomerCity => &self.customer_ranks.lowest,
+            Attr::CustomerNation => &self.customer_ranks.middle,
+            Attr::CustomerRegion => &self.customer_ranks.top,
+            Attr::SupplierCity => &self.supplier_ranks.lowest,
+            Attr::SupplierNation => &self.supplier_ranks.middle,
+            Attr::SupplierRegion => &self.supplier_ranks.top,
+            Attr::PartBrand1 => &self.part_ranks.lowest,
+            Attr::PartCategory => &self.part_ranks.middle,
+            Attr::PartMfgr => &self.part_ranks.top,
+            Attr::DateKey => &self.date_ranks.days,
+            Attr::DateYearmonthnum => &self.date_ranks.months,
+            Attr::DateYear => &self.date_ranks.years,
+            Attr::DateYearmonth => &self.date_ranks.yearmonths,
+            Attr::DateWeeknuminyear => &self.date_ranks.weeks,
+        }
+    }
+}
+
+// The dimensions of sound tables, with the ranks of their members.
+#[tactic(auto, unfolding(crate::specs::Whole::shown_rows))]
+fn with_ranks(
+    alloc: Global,
+    customers: Table,
+    suppliers: Table,
+    parts: Table,
+    dates: DayTable,
+) -> Result<Dims, Fault>
+    requires { AreTables customers suppliers parts dates }
+    ensures ok { IfOk result (λ dims. dims ≡ dim_rows customers suppliers parts dates) }
+    ensures memory { IfErr result (λ fault. fault ≡ Fault.Memory) }
+{
+    let customer_ranks = match customers.ranks(alloc) {
+        Ok(ranks) => ranks,
+        Err(fault) => return Err(fault),
+    };
+    let supplier_ranks = match suppliers.ranks(alloc) {
+        Ok(ranks) => ranks,
+        Err(fault) => return Err(fault),
+    };
+    let part_ranks = match parts.ranks(alloc) {
+        Ok(ranks) => ranks,
+        Err(fault) => return Err(fault),
+    };
+    let date_ranks = match dates.ranks(alloc) {
+        Ok(ranks) => ranks,
+        Err(fault) => return Err(fault),
+    };
+    Ok(Dims {
+        customers,
+        suppliers,
+        parts,
+        dates,
+        customer_ranks,
+        supplier_ranks,
+        part_ranks,
+        date_ranks,
+    })
+}
+
+// The rank of the text at a level of the row at a place.
+fn level_rank(table: &Table, ranks: &LevelRanks, level: Level, place: usize) -> u16
+    requires sound { IsCoded (coded_of table.now) }
+    requires ranked { RanksLevels (coded_of table.now) ranks.now }
+    requires within { place < length table.now.places }
+    ensures { IsCodeAt (members_of (map (level_text level) (rows_of (coded_of table.now)))) (map (level_text level) (rows_of (coded_of table.now))) place result }
+{
+    let code = usize::from(table.member_code(level, place));
+    match level {
+        Level::Lowest => ranks.lowest.rank(code),
+        Level::Middle => ranks.middle.rank(code),
+        Level::Top => ranks.top.rank(code),
     }
 }
 

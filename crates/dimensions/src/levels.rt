@@ -1,5 +1,5 @@
 //! Dimensions whose members have two levels above them.
-ghost use Rattle.std.specs.Prelude.{◌≡◌, ◌<◌, ◌==◌, ◌||◌, ◌⊎◌, ℕ, List, true, false, [], length, codes, ◌++◌, ◌∷◌, IfOk, OnOk, IfErr, MatchOption, slice_get};
+ghost use Rattle.std.specs.Prelude.{◌≡◌, ◌<◌, ◌==◌, ◌||◌, ◌⊎◌, ℕ, List, true, false, [], length, codes, ◌++◌, ◌∷◌, IfOk, OnOk, IfErr, MatchOption, slice_get, map};
 ghost use Rattle.std.specs.Bool.{OnTrue, OnFalse};
 ghost use Rattle.std.specs.List.{position_or_len};
 ghost use Rattle.std.specs.Str.{bytes_eq};
@@ -8,10 +8,13 @@ ghost use Rattle.dimensions.specs.Levels.{IsCoded, LacksRoom, Numbered, AddsRow,
 ghost use Rattle.std.specs.Option.{option_map};
 ghost use Rattle.dimensions.specs.Texts.{level_text};
 ghost use Rattle.dimensions.specs.Texts.{texts_at, member_text};
+ghost use Rattle.dimensions.specs.Ranked.{IsCodeAt};
+ghost use Rattle.dimensions.specs.RankedTables.{RanksLevels};
 ghost use Rattle.dimensions.specs.Tables.{coded_of};
 
 use crate::members::{MEMBER_LIMIT, is_all, number};
 use crate::places::Places;
+use crate::ranks::{LevelRanks, Ranks};
 use cube_model::{Axis, Fault};
 use dictionary::Dictionary;
 use hierarchy::{Hierarchy, Level};
@@ -200,6 +203,42 @@ impl Table {
         ensures { result ≡ position_or_len (λ other. other == key) self.now.places }
     {
         self.places.place(key)
+    }
+
+    /// The code of the member at a level of the row at a place.
+    pub fn member_code(&self, level: Level, place: usize) -> u16
+        requires sound { IsCoded (coded_of self.now) }
+        requires within { place < length self.now.places }
+        ensures { IsCodeAt (texts_at (coded_of self.now) level) (map (level_text level) (rows_of (coded_of self.now))) place result }
+    {
+        self.links
+            .up(Level::Lowest, self.codes[place], level)
+            .unwrap()
+    }
+
+    /// The ranks of the members. It can only fail for want of memory.
+    pub fn ranks(&self, alloc: Global) -> Result<LevelRanks, Fault>
+        requires { IsCoded (coded_of self.now) }
+        ensures ok { IfOk result (λ ranks. RanksLevels (coded_of self.now) ranks) }
+        ensures memory { IfErr result (λ fault. fault ≡ Fault.Memory) }
+    {
+        let lowest = match Ranks::of_dictionary(alloc, &self.lowest) {
+            Ok(ranks) => ranks,
+            Err(fault) => return Err(fault),
+        };
+        let middle = match Ranks::of_dictionary(alloc, &self.middle) {
+            Ok(ranks) => ranks,
+            Err(fault) => return Err(fault),
+        };
+        let top = match Ranks::of_dictionary(alloc, &self.top) {
+            Ok(ranks) => ranks,
+            Err(fault) => return Err(fault),
+        };
+        Ok(LevelRanks {
+            lowest,
+            middle,
+            top,
+        })
     }
 
     // The dictionary of a level.

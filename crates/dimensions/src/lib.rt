@@ -7,5 +7,6 @@ mod dims;
 mod levels;
 mod members;
 mod places;
+mod ranks;
 
 pub use dims::Dims;

@@ -1,11 +1,11 @@
 //! Texts as members.
-ghost use Rattle.std.specs.Prelude.{◌≡◌, codes, IfOk, IfErr};
+ghost use Rattle.std.specs.Prelude.{◌≡◌, ◌≤◌, codes, IfOk, IfErr, length};
 ghost use Rattle.std.specs.Str.{bytes_eq};
 ghost use Rattle.dictionary.specs.Dictionary.{Adds};
 
-use cube_model::Fault;
+use cube_model::{Fault, Items, Text};
 use dictionary::Dictionary;
-use std::alloc::Global;
+use std::alloc::{AllocError, Global};
 
 /// How many members a level may have.
 pub const MEMBER_LIMIT: u32 = 65535;
@@ -28,4 +28,29 @@ pub fn number(dictionary: &mut Dictionary, alloc: Global, text: &[u8]) -> Result
         Ok(None) => Ok(None),
         Ok(Some(code)) => Ok(Some(code as u16)),
     }
+}
+
+/// The texts of a dictionary of members, in the order of their codes.
+pub fn all_texts(alloc: Global, dictionary: &Dictionary) -> Result<Vec<Text>, Fault>
+    requires { length dictionary.now.texts ≤ 65535 }
+    ensures ok { IfOk result (λ texts. texts.items ≡ dictionary.now.texts) }
+    ensures memory { IfErr result (λ fault. fault ≡ Fault.Memory) }
+{
+    match copied_texts(alloc, dictionary) {
+        Ok(texts) => Ok(texts),
+        Err(_) => Err(Fault::Memory),
+    }
+}
+
+// The same, each text copied.
+fn copied_texts(alloc: Global, dictionary: &Dictionary) -> Result<Vec<Text>, AllocError>
+    requires { length dictionary.now.texts ≤ 65535 }
+    ensures { IfOk result (λ texts. texts.items ≡ dictionary.now.texts) }
+{
+    let mut texts = Vec::with_capacity(alloc, dictionary.len())?;
+    for code in 0..dictionary.len() as u32 {
+        let text = dictionary.text(code).unwrap();
+        texts.push(Items::from_vec(Vec::from_slice(alloc, text)?))?;
+    }
+    Ok(texts)
 }

@@ -1,5 +1,5 @@
 -- The batches of a text, one after the other.
-use Rattle.std.proofs.Common.{◌≡◌, ℕ, zero, suc, ◌+◌, ◌-◌, ◌*◌, ◌^◌, ◌≤◌, ◌<◌, Bool, true, false, cond, List, [], ◌∷◌, ◌++◌, length, take, drop, Option, Some, None, is_none, Result, Ok, Err, refl, sym, ap, ◌∙◌, arith, append-nil, nat_le, nat_lt, ◌⊎◌, inl, inr, IfOk, IfErr}
+use Rattle.std.proofs.Common.{◌≡◌, ℕ, zero, suc, ◌+◌, ◌-◌, ◌^◌, ◌≤◌, ◌<◌, Bool, true, false, List, [], ◌∷◌, ◌++◌, length, take, drop, Option, Some, None, is_none, Result, Ok, Err, refl, sym, ap, ◌∙◌, arith, nat_le, nat_lt, ◌⊎◌, inl, inr, IfOk, IfErr}
 use Rattle.std.proofs.lemmas.List.{length-drop, length-append, length_push}
 use Rattle.std.proofs.lemmas.Bool.Decides.{nat_tests}
 use Rattle.batch_loader.specs.Lines.{lines_of}
@@ -19,7 +19,6 @@ use Rattle.cube_model.specs.Admission.{all_rows, refusal, long_text, unknown_key
 use Rattle.cube_model.specs.Attributes.{customer_of, supplier_of, part_of, date_of}
 use Rattle.cube_model.specs.Causes.{first_cause, cause_if}
 use Rattle.cube_query.specs.Groups.{FoldState, StandsFor, CanTake, Takes}
-use Rattle.cube_query.specs.Limits.{AreFoldable}
 use Rattle.ssb_eval.specs.Accepted.{Accepted}
 use Rattle.ssb_eval.specs.Admission.{StandsBehind}
 use Rattle.ssb_eval.specs.Evaluation.{and_then, unless, parts_in, parts_of, facts_behind, facts_of, answer_of, Gives}

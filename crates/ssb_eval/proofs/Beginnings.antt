@@ -1,10 +1,10 @@
 -- Bytes that are written one part after the other.
-use Rattle.std.proofs.Common.{◌≡◌, ℕ, List, [], ◌++◌, Option, Some, None, Result, Ok, Err, ap, sym, refl, ◌∙◌, append_assoc, append-nil, IfErr}
+use Rattle.std.proofs.Common.{◌≡◌, ℕ, List, [], ◌++◌, Option, Result, Ok, Err, ap, sym, ◌∙◌, append_assoc, append-nil, IfErr}
 use Rattle.std.specs.Io.KnownBytes.{Appends, Keeps}
-use Rattle.std.proofs.KnownBytes.{Appends-trans, Appends-nil, Appends-kept}
+use Rattle.std.proofs.KnownBytes.{Appends-trans, Appends-kept}
 use Rattle.cube_model.specs.declared.fault.Fault.{Fault}
 use Rattle.cube_model.specs.declared.fault.Fault.TheVariants.{Output}
-use Rattle.ssb_eval.specs.Writing.{AppendsBeginning, Writes}
+use Rattle.ssb_eval.specs.Writing.{Writes}
 
 behind : (old mid new : Option (List ℕ)) (result : Result Unit Fault) (first second : List ℕ) → Appends old mid first → Writes mid new result second → Writes old new result (first ++ second)
 behind old mid new (Ok done) first second front back = Appends-trans old mid new first second front back

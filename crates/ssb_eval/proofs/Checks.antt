@@ -1,5 +1,5 @@
 -- What is found in the rows of a batch, one row after the other.
-use Rattle.std.proofs.Common.{◌≡◌, ◌==◌, ℕ, suc, ◌+◌, ◌<◌, Bool, true, false, not, cond, List, [], ◌∷◌, ◌++◌, length, take, get_or, Option, Some, None, is_none, find, refl, sym, ap, ◌∙◌, arith, rules, add-zero, zero-add, add_assoc, sum_by, length-take-le, append-nil}
+use Rattle.std.proofs.Common.{◌≡◌, ◌==◌, ℕ, suc, ◌+◌, ◌<◌, Bool, true, false, not, cond, List, [], ◌∷◌, ◌++◌, length, take, get_or, Option, Some, None, is_none, find, refl, sym, ap, ◌∙◌, arith, add-zero, add_assoc, length-take-le, append-nil}
 use Rattle.std.specs.List.{position_or_len}
 use Rattle.std.proofs.lemmas.List.{take_more, length_push}
 use Rattle.std.proofs.lemmas.Grind.{flat_map-append}
@@ -18,8 +18,8 @@ use Rattle.ssb_eval.specs.Admission.{lacks, found_in, found_with, judgement, jud
 use Rattle.ssb_eval.specs.declared.findings.Findings.{Findings}
 use Rattle.cube_model.specs.declared.measure.Measure.{Measure}
 use Rattle.cube_model.specs.declared.measure.Measure.TheVariants.{Quantity, ExtendedPrice, Revenue, SupplyCost, Discounted, Profit}
-use Rattle.cube_model.specs.Admission.{absolute_total, sums_cause, all_rows, refusal}
-use Rattle.ssb_eval.specs.Totals.{plus_rows, plus_row, totals_of, totals_cause, size_of}
+use Rattle.cube_model.specs.Admission.{absolute_total, all_rows, refusal}
+use Rattle.ssb_eval.specs.Totals.{plus_rows, plus_row, totals_of, size_of}
 use Rattle.ssb_eval.specs.declared.totals.Totals.{Totals}
 
 one_more : (n m : ℕ) → (1 + n == suc m) ≡ (n == m)

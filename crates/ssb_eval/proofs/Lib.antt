@@ -4,3 +4,4 @@ pub mod Checks
 pub mod Endings
 pub mod Rows
 pub mod Tables
+pub mod WholeText

@@ -1,5 +1,5 @@
 -- What the texts of the five tables and a query come to: the bytes of a report, or the first refusal. Our own.
-use Rattle.std.specs.Prelude.{◌≡◌, ℕ, zero, suc, ◌+◌, ◌⊎◌, ⊤, List, [], ◌∷◌, ◌++◌, length, take, drop, Option, Some, None, Result, Ok, Err}
+use Rattle.std.specs.Prelude.{◌≡◌, ℕ, zero, suc, ◌+◌, ◌⊎◌, List, [], ◌∷◌, ◌++◌, length, take, drop, Option, Some, None, Result, Ok, Err}
 use Rattle.std.specs.Io.KnownBytes.{Appends, Keeps}
 use Rattle.batch_loader.specs.Lines.{lines_of}
 use Rattle.batch_loader.specs.Rows.{rows_of, number_after}
@@ -73,6 +73,10 @@ facts_behind dimensions batches number (lines ∷ others) =
 -- the fact rows of a text, in batches of 65,536 lines
 abbrev pub facts_of : DimRows → List ℕ → Result (List LineOrder) Fault
 facts_of dimensions text = facts_behind dimensions [] 1 (parts_of 65536 (lines_of text))
+
+-- where no batch of a text is refused, their rows put end to end are the rows of all its lines
+abbrev pub FactsAreRows : Type 0
+FactsAreRows = (dimensions : DimRows) (text : List ℕ) (rows : List LineOrder) → facts_of dimensions text ≡ Ok rows → table_rows lineorder_row text ≡ Ok rows
 
 -- the answer over them
 abbrev pub answer_of : Query → DimRows → List ℕ → Result Answer Fault

@@ -5,7 +5,7 @@ use Rattle.batch_loader.specs.Rows.{next_number}
 use Rattle.cube_model.specs.declared.query.Query.{Query}
 use Rattle.cube_model.specs.declared.rows.DimRows.{DimRows}
 use Rattle.cube_model.specs.declared.rows.LineOrder.{LineOrder}
-use Rattle.cube_model.specs.Admission.{all_rows, AreInRange, HaveKnownKeys}
+use Rattle.cube_model.specs.Admission.{all_rows, HaveKnownKeys}
 use Rattle.cube_query.specs.Groups.{FoldState, StandsFor}
 use Rattle.ssb_eval.specs.Accepted.{Accepted}
 use Rattle.ssb_eval.specs.Admission.{StandsBehind}

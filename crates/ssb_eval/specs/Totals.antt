@@ -1,5 +1,5 @@
 -- The sums of the absolute values of the measures, which decide whether a batch's sums pass their limit. Our own.
-use Rattle.std.specs.Prelude.{◌≡◌, ℕ, ◌+◌, ◌^◌, ◌≤◌, ◌<◌, nat_le, nat_abs, List, [], ◌∷◌, Option}
+use Rattle.std.specs.Prelude.{ℕ, ◌+◌, ◌^◌, ◌≤◌, nat_le, nat_abs, List, [], ◌∷◌, Option}
 use Rattle.cube_model.specs.declared.fault.Fault.{Fault}
 use Rattle.cube_model.specs.declared.fault.Fault.TheVariants.{SumRange}
 use Rattle.cube_model.specs.declared.measure.Measure.{Measure}

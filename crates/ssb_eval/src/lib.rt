@@ -8,6 +8,7 @@ mod exit;
 mod facts;
 mod field;
 mod findings;
+mod laws;
 mod pushing;
 mod report;
 #[cfg(test)]
@@ -20,5 +21,6 @@ mod writing;
 
 pub use evaluation::eval_texts;
 pub use exit::exit_of;
+pub use laws::facts_are_the_rows_of_their_text;
 pub use report::write_report;
 pub use words::read_query;

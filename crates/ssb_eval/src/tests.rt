@@ -45,6 +45,13 @@ const FIXTURE: Tables<'static> = Tables {
     lineorder: FACTS,
 };
 
+fn with_facts(lineorder: &str) -> Tables<'_> {
+    Tables {
+        lineorder,
+        ..FIXTURE
+    }
+}
+
 /// Gives a text in pieces of 7 bytes, and fails at a read, counted from 1.
 #[derive(Drop)]
 struct Pieces<'a> {
@@ -110,6 +117,35 @@ const Q11: Words<'static> = Words {
     conditions: &[],
 };
 
+const REGIONS: Words<'static> = Words {
+    q: None,
+    set: None,
+    by: Some("c_region,d_year"),
+    agg: Some("sum:revenue,min:profit,max:profit"),
+    conditions: &[],
+};
+
+const FOURTH: Words<'static> = Words {
+    q: None,
+    set: None,
+    by: Some("d_year,s_city,p_brand1"),
+    agg: Some("sum:profit"),
+    conditions: &[
+        "c_region=AMERICA",
+        "s_nation=UNITED STATES",
+        "d_year=1997|1998",
+        "p_category=MFGR#14",
+    ],
+};
+
+const RANGE: Words<'static> = Words {
+    q: None,
+    set: None,
+    by: Some("p_brand1"),
+    agg: Some("count"),
+    conditions: &["p_brand1:MFGR#2221|MFGR#2228"],
+};
+
 fn cube<'a>(by: &'a str, agg: &'a str, conditions: &'a [&'a str]) -> Words<'a> {
     Words {
         q: None,
@@ -160,41 +196,26 @@ fn report(alloc: Global, tables: Tables<'_>, words: Words<'_>) -> Result<Vec<u8>
 
 #[test]
 fn reports_are_as_worked_by_hand(rt: HostRuntime) {
-    let none = Tables {
-        lineorder: "",
-        ..FIXTURE
-    };
+    let none = with_facts("");
     let brands = Tables {
         part: MORE_PARTS,
         lineorder: BRAND_FACTS,
         ..FIXTURE
     };
-    let regions = cube("c_region,d_year", "sum:revenue,min:profit,max:profit", &[]);
-    let fourth = cube(
-        "d_year,s_city,p_brand1",
-        "sum:profit",
-        &[
-            "c_region=AMERICA",
-            "s_nation=UNITED STATES",
-            "d_year=1997|1998",
-            "p_category=MFGR#14",
-        ],
-    );
-    let range = cube("p_brand1", "count", &["p_brand1:MFGR#2221|MFGR#2228"]);
     let cases = [
         (none, Q11, "sum(discounted)\nrows 0\n"),
         (FIXTURE, Q11, "sum(discounted)\n2000\nrows 1\n"),
         (
             FIXTURE,
-            regions,
+            REGIONS,
             "c_region|d_year|sum(revenue)|min(profit)|max(profit)\nAMERICA|1997|1940|-60|-60\nEUROPE|1993|980|380|380\nEUROPE|1997|495|395|395\nrows 3\n",
         ),
         (
             FIXTURE,
-            fourth,
+            FOURTH,
             "d_year|s_city|p_brand1|sum(profit)\n1997|UNITED ST0|MFGR#142|-60\nrows 1\n",
         ),
-        (brands, range, "p_brand1|count\nMFGR#2221|1\nrows 1\n"),
+        (brands, RANGE, "p_brand1|count\nMFGR#2221|1\nrows 1\n"),
     ];
     for (tables, words, want) in cases {
         match report(rt.alloc(), tables, words) {
@@ -216,14 +237,12 @@ fn the_first_refusal_decides(rt: HostRuntime) {
         lineorder: "x\n",
         ..FIXTURE
     };
-    let unknown = Tables {
-        lineorder: "1|1|1|1|1|19930105|1-URGENT|0|17|1000|1000|2|980|600|0|19930201|AIR|\n2|1|3|2|2|19971202|5-LOW|0|24|2000|2000|3|1940|2000|0|19980101|RAIL|\n",
-        ..FIXTURE
-    };
-    let late = Tables {
-        lineorder: "1|1|9|1|1|19930105|1-URGENT|0|17|1000|1000|2|980|600|0|19930201|AIR|\nx\n",
-        ..FIXTURE
-    };
+    let unknown = with_facts(
+        "1|1|1|1|1|19930105|1-URGENT|0|17|1000|1000|2|980|600|0|19930201|AIR|\n2|1|3|2|2|19971202|5-LOW|0|24|2000|2000|3|1940|2000|0|19980101|RAIL|\n",
+    );
+    let late = with_facts(
+        "1|1|9|1|1|19930105|1-URGENT|0|17|1000|1000|2|980|600|0|19930201|AIR|\nx\n",
+    );
     let cases = [
         (cut_part, Fault::FieldCount { line: 1 }),
         (
@@ -270,11 +289,7 @@ fn absolute_sums_stay_in_range(rt: HostRuntime) {
         (within, Some("sum(profit)\n1\nrows 1\n")),
     ];
     for (lineorder, want) in cases {
-        let tables = Tables {
-            lineorder,
-            ..FIXTURE
-        };
-        match (report(rt.alloc(), tables, profit), want) {
+        match (report(rt.alloc(), with_facts(lineorder), profit), want) {
             (Ok(bytes), Some(want)) => assert!(rt; bytes.as_slice() == want.as_bytes(), "{want}"),
             (Err(fault), None) => assert!(rt; fault == passes || fault == Fault::Memory, "{fault}"),
             (Err(fault), Some(_)) => assert_eq!(rt; fault, Fault::Memory),
@@ -284,7 +299,7 @@ fn absolute_sums_stay_in_range(rt: HostRuntime) {
 }
 
 #[test]
-fn words_that_cannot_be_read_are_refused(rt: HostRuntime) {
+fn words_of_a_query_are_read(rt: HostRuntime) {
     let right = [
         bare_words(Some("1.1"), None, None, None),
         bare_words(None, Some("plain"), None, Some("count")),
@@ -304,6 +319,10 @@ fn words_that_cannot_be_read_are_refused(rt: HostRuntime) {
             Err(fault) => assert_eq!(rt; fault, Fault::Memory),
         }
     }
+}
+
+#[test]
+fn words_that_cannot_be_read_are_refused(rt: HostRuntime) {
     let wrong = [
         bare_words(None, None, None, None),
         bare_words(Some("1.1"), None, None, Some("count")),
@@ -337,6 +356,10 @@ fn words_that_cannot_be_read_are_refused(rt: HostRuntime) {
             Err(fault) => assert!(rt; fault == Fault::BadQuery || fault == Fault::Memory),
         }
     }
+}
+
+#[test]
+fn the_status_says_how_it_ended(rt: HostRuntime) {
     assert_eq!(rt; exit_of(&Ok(true)), 0);
     assert_eq!(rt; exit_of(&Ok(false)), 1);
     assert_eq!(rt; exit_of(&Err(Fault::Input)), 1);

@@ -28,7 +28,7 @@ pub fn fields<const N: usize>(line: &[u8], number: u64) -> Result<LineFields<'_,
 }
 
 /// A line without its CR.
-fn without_cr(line: &[u8]) -> &[u8]
+pub fn without_cr(line: &[u8]) -> &[u8]
     ensures { result.now ≡ without_cr line.now }
 {
     let len = line.len();

@@ -1,4 +1,3 @@
-use Rattle.std.proofs.Common.{rules}
 use Rattle.ssb_eval.proofs.Checks.{lacks-at_end}
 use Rattle.ssb_eval.proofs.findings.lacks.Goals as goal
 

@@ -1,4 +1,4 @@
-use Rattle.std.proofs.Common.{◌++◌, rules, refl, codes}
+use Rattle.std.proofs.Common.{rules, refl, codes}
 use Rattle.std.specs.Fmt.{decimal}
 use Rattle.std.proofs.lemmas.Result.{err_from_is_err_and}
 use Rattle.ssb_eval.proofs.Beginnings.{Writes-on, Writes-stop, Writes-stop_behind}

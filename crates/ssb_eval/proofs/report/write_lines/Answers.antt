@@ -1,4 +1,3 @@
-use Rattle.std.proofs.Common.{rules, refl, arith}
 use Rattle.std.proofs.lemmas.Result.{err_from_is_err_and}
 use Rattle.ssb_eval.specs.Report.{line_text}
 use Rattle.ssb_eval.proofs.Beginnings.{Writes-stop_behind}

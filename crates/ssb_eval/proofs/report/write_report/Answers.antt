@@ -1,4 +1,3 @@
-use Rattle.std.proofs.Common.{rules}
 use Rattle.ssb_eval.proofs.Beginnings.{Writes-flushed}
 use Rattle.ssb_eval.proofs.report.write_report.Goals as goal
 

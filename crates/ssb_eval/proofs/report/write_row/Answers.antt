@@ -1,6 +1,5 @@
-use Rattle.std.proofs.Common.{◌++◌, rules, refl}
+use Rattle.std.proofs.Common.{refl}
 use Rattle.std.proofs.lemmas.Result.{err_from_is_err_and}
-use Rattle.ssb_eval.specs.Parted.{parted, lead_behind}
 use Rattle.ssb_eval.proofs.Beginnings.{Writes-on, Writes-stop, Writes-stop_behind}
 use Rattle.ssb_eval.proofs.Rows.{row_text-map}
 use Rattle.ssb_eval.proofs.report.write_row.Goals as goal

@@ -1,18 +1,21 @@
-use Rattle.std.proofs.Common.{◌≡◌, ◌∙◌, ap, subst, map, None}
-use Rattle.cube_query.specs.Groups.{groups_of}
-use Rattle.cube_query.specs.Room.{line_with}
-use Rattle.cube_query.proofs.Lines.{lines_are}
+use Rattle.std.proofs.Common.{◌≡◌, ◌∙◌, ap, map, subst}
+use Rattle.cube_model.specs.Answers.{answer}
+use Rattle.cube_query.specs.Columns.{line_with, seen_groups, tallies_at}
+use Rattle.cube_query.specs.Groups.{FoldState, StandsFor}
+use Rattle.group_plan.specs.Numbers.{key_at}
+use Rattle.cube_query.specs.Slots.{entries_of}
+use Rattle.cube_query.proofs.Answered.{lines_are}
 use Rattle.cube_query.proofs.state.Fold.finish.Goals as goal
 
 pub returns-in-Ok-clause-answer : goal.returns-in-Ok-clause-answer
-returns-in-Ok-clause-answer c = λ rows stands.
-    let state = c.args.self.now in
-    let entries = c.self.inside.groups.entries in
-    let query : c.self.inside.query.now ≡ state.query = ap (λ s. s.query) c.self.view_is in
-    let groups : entries ≡ groups_of state.dimensions state.query rows = ap (λ s. s.groups) c.self.view_is ∙ stands in
-    let unordered : state.query.order ≡ None = subst (λ q. q.order ≡ None) query c.self.invariant.unordered in
+returns-in-Ok-clause-answer c = λ rows.
+    let inside = c.self.inside in
+    let dimensions = inside.plan.dimensions in
+    let query = inside.plan.query in
+    let entries = entries_of inside.slots in
     let lines = c.in-Ok.ensures
-    ∙ ap (λ aggs. map (line_with aggs) entries) (c.as_slice.ensures ∙ ap (λ q. q.aggregates) query)
-    ∙ ap (map (line_with state.query.aggregates)) groups
-    ∙ lines_are state.dimensions state.query rows unordered in
-    λ i. record { lines = lines i }
+    ∙ ap (λ aggs. map (line_with aggs) (seen_groups (key_at dimensions query.columns) (tallies_at c.as_slice-columns.result.now) entries)) (c.as_slice-aggregates.ensures ∙ ap (λ q. q.aggregates) c.self.invariant.0)
+    ∙ ap (λ columns. map (line_with query.aggregates) (seen_groups (key_at dimensions query.columns) (tallies_at columns) entries)) c.as_slice-columns.ensures.value in
+    subst (λ (state : FoldState). StandsFor state rows → record { lines = c.in-Ok.lines } ≡ answer state.query state.dimensions rows) c.self.view_is
+    (λ stands. (let whole = lines ∙ ap (map (line_with query.aggregates)) stands ∙ lines_are dimensions query rows c.self.invariant.1.plain.unordered in
+    λ i. record { lines = whole i }))

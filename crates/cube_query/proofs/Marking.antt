@@ -1,0 +1,145 @@
+-- Rows that are marked with a slot are those of its number's key.
+use Rattle.std.proofs.Common.{◌≡◌, ◌≢◌, ◌∙◌, sym, ap, refl, subst, ℕ, zero, suc, ◌+◌, ◌<◌, ◌≤◌, Bool, true, false, cond, List, [], ◌∷◌, ◌++◌, length, Some, None, arith, inl, inr}
+use Rattle.std.specs.Prelude.{Option, ◌==◌, slice_get}
+use Rattle.std.specs.Cmp.{Equal-is}
+use Rattle.std.specs.Ordering.{eq_by_cmp}
+use Rattle.std.specs.declared.cmp.Ordering.TheVariants.{Less, Equal}
+use Rattle.std.proofs.lemmas.Bool.{cases_lt}
+use Rattle.std.proofs.lemmas.Bool.Decides.{nat_tests}
+use Rattle.std.proofs.lemmas.Cmp.{eq_by_cmp_equiv}
+use Rattle.cube_model.specs.declared.answer.Member.{Member}
+use Rattle.cube_model.specs.declared.attr.Attr.{Attr}
+use Rattle.cube_model.specs.declared.query.Query.{Query}
+use Rattle.cube_model.specs.declared.query.Kind.TheVariants.{Plain}
+use Rattle.cube_model.specs.declared.rows.DimRows.{DimRows}
+use Rattle.cube_model.specs.declared.rows.LineOrder.{LineOrder}
+use Rattle.cube_model.specs.Keys.{key_cmp}
+use Rattle.cube_model.specs.Order.{key_cmp_total, key_cmp-IsAntisymmetric}
+use Rattle.cube_query.specs.Columns.{marked}
+use Rattle.group_plan.specs.Numbers.{group_count, key_at, KeysRise}
+use Rattle.cube_query.specs.Slots.{slot_of, AreSlots}
+use Rattle.cube_query.specs.Standing.{rows_at, IsMark, AreMarks}
+use Rattle.cube_query.proofs.OneRow.{plain_key, rows_at-skip, rows_at-take}
+
+-- ---- keys
+pub key_eq-same : (key : List Member) → eq_by_cmp key_cmp key key ≡ true
+key_eq-same key = (eq_by_cmp_equiv key_cmp_total).refl key
+
+pub key_eq-true : (left right : List Member) → eq_by_cmp key_cmp left right ≡ true → left ≡ right
+key_eq-true left right e = key_cmp-IsAntisymmetric left right ((Equal-is (key_cmp left right)).0 e)
+
+pub key_eq-apart : (left right : List Member) → (left ≡ right → ⊥) → eq_by_cmp key_cmp left right ≡ false
+key_eq-apart left right apart =
+    elim (eq_by_cmp key_cmp left right) as (λ b. eq_by_cmp key_cmp left right ≡ b → b ≡ false) [
+      | true ↦ λ e. absurd (apart (key_eq-true left right e))
+      | false ↦ λ e. refl
+    ] refl
+
+not_less : (left right : List Member) → left ≡ right → key_cmp left right ≡ Less → ⊥
+not_less left right same less =
+    let equal : key_cmp left left ≡ Equal = (Equal-is (key_cmp left left)).0 (key_eq-same left) in
+    let below : key_cmp left left ≡ Less = ap (key_cmp left) same ∙ less in
+    cc (equal, below)
+
+-- numbers of groups that have one key are one
+pub keys_apart : (dimensions : DimRows) (columns : List Attr) → KeysRise dimensions columns → (c d : ℕ) → c < group_count dimensions columns → d < group_count dimensions columns
+    → key_at dimensions columns c ≡ key_at dimensions columns d → c ≡ d
+keys_apart dimensions columns rising c d in_c in_d same =
+    elim (c == d) as (λ b. (c == d) ≡ b → c ≡ d) [
+      | true ↦ λ e. grind (arith, nat_tests)
+      | false ↦ λ e.
+          let apart : c ≢ d = grind (arith, nat_tests) in
+          elim (cases_lt c d) [
+            | inl below ↦ absurd (not_less (key_at dimensions columns c) (key_at dimensions columns d) same (rising c d below in_d))
+            | inr above ↦ absurd (not_less (key_at dimensions columns d) (key_at dimensions columns c) (sym same) (rising d c (omega (arith, above, apart)) in_c))
+          ]
+    ] refl
+
+-- ---- marks
+module _ (dimensions : DimRows) (query : Query) where
+  pub AreMarks-length : (entries : List (ℕ × ℕ)) (rows : List LineOrder) (marks : List (Option ℕ)) → AreMarks dimensions query entries rows marks → length marks ≡ length rows
+  AreMarks-length entries [] [] are = refl
+  AreMarks-length entries [] (mark ∷ marks) are = absurd are
+  AreMarks-length entries (row ∷ rows) [] are = absurd are
+  AreMarks-length entries (row ∷ rows) (mark ∷ marks) are = ap suc (AreMarks-length entries rows marks are.1)
+
+  IsMark-keep : (old new : List (ℕ × ℕ)) → ((number slot : ℕ) → slot_of old number ≡ Some slot → slot_of new number ≡ Some slot) → (row : LineOrder) (mark : Option ℕ) → IsMark dimensions query old row mark → IsMark dimensions query new row mark
+  IsMark-keep old new keep row None is = is
+  IsMark-keep old new keep row (Some slot) is = (is.0, is.1, keep is.0 slot is.2)
+
+  pub AreMarks-keep : (old new : List (ℕ × ℕ)) → ((number slot : ℕ) → slot_of old number ≡ Some slot → slot_of new number ≡ Some slot) → (rows : List LineOrder) (marks : List (Option ℕ)) → AreMarks dimensions query old rows marks → AreMarks dimensions query new rows marks
+  AreMarks-keep old new keep [] [] are = tt
+  AreMarks-keep old new keep [] (mark ∷ marks) are = absurd are
+  AreMarks-keep old new keep (row ∷ rows) [] are = absurd are
+  AreMarks-keep old new keep (row ∷ rows) (mark ∷ marks) are = (IsMark-keep old new keep row mark are.0, AreMarks-keep old new keep rows marks are.1)
+
+  pub AreMarks-push : (entries : List (ℕ × ℕ)) (rows : List LineOrder) (marks : List (Option ℕ)) (row : LineOrder) (mark : Option ℕ) → AreMarks dimensions query entries rows marks → IsMark dimensions query entries row mark
+      → AreMarks dimensions query entries (rows ++ row ∷ []) (marks ++ mark ∷ [])
+  AreMarks-push entries [] [] row mark are is = (is, tt)
+  AreMarks-push entries [] (other ∷ marks) row mark are is = absurd are
+  AreMarks-push entries (first ∷ rows) [] row mark are is = absurd are
+  AreMarks-push entries (first ∷ rows) (other ∷ marks) row mark are is = (are.0, AreMarks-push entries rows marks row mark are.1 is)
+
+  -- a slot with which a row is marked is that of a number
+  pub AreMarks-at : (entries : List (ℕ × ℕ)) (rows : List LineOrder) (marks : List (Option ℕ)) → AreMarks dimensions query entries rows marks → (place slot : ℕ) → slice_get marks place ≡ Some (Some slot) → (number : ℕ) × (slot_of entries number ≡ Some slot)
+  AreMarks-at entries [] [] are place slot at = absurd (cc at)
+  AreMarks-at entries [] (mark ∷ marks) are place slot at = absurd are
+  AreMarks-at entries (row ∷ rows) [] are place slot at = absurd are
+  AreMarks-at entries (row ∷ rows) (None ∷ marks) are zero slot at = absurd (cc at)
+  AreMarks-at entries (row ∷ rows) (Some other ∷ marks) are zero slot at =
+      let same : other ≡ slot = cc at in
+      (are.0.0, are.0.2 ∙ ap Some same)
+  AreMarks-at entries (row ∷ rows) (mark ∷ marks) are (suc place) slot at = AreMarks-at entries rows marks are.1 place slot at
+
+  -- no row is marked with a slot behind the last
+  pub marked-none : (bound : ℕ) (entries : List (ℕ × ℕ)) → AreSlots bound entries → (rows : List LineOrder) (marks : List (Option ℕ)) → AreMarks dimensions query entries rows marks → (slot : ℕ) → length entries ≤ slot → marked slot rows marks ≡ []
+  marked-none bound entries slots [] marks are slot h = refl
+  marked-none bound entries slots (row ∷ rows) [] are slot h = refl
+  marked-none bound entries slots (row ∷ rows) (None ∷ marks) are slot h = marked-none bound entries slots rows marks are.1 slot h
+  marked-none bound entries slots (row ∷ rows) (Some other ∷ marks) are slot h =
+      let within = slots.within are.0.0 other are.0.2 in
+      let apart : other ≢ slot = omega (arith, within, h) in
+      let test : (other == slot) ≡ false = grind (arith, nat_tests) in
+      ap (λ b. cond b (row ∷ marked slot rows marks) (marked slot rows marks)) test ∙ marked-none bound entries slots rows marks are.1 slot h
+
+  -- no row has a key that is not that of a number with a slot
+  pub rows_at-none : query.kind ≡ Plain → (entries : List (ℕ × ℕ)) (key : List Member) → ((number slot : ℕ) → slot_of entries number ≡ Some slot → key_at dimensions query.columns number ≡ key → ⊥)
+      → (rows : List LineOrder) (marks : List (Option ℕ)) → AreMarks dimensions query entries rows marks → rows_at dimensions query key rows ≡ []
+  rows_at-none plain entries key absent [] marks are = refl
+  rows_at-none plain entries key absent (row ∷ rows) [] are = absurd are
+  rows_at-none plain entries key absent (row ∷ rows) (None ∷ marks) are = rows_at-skip dimensions query key row rows are.0 ∙ rows_at-none plain entries key absent rows marks are.1
+  rows_at-none plain entries key absent (row ∷ rows) (Some other ∷ marks) are =
+      let mark = are.0 in
+      rows_at-take dimensions query plain key row rows mark.1.0
+      ∙ ap (λ b. cond b (row ∷ rows_at dimensions query key rows) (rows_at dimensions query key rows))
+      (key_eq-apart key (plain_key dimensions query row) (λ same. absent mark.0 other mark.2 (mark.1.2 ∙ sym same)))
+      ∙ rows_at-none plain entries key absent rows marks are.1
+
+  -- the rows of a number's key are those that are marked with its slot
+  pub rows_at-marked : query.kind ≡ Plain → KeysRise dimensions query.columns → (entries : List (ℕ × ℕ)) → AreSlots (group_count dimensions query.columns) entries → (number slot : ℕ) → slot_of entries number ≡ Some slot
+      → (rows : List LineOrder) (marks : List (Option ℕ)) → AreMarks dimensions query entries rows marks → rows_at dimensions query (key_at dimensions query.columns number) rows ≡ marked slot rows marks
+  rows_at-marked plain rising entries slots number slot found [] marks are = refl
+  rows_at-marked plain rising entries slots number slot found (row ∷ rows) [] are = absurd are
+  rows_at-marked plain rising entries slots number slot found (row ∷ rows) (None ∷ marks) are =
+      rows_at-skip dimensions query (key_at dimensions query.columns number) row rows are.0 ∙ rows_at-marked plain rising entries slots number slot found rows marks are.1
+  rows_at-marked plain rising entries slots number slot found (row ∷ rows) (Some other ∷ marks) are =
+      let mark = are.0 in
+      let key = key_at dimensions query.columns number in
+      let rest = rows_at-marked plain rising entries slots number slot found rows marks are.1 in
+      rows_at-take dimensions query plain key row rows mark.1.0
+      ∙ elim (other == slot) as (λ b. (other == slot) ≡ b → cond (eq_by_cmp key_cmp key (plain_key dimensions query row)) (row ∷ rows_at dimensions query key rows) (rows_at dimensions query key rows) ≡ cond b (row ∷ marked slot rows marks) (marked slot rows marks)) [
+        | true ↦ λ e.
+            let same : other ≡ slot = grind (arith, nat_tests) in
+            let one : mark.0 ≡ number = slots.apart mark.0 number slot (mark.2 ∙ ap Some same) found in
+            let equal : eq_by_cmp key_cmp key (plain_key dimensions query row) ≡ true =
+            ap (eq_by_cmp key_cmp key) (sym mark.1.2 ∙ ap (key_at dimensions query.columns) one) ∙ key_eq-same key in
+            ap (λ b. cond b (row ∷ rows_at dimensions query key rows) (rows_at dimensions query key rows)) equal ∙ ap (λ more. row ∷ more) rest
+        | false ↦ λ e.
+            let apart : other ≢ slot = grind (arith, nat_tests) in
+            let unequal : eq_by_cmp key_cmp key (plain_key dimensions query row) ≡ false =
+            key_eq-apart key (plain_key dimensions query row) (λ same.
+            let one : number ≡ mark.0 = keys_apart dimensions query.columns rising number mark.0 (slots.below number slot found) mark.1.1 (same ∙ sym mark.1.2) in
+            let place : Some other ≡ Some slot = sym mark.2 ∙ ap (slot_of entries) (sym one) ∙ found in
+            apart (cc place)) in
+            ap (λ b. cond b (row ∷ rows_at dimensions query key rows) (rows_at dimensions query key rows)) unequal ∙ rest
+      ] refl

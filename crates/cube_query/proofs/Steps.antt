@@ -1,0 +1,115 @@
+-- How a fold goes on: from rows to others with the same groups, to more slots, and to more rows.
+use Rattle.std.proofs.Common.{◌≡◌, ◌∙◌, sym, ap, refl, subst, ℕ, zero, suc, ◌+◌, ◌<◌, ◌≤◌, List, [], ◌∷◌, ◌++◌, length, Some, None, arith, inl, inr}
+use Rattle.std.specs.Prelude.{Option, slice_get}
+use Rattle.std.specs.BTreeMap.{is_at}
+use Rattle.std.specs.List.{AllByRecursion}
+use Rattle.std.specs.Map.{lookup}
+use Rattle.std.specs.declared.alloc.Global.{Global}
+use Rattle.std.specs.declared.vec.Vec.{Vec}
+use Rattle.cube_model.specs.declared.answer.Member.{Member}
+use Rattle.cube_model.specs.declared.measure.Agg.{Agg}
+use Rattle.cube_model.specs.declared.query.Query.{Query}
+use Rattle.cube_model.specs.declared.query.Kind.TheVariants.{Plain}
+use Rattle.cube_model.specs.declared.rows.DimRows.{DimRows}
+use Rattle.cube_model.specs.declared.rows.LineOrder.{LineOrder}
+use Rattle.cube_model.specs.Keys.{key_cmp}
+use Rattle.cube_query.specs.Columns.{tallies_at, marked, IsCountable}
+use Rattle.cube_query.specs.Groups.{groups_of}
+use Rattle.cube_query.specs.Limits.{AreFoldable}
+use Rattle.group_plan.specs.Numbers.{group_count, key_at, KeysRise}
+use Rattle.cube_query.specs.Slots.{slot_of, AreSlots, Grow}
+use Rattle.cube_query.specs.Standing.{rows_at, AreMarks, HaveRoom, CountIn, AreTallied}
+use Rattle.cube_query.specs.Tallies.{tallies_of, tallies_if_any}
+use Rattle.cube_query.specs.declared.tally.Tally.{Tally}
+use Rattle.cube_query.proofs.Answered.{groups_have}
+use Rattle.cube_query.proofs.Marking.{keys_apart, marked-none, rows_at-none, rows_at-marked, AreMarks-at}
+use Rattle.cube_query.proofs.OneRow.{rows_at-append}
+use Rattle.cube_query.proofs.Ranges.{IsCountable-at}
+
+-- ---- rows with the same groups
+tallies_alike : (aggs : List Agg) (rows others : List LineOrder) → tallies_if_any aggs rows ≡ tallies_if_any aggs others → tallies_of aggs rows ≡ tallies_of aggs others
+tallies_alike aggs [] [] same = refl
+tallies_alike aggs [] (other ∷ others) same = absurd (cc same)
+tallies_alike aggs (row ∷ rows) [] same = absurd (cc same)
+tallies_alike aggs (row ∷ rows) (other ∷ others) same = cc same
+
+none_alike : (aggs : List Agg) (rows : List LineOrder) → tallies_if_any aggs rows ≡ None → rows ≡ []
+none_alike aggs [] none = refl
+none_alike aggs (row ∷ rows) none = absurd (cc none)
+
+pub AreTallied-alike : (dimensions : DimRows) (query : Query) (entries : List (ℕ × ℕ)) (columns : List (Vec Tally Global)) (rows others : List LineOrder) → groups_of dimensions query rows ≡ groups_of dimensions query others
+    → AreTallied dimensions query entries columns rows → AreTallied dimensions query entries columns others
+AreTallied-alike dimensions query entries columns rows others same tallied =
+    let aggs = query.aggregates in
+    let alike = λ (key : List Member). (let one : tallies_if_any aggs (rows_at dimensions query key rows) ≡ tallies_if_any aggs (rows_at dimensions query key others) =
+    sym (groups_have dimensions query rows key) ∙ ap (lookup (is_at (key_cmp key))) same ∙ groups_have dimensions query others key in one) in
+    record {
+      each = λ number slot found. tallied.each number slot found
+          ∙ tallies_alike aggs (rows_at dimensions query (key_at dimensions query.columns number) rows) (rows_at dimensions query (key_at dimensions query.columns number) others) (alike (key_at dimensions query.columns number));
+      others = λ key absent. none_alike aggs (rows_at dimensions query key others) (sym (alike key) ∙ ap (tallies_if_any aggs) (tallied.others key absent));
+      fresh = tallied.fresh;
+    }
+
+-- ---- more slots
+pub AreTallied-grow : (dimensions : DimRows) (query : Query) (old new : List (ℕ × ℕ)) (columns longer : List (Vec Tally Global)) (rows : List LineOrder) → KeysRise dimensions query.columns
+    → AreSlots (group_count dimensions query.columns) old → Grow (group_count dimensions query.columns) old new → ((slot : ℕ) → tallies_at longer slot ≡ tallies_at columns slot)
+    → AreTallied dimensions query old columns rows → AreTallied dimensions query new longer rows
+AreTallied-grow dimensions query old new columns longer rows rising slots grow same tallied =
+    let aggs = query.aggregates in
+    let key_of = key_at dimensions query.columns in
+    record {
+      each = λ number slot found. same slot ∙ elim (grow.fresh number slot found) [
+        | inl kept ↦ tallied.each number slot kept
+        | inr added ↦
+            let none : rows_at dimensions query (key_of number) rows ≡ [] = tallied.others (key_of number) (λ other place taken one.
+            let is : other ≡ number = keys_apart dimensions query.columns rising other number (slots.below other place taken) (grow.slots.below number slot found) one in
+            let there : slot_of old number ≡ Some place = ap (slot_of old) (sym is) ∙ taken in
+            cc (there, added.0)) in
+            tallied.fresh slot added.1 ∙ ap (tallies_of aggs) (sym none)
+      ];
+      others = λ key absent. tallied.others key (λ number slot taken. absent number slot (grow.keep number slot taken));
+      fresh = λ slot h. same slot ∙ tallied.fresh slot (omega (arith, h, grow.longer));
+    }
+
+-- ---- more rows
+pub AreTallied-count : (dimensions : DimRows) (query : Query) (entries : List (ℕ × ℕ)) (old new : List (Vec Tally Global)) (so_far rows : List LineOrder) (marks : List (Option ℕ)) → query.kind ≡ Plain → KeysRise dimensions query.columns
+    → AreSlots (group_count dimensions query.columns) entries → AreMarks dimensions query entries rows marks → CountIn query.aggregates rows marks old new
+    → AreTallied dimensions query entries old so_far → AreTallied dimensions query entries new (so_far ++ rows)
+AreTallied-count dimensions query entries old new so_far rows marks plain rising slots marks_are counted tallied =
+    let aggs = query.aggregates in
+    let key_of = key_at dimensions query.columns in
+    record {
+      each = λ number slot found.
+          counted slot (rows_at dimensions query (key_of number) so_far) (tallied.each number slot found)
+          ∙ ap (λ more. tallies_of aggs (rows_at dimensions query (key_of number) so_far ++ more)) (sym (rows_at-marked dimensions query plain rising entries slots number slot found rows marks marks_are))
+          ∙ ap (tallies_of aggs) (sym (rows_at-append dimensions query (key_of number) so_far rows));
+      others = λ key absent.
+          rows_at-append dimensions query key so_far rows
+          ∙ ap (λ front. front ++ rows_at dimensions query key rows) (tallied.others key absent)
+          ∙ rows_at-none dimensions query plain entries key absent rows marks marks_are;
+      fresh = λ slot h.
+          counted slot [] (tallied.fresh slot h)
+          ∙ ap (tallies_of aggs) (marked-none dimensions query (group_count dimensions query.columns) entries slots rows marks marks_are slot h);
+    }
+
+-- ---- room for them
+All-weaker : {X : Type 0} (P Q : X → Type 0) (xs : List X) → ((x : X) → P x → Q x) → AllByRecursion P xs → AllByRecursion Q xs
+All-weaker P Q [] weaker all = tt
+All-weaker P Q (x ∷ xs) weaker all = (weaker x all.0, All-weaker P Q xs weaker all.1)
+
+pub HaveRoom-foldable : (dimensions : DimRows) (query : Query) (entries : List (ℕ × ℕ)) (columns : List (Vec Tally Global)) (so_far rows : List LineOrder) (marks : List (Option ℕ)) → query.kind ≡ Plain → KeysRise dimensions query.columns
+    → AreSlots (group_count dimensions query.columns) entries → AreMarks dimensions query entries rows marks → AllByRecursion (λ column. length entries ≤ length column.items) columns
+    → AreFoldable dimensions (so_far ++ rows) → AreTallied dimensions query entries columns so_far → HaveRoom query.aggregates columns rows marks
+HaveRoom-foldable dimensions query entries columns so_far rows marks plain rising slots marks_are long foldable tallied = λ place slot at.
+    let found = AreMarks-at dimensions query entries rows marks marks_are place slot at in
+    let key = key_at dimensions query.columns found.0 in
+    let within = slots.within found.0 slot found.1 in
+    (
+      All-weaker (λ (column : Vec Tally Global). length entries ≤ length column.items) (λ (column : Vec Tally Global). slot < length column.items) columns (λ column h. omega (arith, within, h)) long,
+      rows_at dimensions query key so_far,
+      tallied.each found.0 slot found.1,
+      λ agg. subst (IsCountable agg)
+      (rows_at-append dimensions query key so_far rows
+      ∙ ap (λ more. rows_at dimensions query key so_far ++ more) (rows_at-marked dimensions query plain rising entries slots found.0 slot found.1 rows marks marks_are))
+      (IsCountable-at dimensions query key (so_far ++ rows) foldable agg),
+    )

@@ -1,0 +1,7 @@
+use Rattle.std.proofs.Common.{◌≡◌, take, length}
+use Rattle.cube_query.specs.Columns.{CountsIn}
+use Rattle.cube_query.proofs.columns.count_in.Given as goal
+
+abbrev pub invariant-loop-place : goal.invariant-loop-place
+invariant-loop-place l = CountsIn l.agg (take l.place l.rows) (take l.place l.marks) l.initial.column l.column
+    × (length l.column ≡ length l.initial.column)

@@ -1,0 +1,5 @@
+use Rattle.cube_query.proofs.Columnwise.{AreCountedBelow}
+use Rattle.cube_query.proofs.columns.count_in_all.Given as goal
+
+abbrev pub invariant-loop-i : goal.invariant-loop-i
+invariant-loop-i l = AreCountedBelow l.i l.aggs l.rows l.marks l.initial.columns l.columns

@@ -1,0 +1,65 @@
+-- Tallies in columns, one column for each aggregate, each with a tally at each slot. Our own.
+use Rattle.std.specs.Prelude.{◌≡◌, ℕ, ◌+◌, ◌^◌, ◌<◌, ◌==◌, Bool, false, cond, ℤ, nat_abs, nat_lt, List, [], ◌∷◌, ◌++◌, map, length, Option, Some, None, slice_index_or, slice_get}
+use Rattle.std.specs.List.{sum_by}
+use Rattle.std.specs.declared.alloc.Global.{Global}
+use Rattle.std.specs.declared.vec.Vec.{Vec}
+use Rattle.cube_model.specs.declared.answer.Line.{Line}
+use Rattle.cube_model.specs.declared.answer.Member.{Member}
+use Rattle.cube_model.specs.declared.measure.Agg.{Agg}
+use Rattle.cube_model.specs.declared.rows.LineOrder.{LineOrder}
+use Rattle.cube_query.specs.declared.tally.Tally.{Tally}
+use Rattle.cube_query.specs.Tallies.{number_of, tally_of, tally_with, values_of}
+
+-- the tally of no number
+abbrev pub no_tally : Tally
+no_tally = tally_of []
+
+-- a tally with one number more, where it may be that of none
+abbrev pub tally_after : Tally → ℤ → Tally
+tally_after tally number = cond (tally.count == 0) (tally_of (number ∷ [])) (tally_with tally number)
+
+-- the tally at a slot of a column: that of no number behind the last
+abbrev pub tally_at : List Tally → ℕ → Tally
+tally_at column slot = slice_index_or column slot no_tally
+
+-- the tallies at a slot, one for each column
+abbrev pub tallies_at : List (Vec Tally Global) → ℕ → List Tally
+tallies_at columns slot = map (λ column. tally_at column.items slot) columns
+
+-- tallies of some row, and not of none
+abbrev pub is_seen : List Tally → Bool
+is_seen [] = false
+is_seen (tally ∷ tallies) = nat_lt 0 tally.count
+
+-- the groups that have rows: the key of each number, and the tallies at its slot
+abbrev pub seen_groups : (ℕ → List Member) → (ℕ → List Tally) → List (ℕ × ℕ) → List (List Member × List Tally)
+seen_groups key tallies [] = []
+seen_groups key tallies (entry ∷ entries) =
+    cond (is_seen (tallies entry.1)) ((key entry.0, tallies entry.1) ∷ seen_groups key tallies entries) (seen_groups key tallies entries)
+
+-- the rows that are marked with a slot
+abbrev pub marked : ℕ → List LineOrder → List (Option ℕ) → List LineOrder
+marked slot [] marks = []
+marked slot (row ∷ rows) [] = []
+marked slot (row ∷ rows) (None ∷ marks) = marked slot rows marks
+marked slot (row ∷ rows) (Some other ∷ marks) = cond (other == slot) (row ∷ marked slot rows marks) (marked slot rows marks)
+
+-- rows whose count and whose sum fit a tally
+pub record IsCountable (agg : Agg) (rows : List LineOrder) : Type 0 where
+  pub few : length rows < 2 ^ 63
+  pub small : sum_by (λ row. nat_abs (number_of agg row)) rows < 2 ^ 63
+
+-- each slot with which a row is marked lies in the column, and its tally has room for the rows that are marked with it
+abbrev pub HasRoom : Agg → List Tally → List LineOrder → List (Option ℕ) → Type 0
+HasRoom agg column rows marks = (place slot : ℕ) → slice_get marks place ≡ Some (Some slot)
+    → (slot < length column) × (before : List LineOrder) × (tally_at column slot ≡ tally_of (map (number_of agg) before)) × IsCountable agg (before ++ marked slot rows marks)
+
+-- the marked rows are counted in, each at its slot
+abbrev pub CountsIn : Agg → List LineOrder → List (Option ℕ) → List Tally → List Tally → Type 0
+CountsIn agg rows marks old new = (slot : ℕ) (before : List LineOrder)
+    → tally_at old slot ≡ tally_of (map (number_of agg) before)
+    → tally_at new slot ≡ tally_of (map (number_of agg) (before ++ marked slot rows marks))
+
+-- the line of a key and its tallies
+abbrev pub line_with : List Agg → List Member × List Tally → Line
+line_with aggs entry = record { key = entry.0; values = values_of aggs entry.1 }

@@ -1,0 +1,111 @@
+//! The slots of groups.
+ghost use Rattle.std.specs.Prelude.{◌≡◌, ℕ, ◌<◌, ◌^◌, length, IfOk, OnErr};
+ghost use Rattle.cube_query.specs.Slots.{entries_of, numbers_from, AreSlots, CanPlace, Cover, Places};
+
+use std::alloc::{AllocError, Global};
+use std::collections::BTreeMap;
+
+/// Which slot the number of a group has.
+#[derive(Drop)]
+pub enum Slots {
+    /// Each number below the count, from the start, in the slot with that number.
+    Same(u32),
+    /// The numbers that were seen, in slots in the order of their first sight.
+    Given(BTreeMap<u128, u32>),
+}
+
+const MOST_FROM_THE_START: u128 = 65_536;
+
+impl Slots {
+    /// Slots for the numbers below a bound.
+    pub fn new(alloc: Global, bound: u128) -> Slots
+        ensures numbers { AreSlots bound (entries_of result) }
+        ensures cover { Cover bound result }
+    {
+        if bound <= MOST_FROM_THE_START {
+            Slots::Same(bound as u32)
+        } else {
+            Slots::Given(BTreeMap::new(alloc))
+        }
+    }
+
+    /// How many slots there are.
+    pub fn len(&self) -> usize
+        ensures { result ≡ length (entries_of self.now) }
+    {
+        match self {
+            Slots::Same(count) => *count as usize,
+            Slots::Given(slots) => slots.len(),
+        }
+    }
+
+    /// The slot of a number. A number that has none gets the next.
+    pub fn place(&mut self, number: u128) -> Result<u32, AllocError>
+        requires { CanPlace self.old number }
+        ensures ok { IfOk result (λ slot. Places (entries_of self.old) number slot (entries_of self.new)) }
+        ensures err { OnErr result (entries_of self.new ≡ entries_of self.old) }
+        ensures cover { (bound : ℕ) → Cover bound self.old → Cover bound self.new }
+    {
+        match self {
+            Slots::Same(count) => {
+                prove!(number < u128::from(*count));
+                Ok(number as u32)
+            }
+            Slots::Given(slots) => place_in(slots, number),
+        }
+    }
+
+    /// The numbers that have a slot, ascending, each with its slot.
+    pub fn entries(&self, alloc: Global) -> Result<Vec<(u128, u32)>, AllocError>
+        ensures { IfOk result (λ entries. entries.items ≡ entries_of self.now) }
+    {
+        match self {
+            Slots::Same(count) => same_entries(alloc, *count),
+            Slots::Given(slots) => given_entries(alloc, slots),
+        }
+    }
+}
+
+// The slot of a number among those that were given.
+fn place_in(slots: &mut BTreeMap<u128, u32>, number: u128) -> Result<u32, AllocError>
+    ensures ok { IfOk result (λ slot. Places slots.old.entries number slot slots.new.entries) }
+    ensures err { OnErr result (slots.new.entries ≡ slots.old.entries) }
+{
+    if let Some(slot) = slots.get(&number) {
+        return Ok(*slot);
+    }
+    let next = slots.len();
+    if next >= u32::MAX as usize {
+        return Err(AllocError);
+    }
+    let slot = next as u32;
+    match slots.insert(number, slot) {
+        Ok(_) => Ok(slot),
+        Err(_) => Err(AllocError),
+    }
+}
+
+// Each number below a count, with itself for its slot.
+fn same_entries(alloc: Global, count: u32) -> Result<Vec<(u128, u32)>, AllocError>
+    ensures { IfOk result (λ entries. entries.items ≡ numbers_from 0 count) }
+{
+    let mut entries = Vec::with_capacity(alloc, count as usize)?;
+    for number in 0..count {
+        entries.push((u128::from(number), number))?;
+    }
+    Ok(entries)
+}
+
+// The entries of a map.
+fn given_entries(
+    alloc: Global,
+    slots: &BTreeMap<u128, u32>,
+) -> Result<Vec<(u128, u32)>, AllocError>
+    ensures { IfOk result (λ entries. entries.items ≡ slots.now.entries) }
+{
+    let mut entries = Vec::with_capacity(alloc, slots.len())?;
+    for (number, slot) in slots {
+        entries.push((*number, *slot))?;
+    }
+    Ok(entries)
+}

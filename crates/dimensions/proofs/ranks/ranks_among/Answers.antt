@@ -1,0 +1,15 @@
+use Rattle.std.proofs.Common.{◌≡◌, List, ℕ, sym, subst, true, get_or}
+use Rattle.std.specs.List.{list_any}
+use Rattle.std.specs.Str.{bytes_eq}
+use Rattle.cube_model.specs.Ascending.{IsAscending}
+use Rattle.cube_model.specs.Validity.{members_of}
+use Rattle.dimensions.proofs.ApartTexts.{text_cmp}
+use Rattle.dimensions.proofs.RankLaws.{members_ascend, is_member}
+use Rattle.dimensions.proofs.ranks.ranks_among.Goals as goal
+
+pub rank_among-rank-requires-clause-ascending : goal.rank_among-rank-requires-clause-ascending
+rank_among-rank-requires-clause-ascending c = subst (IsAscending text_cmp) (sym c.requires.members) (members_ascend c.args.texts.now)
+
+pub rank_among-rank-requires-clause-among : goal.rank_among-rank-requires-clause-among
+rank_among-rank-requires-clause-among c = subst (λ members. list_any (bytes_eq c.text-item.result) members ≡ true) (sym c.requires.members)
+    (is_member c.args.texts.now c.loop-text.text-index c.text-item.result c.loop-text-test.true (sym c.text-item.is))

@@ -1,0 +1,184 @@
+//! The members among texts, in order by bytes, and the rank of each text.
+ghost use Rattle.std.specs.Prelude.{◌≡◌, ◌<◌, ◌≤◌, true, [], length, vec_len, slice_index_or, IfOk, IfErr};
+ghost use Rattle.std.specs.List.{list_any};
+ghost use Rattle.std.specs.Str.{bytes_eq};
+ghost use Rattle.std.specs.Ordering.{nat_cmp};
+ghost use Rattle.std.specs.Cmp.Lexicographic.{slice_cmp};
+ghost use Rattle.cube_model.specs.Ascending.{IsAscending};
+ghost use Rattle.cube_model.specs.Validity.{members_of};
+ghost use Rattle.dimensions.specs.Levels.{AreCodes};
+ghost use Rattle.dimensions.specs.Ranked.{texts_of_ranks};
+
+use crate::members::all_texts;
+use cube_model::{Fault, Items, Text};
+use dictionary::Dictionary;
+use std::alloc::{AllocError, Global};
+use std::marker::Model;
+
+/// Texts, each with its rank among their members. Contracts see it as the list of the texts.
+#[derive(Drop)]
+pub struct Ranks {
+    members: Vec<Text>,
+    ranks: Vec<u16>,
+}
+
+impl Model for Ranks {
+    ghost use Rattle.std.specs.Prelude.{ℕ, List};
+    ghost use Rattle.dimensions.specs.Ranked.{texts_of_ranks, AreRanks};
+
+    ghost Value = { List (List ℕ) };
+
+    ghost view = { λ r. texts_of_ranks r.members.items r.ranks.items };
+
+    ghost invariant = { λ r. AreRanks r.members.items r.ranks.items };
+}
+
+/// The ranks of the members of each level, at their codes.
+pub struct LevelRanks {
+    pub lowest: Ranks,
+    pub middle: Ranks,
+    pub top: Ranks,
+}
+
+// Written out, so that a proof has one call to follow where the ranks are let go.
+impl Drop for LevelRanks {
+    fn drop(self) {
+        let LevelRanks {
+            lowest: _,
+            middle: _,
+            top: _,
+        } = self;
+    }
+}
+
+/// The ranks of the days, at their places, and those of their other members, at their codes.
+pub struct DayRanks {
+    pub days: Ranks,
+    pub months: Ranks,
+    pub years: Ranks,
+    pub yearmonths: Ranks,
+    pub weeks: Ranks,
+}
+
+// Written out, so that a proof has one call to follow where the ranks are let go.
+impl Drop for DayRanks {
+    fn drop(self) {
+        let DayRanks {
+            days: _,
+            months: _,
+            years: _,
+            yearmonths: _,
+            weeks: _,
+        } = self;
+    }
+}
+
+impl Ranks {
+    /// The ranks of texts. It can only fail for want of memory.
+    pub fn of(alloc: Global, texts: &[Text]) -> Result<Ranks, Fault>
+        requires { length texts.now ≤ 65535 }
+        ensures ok { IfOk result (λ ranks. ranks ≡ texts.now) }
+        ensures memory { IfErr result (λ fault. fault ≡ Fault.Memory) }
+    {
+        match ranked(alloc, texts) {
+            Ok(ranks) => Ok(ranks),
+            Err(_) => Err(Fault::Memory),
+        }
+    }
+
+    /// The ranks of the texts of a dictionary, at their codes. It can only fail for want of memory.
+    pub fn of_dictionary(alloc: Global, dictionary: &Dictionary) -> Result<Ranks, Fault>
+        requires { length dictionary.now.texts ≤ 65535 }
+        ensures ok { IfOk result (λ ranks. ranks ≡ dictionary.now.texts) }
+        ensures memory { IfErr result (λ fault. fault ≡ Fault.Memory) }
+    {
+        match all_texts(alloc, dictionary) {
+            Ok(texts) => Ranks::of(alloc, texts.as_slice()),
+            Err(fault) => Err(fault),
+        }
+    }
+
+    /// The number of members.
+    pub fn count(&self) -> usize
+        ensures count { result ≡ length (members_of self.now) }
+        ensures few { result ≤ 65535 }
+    {
+        self.members.len()
+    }
+
+    /// The rank of the text at a place of the list.
+    pub fn rank(&self, place: usize) -> u16
+        requires { place < length self.now }
+        ensures below { result < length (members_of self.now) }
+        ensures text { slice_index_or (members_of self.now) result [] ≡ slice_index_or self.now place [] }
+    {
+        self.ranks[place]
+    }
+
+    /// The text of a rank.
+    pub fn member(&self, rank: u16) -> &[u8]
+        requires { rank < length (members_of self.now) }
+        ensures { result.now ≡ slice_index_or (members_of self.now) rank [] }
+    {
+        self.members[usize::from(rank)].as_slice()
+    }
+}
+
+// The ranks of texts.
+fn ranked(alloc: Global, texts: &[Text]) -> Result<Ranks, AllocError>
+    requires { length texts.now ≤ 65535 }
+    ensures { IfOk result (λ ranks. ranks ≡ texts.now) }
+{
+    let members = sorted_members(alloc, texts)?;
+    let ranks = ranks_among(alloc, members.as_slice(), texts)?;
+    Ok(Ranks { members, ranks })
+}
+
+// The members among texts.
+fn sorted_members(alloc: Global, texts: &[Text]) -> Result<Vec<Text>, AllocError>
+    ensures members { IfOk result (λ members. members.items ≡ members_of texts.now) }
+    ensures few { IfOk result (λ members. vec_len members ≤ length texts.now) }
+{
+    let mut members = copied(alloc, texts)?;
+    members.sort_unstable();
+    members.dedup();
+    Ok(members)
+}
+
+// The same texts again.
+fn copied(alloc: Global, texts: &[Text]) -> Result<Vec<Text>, AllocError>
+    ensures { IfOk result (λ copies. copies.items ≡ texts.now) }
+{
+    let mut copies = Vec::with_capacity(alloc, texts.len())?;
+    for text in texts {
+        let bytes = Vec::from_slice(alloc, text.as_slice())?;
+        copies.push(Items::from_vec(bytes))?;
+    }
+    Ok(copies)
+}
+
+// The rank of each of some texts among their members.
+fn ranks_among(alloc: Global, members: &[Text], texts: &[Text]) -> Result<Vec<u16>, AllocError>
+    requires members { members.now ≡ members_of texts.now }
+    requires few { length members.now ≤ 65535 }
+    ensures texts { IfOk result (λ ranks. texts_of_ranks members.now ranks.items ≡ texts.now) }
+    ensures within { IfOk result (λ ranks. AreCodes (length members.now) ranks.items) }
+{
+    let mut ranks = Vec::with_capacity(alloc, texts.len())?;
+    for text in texts {
+        let rank = rank_among(members, text);
+        ranks.push(rank)?;
+    }
+    Ok(ranks)
+}
+
+// The rank of one of them.
+fn rank_among(members: &[Text], text: &Text) -> u16
+    requires few { length members.now ≤ 65535 }
+    requires ascending { IsAscending (slice_cmp nat_cmp) members.now }
+    requires among { list_any (bytes_eq text.now) members.now ≡ true }
+    ensures within { result < length members.now }
+    ensures text { slice_index_or members.now result [] ≡ text.now }
+{
+    members.binary_search(text).unwrap() as u16
+}

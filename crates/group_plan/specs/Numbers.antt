@@ -1,0 +1,48 @@
+-- The groups of a plain query by numbers. The ranks of a group's members are the digits of its number, the first column's
+-- the highest, so that keys rise with their numbers. Our own.
+use Rattle.std.specs.Prelude.{◌≡◌, ℕ, ◌*◌, ◌/◌, ◌%◌, ◌<◌, true, false, Option, Some, None, List, [], ◌∷◌, map, length, slice_index_or}
+use Rattle.std.specs.declared.cmp.Ordering.TheVariants.{Less}
+use Rattle.cube_model.specs.declared.answer.Member.{Member}
+use Rattle.cube_model.specs.declared.answer.Member.TheVariants.{Text}
+use Rattle.cube_model.specs.declared.attr.Attr.{Attr}
+use Rattle.cube_model.specs.declared.attr.Axis.{Axis}
+use Rattle.cube_model.specs.declared.query.Query.{Query}
+use Rattle.cube_model.specs.declared.rows.DimRows.{DimRows}
+use Rattle.cube_model.specs.declared.rows.LineOrder.{LineOrder}
+use Rattle.cube_model.specs.Attributes.{key_on}
+use Rattle.cube_model.specs.Keys.{key_cmp, key_under}
+use Rattle.cube_model.specs.Places.{attr_members, place_of, row_count_of}
+use Rattle.cube_model.specs.Selection.{is_selected}
+
+-- how many groups the members of some columns can make
+abbrev pub group_count : DimRows → List Attr → ℕ
+group_count dimensions [] = 1
+group_count dimensions (column ∷ columns) = length (attr_members dimensions column) * group_count dimensions columns
+
+-- the key of the group with a number
+abbrev pub key_at : DimRows → List Attr → ℕ → List Member
+key_at dimensions [] number = []
+key_at dimensions (column ∷ columns) number =
+    Text (slice_index_or (attr_members dimensions column) (number / group_count dimensions columns) [])
+    ∷ key_at dimensions columns (number % group_count dimensions columns)
+
+-- keys rise with their numbers
+abbrev pub KeysRise : DimRows → List Attr → Type 0
+KeysRise dimensions columns = (c d : ℕ) → c < d → d < group_count dimensions columns
+    → key_cmp (key_at dimensions columns c) (key_at dimensions columns d) ≡ Less
+
+-- the number of a fact row's group: none where the row is not selected
+abbrev pub IsNumber : DimRows → Query → LineOrder → Option ℕ → Type 0
+IsNumber dimensions query row None = is_selected dimensions query.conditions row ≡ false
+IsNumber dimensions query row (Some number) = (is_selected dimensions query.conditions row ≡ true)
+    × (number < group_count dimensions query.columns)
+    × (key_at dimensions query.columns number ≡ key_under dimensions row query.columns (map (λ _. true) query.columns))
+
+-- each key of a fact row is that of a row of its dimension
+abbrev pub IsKnown : DimRows → LineOrder → Type 0
+IsKnown dimensions row = (axis : Axis) → place_of dimensions axis (key_on axis row) < row_count_of dimensions axis
+
+-- a query and the dimensions over which it is asked
+pub record PlanState : Type 0 where
+  pub dimensions : DimRows
+  pub query : Query

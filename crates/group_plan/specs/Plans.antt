@@ -1,0 +1,64 @@
+-- What a plan keeps. Our own.
+use Rattle.std.specs.Prelude.{◌≡◌, ℕ, ◌<◌, ◌≤◌, ◌^◌, ◌&&◌, nat_le, Bool, min, max, Option, Some, None, List, length, slice_get, unwrap_or}
+use Rattle.std.specs.List.{list_all}
+use Rattle.cube_model.specs.declared.attr.Axis.{Axis}
+use Rattle.cube_model.specs.declared.attr.Axis.TheVariants.{Customer, Supplier, Part, Date}
+use Rattle.cube_model.specs.declared.query.Cond.{Cond}
+use Rattle.cube_model.specs.declared.query.Cond.TheVariants.{OneOf, Between, Quantity, Discount}
+use Rattle.cube_model.specs.declared.query.Query.{Query}
+use Rattle.cube_model.specs.declared.rows.DimRows.{DimRows}
+use Rattle.cube_model.specs.declared.rows.LineOrder.{LineOrder}
+use Rattle.cube_model.specs.Places.{row_count_of}
+use Rattle.group_plan.specs.Numbers.{group_count}
+use Rattle.group_plan.specs.Parts.{given_at, holds_in}
+use Rattle.group_plan.specs.declared.bounds.Bounds.{Bounds}
+use Rattle.group_plan.specs.declared.side.Side.{Side}
+use Rattle.group_plan.specs.declared.side.Side.TheVariants.{Unused, Narrow, Wide}
+
+-- what a side gives at a place
+abbrev pub gives : Side → ℕ → Option ℕ
+gives Unused place = Some 0
+gives (Narrow parts) place = unwrap_or (slice_get parts.items place) None
+gives (Wide parts) place = unwrap_or (slice_get parts.items place) None
+
+-- a side gives at each place of its dimension what the row there does
+abbrev pub IsSide : DimRows → Query → Axis → Side → Type 0
+IsSide dimensions query axis side = (place : ℕ) → place < row_count_of dimensions axis → gives side place ≡ given_at dimensions query axis place
+
+-- bounds with those of one condition more
+abbrev pub bounds_with : Bounds → Cond → Bounds
+bounds_with bounds (OneOf attr texts) = bounds
+bounds_with bounds (Between attr low high) = bounds
+bounds_with bounds (Quantity low high) = record {
+  least_quantity = max bounds.least_quantity low;
+  greatest_quantity = min bounds.greatest_quantity high;
+  least_discount = bounds.least_discount;
+  greatest_discount = bounds.greatest_discount;
+}
+bounds_with bounds (Discount low high) = record {
+  least_quantity = bounds.least_quantity;
+  greatest_quantity = bounds.greatest_quantity;
+  least_discount = max bounds.least_discount low;
+  greatest_discount = min bounds.greatest_discount high;
+}
+
+-- a fact row's numbers lie within bounds
+abbrev pub is_within : Bounds → LineOrder → Bool
+is_within bounds row = nat_le bounds.least_quantity row.quantity && (nat_le row.quantity bounds.greatest_quantity
+    && (nat_le bounds.least_discount row.discount && nat_le row.discount bounds.greatest_discount))
+
+-- bounds say what some conditions say of the numbers of a fact row
+abbrev pub AreBounds : List Cond → Bounds → Type 0
+AreBounds conditions bounds = (row : LineOrder) → row.quantity < 256 → row.discount < 256
+    → is_within bounds row ≡ list_all (holds_in row) conditions
+
+-- a plan of a query with at most six columns
+pub record IsPlan (dimensions : DimRows) (query : Query) (bounds : Bounds) (customer supplier part date : Side) (count : ℕ) : Type 0 where
+  pub few : length query.columns ≤ 6
+  pub within : AreBounds query.conditions bounds
+  pub customers : IsSide dimensions query Customer customer
+  pub suppliers : IsSide dimensions query Supplier supplier
+  pub parts : IsSide dimensions query Part part
+  pub dates : IsSide dimensions query Date date
+  pub counted : count ≡ group_count dimensions query.columns
+  pub fits : count < 2 ^ 128

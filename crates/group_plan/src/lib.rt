@@ -1,0 +1,10 @@
+//! A plan of a query: which group each fact row belongs to, by numbers that rise as the keys of the groups do.
+#![tactic(auto)]
+
+mod bounds;
+mod digits;
+mod places;
+mod plan;
+mod side;
+
+pub use plan::Plan;

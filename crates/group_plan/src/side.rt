@@ -1,0 +1,162 @@
+//! What the rows of one dimension give to the number of a group.
+ghost use Rattle.std.specs.Prelude.{◌≡◌, ◌<◌, ◌≤◌, ◌^◌, length, map, IfOk, IfSome};
+ghost use Rattle.std.specs.List.{list_any, range_with_len};
+ghost use Rattle.cube_model.specs.Attributes.{axis_of};
+ghost use Rattle.cube_model.specs.Places.{place_of, row_count_of};
+ghost use Rattle.group_plan.specs.Numbers.{group_count};
+ghost use Rattle.group_plan.specs.Parts.{given_at, is_on, is_same, is_used};
+ghost use Rattle.group_plan.specs.Plans.{IsSide, gives};
+
+use crate::digits::Digits;
+use crate::places::{all_hold_at, is_same};
+use cube_model::{Attr, Axis, Cond, Query};
+use dimensions::Dims;
+use std::alloc::{AllocError, Global};
+
+/// The most groups whose numbers fit 32 bits.
+const NARROW: u128 = 4_294_967_296;
+
+/// What the rows of a dimension give to the number of a group.
+///
+/// At the place of each row stands what it adds to the number: nothing where a condition does not hold.
+#[derive(Debug, Drop)]
+pub enum Side {
+    /// No condition and no column is on the dimension.
+    Unused,
+    /// Numbers of 32 bits.
+    Narrow(Vec<Option<u32>>),
+    /// Numbers of any size.
+    Wide(Vec<Option<u128>>),
+}
+
+impl Side {
+    /// What the rows of a dimension give by a query with at most six columns, which make some count of groups.
+    pub fn of(
+        alloc: Global,
+        dims: &Dims,
+        query: &Query,
+        axis: Axis,
+        count: u128,
+    ) -> Result<Side, AllocError>
+        requires few { length query.now.columns ≤ 6 }
+        requires count { count ≡ group_count dims.now query.now.columns }
+        ensures { IfOk result (IsSide dims.now query.now axis) }
+    {
+        if !is_used(query, axis) {
+            return Ok(Side::Unused);
+        }
+        if 0 < count && count <= NARROW {
+            Ok(Side::Narrow(narrow_parts(alloc, dims, query, axis)?))
+        } else {
+            Ok(Side::Wide(wide_parts(alloc, dims, query, axis)?))
+        }
+    }
+
+    /// What the row with a key gives.
+    pub fn given(&self, dims: &Dims, axis: Axis, key: u32) -> Option<u128>
+        ensures { result ≡ gives self.now (place_of dims.now axis key) }
+    {
+        match self {
+            Side::Unused => Some(0),
+            Side::Narrow(parts) => match parts.get(dims.place(axis, key)) {
+                Some(Some(part)) => Some(u128::from(*part)),
+                _ => None,
+            },
+            Side::Wide(parts) => match parts.get(dims.place(axis, key)) {
+                Some(Some(part)) => Some(*part),
+                _ => None,
+            },
+        }
+    }
+}
+
+// The same number in 32 bits.
+fn narrow(part: Option<u128>) -> Option<u32>
+    requires { IfSome part (λ number. number < 2 ^ 32) }
+    ensures { result ≡ part }
+{
+    match part {
+        None => None,
+        Some(number) => Some(number as u32),
+    }
+}
+
+// What each row of a dimension gives, in numbers of 32 bits.
+fn narrow_parts(
+    alloc: Global,
+    dims: &Dims,
+    query: &Query,
+    axis: Axis,
+) -> Result<Vec<Option<u32>>, AllocError>
+    requires few { length query.now.columns ≤ 6 }
+    requires some { 0 < group_count dims.now query.now.columns }
+    requires narrow { group_count dims.now query.now.columns ≤ 2 ^ 32 }
+    ensures { IfOk result (λ parts. parts.items ≡ map (given_at dims.now query.now axis) (range_with_len 0 (row_count_of dims.now axis))) }
+{
+    let count = dims.row_count(axis);
+    let mut parts = Vec::with_capacity(alloc, count)?;
+    for place in 0..count {
+        parts.push(narrow(given_at(dims, query, axis, place)))?;
+    }
+    Ok(parts)
+}
+
+// What each row of a dimension gives.
+fn wide_parts(
+    alloc: Global,
+    dims: &Dims,
+    query: &Query,
+    axis: Axis,
+) -> Result<Vec<Option<u128>>, AllocError>
+    requires { length query.now.columns ≤ 6 }
+    ensures { IfOk result (λ parts. parts.items ≡ map (given_at dims.now query.now axis) (range_with_len 0 (row_count_of dims.now axis))) }
+{
+    let count = dims.row_count(axis);
+    let mut parts = Vec::with_capacity(alloc, count)?;
+    for place in 0..count {
+        parts.push(given_at(dims, query, axis, place))?;
+    }
+    Ok(parts)
+}
+
+// Whether a column or a condition is on a dimension.
+fn is_used(query: &Query, axis: Axis) -> bool
+    ensures { result ≡ is_used query.now axis }
+{
+    has_column(query.columns.as_slice(), axis) || has_condition(query.conditions.as_slice(), axis)
+}
+
+fn has_column(columns: &[Attr], axis: Axis) -> bool
+    ensures { result ≡ list_any (λ column. is_same (axis_of column) axis) columns.now }
+{
+    columns.iter().any(|column| is_same(column.axis(), axis))
+}
+
+fn has_condition(conditions: &[Cond], axis: Axis) -> bool
+    ensures { result ≡ list_any (is_on axis) conditions.now }
+{
+    conditions.iter().any(|condition| is_on(condition, axis))
+}
+
+// Whether a condition is on a dimension.
+fn is_on(condition: &Cond, axis: Axis) -> bool
+    ensures { result ≡ is_on axis condition.now }
+{
+    match condition {
+        Cond::OneOf(attr, _) | Cond::Between(attr, _, _) => is_same(attr.axis(), axis),
+        Cond::Quantity(_, _) | Cond::Discount(_, _) => false,
+    }
+}
+
+// What the row at a place gives.
+fn given_at(dims: &Dims, query: &Query, axis: Axis, place: usize) -> Option<u128>
+    requires place { place < row_count_of dims.now axis }
+    requires few { length query.now.columns ≤ 6 }
+    ensures { result ≡ given_at dims.now query.now axis place }
+{
+    if all_hold_at(dims, axis, place, query.conditions.as_slice()) {
+        Some(Digits::at(dims, axis, place, query.columns.as_slice()).part)
+    } else {
+        None
+    }
+}
