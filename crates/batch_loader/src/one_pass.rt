@@ -1,5 +1,5 @@
 //! Fact rows in one pass over their lines.
-ghost use Rattle.std.specs.Prelude.{◌≡◌, ◌≤◌, ℕ, Ok, IfSome, length};
+ghost use Rattle.std.specs.Prelude.{◌≡◌, ◌≤◌, ◌-◌, ℕ, Ok, IfSome, length};
 ghost use Rattle.batch_loader.specs.Columns.{row_of};
 ghost use Rattle.batch_loader.specs.Leading.{BeginsWithNumber, BeginsWithText};
 ghost use Rattle.batch_loader.specs.Tables.{lineorder_row};
@@ -60,6 +60,7 @@ pub fn one_pass_row(alloc: Global, line: &[u8]) -> Option<LineOrder>
 }
 
 /// The number up to a limit before the first bar, and what is left behind the bar. It gives up at a number of more than 18 digits.
+// A call of its own: inlined, the loop over a field would count for the fields behind it too.
 #[inline(never)]
 fn leading_number(text: &[u8], limit: u64) -> Option<(u64, &[u8])>
     ensures { IfSome result (λ found. BeginsWithNumber limit text.now found.0 found.1.now) }
@@ -67,15 +68,24 @@ fn leading_number(text: &[u8], limit: u64) -> Option<(u64, &[u8])>
     let mut value = 0u64;
     for at in 0..text.len().min(DIGITS + 1) {
         let byte = text[at];
-        if byte < b'0' || byte > b'9' {
+        let digit = behind_zero(byte);
+        if digit > 9 {
             if byte != b'|' || at == 0 || value > limit {
                 return None;
             }
             return Some((value, &text[at + 1..]));
         }
-        value = value * 10 + u64::from(byte - b'0');
+        value = value * 10 + u64::from(digit);
     }
     None
+}
+
+/// How far a byte stands behind the digit 0, round the numbers of 32 bits.
+#[inline(always)]
+fn behind_zero(byte: u8) -> u32
+    ensures { result ≤ 9 → (48 ≤ byte) × (result ≡ byte - 48) }
+{
+    u32::from(byte).wrapping_sub(48)
 }
 
 /// The text before the first bar, if it is not too long to be kept, and what is left behind the bar.

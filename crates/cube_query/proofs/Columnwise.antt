@@ -53,8 +53,7 @@ module _ (aggs : List Agg) (rows : List LineOrder) (marks : List (Option ℕ)) w
   HasRoom-at old now n same h room below agg column =
       subst (λ (c : Vec Tally Global). HasRoom (get_or aggs n agg) c.items rows marks) (sym (below.kept n (omega arith) column))
       (λ place slot at.
-      let given = room place slot at in
-      (
+      let given = room place slot at in (
         All-at (λ (column : Vec Tally Global). slot < length column.items) old given.0 n (omega (arith, same, h)) column,
         given.1,
         tallies-one aggs old slot given.1 given.2 n h agg column,

@@ -1,7 +1,6 @@
 -- Rows that are counted in at the slots that they are marked with.
-use Rattle.std.proofs.Common.{◌≡◌, ◌≢◌, ◌∙◌, sym, ap, refl, subst, ℕ, zero, suc, ◌+◌, ◌<◌, ◌≤◌, ◌^◌, Bool, true, false, cond, ℤ, ◌+ℤ◌, List, [], ◌∷◌, ◌++◌, map, length, length-append, append-nil, append_assoc, take, drop, get_or, Some, None, arith, FitsSigned, w64, slice_set, get_or-set_same, get_or-set_other, length-set}
+use Rattle.std.proofs.Common.{◌≡◌, ◌≢◌, ◌∙◌, sym, ap, refl, subst, ℕ, zero, suc, ◌+◌, ◌<◌, ◌≤◌, ◌^◌, true, false, cond, ℤ, ◌+ℤ◌, List, [], ◌∷◌, ◌++◌, map, length, length-append, append-nil, append_assoc, take, drop, get_or, Some, None, arith, FitsSigned, w64, slice_set, get_or-set_same, get_or-set_other}
 use Rattle.std.specs.Prelude.{Option, ◌==◌, nat_abs, slice_get}
-use Rattle.std.specs.List.{sum_by}
 use Rattle.std.proofs.lemmas.Bool.Decides.{nat_tests}
 use Rattle.std.proofs.lemmas.List.{map-append, take_more, take-append-drop, length-take-le, length-map, get_or_default}
 use Rattle.std.proofs.lemmas.List.Sums.{sum_by-append, sum_by_push}
@@ -72,11 +71,11 @@ module _ (slot : ℕ) (rows : List LineOrder) (marks : List (Option ℕ)) (place
       append_assoc (before ++ marked slot (take place rows) (take place marks)) (marked slot (row ∷ []) (mark ∷ [])) (marked slot (drop (place + 1) rows) (drop (place + 1) marks))
       ∙ append_assoc before (marked slot (take place rows) (take place marks)) (marked slot (row ∷ []) (mark ∷ []) ++ marked slot (drop (place + 1) rows) (drop (place + 1) marks))
       ∙ ap (λ more. before ++ more) (
-        sym (append_assoc (marked slot (take place rows) (take place marks)) (marked slot (row ∷ []) (mark ∷ [])) (marked slot (drop (place + 1) rows) (drop (place + 1) marks)))
-        ∙ ap (λ front. front ++ marked slot (drop (place + 1) rows) (drop (place + 1) marks)) (sym marked-next)
-        ∙ sym (marked-append slot (take (place + 1) rows) (drop (place + 1) rows) (take (place + 1) marks) (drop (place + 1) marks) (same_take rows marks (place + 1) same (omega (arith, h))))
-        ∙ ap (λ rs. marked slot rs (take (place + 1) marks ++ drop (place + 1) marks)) (take-append-drop (place + 1) rows)
-        ∙ ap (marked slot rows) (take-append-drop (place + 1) marks)
+      sym (append_assoc (marked slot (take place rows) (take place marks)) (marked slot (row ∷ []) (mark ∷ [])) (marked slot (drop (place + 1) rows) (drop (place + 1) marks)))
+      ∙ ap (λ front. front ++ marked slot (drop (place + 1) rows) (drop (place + 1) marks)) (sym marked-next)
+      ∙ sym (marked-append slot (take (place + 1) rows) (drop (place + 1) rows) (take (place + 1) marks) (drop (place + 1) marks) (same_take rows marks (place + 1) same (omega (arith, h))))
+      ∙ ap (λ rs. marked slot rs (take (place + 1) marks ++ drop (place + 1) marks)) (take-append-drop (place + 1) rows)
+      ∙ ap (marked slot rows) (take-append-drop (place + 1) marks)
       )
 
 -- ---- a column
@@ -110,13 +109,12 @@ module _ (agg : Agg) (rows : List LineOrder) (marks : List (Option ℕ)) (place 
       let is : mark ≡ Some slot = cc here in
       let at : slice_get marks place ≡ Some (Some slot) = slice_get-get_or marks place mark (omega (arith, same, h)) ∙ ap Some (sym mark_is ∙ is) in
       let given = room place slot at in
-      let before = given.1 ++ marked slot (take place rows) (take place marks) in
-      (
+      let before = given.1 ++ marked slot (take place rows) (take place marks) in (
         omega (arith, given.0, long),
         before,
         counted slot given.1 given.2,
         IsCountable-front agg (before ++ marked slot (row ∷ []) (mark ∷ [])) (marked slot (drop (place + 1) rows) (drop (place + 1) marks))
-        (subst (IsCountable agg) (sym (marked-split slot rows marks place row mark same h row_is mark_is given.1)) given.3),
+            (subst (IsCountable agg) (sym (marked-split slot rows marks place row mark same h row_is mark_is given.1)) given.3),
       )
   HasRoom-next old now room counted long (suc k) slot here = absurd (cc here)
 

@@ -1,5 +1,5 @@
 -- What holds of each fold: as it begins, with more slots, and with more rows.
-use Rattle.std.proofs.Common.{◌≡◌, ◌∙◌, sym, ap, refl, ℕ, ◌≤◌, List, [], ◌++◌, length}
+use Rattle.std.proofs.Common.{◌≡◌, ◌∙◌, sym, refl, ℕ, ◌≤◌, List, [], ◌++◌, length}
 use Rattle.std.specs.Prelude.{Option}
 use Rattle.std.specs.List.{AllByRecursion}
 use Rattle.std.specs.declared.alloc.Global.{Global}
@@ -35,11 +35,14 @@ module _ (dimensions : DimRows) (query : Query) where
     rising = rising;
     numbers = numbers;
     cover = cover;
-    tallied = ([], record {
-      each = λ number slot found. none slot;
-      others = λ key absent. refl;
-      fresh = λ slot h. none slot;
-    });
+    tallied = (
+      [],
+      record {
+        each = λ number slot found. none slot;
+        others = λ key absent. refl;
+        fresh = λ slot h. none slot;
+      },
+    );
   }
 
   -- the fold of no row has no group

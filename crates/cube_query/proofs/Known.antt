@@ -1,6 +1,6 @@
 -- Where every key of some fact rows is known, each row's keys have places.
-use Rattle.std.proofs.Common.{◌≡◌, ◌∙◌, sym, ap, refl, ℕ, zero, suc, ◌+◌, ◌<◌, ◌≤◌, Bool, true, false, cond, List, [], ◌∷◌, ◌++◌, length, Some, None, arith, inl, inr, get_or}
-use Rattle.std.specs.Prelude.{Option, ◌==◌, is_none, find, slice_get}
+use Rattle.std.proofs.Common.{◌≡◌, ◌∙◌, ap, refl, ℕ, zero, suc, ◌+◌, ◌<◌, Bool, true, false, List, [], ◌∷◌, ◌++◌, length, Some, None, arith, inl, inr}
+use Rattle.std.specs.Prelude.{Option, ◌==◌, is_none, find}
 use Rattle.std.specs.List.{position_or_len, All}
 use Rattle.std.proofs.lemmas.List.Folds.{find_at}
 use Rattle.std.proofs.lemmas.Option.{slice_get_cases}

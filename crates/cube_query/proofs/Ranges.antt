@@ -1,5 +1,5 @@
 -- That the tallies of a group can take its rows.
-use Rattle.std.proofs.Common.{◌≡◌, ℕ, ◌<◌, ◌≤◌, ◌^◌, List, [], ◌∷◌, length, arith}
+use Rattle.std.proofs.Common.{◌<◌, ◌^◌, List, arith}
 use Rattle.std.specs.Prelude.{nat_abs}
 use Rattle.std.specs.List.{filter, sum_by, list_any}
 use Rattle.std.specs.Ordering.{eq_by_cmp}

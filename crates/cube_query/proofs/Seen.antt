@@ -1,5 +1,5 @@
 -- The groups that are seen are those of the rows that were counted in.
-use Rattle.std.proofs.Common.{◌≡◌, ◌≢◌, ◌∙◌, sym, ap, refl, subst, ℕ, zero, suc, ◌+◌, ◌<◌, ◌≤◌, Bool, true, false, cond, List, [], ◌∷◌, ◌++◌, append-nil, map, length, get_or, Some, None, arith, ◌⊎◌, inl, inr}
+use Rattle.std.proofs.Common.{◌≡◌, ◌∙◌, sym, ap, refl, ℕ, zero, suc, ◌<◌, ◌≤◌, true, false, cond, List, [], ◌∷◌, ◌++◌, append-nil, map, length, get_or, Some, None, arith, ◌⊎◌, inl, inr}
 use Rattle.std.specs.Prelude.{Option, nat_lt}
 use Rattle.std.specs.BTreeMap.{is_at}
 use Rattle.std.specs.List.{AllByRecursion}
@@ -45,12 +45,12 @@ each_number P [] sorted each = tt
 each_number P (entry ∷ entries) sorted each = (
   each entry.0 entry.1 (ap (λ b. cond b (Some entry.1) (slot_of entries entry.0)) (at_same entry.0)),
   each_number P entries sorted.1 (λ number slot found. each number slot (
-  (elim (is_at (nat_cmp number) entry.0) as (λ b. is_at (nat_cmp number) entry.0 ≡ b → cond b (Some entry.1) (slot_of entries number) ≡ Some slot) [
-    | true ↦ λ e.
-        let none : slot_of entries number ≡ None = ap (slot_of entries) (at_true number entry.0 e) ∙ slot_of-above entry.0 entries sorted.0 in
-        absurd (cc (none, found))
-    | false ↦ λ e. found
-  ]) refl)),
+      (elim (is_at (nat_cmp number) entry.0) as (λ b. is_at (nat_cmp number) entry.0 ≡ b → cond b (Some entry.1) (slot_of entries number) ≡ Some slot) [
+        | true ↦ λ e.
+            let none : slot_of entries number ≡ None = ap (slot_of entries) (at_true number entry.0 e) ∙ slot_of-above entry.0 entries sorted.0 in
+            absurd (cc (none, found))
+        | false ↦ λ e. found
+      ]) refl)),
 )
 
 pub All-numbers : (P : ℕ → Type 0) (entries : List (ℕ × ℕ)) → AllByRecursion P (map (λ e. e.0) entries) → (k : ℕ) (d : ℕ × ℕ) → k < length entries → P (get_or entries k d).0

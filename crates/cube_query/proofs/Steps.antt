@@ -1,6 +1,6 @@
 -- How a fold goes on: from rows to others with the same groups, to more slots, and to more rows.
-use Rattle.std.proofs.Common.{◌≡◌, ◌∙◌, sym, ap, refl, subst, ℕ, zero, suc, ◌+◌, ◌<◌, ◌≤◌, List, [], ◌∷◌, ◌++◌, length, Some, None, arith, inl, inr}
-use Rattle.std.specs.Prelude.{Option, slice_get}
+use Rattle.std.proofs.Common.{◌≡◌, ◌∙◌, sym, ap, refl, subst, ℕ, ◌<◌, ◌≤◌, List, [], ◌∷◌, ◌++◌, length, Some, None, arith, inl, inr}
+use Rattle.std.specs.Prelude.{Option}
 use Rattle.std.specs.BTreeMap.{is_at}
 use Rattle.std.specs.List.{AllByRecursion}
 use Rattle.std.specs.Map.{lookup}
@@ -13,7 +13,7 @@ use Rattle.cube_model.specs.declared.query.Kind.TheVariants.{Plain}
 use Rattle.cube_model.specs.declared.rows.DimRows.{DimRows}
 use Rattle.cube_model.specs.declared.rows.LineOrder.{LineOrder}
 use Rattle.cube_model.specs.Keys.{key_cmp}
-use Rattle.cube_query.specs.Columns.{tallies_at, marked, IsCountable}
+use Rattle.cube_query.specs.Columns.{tallies_at, IsCountable}
 use Rattle.cube_query.specs.Groups.{groups_of}
 use Rattle.cube_query.specs.Limits.{AreFoldable}
 use Rattle.group_plan.specs.Numbers.{group_count, key_at, KeysRise}
@@ -103,13 +103,12 @@ pub HaveRoom-foldable : (dimensions : DimRows) (query : Query) (entries : List (
 HaveRoom-foldable dimensions query entries columns so_far rows marks plain rising slots marks_are long foldable tallied = λ place slot at.
     let found = AreMarks-at dimensions query entries rows marks marks_are place slot at in
     let key = key_at dimensions query.columns found.0 in
-    let within = slots.within found.0 slot found.1 in
-    (
+    let within = slots.within found.0 slot found.1 in (
       All-weaker (λ (column : Vec Tally Global). length entries ≤ length column.items) (λ (column : Vec Tally Global). slot < length column.items) columns (λ column h. omega (arith, within, h)) long,
       rows_at dimensions query key so_far,
       tallied.each found.0 slot found.1,
       λ agg. subst (IsCountable agg)
-      (rows_at-append dimensions query key so_far rows
-      ∙ ap (λ more. rows_at dimensions query key so_far ++ more) (rows_at-marked dimensions query plain rising entries slots found.0 slot found.1 rows marks marks_are))
-      (IsCountable-at dimensions query key (so_far ++ rows) foldable agg),
+          (rows_at-append dimensions query key so_far rows
+          ∙ ap (λ more. rows_at dimensions query key so_far ++ more) (rows_at-marked dimensions query plain rising entries slots found.0 slot found.1 rows marks marks_are))
+          (IsCountable-at dimensions query key (so_far ++ rows) foldable agg),
     )

@@ -1,5 +1,5 @@
 -- Tallies in columns, one column for each aggregate, each with a tally at each slot. Our own.
-use Rattle.std.specs.Prelude.{◌≡◌, ℕ, ◌+◌, ◌^◌, ◌<◌, ◌==◌, Bool, false, cond, ℤ, nat_abs, nat_lt, List, [], ◌∷◌, ◌++◌, map, length, Option, Some, None, slice_index_or, slice_get}
+use Rattle.std.specs.Prelude.{◌≡◌, ℕ, ◌^◌, ◌<◌, ◌==◌, Bool, false, cond, ℤ, nat_abs, nat_lt, List, [], ◌∷◌, ◌++◌, map, length, Option, Some, None, slice_index_or, slice_get}
 use Rattle.std.specs.List.{sum_by}
 use Rattle.std.specs.declared.alloc.Global.{Global}
 use Rattle.std.specs.declared.vec.Vec.{Vec}
@@ -35,7 +35,8 @@ is_seen (tally ∷ tallies) = nat_lt 0 tally.count
 abbrev pub seen_groups : (ℕ → List Member) → (ℕ → List Tally) → List (ℕ × ℕ) → List (List Member × List Tally)
 seen_groups key tallies [] = []
 seen_groups key tallies (entry ∷ entries) =
-    cond (is_seen (tallies entry.1)) ((key entry.0, tallies entry.1) ∷ seen_groups key tallies entries) (seen_groups key tallies entries)
+    cond (is_seen (tallies entry.1)) ((key entry.0, tallies entry.1) ∷ seen_groups key tallies entries)
+    (seen_groups key tallies entries)
 
 -- the rows that are marked with a slot
 abbrev pub marked : ℕ → List LineOrder → List (Option ℕ) → List LineOrder
@@ -52,7 +53,8 @@ pub record IsCountable (agg : Agg) (rows : List LineOrder) : Type 0 where
 -- each slot with which a row is marked lies in the column, and its tally has room for the rows that are marked with it
 abbrev pub HasRoom : Agg → List Tally → List LineOrder → List (Option ℕ) → Type 0
 HasRoom agg column rows marks = (place slot : ℕ) → slice_get marks place ≡ Some (Some slot)
-    → (slot < length column) × (before : List LineOrder) × (tally_at column slot ≡ tally_of (map (number_of agg) before)) × IsCountable agg (before ++ marked slot rows marks)
+    → (slot < length column) × (before : List LineOrder) × (tally_at column slot ≡ tally_of (map (number_of agg) before))
+    × IsCountable agg (before ++ marked slot rows marks)
 
 -- the marked rows are counted in, each at its slot
 abbrev pub CountsIn : Agg → List LineOrder → List (Option ℕ) → List Tally → List Tally → Type 0

@@ -54,4 +54,5 @@ pub record Grow (bound : ℕ) (old new : List (ℕ × ℕ)) : Type 0 where
   pub slots : AreSlots bound new
   pub longer : length old ≤ length new
   pub keep : (number slot : ℕ) → slot_of old number ≡ Some slot → slot_of new number ≡ Some slot
-  pub fresh : (number slot : ℕ) → slot_of new number ≡ Some slot → (slot_of old number ≡ Some slot) ⊎ ((slot_of old number ≡ None) × (length old ≤ slot))
+  pub fresh : (number slot : ℕ) → slot_of new number ≡ Some slot
+      → (slot_of old number ≡ Some slot) ⊎ ((slot_of old number ≡ None) × (length old ≤ slot))

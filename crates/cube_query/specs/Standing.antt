@@ -26,16 +26,19 @@ rows_at dimensions query key rows = rows_of_key dimensions query key (selected d
 -- a fact row is marked with the slot of its group's number, and with none where it is not selected
 abbrev pub IsMark : DimRows → Query → List (ℕ × ℕ) → LineOrder → Option ℕ → Type 0
 IsMark dimensions query entries row None = is_selected dimensions query.conditions row ≡ false
-IsMark dimensions query entries row (Some slot) = (number : ℕ) × IsNumber dimensions query row (Some number) × (slot_of entries number ≡ Some slot)
+IsMark dimensions query entries row (Some slot) =
+    (number : ℕ) × IsNumber dimensions query row (Some number) × (slot_of entries number ≡ Some slot)
 
 -- each of some fact rows has its mark
 abbrev pub AreMarks : DimRows → Query → List (ℕ × ℕ) → List LineOrder → List (Option ℕ) → Type 0
 AreMarks dimensions query entries [] [] = Unit {0}
 AreMarks dimensions query entries [] (mark ∷ marks) = ⊥
 AreMarks dimensions query entries (row ∷ rows) [] = ⊥
-AreMarks dimensions query entries (row ∷ rows) (mark ∷ marks) = IsMark dimensions query entries row mark × AreMarks dimensions query entries rows marks
+AreMarks dimensions query entries (row ∷ rows) (mark ∷ marks) =
+    IsMark dimensions query entries row mark × AreMarks dimensions query entries rows marks
 
--- each slot with which a row is marked lies in all columns, and the tallies there have room for the rows that are marked with it
+-- each slot with which a row is marked lies in all columns, and the tallies there have room for the rows that are
+-- marked with it
 abbrev pub HaveRoom : List Agg → List (Vec Tally Global) → List LineOrder → List (Option ℕ) → Type 0
 HaveRoom aggs columns rows marks = (place slot : ℕ) → slice_get marks place ≡ Some (Some slot)
     → AllByRecursion (λ column. slot < length column.items) columns × (before : List LineOrder)
@@ -48,10 +51,14 @@ CountIn aggs rows marks old new = (slot : ℕ) (before : List LineOrder)
     → tallies_at new slot ≡ tallies_of aggs (before ++ marked slot rows marks)
 
 -- each slot has the tallies over the rows of its number's key, and the key of each selected row has a slot
-pub record AreTallied (dimensions : DimRows) (query : Query) (entries : List (ℕ × ℕ)) (columns : List (Vec Tally Global)) (rows : List LineOrder) : Type 0 where
+pub record AreTallied (dimensions : DimRows) (query : Query) (entries : List (ℕ × ℕ)) (columns : List (Vec Tally Global))
+    (rows : List LineOrder) : Type 0 where
   pub each : (number slot : ℕ) → slot_of entries number ≡ Some slot
-      → tallies_at columns slot ≡ tallies_of query.aggregates (rows_at dimensions query (key_at dimensions query.columns number) rows)
-  pub others : (key : List Member) → ((number slot : ℕ) → slot_of entries number ≡ Some slot → key_at dimensions query.columns number ≡ key → ⊥) → rows_at dimensions query key rows ≡ []
+      → tallies_at columns slot
+      ≡ tallies_of query.aggregates (rows_at dimensions query (key_at dimensions query.columns number) rows)
+  pub others : (key : List Member)
+      → ((number slot : ℕ) → slot_of entries number ≡ Some slot → key_at dimensions query.columns number ≡ key → ⊥)
+      → rows_at dimensions query key rows ≡ []
   pub fresh : (slot : ℕ) → length entries ≤ slot → tallies_at columns slot ≡ tallies_of query.aggregates []
 
 -- what holds of each fold

@@ -23,7 +23,8 @@ fn line_of(
 ) -> Result<Line, AllocError>
     requires no_average { All (λ agg. is_average agg ≡ false) aggregates.now }
     requires below { entry.0 < group_count plan.now.dimensions plan.now.query.columns }
-    ensures { IfOk result (λ line. line ≡ line_with aggregates.now (key_at plan.now.dimensions plan.now.query.columns entry.0, tallies_at columns.now entry.1)) }
+    ensures { IfOk result (λ line. line ≡ line_with aggregates.now
+        (key_at plan.now.dimensions plan.now.query.columns entry.0, tallies_at columns.now entry.1)) }
 {
     let (number, slot) = entry;
     let key = plan.key(alloc, number)?;
@@ -43,7 +44,8 @@ fn lines_among(
     requires no_average { All (λ agg. is_average agg ≡ false) aggregates.now }
     requires below { All (λ entry. entry.0 < group_count plan.now.dimensions plan.now.query.columns) entries.now }
     ensures { IfOk result (λ lines. lines
-        ≡ map (line_with aggregates.now) (seen_groups (key_at plan.now.dimensions plan.now.query.columns) (tallies_at columns.now) entries.now)) }
+        ≡ map (line_with aggregates.now) (seen_groups (key_at plan.now.dimensions plan.now.query.columns)
+        (tallies_at columns.now) entries.now)) }
 {
     let mut lines = Vec::new(alloc);
     for i in 0..entries.len() {
@@ -67,7 +69,8 @@ pub fn lines_of(
     requires no_average { All (λ agg. is_average agg ≡ false) aggregates.now }
     requires numbers { AreSlots (group_count plan.now.dimensions plan.now.query.columns) (entries_of slots.now) }
     ensures { IfOk result (λ lines. lines
-        ≡ map (line_with aggregates.now) (seen_groups (key_at plan.now.dimensions plan.now.query.columns) (tallies_at columns.now) (entries_of slots.now))) }
+        ≡ map (line_with aggregates.now) (seen_groups (key_at plan.now.dimensions plan.now.query.columns)
+        (tallies_at columns.now) (entries_of slots.now))) }
 {
     let entries = slots.entries(alloc)?;
     lines_among(alloc, plan, aggregates, columns, entries.as_slice())

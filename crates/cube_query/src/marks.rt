@@ -14,10 +14,13 @@ use std::alloc::{AllocError, Global};
 fn mark_of(plan: &Plan, slots: &mut Slots, row: &LineOrder) -> Result<Option<u32>, AllocError>
     requires known { IsKnown plan.now.dimensions row.now }
     requires cover { Cover (group_count plan.now.dimensions plan.now.query.columns) slots.old }
-    ensures mark { IfOk result (λ mark. IsMark plan.now.dimensions plan.now.query (entries_of slots.new) row.now mark) }
+    ensures mark { IfOk result (λ mark.
+        IsMark plan.now.dimensions plan.now.query (entries_of slots.new) row.now mark) }
     ensures cover { Cover (group_count plan.now.dimensions plan.now.query.columns) slots.new }
-    ensures keep { (number slot : ℕ) → slot_of (entries_of slots.old) number ≡ Some slot → slot_of (entries_of slots.new) number ≡ Some slot }
-    ensures grow { (first : List (ℕ × ℕ)) → Grow (group_count plan.now.dimensions plan.now.query.columns) first (entries_of slots.old)
+    ensures keep { (number slot : ℕ) → slot_of (entries_of slots.old) number ≡ Some slot
+        → slot_of (entries_of slots.new) number ≡ Some slot }
+    ensures grow { (first : List (ℕ × ℕ))
+        → Grow (group_count plan.now.dimensions plan.now.query.columns) first (entries_of slots.old)
         → Grow (group_count plan.now.dimensions plan.now.query.columns) first (entries_of slots.new) }
 {
     match plan.number(row) {
@@ -39,9 +42,11 @@ pub fn marks_of(
     requires known { All (IsKnown plan.now.dimensions) rows.now }
     requires numbers { AreSlots (group_count plan.now.dimensions plan.now.query.columns) (entries_of slots.old) }
     requires cover { Cover (group_count plan.now.dimensions plan.now.query.columns) slots.old }
-    ensures marks { IfOk result (λ marks. AreMarks plan.now.dimensions plan.now.query (entries_of slots.new) rows.now marks.items) }
+    ensures marks { IfOk result (λ marks.
+        AreMarks plan.now.dimensions plan.now.query (entries_of slots.new) rows.now marks.items) }
     ensures cover { Cover (group_count plan.now.dimensions plan.now.query.columns) slots.new }
-    ensures grow { Grow (group_count plan.now.dimensions plan.now.query.columns) (entries_of slots.old) (entries_of slots.new) }
+    ensures grow { Grow (group_count plan.now.dimensions plan.now.query.columns) (entries_of slots.old)
+        (entries_of slots.new) }
 {
     let mut marks = Vec::with_capacity(alloc, rows.len())?;
     for row in rows {

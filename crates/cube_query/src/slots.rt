@@ -5,6 +5,9 @@ ghost use Rattle.cube_query.specs.Slots.{entries_of, numbers_from, AreSlots, Can
 use std::alloc::{AllocError, Global};
 use std::collections::BTreeMap;
 
+/// Up to how many numbers each has its slot from the start.
+const MOST_FROM_THE_START: u128 = 65_536;
+
 /// Which slot the number of a group has.
 #[derive(Drop)]
 pub enum Slots {
@@ -13,8 +16,6 @@ pub enum Slots {
     /// The numbers that were seen, in slots in the order of their first sight.
     Given(BTreeMap<u128, u32>),
 }
-
-const MOST_FROM_THE_START: u128 = 65_536;
 
 impl Slots {
     /// Slots for the numbers below a bound.
@@ -97,10 +98,7 @@ fn same_entries(alloc: Global, count: u32) -> Result<Vec<(u128, u32)>, AllocErro
 }
 
 // The entries of a map.
-fn given_entries(
-    alloc: Global,
-    slots: &BTreeMap<u128, u32>,
-) -> Result<Vec<(u128, u32)>, AllocError>
+fn given_entries(alloc: Global, slots: &BTreeMap<u128, u32>) -> Result<Vec<(u128, u32)>, AllocError>
     ensures { IfOk result (λ entries. entries.items ≡ slots.now.entries) }
 {
     let mut entries = Vec::with_capacity(alloc, slots.len())?;

@@ -26,7 +26,8 @@ use std::marker::Model;
 ///
 /// What it answers depends on those rows, and not on the calls that they came in.
 ///
-/// Memory grows with the groups, and not with the rows.
+/// Memory grows with the groups, and not with the rows: with those that there can be, or where these are more than
+/// 65,536, with those that had a row.
 #[derive(Drop)]
 pub struct Fold<'a> {
     alloc: Global,
@@ -49,10 +50,12 @@ impl<'a> Model for Fold<'a> {
     ghost view = { λ fold. record {
       dimensions = fold.plan.dimensions;
       query = fold.plan.query;
-      groups = seen_groups (key_at fold.plan.dimensions fold.plan.query.columns) (tallies_at fold.columns.items) (entries_of fold.slots);
+      groups = seen_groups (key_at fold.plan.dimensions fold.plan.query.columns) (tallies_at fold.columns.items)
+          (entries_of fold.slots);
     } };
 
-    ghost invariant = { λ fold. (fold.query.now ≡ fold.plan.query) × IsFold fold.plan.dimensions fold.plan.query fold.slots fold.columns.items };
+    ghost invariant = { λ fold. (fold.query.now ≡ fold.plan.query)
+        × IsFold fold.plan.dimensions fold.plan.query fold.slots fold.columns.items };
 }
 
 impl<'a> Fold<'a> {
@@ -74,7 +77,8 @@ impl<'a> Fold<'a> {
 
     /// Counts fact rows in. A refusal leaves the fold as it was.
     ///
-    /// It takes all the memory that it needs before it counts the first row.
+    /// All memory is taken before the first row is counted: some for new groups, and for the time of the call some for
+    /// each row.
     pub fn add_rows(&mut self, rows: &[LineOrder]) -> Result<(), Fault>
         requires { CanTake self.old rows.now }
         ensures ok { OnOk result (Takes self.old rows.now self.new) }
@@ -135,11 +139,14 @@ fn ready(
     requires known { All (IsKnown plan.now.dimensions) rows.now }
     requires numbers { AreSlots (group_count plan.now.dimensions plan.now.query.columns) (entries_of slots.old) }
     requires cover { Cover (group_count plan.now.dimensions plan.now.query.columns) slots.old }
-    ensures marks { IfOk result (λ marks. AreMarks plan.now.dimensions plan.now.query (entries_of slots.new) rows.now marks.items) }
-    ensures long { OnOk result (AllByRecursion (λ column. length (entries_of slots.new) ≤ length column.items) columns.new.items) }
+    ensures marks { IfOk result (λ marks.
+        AreMarks plan.now.dimensions plan.now.query (entries_of slots.new) rows.now marks.items) }
+    ensures long { OnOk result (AllByRecursion (λ column. length (entries_of slots.new) ≤ length column.items)
+        columns.new.items) }
     ensures same { (slot : ℕ) → tallies_at columns.new.items slot ≡ tallies_at columns.old.items slot }
     ensures cover { Cover (group_count plan.now.dimensions plan.now.query.columns) slots.new }
-    ensures grow { Grow (group_count plan.now.dimensions plan.now.query.columns) (entries_of slots.old) (entries_of slots.new) }
+    ensures grow { Grow (group_count plan.now.dimensions plan.now.query.columns) (entries_of slots.old)
+        (entries_of slots.new) }
 {
     let marks = marks_of(alloc, plan, slots, rows)?;
     lengthen_all(columns.as_mut_slice(), slots.len())?;

@@ -12,7 +12,7 @@ use Rattle.std.specs.Fmt.{decimal}
 use Rattle.cube_model.specs.declared.rows.DateRow.{DateRow}
 use Rattle.cube_model.specs.Validity.{date_rules}
 use Rattle.dimensions.specs.Levels.{LevelRow, IsCoded, rows_of, level_rules, row_with, AddsRow, Coded}
-use Rattle.dimensions.specs.Days.{DayCoded, AddsDay, day_with}
+use Rattle.dimensions.specs.Days.{IsDayCoded, days_of, DayCoded, AddsDay, day_with}
 use Rattle.dimensions.specs.Tables.{coded_of, day_coded_of}
 use Rattle.dimensions.specs.Built.{BuiltSoFar, BuildsTable, DaysSoFar, BuildsDays}
 use Rattle.dimensions.proofs.LevelCauses.{row_number}
@@ -110,3 +110,12 @@ module _ (all : List DateRow) (few : length all ≤ 65535) (i : ℕ) (old : DayT
 
 pub days_done : (all : List DateRow) (few : length all ≤ 65535) (table : DayTable) → DaysSoFar all (length all) table → BuildsDays all (Ok table)
 days_done all few table so_far = (so_far.0, so_far.1 ∙ take_all all, so_far.2 ∙ ap (map (λ r. decimal r.key)) (take_all all), few_rows date_rules all few ∙ rows_end date_rules all so_far.3)
+
+-- a table that was readied for reads stands for the same rows
+pub table_settled : (axis : Axis) (all : List LevelRow) (old new : Table) → coded_of new ≡ coded_of old → BuildsTable axis all (Ok old) → BuildsTable axis all (Ok new)
+table_settled axis all old new same done = subst (λ coded. IsCoded coded × (rows_of coded ≡ all) × (dimension_cause (level_rules axis) all ≡ None)) (sym same) done
+
+pub days_settled : (all : List DateRow) (old new : DayTable) → day_coded_of new ≡ day_coded_of old → new.texts.items ≡ old.texts.items → BuildsDays all (Ok old) → BuildsDays all (Ok new)
+days_settled all old new same texts done =
+    let rows : IsDayCoded (day_coded_of new) × (days_of (day_coded_of new) ≡ all) = subst (λ coded. IsDayCoded coded × (days_of coded ≡ all)) (sym same) (done.0, done.1) in
+    (rows.0, rows.1, texts ∙ done.2, done.3)

@@ -4,11 +4,13 @@ pub mod CodesAt
 pub mod BuildSteps
 pub mod DayCauses
 pub mod Found
+pub mod IndexLaws
 pub mod Keys
 pub mod RankLaws
 pub mod Ranking
 pub mod LevelCauses
 pub mod ApartTexts
+pub mod NoDays
 pub mod Refusals
 pub mod Rows
 pub mod Step

@@ -1,5 +1,7 @@
 pub mod Built
 pub mod Days
+pub mod Entries
+pub mod Indexes
 pub mod Levels
 pub mod Ranked
 pub mod RankedTables

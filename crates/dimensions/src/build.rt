@@ -91,7 +91,10 @@ pub fn build_table<R: LevelSource>(alloc: Global, axis: Axis, rows: &[R]) -> Res
             return Err(fault);
         }
     }
-    Ok(table)
+    match table.settle(alloc) {
+        Ok(()) => Ok(table),
+        Err(fault) => Err(fault),
+    }
 }
 
 /// The table of some days, or the first cause to refuse them.
@@ -113,5 +116,8 @@ pub fn build_days(alloc: Global, rows: &[DateRow]) -> Result<DayTable, Fault>
             return Err(fault);
         }
     }
-    Ok(table)
+    match table.settle(alloc) {
+        Ok(()) => Ok(table),
+        Err(fault) => Err(fault),
+    }
 }

@@ -236,6 +236,15 @@ impl DayTable {
         }
     }
 
+    /// Readies the table for reads, once its days are in. It can only fail for want of memory.
+    pub fn settle(&mut self, alloc: Global) -> Result<(), Fault>
+        ensures days { day_coded_of self.new ≡ day_coded_of self.old }
+        ensures texts { self.new.texts ≡ self.old.texts }
+        ensures memory { IfErr result (λ fault. fault ≡ Fault.Memory) }
+    {
+        self.places.settle(alloc)
+    }
+
     /// How many days there are.
     pub fn len(&self) -> usize
         ensures { result ≡ length self.now.places }

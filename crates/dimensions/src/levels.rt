@@ -191,6 +191,14 @@ impl Table {
         }
     }
 
+    /// Readies the table for reads, once its rows are in. It can only fail for want of memory.
+    pub fn settle(&mut self, alloc: Global) -> Result<(), Fault>
+        ensures rows { coded_of self.new ≡ coded_of self.old }
+        ensures memory { IfErr result (λ fault. fault ≡ Fault.Memory) }
+    {
+        self.places.settle(alloc)
+    }
+
     /// How many rows there are.
     pub fn len(&self) -> usize
         ensures { result ≡ length self.now.places }

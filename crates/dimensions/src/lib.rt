@@ -4,9 +4,12 @@
 mod build;
 mod days;
 mod dims;
+mod index;
 mod levels;
 mod members;
 mod places;
 mod ranks;
+#[cfg(test)]
+mod tests;
 
 pub use dims::Dims;

@@ -2,27 +2,27 @@
 ghost use Rattle.std.specs.Prelude.{◌≡◌, ◌<◌, ◌==◌, ◌++◌, ◌∷◌, [], length, OnOk, IfErr};
 ghost use Rattle.std.specs.List.{position_or_len};
 
+use crate::index::Index;
 use cube_model::Fault;
 use std::alloc::Global;
-use std::collections::HashMap;
 use std::marker::Model;
 
 /// Distinct keys in the order of their rows. Contracts see it as the list of the keys.
 #[derive(Drop)]
 pub struct Places {
     keys: Vec<u32>,
-    places: HashMap<u32, u32>,
+    index: Index,
 }
 
 impl Model for Places {
-    ghost use Rattle.std.specs.Prelude.{◌≡◌, ◌==◌, ◌<◌, ◌^◌, ℕ, List, nat_eq, position, vec_len};
-    ghost use Rattle.std.specs.HashMap as hash;
+    ghost use Rattle.std.specs.Prelude.{◌≡◌, ◌==◌, ◌<◌, ◌^◌, ℕ, List, position, vec_len};
+    ghost use Rattle.dimensions.specs.Indexes.{place_in};
 
     ghost Value = { List ℕ };
 
     ghost view = { λ p. p.keys.items };
 
-    ghost invariant = { λ p. (vec_len p.keys < 2 ^ 32) × ((key : ℕ) → hash.get nat_eq p.places key ≡ position (λ other. other == key) p.keys.items) };
+    ghost invariant = { λ p. (vec_len p.keys < 2 ^ 32) × ((key : ℕ) → place_in p.index key ≡ position (λ other. other == key) p.keys.items) };
 }
 
 impl Places {
@@ -32,7 +32,7 @@ impl Places {
     {
         Places {
             keys: Vec::new(alloc),
-            places: HashMap::new(alloc),
+            index: Index::new(alloc),
         }
     }
 
@@ -47,9 +47,9 @@ impl Places {
     pub fn place(&self, key: u32) -> usize
         ensures { result ≡ position_or_len (λ other. other == key) self.now }
     {
-        match self.places.get(&key) {
+        match self.index.place(key) {
             None => self.len(),
-            Some(place) => *place as usize,
+            Some(place) => place as usize,
         }
     }
 
@@ -64,12 +64,23 @@ impl Places {
         if self.keys.push(key).is_err() {
             return Err(Fault::Memory);
         }
-        match self.places.insert(key, place) {
-            Ok(_) => Ok(()),
+        match self.index.put(key, place) {
+            Ok(()) => Ok(()),
             Err(_) => {
                 self.keys.pop();
                 Err(Fault::Memory)
             }
+        }
+    }
+
+    /// Reads the places at the key from now on, if the keys lie close together. It can only fail for want of memory.
+    pub fn settle(&mut self, alloc: Global) -> Result<(), Fault>
+        ensures keys { self.new ≡ self.old }
+        ensures memory { IfErr result (λ fault. fault ≡ Fault.Memory) }
+    {
+        match self.index.settle(alloc, self.keys.as_slice()) {
+            Ok(()) => Ok(()),
+            Err(_) => Err(Fault::Memory),
         }
     }
 }

@@ -40,6 +40,12 @@ rows-append row number (line ∷ lines) others rows more first second =
     ∙ ap (row_before (Ok parts.row)) (rows-append row (next_number number) lines others parts.rest more parts.others_are later)
     ∙ ap (λ found. Ok (found ++ more)) (sym parts.rows_are)
 
+-- the same of the first lines of some, and of the others
+rows-parts : {Row : Type 0} (row : ℕ → List ℕ → Result Row Fault) (number size : ℕ) (lines : List (List ℕ)) (rows more : List Row)
+    → rows_of row number (take size lines) ≡ Ok rows → rows_of row (number_after (length rows) number) (drop size lines) ≡ Ok more → rows_of row number lines ≡ Ok (rows ++ more)
+rows-parts row number size lines rows more first second =
+    ap (rows_of row number) (sym (take-append-drop size lines)) ∙ rows-append row number (take size lines) (drop size lines) rows more first second
+
 -- the first step, where both went well
 record GoesOn {A B : Type 0} (first : Result A Fault) (next : A → Result B Fault) (value : B) : Type 0 where
   found : A
@@ -60,6 +66,9 @@ record AreBehind (number : ℕ) (lines : List (List ℕ)) (batches : List (List 
   more_are : rows_of lineorder_row number lines ≡ Ok more
   rows_are : rows ≡ all_rows batches ++ more
 
+rows_behind : (batches : List (List LineOrder)) (found more rows : List LineOrder) → rows ≡ all_rows (batches ++ found ∷ []) ++ more → rows ≡ all_rows batches ++ (found ++ more)
+rows_behind batches found more rows is = is ∙ ap (λ earlier. earlier ++ more) (all_rows-last batches found) ∙ append_assoc (all_rows batches) found more
+
 behind : (dimensions : DimRows) (batches : List (List LineOrder)) (number steps size : ℕ) (lines : List (List ℕ)) (rows : List LineOrder) → 1 ≤ size → length lines ≤ steps
     → facts_behind dimensions batches number (parts_in steps size lines) ≡ Ok rows → AreBehind number lines batches rows
 behind dimensions batches number steps size [] rows some enough e = record {
@@ -77,9 +86,8 @@ behind dimensions batches number (suc steps) size (line ∷ lines) rows some eno
     let later = behind dimensions (batches ++ read.found ∷ []) (number_after (length read.found) number) steps size left rows some (omega (arith, length-drop size (line ∷ lines))) accepted in
     record {
       more = read.found ++ later.more;
-      more_are = ap (rows_of lineorder_row number) (sym (take-append-drop size (line ∷ lines)))
-          ∙ rows-append lineorder_row number (take size (line ∷ lines)) left read.found later.more read.first_is later.more_are;
-      rows_are = later.rows_are ∙ ap (λ earlier. earlier ++ later.more) (all_rows-last batches read.found) ∙ append_assoc (all_rows batches) read.found later.more;
+      more_are = rows-parts lineorder_row number size (line ∷ lines) read.found later.more read.first_is later.more_are;
+      rows_are = rows_behind batches read.found later.more rows later.rows_are;
     }
 
 -- where no batch is refused, their rows are those of the whole text

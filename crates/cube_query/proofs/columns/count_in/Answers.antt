@@ -1,4 +1,4 @@
-use Rattle.std.proofs.Common.{◌≡◌, ◌<◌, ◌∙◌, sym, ap, refl, subst, arith, slice_index_or, take, length, None}
+use Rattle.std.proofs.Common.{◌≡◌, ◌<◌, ◌∙◌, subst, arith, slice_index_or, take, length, None}
 use Rattle.std.proofs.lemmas.Grind.{common_steps}
 use Rattle.std.proofs.lemmas.List.{get_or_default}
 use Rattle.cube_query.specs.Columns.{CountsIn}
@@ -17,10 +17,9 @@ pub loop-place-preserved : goal.loop-place-preserved
 loop-place-preserved c =
     let place = c.loop-place.place in
     let mark = slice_index_or c.args.marks.now place None in
-    let in_marks : place < length c.args.marks.now = omega (arith, c.loop-place-test.true, c.requires.marks) in
-    (
+    let in_marks : place < length c.args.marks.now = omega (arith, c.loop-place-test.true, c.requires.marks) in (
       CountsIn-next c.args.agg c.args.rows.now c.args.marks.now place c.index-rows-place.result mark c.requires.marks c.loop-place-test.true c.index-rows-place.is
-      (get_or_default c.args.marks.now place None mark in_marks) c.args.column.now c.loop-place.column c.count_row.new.column c.loop-place.invariant.0 c.count_row.ensures.counted,
+          (get_or_default c.args.marks.now place None mark in_marks) c.args.column.now c.loop-place.column c.count_row.new.column c.loop-place.invariant.0 c.count_row.ensures.counted,
       c.count_row.ensures.length ∙ c.loop-place.invariant.1,
     )
 

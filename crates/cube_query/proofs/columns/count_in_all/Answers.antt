@@ -1,10 +1,10 @@
-use Rattle.std.proofs.Common.{◌≡◌, ◌∙◌, ◌<◌, List, sym, ap, subst, arith, length, slice_index_or}
+use Rattle.std.proofs.Common.{◌≡◌, ◌∙◌, ◌<◌, sym, subst, arith, length, slice_index_or}
 use Rattle.std.specs.Vec.{with_items}
 use Rattle.std.specs.declared.alloc.Global.{Global}
 use Rattle.std.specs.declared.vec.Vec.{Vec}
 use Rattle.std.proofs.lemmas.List.{get_or_default, with_items_is}
 use Rattle.cube_model.specs.declared.measure.Agg.TheVariants.{Count}
-use Rattle.cube_query.specs.Columns.{HasRoom, CountsIn}
+use Rattle.cube_query.specs.Columns.{CountsIn}
 use Rattle.cube_query.specs.declared.tally.Tally.{Tally}
 use Rattle.cube_query.proofs.Columnwise.{HasRoom-at, AreCountedBelow-set, CountIn-whole}
 use Rattle.cube_query.proofs.columns.count_in_all.Goals as goal

@@ -1,5 +1,5 @@
-use Rattle.std.proofs.Common.{◌≡◌, ◌∙◌, ap, subst, rules, w64, FitsSigned, to_z, of_z, to_z-of_z, slice_set, []}
-use Rattle.cube_query.specs.Columns.{tally_after, CountsIn}
+use Rattle.std.proofs.Common.{◌≡◌, ◌∙◌, ap, rules, w64, FitsSigned, to_z, of_z, to_z-of_z}
+use Rattle.cube_query.specs.Columns.{tally_after}
 use Rattle.cube_query.specs.Tallies.{number_of}
 use Rattle.cube_query.proofs.Counting.{slot_in, number_room, count_room, sum_room, counted_here}
 use Rattle.cube_query.proofs.columns.count_row.Goals as goal

@@ -1,4 +1,4 @@
-use Rattle.std.proofs.Common.{◌≡◌, ◌∙◌, ◌+◌, [], ap, take}
+use Rattle.std.proofs.Common.{◌∙◌, ap}
 use Rattle.cube_query.specs.Columns.{tallies_at}
 use Rattle.cube_query.proofs.Columnwise.{no_columns-next}
 use Rattle.cube_query.proofs.columns.no_columns.Goals as goal

@@ -1,4 +1,4 @@
-use Rattle.std.proofs.Common.{◌≡◌, ◌∙◌, ◌<◌, ℕ, sym, subst}
+use Rattle.std.proofs.Common.{◌∙◌, ◌<◌, ℕ, sym, subst}
 use Rattle.std.specs.List.{All}
 use Rattle.group_plan.specs.Numbers.{group_count}
 use Rattle.cube_query.specs.Slots.{entries_of}

@@ -15,10 +15,9 @@ loop-row-preserved c =
     let new = entries_of c.mark_of.new.slots in
     let rows : take (i + 1) c.args.rows.now ≡ front ++ row ∷ [] = take_more c.args.rows.now i row c.loop-row-test.true ∙ ap (λ r. front ++ r ∷ []) (sym c.row-item.is) in
     let kept = AreMarks-keep dimensions query (entries_of c.loop-row.slots) new c.mark_of.ensures.keep front c.loop-row.marks.items c.loop-row.invariant.0 in
-    let pushed = AreMarks-push dimensions query new front c.loop-row.marks.items row c.in_ok-mark.mark kept c.in_ok-mark.ensures.mark in
-    (
+    let pushed = AreMarks-push dimensions query new front c.loop-row.marks.items row c.in_ok-mark.mark kept c.in_ok-mark.ensures.mark in (
       subst (λ rs. AreMarks dimensions query new rs c.push.new.self.items) (sym rows)
-      (subst (λ ms. AreMarks dimensions query new (front ++ row ∷ []) ms) (sym c.in_ok-push.ensures.items) pushed),
+          (subst (λ ms. AreMarks dimensions query new (front ++ row ∷ []) ms) (sym c.in_ok-push.ensures.items) pushed),
       c.mark_of.ensures.cover,
       c.mark_of.ensures.grow (entries_of c.args.slots.now) c.loop-row.invariant.2,
     )

@@ -2,8 +2,8 @@ use Rattle.std.proofs.Common.{rules, ◌≡◌, ◌≤◌, ◌<◌, ◌∙◌, �
 use Rattle.cube_model.specs.declared.rows.DateRow.{DateRow}
 use Rattle.dimensions.specs.Days.{day_with, AddsDay}
 use Rattle.dimensions.specs.Tables.{day_coded_of}
-use Rattle.dimensions.specs.Built.{DaysSoFar}
-use Rattle.dimensions.proofs.BuildSteps.{few_days, days_go_on, days_stop, days_done}
+use Rattle.dimensions.specs.Built.{DaysSoFar, BuildsDays}
+use Rattle.dimensions.proofs.BuildSteps.{few_days, days_go_on, days_stop, days_done, days_settled}
 use Rattle.dimensions.proofs.build.build_days.Goals as goal
 
 pub add-requires-clause-few : goal.add-requires-clause-few
@@ -27,7 +27,8 @@ loop-row-preserved c =
     row c.loop-row-test.true (sym c.row-item.is) c.add.new.self
     (subst (λ r. AddsDay (day_coded_of c.loop-row.table) r (day_coded_of c.add.new.self) (Ok tt)) same c.in_default.ensures.added) c.in_default.ensures.texts
 
-pub returns : goal.returns
-returns c =
+pub returns-in-Ok : goal.returns-in-Ok
+returns-in-Ok c =
     let last : c.loop-row.row-index ≡ length c.args.rows.now = omega (arith, c.loop-row.auto.row-index-end, c.loop-row-test.false) in
-    days_done c.args.rows.now c.if-rows-gt-DAY_LIMIT.false c.loop-row.table (subst (λ n. DaysSoFar c.args.rows.now n c.loop-row.table) last c.loop-row.invariant)
+    let done : BuildsDays c.args.rows.now (Ok c.loop-row.table) = days_done c.args.rows.now c.if-rows-gt-DAY_LIMIT.false c.loop-row.table (subst (λ n. DaysSoFar c.args.rows.now n c.loop-row.table) last c.loop-row.invariant) in
+    days_settled c.args.rows.now c.loop-row.table c.settle.new.self c.settle.ensures.days (ap (λ texts. texts.items) c.settle.ensures.texts) done

@@ -2,8 +2,8 @@ use Rattle.std.proofs.Common.{rules, ◌≡◌, ◌≤◌, ◌<◌, ◌∙◌, �
 use Rattle.std.proofs.lemmas.List.{length-map, get_or-map}
 use Rattle.dimensions.specs.Levels.{LevelRow, row_with, AddsRow}
 use Rattle.dimensions.specs.Tables.{coded_of}
-use Rattle.dimensions.specs.Built.{BuiltSoFar}
-use Rattle.dimensions.proofs.BuildSteps.{few_keys, table_goes_on, table_stops, table_done}
+use Rattle.dimensions.specs.Built.{BuiltSoFar, BuildsTable}
+use Rattle.dimensions.proofs.BuildSteps.{few_keys, table_goes_on, table_stops, table_done, table_settled}
 use Rattle.dimensions.proofs.build.build_table.Goals as goal
 
 pub add-requires-clause-few : goal.add-requires-clause-few
@@ -35,9 +35,11 @@ loop-row-preserved g c =
     row (omega (arith, count, c.loop-row-test.true)) at c.add.new.self
     (subst (λ r. AddsRow c.args.axis (coded_of c.loop-row.table) r (coded_of c.add.new.self) (Ok tt)) same c.in_default.ensures)
 
-pub returns : goal.returns
-returns g c =
+pub returns-in-Ok : goal.returns-in-Ok
+returns-in-Ok g c =
     let count = length-map c.args.rows.now g.R.LevelSource.level in
     let all : List LevelRow = map g.R.LevelSource.level c.args.rows.now in
     let last : c.loop-row.row-index ≡ length all = omega (arith, count, c.loop-row.auto.row-index-end, c.loop-row-test.false) in
-    table_done c.args.axis all (omega (arith, count, c.if-rows-gt-ROW_LIMIT.false)) c.loop-row.table (subst (λ n. BuiltSoFar c.args.axis all n c.loop-row.table) last c.loop-row.invariant)
+    let done : BuildsTable c.args.axis all (Ok c.loop-row.table) =
+    table_done c.args.axis all (omega (arith, count, c.if-rows-gt-ROW_LIMIT.false)) c.loop-row.table (subst (λ n. BuiltSoFar c.args.axis all n c.loop-row.table) last c.loop-row.invariant) in
+    table_settled c.args.axis all c.loop-row.table c.settle.new.self c.settle.ensures.rows done

@@ -1,6 +1,5 @@
-use Rattle.std.proofs.Common.{◌≡◌, ◌∙◌, ◌<◌, ◌≤◌, sym, ap, subst, refl, arith, Some}
-use Rattle.std.specs.Prelude.{MatchOption}
-use Rattle.cube_query.specs.Slots.{entries_of, numbers_from, slot_of, Adds, CanPlace}
+use Rattle.std.proofs.Common.{◌≡◌, ◌<◌, ap, subst, refl, arith, Some}
+use Rattle.cube_query.specs.Slots.{entries_of, numbers_from, slot_of, CanPlace}
 use Rattle.cube_query.proofs.Placing.{slot_of-same}
 use Rattle.cube_query.proofs.slots.Slots.place.Goals as goal
 

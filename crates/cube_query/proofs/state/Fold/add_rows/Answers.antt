@@ -1,4 +1,4 @@
-use Rattle.std.proofs.Common.{◌≡◌, ◌∙◌, ◌++◌, ℕ, List, [], length, sym, ap, subst, arith}
+use Rattle.std.proofs.Common.{◌≡◌, ◌∙◌, List, [], length, sym, ap, subst, arith}
 use Rattle.std.proofs.lemmas.List.{with_items_is}
 use Rattle.std.specs.declared.alloc.Global.{Global}
 use Rattle.std.specs.declared.vec.Vec.{Vec}
@@ -21,8 +21,7 @@ ready-requires-clause-known c =
 
 pub invariant_of-self : goal.invariant_of-self
 invariant_of-self c =
-    let inside = c.self.inside in
-    (
+    let inside = c.self.inside in (
       c.self.invariant.0,
       IsFold-ready inside.plan.dimensions inside.plan.query inside.slots inside.columns.items c.self.invariant.1 c.ready.new.slots c.ready.new.columns.items c.ready.ensures.cover c.ready.ensures.grow c.ready.ensures.same,
     )
@@ -74,8 +73,7 @@ invariant_of-self-2 c =
     (subst (λ ms. CountIn c.as_slice-aggregates.result.now rows ms c.as_mut_slice.result.now new) c.as_slice.ensures.value c.count_in_all.ensures)) in
     let len : length new ≡ c.ready.new.columns.len = c.count_in_all.auto.columns ∙ c.as_mut_slice.ensures.len in
     let is = IsFold-count inside.plan.dimensions inside.plan.query inside.slots inside.columns.items c.self.invariant.1 c.ready.new.slots longer c.ready.ensures.cover c.ready.ensures.grow c.ready.ensures.same
-    rows marks c.in-Ok.ensures.marks new count in
-    (
+    rows marks c.in-Ok.ensures.marks new count in (
       c.self.invariant.0,
       subst (IsFold inside.plan.dimensions inside.plan.query c.ready.new.slots) (sym (with_items_is c.ready.new.columns new len)) is,
     )
