@@ -17,11 +17,11 @@ row_count_of dimensions Part = length dimensions.parts
 row_count_of dimensions Date = length dimensions.dates
 
 -- the place of the first row with a key, or the number of rows where no row has the key. Places count from 0
-abbrev pub place_of : DimRows → Axis → ℕ → ℕ
-place_of dimensions Customer key = position_or_len (λ row. row.key == key) dimensions.customers
-place_of dimensions Supplier key = position_or_len (λ row. row.key == key) dimensions.suppliers
-place_of dimensions Part key = position_or_len (λ row. row.key == key) dimensions.parts
-place_of dimensions Date key = position_or_len (λ row. row.key == key) dimensions.dates
+abbrev pub row_index_of : DimRows → Axis → ℕ → ℕ
+row_index_of dimensions Customer key = position_or_len (λ row. row.key == key) dimensions.customers
+row_index_of dimensions Supplier key = position_or_len (λ row. row.key == key) dimensions.suppliers
+row_index_of dimensions Part key = position_or_len (λ row. row.key == key) dimensions.parts
+row_index_of dimensions Date key = position_or_len (λ row. row.key == key) dimensions.dates
 
 -- an attribute at each row of its dimension, in the order of the rows
 abbrev pub texts_of : DimRows → Attr → List (List ℕ)

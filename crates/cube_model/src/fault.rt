@@ -4,6 +4,7 @@ ghost use Rattle.cube_model.specs.FaultNumbers.{number_of};
 
 use crate::attr::Axis;
 use crate::measure::Measure;
+use std::alloc::{AllocError, AllocFailed};
 use std::fmt;
 use thiserror::Error;
 
@@ -121,6 +122,27 @@ pub enum Fault {
     /// No query runs in the slot.
     #[error("fault 31 NotRunning")]
     NotRunning,
+}
+
+// So that `?` answers `Memory` where a growth was refused.
+impl From<AllocError> for Fault {
+    ghost use Rattle.cube_model.specs.declared.fault.Fault.TheVariants.{Memory};
+
+    ghost from_gives = { λ _ fault. fault ≡ Memory };
+
+    fn from(_refused: AllocError) -> Fault {
+        Fault::Memory
+    }
+}
+
+impl<T: Drop> From<AllocFailed<T>> for Fault {
+    ghost use Rattle.cube_model.specs.declared.fault.Fault.TheVariants.{Memory};
+
+    ghost from_gives = { λ _ fault. fault ≡ Memory };
+
+    fn from(_refused: AllocFailed<T>) -> Fault {
+        Fault::Memory
+    }
 }
 
 impl Fault {

@@ -2,7 +2,7 @@
 ghost use Rattle.std.specs.Prelude.{◌≡◌, ◌<◌, ◌≤◌, ◌==◌, ◌⊎◌, Some, find, map, IfOk, OnOk, IfErr, [], length, slice_index_or};
 ghost use Rattle.std.specs.Option.{option_map, option_and_then};
 ghost use Rattle.cube_model.specs.Attributes.{attribute_at, axis_of, of_customer, of_supplier, of_part};
-ghost use Rattle.cube_model.specs.Places.{place_of, row_count_of, text_at, attr_members};
+ghost use Rattle.cube_model.specs.Places.{row_index_of, row_count_of, text_at, attr_members};
 ghost use Rattle.cube_model.specs.Validity.{IsValid, invalid_cause, members_of};
 ghost use Rattle.dimensions.specs.Built.{as_customer, as_supplier, as_part};
 ghost use Rattle.dimensions.specs.Levels.{IsCoded, rows_of};
@@ -104,8 +104,8 @@ impl Dims {
     }
 
     /// The place of the row with a key, or the number of rows where no row has the key. Places count from 0.
-    pub fn place(&self, axis: Axis, key: u32) -> usize
-        ensures { result ≡ place_of self.now axis key }
+    pub fn row_index(&self, axis: Axis, key: u32) -> usize
+        ensures { result ≡ row_index_of self.now axis key }
     {
         match axis {
             Axis::Customer => self.customers.place(key),
@@ -137,7 +137,7 @@ impl Dims {
     }
 
     /// The rank of the text at a place: its place among the members, which stand in order by bytes.
-    pub fn code(&self, attr: Attr, place: usize) -> u16
+    pub fn rank(&self, attr: Attr, place: usize) -> u16
         requires { place < row_count_of self.now (axis_of attr) }
         ensures below { result < length (attr_members self.now attr) }
         ensures text { slice_index_or (attr_members self.now attr) result [] ≡ text_at self.now attr place }

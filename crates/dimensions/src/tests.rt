@@ -89,7 +89,7 @@ fn fault(alloc: Global, rows: &DimRows) -> Option<Fault> {
 /// The text at a place by its rank, with the rank.
 fn ranked(dims: &Dims, attr: Attr, place: usize) -> Option<(u16, &[u8])> {
     if place < dims.row_count(attr.axis()) {
-        let code = dims.code(attr, place);
+        let code = dims.rank(attr, place);
         return Some((code, dims.member(attr, code)));
     }
     None
@@ -214,9 +214,9 @@ fn keys_close_together(rt: HostRuntime) -> Result<(), Fail> {
         .push(customer(alloc, 12, b"PARIS", b"FRANCE")?)?;
     let dims = Dims::build(alloc, &rows)?;
     assert_eq!(rt; dims.row_count(Axis::Customer), 3);
-    assert_eq!(rt; dims.place(Axis::Customer, 12), 2);
-    assert_eq!(rt; dims.place(Axis::Customer, 10), 3);
-    assert_eq!(rt; dims.place(Axis::Customer, 14), 3);
+    assert_eq!(rt; dims.row_index(Axis::Customer, 12), 2);
+    assert_eq!(rt; dims.row_index(Axis::Customer, 10), 3);
+    assert_eq!(rt; dims.row_index(Axis::Customer, 14), 3);
     assert_eq!(rt; dims.members(Attr::CustomerCity), 2);
     assert_eq!(rt; dims.members(Attr::CustomerRegion), 1);
     assert!(rt; ranked(&dims, Attr::CustomerCity, 0) == Some((1, b"PARIS".as_slice())));
@@ -233,9 +233,9 @@ fn keys_far_apart(rt: HostRuntime) -> Result<(), Fail> {
     rows.suppliers.push(supplier(alloc, 1, b"CUSCO")?)?;
     rows.suppliers.push(supplier(alloc, 5, b"LIMA")?)?;
     let dims = Dims::build(alloc, &rows)?;
-    assert_eq!(rt; dims.place(Axis::Supplier, 4000000000), 0);
-    assert_eq!(rt; dims.place(Axis::Supplier, 5), 2);
-    assert_eq!(rt; dims.place(Axis::Supplier, 2), 3);
+    assert_eq!(rt; dims.row_index(Axis::Supplier, 4000000000), 0);
+    assert_eq!(rt; dims.row_index(Axis::Supplier, 5), 2);
+    assert_eq!(rt; dims.row_index(Axis::Supplier, 2), 3);
     assert!(rt; ranked(&dims, Attr::SupplierCity, 0) == Some((1, b"LIMA".as_slice())));
     assert!(rt; ranked(&dims, Attr::SupplierCity, 1) == Some((0, b"CUSCO".as_slice())));
     assert!(rt; dims.attribute(Axis::Supplier, 5, Attr::SupplierCity) == Some(b"LIMA".as_slice()));

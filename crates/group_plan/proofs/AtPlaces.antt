@@ -10,7 +10,7 @@ use Rattle.cube_model.specs.declared.attr.Attr.TheVariants.{CustomerCity, Custom
 use Rattle.cube_model.specs.declared.rows.DimRows.{DimRows}
 use Rattle.cube_model.specs.declared.rows.LineOrder.{LineOrder}
 use Rattle.cube_model.specs.Attributes.{attribute_of, axis_of, key_on}
-use Rattle.cube_model.specs.Places.{place_of, text_at}
+use Rattle.cube_model.specs.Places.{row_index_of, text_at}
 
 text_of_found : {Row : Type 0} (text : Row → List ℕ) (rows : List Row) (place : ℕ)
     → unwrap_or (option_and_then (λ row. Some (text row)) (slice_get rows place)) [] ≡ get_or (map text rows) place []
@@ -23,7 +23,7 @@ by_place : {Row : Type 0} (text : Row → List ℕ) (is : Row → Bool) (rows : 
 by_place text is rows = ap (λ found. unwrap_or (option_and_then (λ row. Some (text row)) found) []) (find_at is rows) ∙ text_of_found text rows (position_or_len is rows)
 
 pub attribute_at_place : (dimensions : DimRows) (attr : Attr) (row : LineOrder)
-    → attribute_of dimensions attr row ≡ text_at dimensions attr (place_of dimensions (axis_of attr) (key_on (axis_of attr) row))
+    → attribute_of dimensions attr row ≡ text_at dimensions attr (row_index_of dimensions (axis_of attr) (key_on (axis_of attr) row))
 attribute_at_place dimensions CustomerCity row = by_place (λ r. r.city) (λ r. r.key == row.custkey) dimensions.customers
 attribute_at_place dimensions CustomerNation row = by_place (λ r. r.nation) (λ r. r.key == row.custkey) dimensions.customers
 attribute_at_place dimensions CustomerRegion row = by_place (λ r. r.region) (λ r. r.key == row.custkey) dimensions.customers

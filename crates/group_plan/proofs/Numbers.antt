@@ -20,7 +20,7 @@ use Rattle.cube_model.specs.declared.rows.LineOrder.{LineOrder}
 use Rattle.cube_model.specs.Attributes.{attribute_of, axis_of, key_on}
 use Rattle.cube_model.specs.Keys.{key_cmp, key_under, member_cmp}
 use Rattle.cube_model.specs.Order.{member_cmp_total}
-use Rattle.cube_model.specs.Places.{attr_members, place_of, row_count_of, texts_of, text_at}
+use Rattle.cube_model.specs.Places.{attr_members, row_index_of, row_count_of, texts_of, text_at}
 use Rattle.group_plan.specs.Numbers.{group_count, key_at, KeysRise, IsKnown}
 use Rattle.group_plan.specs.Parts.{is_same, rank_at, part_at}
 use Rattle.std.specs.Fmt.{decimal}

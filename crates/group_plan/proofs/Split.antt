@@ -10,7 +10,7 @@ use Rattle.cube_model.specs.declared.query.Cond.TheVariants.{OneOf, Between, Qua
 use Rattle.cube_model.specs.declared.rows.DimRows.{DimRows}
 use Rattle.cube_model.specs.declared.rows.LineOrder.{LineOrder}
 use Rattle.cube_model.specs.Attributes.{attribute_of, axis_of, key_on}
-use Rattle.cube_model.specs.Places.{place_of, text_at}
+use Rattle.cube_model.specs.Places.{row_index_of, text_at}
 use Rattle.cube_model.specs.Selection.{holds_of, is_selected, text_le}
 use Rattle.group_plan.specs.Numbers.{group_count}
 use Rattle.group_plan.specs.Parts.{is_same, holds_at, holds_in, rank_at, part_at}
@@ -57,7 +57,7 @@ alone false = refl
 module _ (dimensions : DimRows) (row : LineOrder) where
   -- the place of a fact row on a dimension
   abbrev pub place_on : Axis → ℕ
-  place_on axis = place_of dimensions axis (key_on axis row)
+  place_on axis = row_index_of dimensions axis (key_on axis row)
 
   -- a test on the attribute's own dimension, at each dimension
   on_axis : (own axis : Axis) (text : List ℕ) (at : Axis → List ℕ) (test : List ℕ → Bool) → text ≡ at own

@@ -11,7 +11,7 @@ use Rattle.cube_model.specs.declared.rows.DimRows.{DimRows}
 use Rattle.cube_model.specs.declared.rows.LineOrder.{LineOrder}
 use Rattle.cube_model.specs.Attributes.{key_on}
 use Rattle.cube_model.specs.Keys.{key_cmp, key_under}
-use Rattle.cube_model.specs.Places.{attr_members, place_of, row_count_of}
+use Rattle.cube_model.specs.Places.{attr_members, row_index_of, row_count_of}
 use Rattle.cube_model.specs.Selection.{is_selected}
 
 -- how many groups the members of some columns can make
@@ -40,7 +40,7 @@ IsNumber dimensions query row (Some number) = (is_selected dimensions query.cond
 
 -- each key of a fact row is that of a row of its dimension
 abbrev pub IsKnown : DimRows → LineOrder → Type 0
-IsKnown dimensions row = (axis : Axis) → place_of dimensions axis (key_on axis row) < row_count_of dimensions axis
+IsKnown dimensions row = (axis : Axis) → row_index_of dimensions axis (key_on axis row) < row_count_of dimensions axis
 
 -- a query and the dimensions over which it is asked
 pub record PlanState : Type 0 where

@@ -43,7 +43,7 @@ impl Digits {
                 let lower = Digits::at(dims, axis, place, others);
                 let count = dims.members(*column) as u128 * lower.count;
                 if is_same(column.axis(), axis) {
-                    let rank = u128::from(dims.code(*column, place));
+                    let rank = u128::from(dims.rank(*column, place));
                     Digits {
                         part: rank * lower.count + lower.part,
                         count,

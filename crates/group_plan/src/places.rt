@@ -28,7 +28,7 @@ fn text_at(dims: &Dims, attr: Attr, place: usize) -> &[u8]
     requires { place < row_count_of dims.now (axis_of attr) }
     ensures { result.now ≡ text_at dims.now attr place }
 {
-    dims.member(attr, dims.code(attr, place))
+    dims.member(attr, dims.rank(attr, place))
 }
 
 fn is_at_most(left: &[u8], right: &[u8]) -> bool

@@ -2,7 +2,7 @@
 ghost use Rattle.std.specs.Prelude.{◌≡◌, ◌<◌, ◌≤◌, ◌^◌, length, map, IfOk, IfSome};
 ghost use Rattle.std.specs.List.{list_any, range_with_len};
 ghost use Rattle.cube_model.specs.Attributes.{axis_of};
-ghost use Rattle.cube_model.specs.Places.{place_of, row_count_of};
+ghost use Rattle.cube_model.specs.Places.{row_index_of, row_count_of};
 ghost use Rattle.group_plan.specs.Numbers.{group_count};
 ghost use Rattle.group_plan.specs.Parts.{given_at, is_on, is_same, is_used};
 ghost use Rattle.group_plan.specs.Plans.{IsSide, gives};
@@ -54,15 +54,15 @@ impl Side {
 
     /// What the row with a key gives.
     pub fn given(&self, dims: &Dims, axis: Axis, key: u32) -> Option<u128>
-        ensures { result ≡ gives self.now (place_of dims.now axis key) }
+        ensures { result ≡ gives self.now (row_index_of dims.now axis key) }
     {
         match self {
             Side::Unused => Some(0),
-            Side::Narrow(parts) => match parts.get(dims.place(axis, key)) {
+            Side::Narrow(parts) => match parts.get(dims.row_index(axis, key)) {
                 Some(Some(part)) => Some(u128::from(*part)),
                 _ => None,
             },
-            Side::Wide(parts) => match parts.get(dims.place(axis, key)) {
+            Side::Wide(parts) => match parts.get(dims.row_index(axis, key)) {
                 Some(Some(part)) => Some(*part),
                 _ => None,
             },

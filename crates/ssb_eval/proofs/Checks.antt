@@ -12,7 +12,7 @@ use Rattle.cube_model.specs.declared.rows.DimRows.{DimRows}
 use Rattle.cube_model.specs.declared.rows.LineOrder.{LineOrder}
 use Rattle.cube_model.specs.Admission.{long_text, long_field, unknown_key, unknown_axis}
 use Rattle.cube_model.specs.Causes.{first_cause}
-use Rattle.cube_model.specs.Places.{place_of, row_count_of}
+use Rattle.cube_model.specs.Places.{row_index_of, row_count_of}
 use Rattle.ssb_eval.specs.Accepted.{Accepted}
 use Rattle.ssb_eval.specs.Admission.{lacks, found_in, found_with, judgement, judged_by, StandsBehind}
 use Rattle.ssb_eval.specs.declared.findings.Findings.{Findings}
@@ -37,7 +37,7 @@ at_end p [] = refl
 at_end p (row ∷ rows) = at_first (p row) row (position_or_len p rows) (length rows) (find p rows) (at_end p rows)
 
 -- a key is lacking where its place is behind the last row
-pub lacks-at_end : (dimensions : DimRows) (axis : Axis) (key : ℕ) → (place_of dimensions axis key == row_count_of dimensions axis) ≡ lacks dimensions axis key
+pub lacks-at_end : (dimensions : DimRows) (axis : Axis) (key : ℕ) → (row_index_of dimensions axis key == row_count_of dimensions axis) ≡ lacks dimensions axis key
 lacks-at_end dimensions Customer key = at_end _ dimensions.customers
 lacks-at_end dimensions Supplier key = at_end _ dimensions.suppliers
 lacks-at_end dimensions Part key = at_end _ dimensions.parts

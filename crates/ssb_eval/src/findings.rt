@@ -106,5 +106,5 @@ fn unknown_axis(dims: &Dims, number: u32, row: &LineOrder) -> Option<Fault>
 fn lacks(dims: &Dims, axis: Axis, key: u32) -> bool
     ensures { result ≡ lacks dims.now axis key }
 {
-    dims.place(axis, key) == dims.row_count(axis)
+    dims.row_index(axis, key) == dims.row_count(axis)
 }

@@ -19,14 +19,14 @@ pub overflow_mul-result : goal.overflow_mul-result
 overflow_mul-result t c =
     let others = take (length c.args.columns.now - 1) (drop 1 c.args.columns.now) in
     let few : length others ≤ 5 = grind (arith, common_steps, c.requires.few) in
-    let small : c.from-rank.result ≤ 65535 = omega (arith, c.from-rank.ensures, c.code.type_inv) in
+    let small : c.from-rank.result ≤ 65535 = omega (arith, c.from-rank.ensures, c.rank.type_inv) in
     record { fits = omega (arith, product_fits c.from-rank.result c.at-lower.result.count others small c.at-lower.ensures.count_bound few) }
 
 pub overflow_add-result : goal.overflow_add-result
 overflow_add-result t c =
     let others = take (length c.args.columns.now - 1) (drop 1 c.args.columns.now) in
     let few : length others ≤ 5 = grind (arith, common_steps, c.requires.few) in
-    let small : c.from-rank.result ≤ 65535 = omega (arith, c.from-rank.ensures, c.code.type_inv) in
+    let small : c.from-rank.result ≤ 65535 = omega (arith, c.from-rank.ensures, c.rank.type_inv) in
     record { fits = omega (arith, product_fits c.from-rank.result c.at-lower.result.count others small c.at-lower.ensures.count_bound few, room_bound others few, c.at-lower.ensures.part_bound) }
 
 pub returns-then-is_same-clause-part : goal.returns-then-is_same-clause-part
@@ -37,6 +37,6 @@ returns-then-is_same-clause-part t c =
     let whole : columns ≡ column ∷ others =
     drop_more columns 0 CustomerCity (omega (arith, c.in-len1-up.len_at_least)) ∙ ap (λ rest. column ∷ rest) (sym (take_rest columns 1)) in
     let here : is_same (axis_of column) c.args.axis ≡ true = ap (λ axis. is_same axis c.args.axis) (sym c.axis.ensures) ∙ sym c.is_same.ensures ∙ c.if-is_same.true in
-    let rank : rank_at c.args.dims.now column c.args.place ≡ c.from-rank.result = rank_is c.args.dims.now column c.args.place c.code.result c.code.ensures.below c.code.ensures.text ∙ sym c.from-rank.ensures in
+    let rank : rank_at c.args.dims.now column c.args.place ≡ c.from-rank.result = rank_is c.args.dims.now column c.args.place c.rank.result c.rank.ensures.below c.rank.ensures.text ∙ sym c.from-rank.ensures in
     sym (ap (part_at c.args.dims.now c.args.axis c.args.place) whole
     ∙ (λ i. cond (here i) (rank i * sym c.at-lower.ensures.count i) 0 + sym c.at-lower.ensures.part i))

@@ -2,7 +2,7 @@ use Rattle.dimensions.specs.Whole.{shown_rows}
 use Rattle.std.proofs.Common.{rules, ◌≡◌, ◌∙◌, sym}
 use Rattle.dimensions.specs.Tables.{coded_of, day_coded_of}
 use Rattle.dimensions.proofs.Found.{place_of_customer, place_of_supplier, place_of_part, place_of_day}
-use Rattle.dimensions.proofs.dims.Dims.place.Goals as goal
+use Rattle.dimensions.proofs.dims.Dims.row_index.Goals as goal
 
 pub returns-in-Customer : goal.returns-in-Customer
 unfolding shown_rows

@@ -6,7 +6,7 @@ use Rattle.dimensions.specs.Days.{days_of}
 use Rattle.dimensions.specs.Ranked.{IsCodeAt}
 use Rattle.dimensions.specs.Tables.{coded_of, day_coded_of}
 use Rattle.dimensions.proofs.Ranking.{rank_at, rank_through, within_rows, within_days}
-use Rattle.dimensions.proofs.dims.Dims.code.Goals as goal
+use Rattle.dimensions.proofs.dims.Dims.rank.Goals as goal
 
 pub level_rank-requires-clause-within : goal.level_rank-requires-clause-within
 unfolding shown_rows
