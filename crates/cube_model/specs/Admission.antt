@@ -10,11 +10,12 @@ use Rattle.cube_model.specs.declared.rows.DimRows.{DimRows}
 use Rattle.cube_model.specs.declared.rows.LineOrder.{LineOrder}
 use Rattle.cube_model.specs.Attributes.{customer_of, supplier_of, part_of, date_of}
 use Rattle.cube_model.specs.Causes.{first_cause, cause_if}
+use Rattle.cube_model.specs.Limits.{longest_text, most_batch_rows, most_batches}
 use Rattle.cube_model.specs.Measures.{measure_of}
 
 -- a text is longer than a kept text may be
 abbrev pub is_long : List ℕ → Bool
-is_long text = nat_lt 255 (length text)
+is_long text = nat_lt longest_text (length text)
 
 -- the first text of a row that is too long, with its field in the table
 abbrev pub long_field : ℕ → LineOrder → Option Fault
@@ -77,8 +78,8 @@ abbrev pub refusal : DimRows → List (List LineOrder) → ℕ → List LineOrde
 refusal dimensions batches number rows = first_cause (
     cause_if (nat_le number (length batches)) Repeated
     ∷ cause_if (nat_lt (length batches + 1) number) Gap
-    ∷ cause_if (nat_le 4096 (length batches)) TooManyBatches
-    ∷ cause_if (nat_lt 65536 (length rows)) TooManyRows
+    ∷ cause_if (nat_le most_batches (length batches)) TooManyBatches
+    ∷ cause_if (nat_lt most_batch_rows (length rows)) TooManyRows
     ∷ long_text 1 rows
     ∷ unknown_key dimensions 1 rows
     ∷ sums_cause (all_rows batches ++ rows) ∷ [])

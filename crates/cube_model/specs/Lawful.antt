@@ -14,6 +14,7 @@ use Rattle.cube_model.specs.Answers.{answer, line_of, rows_of_key}
 use Rattle.cube_model.specs.Ascending.{IsAscending}
 use Rattle.cube_model.specs.Fractions.{IsFractionOf, fraction_of}
 use Rattle.cube_model.specs.Keys.{key_cmp, key_under, keys_of, grouping_sets}
+use Rattle.cube_model.specs.Limits.{most_members}
 use Rattle.cube_model.specs.Orders.{answer_cmp}
 use Rattle.cube_model.specs.Selection.{selected}
 use Rattle.cube_model.specs.Validity.{Rules, customer_rules, supplier_rules, part_rules, date_rules, members_of, IsValid}
@@ -61,7 +62,7 @@ pub record KeepsRules {Row : Type 0} (rules : Rules Row) (rows : List Row) : Typ
   pub few_rows : length rows ≤ rules.row_limit
   pub keys_differ : EachPair (λ row other. rules.key row ≢ rules.key other) rows
   pub none_reserved : AllByRecursion (λ row. AllByRecursion (λ text. text row ≢ codes "ALL") rules.texts) rows
-  pub few_members : AllByRecursion (λ text. length (members_of (map text rows)) ≤ 65535) rules.texts
+  pub few_members : AllByRecursion (λ text. length (members_of (map text rows)) ≤ most_members) rules.texts
   pub one_upper : AllByRecursion (λ link. EachPair (λ row other. link.0 row ≡ link.0 other → link.1 row ≡ link.1 other) rows) rules.links
 
 -- the rows of the four dimensions keep the rules

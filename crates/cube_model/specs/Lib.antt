@@ -4,11 +4,11 @@ pub mod Answers
 pub mod Ascending
 pub mod Attributes
 pub mod Causes
-pub mod Examples
 pub mod FaultNumbers
 pub mod Fractions
 pub mod Keys
 pub mod Lawful
+pub mod Limits
 pub mod Measures
 pub mod Names
 pub mod Order

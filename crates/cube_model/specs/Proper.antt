@@ -8,15 +8,16 @@ use Rattle.cube_model.specs.declared.query.Cond.TheVariants.{OneOf, Between, Qua
 use Rattle.cube_model.specs.declared.query.Kind.TheVariants.{Plain}
 use Rattle.cube_model.specs.declared.query.Order.{Order}
 use Rattle.cube_model.specs.declared.query.Query.{Query}
+use Rattle.cube_model.specs.Limits.{most_aggregates, most_columns, most_conditions, most_listed_texts}
 
 -- no column stands twice
 abbrev pub IsFreeOfRepeats : List Attr → Type 0
 IsFreeOfRepeats [] = Unit {0}
 IsFreeOfRepeats (column ∷ columns) = (Contains columns column → ⊥) × IsFreeOfRepeats columns
 
--- a list of texts has 1 to 64 of them
+-- a list of texts has at least one, and not too many
 abbrev pub IsFitCondition : Cond → Type 0
-IsFitCondition (OneOf attr texts) = (1 ≤ length texts) × (length texts ≤ 64)
+IsFitCondition (OneOf attr texts) = (1 ≤ length texts) × (length texts ≤ most_listed_texts)
 IsFitCondition (Between attr low high) = Unit {0}
 IsFitCondition (Quantity low high) = Unit {0}
 IsFitCondition (Discount low high) = Unit {0}
@@ -36,10 +37,10 @@ pub record IsFitOrder (query : Query) (order : Order) : Type 0 where
 
 -- a query that may be asked
 pub record IsProper (query : Query) : Type 0 where
-  pub few_columns : length query.columns ≤ 6
+  pub few_columns : length query.columns ≤ most_columns
   pub distinct_columns : IsFreeOfRepeats query.columns
   pub some_aggregate : 1 ≤ length query.aggregates
-  pub few_aggregates : length query.aggregates ≤ 8
-  pub few_conditions : length query.conditions ≤ 16
+  pub few_aggregates : length query.aggregates ≤ most_aggregates
+  pub few_conditions : length query.conditions ≤ most_conditions
   pub fit_conditions : AllByRecursion IsFitCondition query.conditions
   pub fit_order : IfSome query.order (IsFitOrder query)

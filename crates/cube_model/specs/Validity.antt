@@ -1,7 +1,7 @@
 -- Which dimension rows are valid, and the first cause where they are not.
 -- The levels are the benchmark's; limits, the reserved text and the order of the causes are our own.
-use Rattle.std.specs.Prelude.{◌≡◌, ℕ, ◌+◌, ◌==◌, nat_lt, Bool, ◌&&◌, not, Option, None, List, [], ◌∷◌, ◌++◌, length, map, codes}
-use Rattle.std.specs.List.{list_any}
+use Rattle.std.specs.Prelude.{◌≡◌, ◌≤◌, ℕ, ◌+◌, ◌==◌, nat_lt, Bool, ◌&&◌, not, Option, None, List, [], ◌∷◌, ◌++◌, length, map, codes}
+use Rattle.std.specs.List.{list_any, All, AllByRecursion}
 use Rattle.std.specs.Str.{bytes_eq}
 use Rattle.std.specs.Ordering.{nat_cmp}
 use Rattle.std.specs.Cmp.Lexicographic.{slice_cmp}
@@ -16,6 +16,7 @@ use Rattle.cube_model.specs.declared.rows.DateRow.{DateRow}
 use Rattle.cube_model.specs.declared.rows.DimRows.{DimRows}
 use Rattle.cube_model.specs.Ascending.{ascending}
 use Rattle.cube_model.specs.Causes.{first_cause, cause_if}
+use Rattle.cube_model.specs.Limits.{longest_text, most_days, most_dimension_rows, most_members}
 
 -- the texts of a list, each once, in order by bytes
 abbrev pub members_of : List (List ℕ) → List (List ℕ)
@@ -33,7 +34,7 @@ pub record Rules (Row : Type 0) : Type 0 where
 abbrev pub customer_rules : Rules CustomerRow
 customer_rules = record {
   axis = Customer;
-  row_limit = 4194304;
+  row_limit = most_dimension_rows;
   key = λ row. row.key;
   texts = (λ row. row.city) ∷ (λ row. row.nation) ∷ (λ row. row.region) ∷ [];
   links = ((λ row. row.city), (λ row. row.nation)) ∷ ((λ row. row.nation), (λ row. row.region)) ∷ [];
@@ -42,7 +43,7 @@ customer_rules = record {
 abbrev pub supplier_rules : Rules SupplierRow
 supplier_rules = record {
   axis = Supplier;
-  row_limit = 4194304;
+  row_limit = most_dimension_rows;
   key = λ row. row.key;
   texts = (λ row. row.city) ∷ (λ row. row.nation) ∷ (λ row. row.region) ∷ [];
   links = ((λ row. row.city), (λ row. row.nation)) ∷ ((λ row. row.nation), (λ row. row.region)) ∷ [];
@@ -51,7 +52,7 @@ supplier_rules = record {
 abbrev pub part_rules : Rules PartRow
 part_rules = record {
   axis = Part;
-  row_limit = 4194304;
+  row_limit = most_dimension_rows;
   key = λ row. row.key;
   texts = (λ row. row.brand1) ∷ (λ row. row.category) ∷ (λ row. row.mfgr) ∷ [];
   links = ((λ row. row.brand1), (λ row. row.category)) ∷ ((λ row. row.category), (λ row. row.mfgr)) ∷ [];
@@ -61,7 +62,7 @@ part_rules = record {
 abbrev pub date_rules : Rules DateRow
 date_rules = record {
   axis = Date;
-  row_limit = 65535;
+  row_limit = most_days;
   key = λ row. row.key;
   texts = (λ row. row.yearmonthnum) ∷ (λ row. row.year) ∷ (λ row. row.yearmonth) ∷ (λ row. row.weeknuminyear) ∷ [];
   links = ((λ row. row.yearmonthnum), (λ row. row.year)) ∷ ((λ row. row.yearmonthnum), (λ row. row.yearmonth)) ∷ [];
@@ -76,9 +77,9 @@ module _ {Row : Type 0} (rules : Rules Row) where
   abbrev pub names_all : Row → Bool
   names_all row = list_any (λ text. bytes_eq (codes "ALL") (text row)) rules.texts
 
-  -- with a row there are more than 65,535 members of some kind
+  -- with a row there are too many members of some kind
   abbrev pub overflows : List Row → Row → Bool
-  overflows earlier row = list_any (λ text. nat_lt 65535 (length (members_of (map text (earlier ++ row ∷ []))))) rules.texts
+  overflows earlier row = list_any (λ text. nat_lt most_members (length (members_of (map text (earlier ++ row ∷ []))))) rules.texts
 
   -- a text that an earlier row has determines another text there than in this row
   abbrev pub breaks_link : List Row → Row → Bool
@@ -113,3 +114,15 @@ invalid_cause rows = first_cause (
 -- the rows of the four dimensions keep the rules
 abbrev pub IsValid : DimRows → Type 0
 IsValid rows = invalid_cause rows ≡ None
+
+-- no text that is kept of a row is too long
+abbrev pub HasShortTexts : {Row : Type 0} → Rules Row → Row → Type 0
+HasShortTexts rules row = AllByRecursion (λ text. length (text row) ≤ longest_text) rules.texts
+
+-- No text of the rows is too long. It is no part of being valid: who reads rows, or takes them in, sees to it, and each
+-- text then has a spelling on disk.
+pub record HaveShortTexts (rows : DimRows) : Type 0 where
+  pub customers : All (HasShortTexts customer_rules) rows.customers
+  pub suppliers : All (HasShortTexts supplier_rules) rows.suppliers
+  pub parts : All (HasShortTexts part_rules) rows.parts
+  pub dates : All (HasShortTexts date_rules) rows.dates

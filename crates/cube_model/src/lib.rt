@@ -7,6 +7,7 @@ mod attr;
 mod fault;
 mod items;
 mod laws;
+pub mod limits;
 mod measure;
 mod query;
 mod row_text;
@@ -25,8 +26,3 @@ pub use measure::{Agg, Measure};
 pub use query::{Cond, Kind, Order, Query};
 pub use row_text::RowText;
 pub use rows::{CustomerRow, DateRow, DimRows, LineOrder, PartRow, SupplierRow};
-
-#[cfg(test)]
-mod examples;
-#[cfg(test)]
-mod tests;

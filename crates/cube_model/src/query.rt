@@ -6,6 +6,7 @@ ghost use Rattle.cube_model.specs.Proper.{IsProper, IsFreeOfRepeats, IsFitCondit
 use crate::attr::Attr;
 use crate::fault::Fault;
 use crate::items::{Items, Text};
+use crate::limits::{MOST_AGGREGATES, MOST_COLUMNS, MOST_CONDITIONS, MOST_LISTED_TEXTS};
 use crate::measure::Agg;
 
 /// A condition on a fact row.
@@ -64,7 +65,7 @@ fn is_fit_condition(condition: &Cond) -> bool
     match condition {
         Cond::OneOf(_, texts) => {
             let count = texts.as_slice().len();
-            1 <= count && count <= 64
+            1 <= count && count <= MOST_LISTED_TEXTS
         }
         Cond::Between(_, _, _) => true,
         Cond::Quantity(_, _) => true,
@@ -103,13 +104,13 @@ impl Query {
         let columns = self.columns.as_slice();
         let aggregates = self.aggregates.as_slice();
         let conditions = self.conditions.as_slice();
-        if columns.len() > 6 || !is_free_of_repeats(columns) {
+        if columns.len() > MOST_COLUMNS || !is_free_of_repeats(columns) {
             return Err(Fault::BadQuery);
         }
-        if aggregates.is_empty() || aggregates.len() > 8 {
+        if aggregates.is_empty() || aggregates.len() > MOST_AGGREGATES {
             return Err(Fault::BadQuery);
         }
-        if conditions.len() > 16 || !are_fit_conditions(conditions) {
+        if conditions.len() > MOST_CONDITIONS || !are_fit_conditions(conditions) {
             return Err(Fault::BadQuery);
         }
         if let Some(order) = self.order {

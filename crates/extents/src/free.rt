@@ -93,7 +93,7 @@ impl Free {
         ensures ok { IfOk result (λ copy. copy ≡ self.now) }
         ensures memory { IfErr result (λ fault. fault ≡ Fault.Memory) }
     {
-        let runs = self.runs.clone().map_err(|_| Fault::Memory)?;
+        let runs = self.runs.clone()?;
         Ok(Free {
             count: self.count,
             runs,

@@ -14,7 +14,7 @@ pub(crate) fn sorted(alloc: Global, used: &[Extent]) -> Result<Vec<Extent>, Faul
     ensures order { IfOk result (λ sorted. IsNonDecreasingBy (λ extent. extent.first) sorted.items) }
     ensures memory { IfErr result (λ fault. fault ≡ Fault.Memory) }
 {
-    let mut sorted = Vec::from_slice(alloc, used).map_err(|_| Fault::Memory)?;
+    let mut sorted = Vec::from_slice(alloc, used)?;
     sorted.sort_unstable_by_key(|extent| extent.first);
     Ok(sorted)
 }
@@ -51,7 +51,7 @@ fn push_gap(runs: &mut Vec<Extent>, from: u32, to: u32) -> Result<(), Fault>
             first: from,
             len: to - from,
         };
-        runs.push(run).map_err(|_| Fault::Memory)?;
+        runs.push(run)?;
     }
     Ok(())
 }

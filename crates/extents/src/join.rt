@@ -37,9 +37,8 @@ pub(crate) fn put(runs: &mut Vec<Extent>, join: Join) -> Result<(), Fault>
     ensures memory { IfErr result (λ fault. fault ≡ Fault.Memory) }
 {
     if join.place == join.behind {
-        return runs
-            .insert(join.place, join.joined)
-            .map_err(|_| Fault::Memory);
+        runs.insert(join.place, join.joined)?;
+        return Ok(());
     }
     runs[join.place] = join.joined;
     if join.place + 1 < join.behind {

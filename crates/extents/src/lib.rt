@@ -5,8 +5,6 @@ mod extent;
 mod free;
 mod gaps;
 mod join;
-#[cfg(test)]
-mod tests;
 
 pub use extent::Extent;
 pub use free::Free;

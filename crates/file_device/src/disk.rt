@@ -1,15 +1,26 @@
 // A device over an open file.
-ghost use Rattle.std.specs.Prelude.{◌≡◌, ◌+◌, ◌<◌, ◌-◌, ◌^◌, false, min, is_ok, IsTrue, IsErr, OnOk, OnErr};
+ghost use Rattle.std.specs.Prelude.{◌≡◌, ◌+◌, ◌<◌, ◌≤◌, ◌-◌, ◌^◌, false, min, is_ok, IsTrue, IsErr, OnOk, OnErr};
 ghost use Rattle.sector_device.specs.Device.{IsSettled, Stays, Writes, Syncs, CountsFailure};
+ghost use Rattle.file_device.specs.History.{IsHonest, reads_after};
+ghost use Rattle.file_device.specs.Runs.{AreReads};
 
+use crate::ahead::Ahead;
 use crate::{RawFile, Start};
 use sector_device::{DeviceError, Sectors};
+use std::alloc::Global;
 use std::io;
 use std::marker::PhantomData;
+
+/// How many sectors are read at once where sectors are read one behind the other: 64 KiB.
+const RUN: u32 = 128;
 
 /// A file of whole sectors. It keeps its word as long as the record of its calls is that of an honest file:
 /// each read gave what was written there last. After a failed write or sync it fails each call until it is
 /// opened anew.
+///
+/// Where a sector is read behind the one that was read last, those that follow are read with it in one call, and
+/// given from memory when they are asked for. It takes memory for them then; where there is none, and where the
+/// call fails, it reads one sector at a time.
 #[derive(Drop)]
 pub struct FileDisk<F: RawFile, S: Start> {
     file: F,
@@ -17,13 +28,17 @@ pub struct FileDisk<F: RawFile, S: Start> {
     failures: u64,
     is_broken: bool,
     start: PhantomData<S>,
+    ahead: Ahead,
+    // The sector behind the one that was read last; at first none.
+    next: u32,
+    ghost agrees: { IsHonest S.reads (F.history file) → AreReads (reads_after S.reads (F.history file)) ahead.first ahead.sectors.items },
 }
 
 impl<F: RawFile, S: Start> FileDisk<F, S> {
-    ghost use Rattle.file_device.specs.FileDisk.{file_of, count_of, failures_of, has_broken};
+    ghost use Rattle.file_device.specs.FileDisk.{file_of, count_of, failures_of, has_broken, ReadsOn};
 
     /// A device over an open file of so many sectors.
-    pub fn over(file: F, count: u32) -> FileDisk<F, S>
+    pub fn over(alloc: Global, file: F, count: u32) -> FileDisk<F, S>
         ensures file { file_of result ≡ file }
         ensures count { count_of result ≡ count }
         ensures failures { failures_of result ≡ 0 }
@@ -35,7 +50,29 @@ impl<F: RawFile, S: Start> FileDisk<F, S> {
             failures: 0,
             is_broken: false,
             start: PhantomData,
+            ahead: Ahead::new(alloc),
+            next: u32::MAX,
         }
+    }
+
+    // Reads ahead, if the sector is not there and stands behind the one that was read last.
+    fn look_ahead(&mut self, i: u32)
+        requires { i < self.old.count }
+        ensures { ReadsOn F.RawFile S.Start self.old self.new }
+    {
+        if self.next == i && self.ahead.sector(i).is_none() {
+            self.begin_run(i);
+        }
+        self.next = i + 1;
+    }
+
+    // Reads a sector and those behind it, if that can be.
+    fn begin_run(&mut self, i: u32)
+        requires { i < self.old.count }
+        ensures { ReadsOn F.RawFile S.Start self.old self.new }
+    {
+        let wanted = RUN.min(self.count - i) as usize;
+        self.ahead.fill(&mut self.file, i, wanted);
     }
 }
 
@@ -99,6 +136,11 @@ impl<F: RawFile, S: Start> Sectors for FileDisk<F, S> {
         if self.is_broken {
             return Err(refused(&mut self.failures));
         }
+        self.look_ahead(i);
+        if let Some(bytes) = self.ahead.sector(i) {
+            *to = *bytes;
+            return Ok(());
+        }
         counted(self.file.read_sector(i, to), &mut self.failures)
     }
 
@@ -117,6 +159,7 @@ impl<F: RawFile, S: Start> Sectors for FileDisk<F, S> {
         }
         let outcome = self.file.write_sector(i, from);
         self.is_broken = outcome.is_err();
+        self.ahead.written(i, from, outcome.is_ok());
         counted(outcome, &mut self.failures)
     }
 

@@ -1,18 +1,19 @@
 // Each method makes one call of the system, and then notes it with its answer.
-ghost use Rattle.std.specs.Prelude.{◌≡◌, [], ◌∷◌, is_ok};
+ghost use Rattle.std.specs.Prelude.{◌≡◌, ◌∷◌, [], MatchResult, is_ok};
+ghost use Rattle.file_device.specs.declared.event.Event.{Event};
 
+use crate::calls::Calls;
 use crate::event::Event;
 use crate::raw::RawFile;
-use crate::record::Record;
 use std::fs::OpenFile;
 use std::io;
 use std::os::unix::fs::FileExt;
 
-/// An open file of the operating system, with the record of its calls.
+/// An open file of the operating system, with the calls that were made of it.
 #[derive(Drop)]
 pub struct Host<F: FileExt + OpenFile + Drop> {
     file: F,
-    record: Record,
+    calls: Calls,
 }
 
 impl<F: FileExt + OpenFile + Drop> Host<F> {
@@ -24,8 +25,26 @@ impl<F: FileExt + OpenFile + Drop> Host<F> {
     {
         Host {
             file,
-            record: Record::new(),
+            calls: Calls::none(),
         }
+    }
+
+    /// How many bytes the file has. A call that fails is not recorded.
+    pub fn length(&mut self) -> io::Result<u64>
+        ensures { MatchResult result (λ n. events_of self.new ≡ Event.Measured n ∷ events_of self.old) (λ _. events_of self.new ≡ events_of self.old) }
+    {
+        let length = self.file.metadata()?.len();
+        self.calls = self.calls.then(&Event::Measured(length));
+        Ok(length)
+    }
+
+    /// Gives the file so many bytes, of zeros where it had none.
+    pub fn lengthen(&mut self, length: u64) -> io::Result<()>
+        ensures { events_of self.new ≡ Event.Lengthened length (is_ok result) ∷ events_of self.old }
+    {
+        let answer = self.file.set_len(length);
+        self.calls = self.calls.then(&Event::Lengthened(length, answer.is_ok()));
+        answer
     }
 }
 
@@ -36,21 +55,28 @@ impl<F: FileExt + OpenFile + Drop> RawFile for Host<F> {
 
     fn read_sector(&mut self, i: u32, to: &mut [u8; 512]) -> io::Result<()> {
         self.file.read_exact_at(to, u64::from(i) * 512)?;
-        self.record.note(&Event::Read(i, *to));
+        self.calls = self.calls.then(&Event::Read(i, *to));
+        Ok(())
+    }
+
+    fn read_run(&mut self, first: u32, to: &mut [[u8; 512]]) -> io::Result<()> {
+        let offset = u64::from(first) * 512;
+        self.file.read_exact_at(to.as_flattened_mut(), offset)?;
+        for k in 0..to.len() {
+            self.calls = self.calls.then(&Event::Read(first + k as u32, to[k]));
+        }
         Ok(())
     }
 
     fn write_sector(&mut self, i: u32, from: &[u8; 512]) -> io::Result<()> {
         let answer = self.file.write_all_at(from, u64::from(i) * 512);
-        let event = Event::Written(i, *from, answer.is_ok());
-        self.record.note(&event);
+        self.calls = self.calls.then(&Event::Written(i, *from, answer.is_ok()));
         answer
     }
 
     fn sync(&mut self) -> io::Result<()> {
         let answer = self.file.sync_all();
-        let event = Event::Synced(answer.is_ok());
-        self.record.note(&event);
+        self.calls = self.calls.then(&Event::Synced(answer.is_ok()));
         answer
     }
 }

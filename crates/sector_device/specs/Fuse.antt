@@ -1,6 +1,6 @@
 -- A device of which chosen calls fail. Our own.
-use Rattle.std.specs.Prelude.{◌≡◌, ℕ, ◌+◌, ◌-◌, ◌^◌, min, Bool, IsTrue, IsErr, Result}
-use Rattle.sector_device.specs.Device.{DeviceState}
+use Rattle.std.specs.Prelude.{◌≡◌, ℕ, ◌+◌, ◌-◌, ◌^◌, min, Bool, IsTrue, IsErr, OnOk, Result, List}
+use Rattle.sector_device.specs.Device.{DeviceState, CountsFailure}
 use Rattle.sector_device.specs.declared.device.DeviceError.{DeviceError}
 use Rattle.sector_device.specs.declared.device.Sectors as sectors
 use Rattle.sector_device.specs.declared.fuse.Plan.{Plan}
@@ -45,3 +45,9 @@ pub record Burns {D : Type 0} (result : Result (Unit {0}) DeviceError) (old new 
   pub calls : calls_of new ≡ next_call old
   pub plan : plan_of new ≡ plan_of old
   pub fails : IsTrue (blows old) → IsErr result
+
+-- the inner device was asked to write these bytes there, and gave some answer of a device: it holds them, or it counts a failure
+pub record AsksInner {D : Type 0} (G : sectors.Ghosts D) (at : ℕ) (bytes : List ℕ) (old new : Fuse D) : Type 0 where
+  pub answer : Result (Unit {0}) DeviceError
+  pub holds : OnOk answer (KeepsWord G new → (state_of G new).reads at ≡ bytes)
+  pub failures : CountsFailure answer (inner_failures G old) (inner_failures G new)

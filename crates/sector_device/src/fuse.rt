@@ -23,7 +23,7 @@ pub struct Fuse<D: Sectors> {
 }
 
 impl<D: Sectors> Fuse<D> {
-    ghost use Rattle.sector_device.specs.Fuse.{inner_of, plan_of, calls_of, blows, next_call};
+    ghost use Rattle.sector_device.specs.Fuse.{inner_of, plan_of, calls_of, failures_of};
 
     /// Its n-th call fails, from 1 and none at 0, and with `all` each one from then on. A write that fails
     /// reaches the inner device where `reaches` says so. Reads, writes and syncs count.
@@ -31,6 +31,7 @@ impl<D: Sectors> Fuse<D> {
         ensures device { inner_of result ≡ inner }
         ensures plan { plan_of result ≡ record { at = n; all = all; reaches = reaches } }
         ensures calls { calls_of result ≡ 0 }
+        ensures failures { failures_of result ≡ 0 }
     {
         let plan = Plan {
             at: n,
@@ -56,7 +57,8 @@ impl<D: Sectors> Fuse<D> {
     pub fn close(self) -> D
         ensures { result ≡ inner_of self }
     {
-        self.inner
+        let Fuse { inner, .. } = self;
+        inner
     }
 }
 
@@ -80,7 +82,7 @@ fn counted(outcome: Result<(), DeviceError>, failures: &mut u64) -> Result<(), D
 }
 
 impl<D: Sectors> Sectors for Fuse<D> {
-    ghost use Rattle.sector_device.specs.Fuse.{inner_of, state_of, KeepsWord, inner_failures, failures_of, plan_of, blows, Burns};
+    ghost use Rattle.sector_device.specs.Fuse.{inner_of, state_of, KeepsWord, inner_failures, failures_of, plan_of, blows, AsksInner, Burns};
 
     ghost state = { λ f. D.Sectors.state f.inner };
 
@@ -137,6 +139,7 @@ impl<D: Sectors> Sectors for Fuse<D> {
         ensures burns { Burns result self.old self.new }
         ensures passes { blows self.old ≡ false → CountsFailure result (inner_failures D.Sectors self.old) (inner_failures D.Sectors self.new) }
         ensures spared { IsTrue (blows self.old) → (plan_of self.old).reaches ≡ false → inner_of self.new ≡ inner_of self.old }
+        ensures reached { IsTrue (blows self.old) → IsTrue (plan_of self.old).reaches → AsksInner D.Sectors i from.now self.old self.new }
     {
         if burn(&mut self.calls, self.plan) {
             if self.plan.reaches {
@@ -164,23 +167,5 @@ impl<D: Sectors> Sectors for Fuse<D> {
             return counted(Err(DeviceError), &mut self.failures);
         }
         counted(self.inner.sync(), &mut self.failures)
-    }
-}
-
-#[cfg(test)]
-mod tests {
-    use super::*;
-    use crate::MemDisk;
-    use std::test::Fail;
-
-    #[test]
-    fn stays_at_the_greatest_count(rt: HostRuntime) -> Result<(), Fail> {
-        let mut fuse = Fuse::new(MemDisk::new(rt.alloc(), 1)?, 1, true, false);
-        fuse.failures = u64::MAX - 1;
-        assert_eq!(rt; fuse.sync(), Err(DeviceError));
-        assert_eq!(rt; fuse.failures(), u64::MAX);
-        assert_eq!(rt; fuse.sync(), Err(DeviceError));
-        assert_eq!(rt; fuse.failures(), u64::MAX);
-        Ok(())
     }
 }

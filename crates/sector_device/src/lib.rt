@@ -6,8 +6,6 @@ mod crash;
 mod device;
 mod fuse;
 mod memory;
-#[cfg(test)]
-mod tests;
 
 pub use device::{DeviceError, Sectors};
 pub use fuse::Fuse;

@@ -7,7 +7,7 @@ use Rattle.wire.specs.Reading.{ReadsNumber, TakesBytes}
 use Rattle.wire.proofs.CallerLemmas.{length-spelling, with_field-done}
 use Rattle.superblock.specs.declared.superblock.Super.{Super}
 use Rattle.superblock.specs.Superblock.{sector_of, IsProper}
-use Rattle.superblock.proofs.CallerLemmas.{bytes_fit, catalogue_fits, made_of}
+use Rattle.superblock.proofs.CallerLemmas.{bytes_fit, catalogue_fits, layout_fits, made_of}
 
 -- a field of k bytes goes on with what is done, where zeros stand
 field_put : (at k m : ℕ) (done field old new : List ℕ) → length done ≡ at → length field ≡ k
@@ -50,21 +50,22 @@ rests_same a b xs ys as_long same =
     sym (drop-append_seam a xs) ∙ ap (λ (n : ℕ). drop n (a ++ xs)) as_long ∙ ap (drop (length b)) same ∙ drop-append_seam b ys
 
 -- what was read from the places of the fields of a proper superblock is that superblock
-pub said_is : (s : Super) (sector part r0 r1 r2 r3 r4 : List ℕ) (sectors generation catalogue bytes : ℕ)
-    → TakesBytes 12 sector r0 part → ReadsNumber 4 r0 r1 sectors → ReadsNumber 8 r1 r2 generation
+pub said_is : (s : Super) (sector part l0 r0 r1 r2 r3 r4 : List ℕ) (layout sectors generation catalogue bytes : ℕ)
+    → TakesBytes 8 sector l0 part → ReadsNumber 4 l0 r0 layout → ReadsNumber 4 r0 r1 sectors → ReadsNumber 8 r1 r2 generation
     → ReadsNumber 4 r2 r3 catalogue → ReadsNumber 4 r3 r4 bytes → IsProper s → sector ≡ sector_of s
-    → ◌≡◌ {A = Super} (record { sectors = sectors; generation = generation; catalogue = catalogue; bytes = bytes }) s
-said_is s sector part r0 r1 r2 r3 r4 sectors generation catalogue bytes taken one two three four proper is =
-    let front : List ℕ = codes "SSBCUBE1" ++ spelling 4 1 in
+    → ◌≡◌ {A = Super} (record { layout = layout; sectors = sectors; generation = generation; catalogue = catalogue; bytes = bytes }) s
+said_is s sector part l0 r0 r1 r2 r3 r4 layout sectors generation catalogue bytes taken zeroth one two three four proper is =
+    let name : List ℕ = codes "SSBCUBE1" in
     let rest4 : List ℕ = replicate 480 0 in
     let rest3 : List ℕ = spelling 4 s.bytes ++ rest4 in
     let rest2 : List ℕ = spelling 4 s.catalogue ++ rest3 in
     let rest1 : List ℕ = spelling 8 s.generation ++ rest2 in
     let rest0 : List ℕ = spelling 4 s.sectors ++ rest1 in
-    let twelve : length front ≡ 12 = omega (arith, length-spelling 4 1) in
-    let behind : r0 ≡ rest0 = rests_same part front r0 rest0 (taken.many ∙ sym twelve) (sym taken.spelled ∙ is) in
-    let first = one.reads_back s.sectors rest1 proper.sectors_fit behind in
+    let before : List ℕ = spelling 4 s.layout ++ rest0 in
+    let behind : l0 ≡ before = rests_same part name l0 before taken.many (sym taken.spelled ∙ is) in
+    let number = zeroth.reads_back s.layout rest0 (layout_fits s proper) behind in
+    let first = one.reads_back s.sectors rest1 proper.sectors_fit number.1 in
     let second = two.reads_back s.generation rest2 proper.generation_fits first.1 in
     let third = three.reads_back s.catalogue rest3 (catalogue_fits s proper) second.1 in
     let fourth = four.reads_back s.bytes rest4 (bytes_fit s proper) third.1 in
-    made_of sectors generation catalogue bytes s first.0 second.0 third.0 fourth.0
+    made_of layout sectors generation catalogue bytes s number.0 first.0 second.0 third.0 fourth.0

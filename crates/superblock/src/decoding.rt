@@ -26,8 +26,9 @@ fn fields(sector: &[u8]) -> Result<Super, Fault>
     ensures { (s : Super) → IsProper s → sector.now ≡ sector_of s → result ≡ Ok s }
 {
     let mut cursor = Cursor::new(sector);
-    cursor.bytes(12)?;
+    cursor.bytes(8)?;
     Ok(Super {
+        layout: cursor.u32()?,
         sectors: cursor.u32()?,
         generation: cursor.u64()?,
         catalogue: cursor.u32()?,

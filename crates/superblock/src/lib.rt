@@ -5,8 +5,6 @@ mod choice;
 mod decoding;
 mod encoding;
 mod superblock;
-#[cfg(test)]
-mod tests;
 
 pub use choice::choose;
 pub use decoding::decode;

@@ -1,16 +1,18 @@
 //! What a superblock says.
 ghost use Rattle.std.specs.Prelude.{◌↔◌, IsTrue};
 
-// The fewest sectors of a device.
-const LEAST_SECTORS: u32 = 64;
+use wire::limits::{LEAST_SECTORS, MOST_OBJECT_BYTES, SECTOR_BYTES};
+
+// The newest layout.
+const NEWEST_LAYOUT: u32 = 2;
 // The fewest bytes of a catalogue.
 const LEAST_BYTES: u32 = 12;
-// The most bytes of a catalogue.
-const MOST_BYTES: u32 = 134_217_728;
 
 /// What a superblock says of the store.
 #[derive(Clone, Copy, Debug, PartialEq, Eq)]
 pub struct Super {
+    /// The number of the layout of the objects, 1 or 2.
+    pub layout: u32,
     /// How many sectors the device has.
     pub sectors: u32,
     /// The number of the commit that made it, from 1.
@@ -28,12 +30,14 @@ impl Super {
     pub fn is_proper(&self) -> bool
         ensures { IsTrue result ↔ IsProper self.now }
     {
-        self.sectors >= LEAST_SECTORS
+        self.layout >= 1
+            && self.layout <= NEWEST_LAYOUT
+            && self.sectors >= LEAST_SECTORS
             && self.generation >= 1
             && self.catalogue >= 2
             && self.bytes >= LEAST_BYTES
-            && self.bytes <= MOST_BYTES
-            && u64::from(self.catalogue) + u64::from(self.bytes).div_ceil(512)
+            && u64::from(self.bytes) <= MOST_OBJECT_BYTES
+            && u64::from(self.catalogue) + u64::from(self.bytes).div_ceil(SECTOR_BYTES as u64)
                 <= u64::from(self.sectors)
     }
 }

@@ -1,4 +1,4 @@
--- What the spelling of a number determines, for the proofs of other crates too.
+-- What the spelling of a number determines, and how runs of reads go on, for the proofs of other crates too.
 use Rattle.std.proofs.Common.{◌≡◌, ℕ, zero, suc, ◌+◌, ◌*◌, ◌/◌, ◌%◌, ◌^◌, ◌<◌, ◌≤◌, List, [], ◌∷◌, ◌++◌, length, take, drop, slice_index, refl, sym, ap, ◌∙◌, arith}
 use Rattle.std.proofs.Math.Nat.{div-div-eq-div-mul, pow-succ'}
 use Rattle.std.proofs.Math.Seq.{drop-append-add, take-append_seam}
@@ -6,6 +6,9 @@ use Rattle.std.proofs.lemmas.List.{take_all, append_cancel_left}
 use Rattle.std.specs.Int.{byte_at, bytes_low_first}
 use Rattle.byteorder.specs.Endian.{little_from, little_number, little_bytes}
 use Rattle.byteorder.specs.Numbers.{little_from-cons, little_number-reads_back, length-bytes_low_first}
+use Rattle.cube_model.specs.declared.fault.Fault.{Fault}
+use Rattle.wire.specs.declared.source.Source.{Ghosts}
+use Rattle.wire.specs.Runs.{HasRead, IsRefused, Stays-none, Stays-then}
 use Rattle.wire.specs.Spelling.{spelling}
 use Rattle.wire.specs.Writing.{with_field}
 
@@ -54,3 +57,22 @@ spelling-one n x y xs ys x_fits y_fits same =
 -- a field over the bytes that follow those that are done
 pub with_field-done : (done field rest : List ℕ) → with_field (length done) field (done ++ rest) ≡ done ++ (field ++ drop (length field) rest)
 with_field-done done field rest = rw (take-append_seam done rest, drop-append-add done rest (length field)) refl
+
+-- no read leaves a source as it is, where no read is a run
+pub HasRead-none : {S : Type 0} (g : Ghosts S) → ((s : S) → g.reads s s) → (s : S) → HasRead g s s
+HasRead-none g none s = record { stays = Stays-none g s; run = none s }
+
+-- a run of reads behind another is one, where runs join
+pub HasRead-then : {S : Type 0} (g : Ghosts S) → ((a b c : S) → g.reads a b → g.reads b c → g.reads a c)
+    → (old mid new : S) → HasRead g old mid → HasRead g mid new → HasRead g old new
+HasRead-then g join old mid new first second =
+    record { stays = Stays-then g old mid new first.stays second.stays; run = join old mid new first.run second.run }
+
+-- a refusal behind a run of reads
+pub IsRefused-later : {S : Type 0} (g : Ghosts S) → ((fault : Fault) (a b c : S) → g.reads a b → g.fails fault b c → g.fails fault a c)
+    → (fault : Fault) (old mid new : S) → HasRead g old mid → IsRefused g fault mid new → IsRefused g fault old new
+IsRefused-later g join fault old mid new first second = record {
+  stays = Stays-then g old mid new first.stays second.stays;
+  cause = second.cause;
+  run = join fault old mid new first.run second.run;
+}

@@ -14,10 +14,8 @@ pub fn push_bytes(out: &mut Vec<u8>, bytes: &[u8]) -> Result<(), Fault>
     ensures memory { IsOkUnless result Fault.Memory }
     ensures full { OnErr result (vec_capacity out.old < vec_len out.old + length bytes.now) }
 {
-    match out.extend_from_slice(bytes) {
-        Ok(()) => Ok(()),
-        Err(_) => Err(Fault::Memory),
-    }
+    out.extend_from_slice(bytes)?;
+    Ok(())
 }
 
 /// Adds a number in one byte.

@@ -1,0 +1,5 @@
+pub mod CallerLemmas
+mod Ascending
+mod Decoded
+mod Places
+mod Read

@@ -1,0 +1,47 @@
+//! Reading a catalogue.
+ghost use Rattle.std.specs.Prelude.{◌≡◌, ◌⊎◌, ◌↔◌, ℕ, List, All, IsTrue, IfErr, IfOk};
+ghost use Rattle.cube_model.specs.declared.fault.Fault.{Fault};
+ghost use Rattle.catalogue.specs.declared.entry.Entry.{Entry};
+ghost use Rattle.catalogue.specs.Catalogue.{AreAscending, IsCatalogue, IsProperEntry};
+
+use crate::catalogue::Catalogue;
+use crate::entry::Entry;
+use crate::reading::{read_entries, read_header};
+use cube_model::Fault;
+use std::alloc::Global;
+use wire::Cursor;
+use wire::limits::{MOST_OBJECTS, MOST_ROOT_BYTES};
+
+/// The catalogue that the bytes spell. `BadLayout` where they spell none that keeps the rules.
+pub fn decode(alloc: Global, bytes: &[u8]) -> Result<Catalogue, Fault>
+    ensures ok { IfOk result (λ found. IsCatalogue bytes.now found.entries.items found.root.items) }
+    ensures refused { IfErr result (λ fault. (fault ≡ Fault.Memory) ⊎ ((fault ≡ Fault.BadLayout)
+        × ((entries : List Entry) (root : List ℕ) → ¬ IsCatalogue bytes.now entries root))) }
+{
+    let mut cursor = Cursor::new(bytes);
+    let header = read_header(&mut cursor)?;
+    let (count, root) = (header.entries as usize, header.root as usize);
+    if count > MOST_OBJECTS || root > MOST_ROOT_BYTES || bytes.len() != 12 + 16 * count + root {
+        return Err(Fault::BadLayout);
+    }
+    let entries = read_entries(alloc, &mut cursor, count)?;
+    if !are_proper(&entries) || !ascend(&entries) {
+        return Err(Fault::BadLayout);
+    }
+    let root = Vec::from_slice(alloc, cursor.bytes(root)?)?;
+    Ok(Catalogue { entries, root })
+}
+
+// Whether each entry keeps its rule.
+fn are_proper(entries: &[Entry]) -> bool
+    ensures { IsTrue result ↔ All IsProperEntry entries.now }
+{
+    entries.iter().all(|entry| entry.is_proper())
+}
+
+// Whether each id is below the next.
+fn ascend(entries: &[Entry]) -> bool
+    ensures { IsTrue result ↔ AreAscending entries.now }
+{
+    entries.is_sorted_by(|one, other| one.id < other.id)
+}

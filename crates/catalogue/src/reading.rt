@@ -1,0 +1,62 @@
+//! Reading the parts of a catalogue from the front of bytes.
+ghost use Rattle.std.specs.Prelude.{◌≡◌, ◌≢◌, ◌*◌, ◌^◌, ◌≤◌, ◌<◌, ◌++◌, ℕ, List, length, IfErr, IfOk, IsErr, IsOkUnless, ◌↔◌};
+ghost use Rattle.cube_model.specs.declared.fault.Fault.{Fault};
+ghost use Rattle.catalogue.specs.Catalogue.{header_of};
+ghost use Rattle.catalogue.specs.Reading.{ReadsEntries, ReadsEntry, ReadsHeader};
+
+use crate::entry::Entry;
+use cube_model::Fault;
+use std::alloc::Global;
+use wire::Cursor;
+
+// What stands before the entries: how many there are, and how many bytes the root has.
+#[derive(Clone, Copy)]
+pub(crate) struct Header {
+    pub(crate) entries: u32,
+    pub(crate) root: u32,
+}
+
+// The header at the front of bytes.
+pub(crate) fn read_header(cursor: &mut Cursor<'_>) -> Result<Header, Fault>
+    ensures ok { IfOk result (λ header. ReadsHeader cursor.old cursor.new header.entries header.root) }
+    ensures fault { IsOkUnless result Fault.BadLayout }
+    ensures none { IsErr result → (entries root : ℕ) (rest : List ℕ) → cursor.old ≢ header_of entries root ++ rest }
+{
+    if cursor.bytes(4)? != b"CAT1".as_slice() {
+        return Err(Fault::BadLayout);
+    }
+    Ok(Header {
+        entries: cursor.u32()?,
+        root: cursor.u32()?,
+    })
+}
+
+// The entries at the front of bytes.
+pub(crate) fn read_entries(
+    alloc: Global,
+    cursor: &mut Cursor<'_>,
+    count: usize,
+) -> Result<Vec<Entry>, Fault>
+    requires { 16 * count ≤ length cursor.old }
+    ensures ok { IfOk result (λ entries. ReadsEntries count cursor.old cursor.new entries.items) }
+    ensures memory { IfErr result (λ fault. fault ≡ Fault.Memory) }
+{
+    let mut entries = Vec::with_capacity(alloc, count)?;
+    for _ in 0..count {
+        let entry = read_entry(cursor)?;
+        entries.push(entry)?;
+    }
+    Ok(entries)
+}
+
+// The entry at the front of bytes.
+fn read_entry(cursor: &mut Cursor<'_>) -> Result<Entry, Fault>
+    ensures ok { IfOk result (ReadsEntry cursor.old cursor.new) }
+    ensures short { IsErr result ↔ (length cursor.old < 16) }
+{
+    Ok(Entry {
+        id: cursor.u32()?,
+        first: cursor.u32()?,
+        bytes: cursor.u64()?,
+    })
+}

@@ -1,0 +1,21 @@
+//! Tests of the devices: the memory disk, the fuse, the cache, and the device over a file.
+#![tactic(auto)]
+
+#[cfg(test)]
+mod bytes;
+#[cfg(test)]
+mod cache;
+#[cfg(test)]
+mod fake_file;
+#[cfg(test)]
+mod file;
+#[cfg(test)]
+mod fuse;
+#[cfg(test)]
+mod length;
+#[cfg(test)]
+mod liar;
+#[cfg(test)]
+mod memory;
+#[cfg(test)]
+mod runs;

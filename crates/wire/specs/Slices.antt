@@ -1,0 +1,7 @@
+-- Bytes in memory as a source. Our own.
+use Rattle.std.specs.Prelude.{ℕ, List}
+use Rattle.wire.specs.declared.source.SliceSource.{SliceSource}
+
+-- the bytes that stand at every id
+abbrev pub bytes_of : SliceSource → List ℕ
+bytes_of source = source.bytes.now
