@@ -1,7 +1,7 @@
 -- Which dimension rows are valid, and the first cause where they are not.
 -- The levels are the benchmark's; limits, the reserved text and the order of the causes are our own.
 use Rattle.std.specs.Prelude.{◌≡◌, ◌≤◌, ℕ, ◌+◌, ◌==◌, nat_lt, Bool, ◌&&◌, not, Option, None, List, [], ◌∷◌, ◌++◌, length, map, codes}
-use Rattle.std.specs.List.{list_any, All, AllByRecursion}
+use Rattle.std.specs.List.{list_any, AllByRecursion}
 use Rattle.std.specs.Str.{bytes_eq}
 use Rattle.std.specs.Ordering.{nat_cmp}
 use Rattle.std.specs.Cmp.Lexicographic.{slice_cmp}
@@ -115,14 +115,17 @@ invalid_cause rows = first_cause (
 abbrev pub IsValid : DimRows → Type 0
 IsValid rows = invalid_cause rows ≡ None
 
--- no text that is kept of a row is too long
+-- each text that is kept of a row is short enough
 abbrev pub HasShortTexts : {Row : Type 0} → Rules Row → Row → Type 0
 HasShortTexts rules row = AllByRecursion (λ text. length (text row) ≤ longest_text) rules.texts
 
--- No text of the rows is too long. It is no part of being valid: who reads rows, or takes them in, sees to it, and each
--- text then has a spelling on disk.
+-- the same of each row: longer texts have no spelling on a disk
+abbrev pub AreShort : {Row : Type 0} → Rules Row → List Row → Type 0
+AreShort rules rows = AllByRecursion (HasShortTexts rules) rows
+
+-- The same of the four dimensions. It is no part of being valid: who takes rows in asks for it.
 pub record HaveShortTexts (rows : DimRows) : Type 0 where
-  pub customers : All (HasShortTexts customer_rules) rows.customers
-  pub suppliers : All (HasShortTexts supplier_rules) rows.suppliers
-  pub parts : All (HasShortTexts part_rules) rows.parts
-  pub dates : All (HasShortTexts date_rules) rows.dates
+  pub customers : AreShort customer_rules rows.customers
+  pub suppliers : AreShort supplier_rules rows.suppliers
+  pub parts : AreShort part_rules rows.parts
+  pub dates : AreShort date_rules rows.dates

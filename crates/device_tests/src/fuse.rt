@@ -62,13 +62,21 @@ fn expected(calls: [bool; 4], failures: u64, bytes: [u8; 3]) -> Outcome {
 
 #[test]
 fn fails_the_calls_that_it_is_told(rt: HostRuntime) -> Result<(), Fail> {
-    for (n, all, calls, failures, spared) in CALLS {
+    for (n, all, calls, failures, bytes) in CALLS {
         let found = left_by(&rt, n, all, false)?;
         assert_eq!(rt;
             found,
-            expected(calls, failures, spared),
+            expected(calls, failures, bytes),
             "call {n}, all {all}"
         );
+    }
+    Ok(())
+}
+
+// The bytes of both writes are there, also of one that failed.
+#[test]
+fn lets_failing_writes_reach_the_disk(rt: HostRuntime) -> Result<(), Fail> {
+    for (n, all, calls, failures, _) in CALLS {
         let found = left_by(&rt, n, all, true)?;
         assert_eq!(rt;
             found,

@@ -1,8 +1,7 @@
 //! Dimension rows, as constants can hold them.
 ghost use Rattle.std.specs.Prelude.{◌≡◌, ◌≤◌, IfOk, length};
-ghost use Rattle.std.specs.List.{All};
 ghost use Rattle.cube_model.specs.Limits.{longest_text};
-ghost use Rattle.cube_model.specs.Validity.{HaveShortTexts, HasShortTexts, customer_rules, supplier_rules, part_rules, date_rules};
+ghost use Rattle.cube_model.specs.Validity.{AreShort, HaveShortTexts, HasShortTexts, customer_rules, supplier_rules, part_rules, date_rules};
 
 use cube_model::limits::LONGEST_TEXT;
 use cube_model::{CustomerRow, DateRow, DimRows, Fault, Items, PartRow, SupplierRow, Text};
@@ -204,8 +203,9 @@ pub fn date_row(alloc: Global, row: &Day<'_>) -> Result<DateRow, Fault>
     })
 }
 
+#[tactic(auto, using(crate::proofs::ShortRows::all_with_one_more))]
 fn customers(alloc: Global, given: &[Location<'_>]) -> Result<Items<CustomerRow>, Fault>
-    ensures { IfOk result (All (HasShortTexts customer_rules)) }
+    ensures { IfOk result (AreShort customer_rules) }
 {
     let mut rows = Items::new(alloc);
     for row in given {
@@ -214,8 +214,9 @@ fn customers(alloc: Global, given: &[Location<'_>]) -> Result<Items<CustomerRow>
     Ok(rows)
 }
 
+#[tactic(auto, using(crate::proofs::ShortRows::all_with_one_more))]
 fn suppliers(alloc: Global, given: &[Location<'_>]) -> Result<Items<SupplierRow>, Fault>
-    ensures { IfOk result (All (HasShortTexts supplier_rules)) }
+    ensures { IfOk result (AreShort supplier_rules) }
 {
     let mut rows = Items::new(alloc);
     for row in given {
@@ -224,8 +225,9 @@ fn suppliers(alloc: Global, given: &[Location<'_>]) -> Result<Items<SupplierRow>
     Ok(rows)
 }
 
+#[tactic(auto, using(crate::proofs::ShortRows::all_with_one_more))]
 fn parts(alloc: Global, given: &[Product<'_>]) -> Result<Items<PartRow>, Fault>
-    ensures { IfOk result (All (HasShortTexts part_rules)) }
+    ensures { IfOk result (AreShort part_rules) }
 {
     let mut rows = Items::new(alloc);
     for row in given {
@@ -234,8 +236,9 @@ fn parts(alloc: Global, given: &[Product<'_>]) -> Result<Items<PartRow>, Fault>
     Ok(rows)
 }
 
+#[tactic(auto, using(crate::proofs::ShortRows::all_with_one_more))]
 fn dates(alloc: Global, given: &[Day<'_>]) -> Result<Items<DateRow>, Fault>
-    ensures { IfOk result (All (HasShortTexts date_rules)) }
+    ensures { IfOk result (AreShort date_rules) }
 {
     let mut rows = Items::new(alloc);
     for row in given {

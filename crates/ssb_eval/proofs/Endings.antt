@@ -6,8 +6,8 @@ use Rattle.cube_model.specs.declared.query.Query.{Query}
 use Rattle.cube_model.specs.declared.rows.DimRows.{DimRows}
 use Rattle.cube_model.specs.declared.fault.Fault.TheVariants.{Memory, Input}
 use Rattle.ssb_eval.specs.Evaluation.{Gives, Reports, Texts, and_then, answer_of, dimensions_of, eval_of}
-use Rattle.ssb_eval.specs.Report.{report_of}
-use Rattle.ssb_eval.specs.Writing.{Writes}
+use Rattle.ssb_reports.specs.Report.{report_of}
+use Rattle.ssb_reports.specs.Writing.{Writes}
 
 keeps_same : (known : Option (List ℕ)) → Keeps known known
 keeps_same None = tt

@@ -13,8 +13,8 @@ use Rattle.cube_model.specs.declared.rows.LineOrder.{LineOrder}
 use Rattle.cube_model.specs.Admission.{all_rows, refusal}
 use Rattle.cube_model.specs.Answers.{answer}
 use Rattle.cube_model.specs.Validity.{invalid_cause}
-use Rattle.ssb_eval.specs.Report.{report_of}
-use Rattle.ssb_eval.specs.Writing.{AppendsBeginning}
+use Rattle.ssb_reports.specs.Report.{report_of}
+use Rattle.ssb_reports.specs.Writing.{AppendsBeginning}
 
 -- the texts of the tables
 pub record Texts : Type 0 where

@@ -1,9 +1,6 @@
 pub mod Accepted
 pub mod Admission
 pub mod Evaluation
-pub mod Parted
-pub mod Report
 pub mod Taken
 pub mod Totals
-pub mod Words
-pub mod Writing
+pub mod Status

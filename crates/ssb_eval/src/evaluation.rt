@@ -7,8 +7,8 @@ ghost use Rattle.ssb_eval.specs.Evaluation.{HaveTexts, Reports, Texts, eval_of};
 
 use crate::dimension_tables::read_dimensions;
 use crate::facts::answer_facts;
-use crate::report::write_report;
 use cube_model::{Fault, Query};
+use ssb_reports::write_report;
 use std::alloc::Global;
 use std::io::{Read, Write};
 

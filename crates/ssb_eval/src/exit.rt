@@ -1,6 +1,6 @@
 //! The status at the end.
 ghost use Rattle.std.specs.Prelude.{◌≡◌};
-ghost use Rattle.ssb_eval.specs.Words.{status_of};
+ghost use Rattle.ssb_eval.specs.Status.{status_of};
 
 use cube_model::Fault;
 

@@ -6,21 +6,12 @@ mod dimension_tables;
 mod evaluation;
 mod exit;
 mod facts;
-mod field;
 mod findings;
 mod laws;
-mod pushing;
-mod report;
-#[cfg(test)]
-mod tests;
+mod plain;
 mod totals;
-mod word_aggregates;
-mod word_conditions;
-mod words;
-mod writing;
 
 pub use evaluation::eval_texts;
 pub use exit::exit_of;
 pub use laws::facts_are_the_rows_of_their_text;
-pub use report::write_report;
-pub use words::read_query;
+pub use plain::is_plain;

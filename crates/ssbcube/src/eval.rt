@@ -1,40 +1,51 @@
 //! The command `eval`.
 use clap::ArgMatches;
-use cube_model::Fault;
-use ssb_eval::{eval_texts, read_query};
+use cube_model::{Fault, Query};
+use query_words::read_query;
+use ssb_eval::{eval_texts, is_plain};
+use std::alloc::Global;
 use std::fs;
-use std::io::{self, BufWriter};
+use std::io::{self, BufWriter, Read};
 use std::rt::Files;
+
+/// The files of the dimensions.
+#[derive(Drop)]
+struct DimensionFiles<F> {
+    customer: F,
+    supplier: F,
+    part: F,
+    date: F,
+}
 
 /// Reads the query's words, opens the files in the order of the command, and writes the report.
 pub fn eval<R: Files + AllocGlobal + Print>(rt: &R, given: &ArgMatches<'_>) -> Result<(), Fault> {
-    let conditions = given.get_strs("condition").unwrap_or(&[]);
-    let query = read_query(
-        rt.alloc(),
+    let query = query_of_words(rt.alloc(), given)?;
+    let dimensions = open_dimensions(rt, given)?;
+    let lineorder = open(rt, given, "lineorder")?;
+    report(rt, &query, dimensions, lineorder)
+}
+
+fn query_of_words(alloc: Global, given: &ArgMatches<'_>) -> Result<Query, Fault> {
+    read_query(
+        alloc,
         given.get_str("query"),
         given.get_str("set"),
         given.get_str("by"),
         given.get_str("agg"),
-        conditions,
-    )?;
-    let customer = open(rt, given, "customer")?;
-    let supplier = open(rt, given, "supplier")?;
-    let part = open(rt, given, "part")?;
-    let date = open(rt, given, "date")?;
-    let lineorder = open(rt, given, "lineorder")?;
-    let Ok(mut out) = BufWriter::new(rt.alloc(), io::writer(rt)) else {
-        return Err(Fault::Memory);
-    };
-    eval_texts(
-        rt.alloc(),
-        customer,
-        supplier,
-        part,
-        date,
-        lineorder,
-        &query,
-        &mut out,
+        given.get_strs("condition").unwrap_or(&[]),
     )
+}
+
+fn open_dimensions<R: Files>(
+    rt: &R,
+    given: &ArgMatches<'_>,
+) -> Result<DimensionFiles<R::File>, Fault> {
+    Ok(DimensionFiles {
+        customer: open(rt, given, "customer")?,
+        supplier: open(rt, given, "supplier")?,
+        part: open(rt, given, "part")?,
+        date: open(rt, given, "date")?,
+    })
 }
 
 // The file that an option names.
@@ -46,4 +57,34 @@ fn open<R: Files>(rt: &R, given: &ArgMatches<'_>, name: &str) -> Result<R::File,
         Ok(file) => Ok(file),
         Err(_) => Err(Fault::Input),
     }
+}
+
+fn report<R: AllocGlobal + Print, F: Read + Drop>(
+    rt: &R,
+    query: &Query,
+    dimensions: DimensionFiles<F>,
+    lineorder: F,
+) -> Result<(), Fault> {
+    if !is_plain(query) {
+        return Err(Fault::BadQuery);
+    }
+    let Ok(mut out) = BufWriter::new(rt.alloc(), io::writer(rt)) else {
+        return Err(Fault::Memory);
+    };
+    let DimensionFiles {
+        customer,
+        supplier,
+        part,
+        date,
+    } = dimensions;
+    eval_texts(
+        rt.alloc(),
+        customer,
+        supplier,
+        part,
+        date,
+        lineorder,
+        query,
+        &mut out,
+    )
 }

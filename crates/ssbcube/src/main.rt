@@ -4,17 +4,22 @@
 mod command;
 mod eval;
 
-use clap::error::ErrorKind;
+use clap::ArgMatches;
+use clap::error::{Error, ErrorKind};
 use cube_model::Fault;
 use ssb_eval::exit_of;
+use std::alloc::Global;
 use std::env::{self, Env};
 use std::io;
 use std::process::ExitCode;
 use std::rt::Files;
 
+/// The status where the words are none of the program's.
+const NO_COMMAND: u8 = 2;
+
 fn main(rt: HostRuntime) -> io::Result<ExitCode> {
     match run(&rt) {
-        Ok(status) => Ok(status),
+        Ok(status) => Ok(ExitCode::from(status)),
         Err(fault) => {
             eprintln!(rt; "{fault}")?;
             Ok(ExitCode::from(exit_of(&Err(fault))))
@@ -22,35 +27,45 @@ fn main(rt: HostRuntime) -> io::Result<ExitCode> {
     }
 }
 
-fn run<R: Files + AllocGlobal + Print + Eprint + Env>(rt: &R) -> Result<ExitCode, Fault> {
-    let alloc = rt.alloc();
+fn run<R: Files + AllocGlobal + Print + Eprint + Env>(rt: &R) -> Result<u8, Fault> {
+    let words = words(rt)?;
+    let command = command::command(rt.alloc())?;
+    match command.try_get_matches_from(words.as_slice()) {
+        Ok(matches) => perform(rt, &matches),
+        Err(error) => explain(rt, &error),
+    }
+}
+
+// The words that the program was started with.
+fn words<R: AllocGlobal + Env>(rt: &R) -> Result<Vec<String>, Fault> {
     let Ok(arguments) = env::args(rt) else {
         return Err(Fault::Input);
     };
-    let words: Vec<String> = match arguments.collect(alloc) {
-        Ok(words) => words,
-        Err(_) => return Err(Fault::Memory),
-    };
-    let Ok(command) = command::command(alloc) else {
-        return Err(Fault::Memory);
-    };
-    match command.try_get_matches_from(words.as_slice()) {
-        Ok(matches) => match matches.subcommand() {
-            Some(("eval", given)) => {
-                eval::eval(rt, given)?;
-                Ok(ExitCode::from(exit_of(&Ok(true))))
-            }
-            _ => Ok(ExitCode::from(2)),
-        },
-        Err(error) => {
-            if error.kind() == ErrorKind::OutOfMemory {
-                return Err(Fault::Memory);
-            }
-            if error.print(rt).is_err() {
-                return Err(Fault::Output);
-            }
-            let status = if error.exit_code() == 0 { 0 } else { 2 };
-            Ok(ExitCode::from(status))
+    Ok(arguments.collect(rt.alloc())?)
+}
+
+// The status of the command that the words name.
+fn perform<R: Files + AllocGlobal + Print>(rt: &R, matches: &ArgMatches<'_>) -> Result<u8, Fault> {
+    match matches.subcommand() {
+        Some(("eval", given)) => {
+            eval::eval(rt, given)?;
+            Ok(exit_of(&Ok(true)))
         }
+        _ => Ok(NO_COMMAND),
     }
+}
+
+// Prints what is wrong with the words, or the help that they ask for.
+fn explain<R: Print + Eprint>(rt: &R, error: &Error) -> Result<u8, Fault> {
+    if error.kind() == ErrorKind::OutOfMemory {
+        return Err(Fault::Memory);
+    }
+    if error.print(rt).is_err() {
+        return Err(Fault::Output);
+    }
+    Ok(if error.exit_code() == 0 {
+        0
+    } else {
+        NO_COMMAND
+    })
 }

@@ -1,0 +1,118 @@
+//! Cases, and what comes of them.
+use cube_model::{Fault, Query};
+use query_words::read_query;
+use sample_star::{TABLES, Tables, in_sevens};
+use ssb_eval::{eval_texts, is_plain};
+use std::alloc::Global;
+use std::process::Abort;
+use std::test::Fail;
+
+/// The words of a query.
+#[derive(Clone, Copy)]
+pub struct Words {
+    pub q: Option<&'static str>,
+    pub set: Option<&'static str>,
+    pub by: Option<&'static str>,
+    pub agg: Option<&'static str>,
+    pub conditions: &'static [&'static str],
+}
+
+/// No word at all.
+pub const NO_WORDS: Words = Words {
+    q: None,
+    set: None,
+    by: None,
+    agg: None,
+    conditions: &[],
+};
+
+/// The first query of the benchmark. Over the sample tables it is 2000.
+pub const FIRST: Words = Words {
+    q: Some("1.1"),
+    ..NO_WORDS
+};
+
+impl Words {
+    pub fn read(&self, alloc: Global) -> Result<Query, Fault> {
+        read_query(alloc, self.q, self.set, self.by, self.agg, self.conditions)
+    }
+}
+
+/// The sample tables, save for those whose texts are given.
+#[derive(Clone, Copy)]
+pub struct Given {
+    pub customer: Option<&'static str>,
+    pub supplier: Option<&'static str>,
+    pub part: Option<&'static str>,
+    pub date: Option<&'static str>,
+    pub lineorder: Option<&'static str>,
+}
+
+/// The sample tables.
+pub const SAMPLE: Given = Given {
+    customer: None,
+    supplier: None,
+    part: None,
+    date: None,
+    lineorder: None,
+};
+
+impl Given {
+    fn tables(&self) -> Tables<'static> {
+        Tables {
+            customer: given_or(self.customer, TABLES.customer),
+            supplier: given_or(self.supplier, TABLES.supplier),
+            part: given_or(self.part, TABLES.part),
+            date: given_or(self.date, TABLES.date),
+            lineorder: given_or(self.lineorder, TABLES.lineorder),
+        }
+    }
+}
+
+fn given_or(text: Option<&'static str>, sample: &'static [u8]) -> &'static [u8] {
+    match text {
+        None => sample,
+        Some(text) => text.as_bytes(),
+    }
+}
+
+/// The report of a query over the texts of tables.
+pub fn report(alloc: Global, given: &Given, words: &Words) -> Result<Vec<u8>, Fault> {
+    let query = words.read(alloc)?;
+    if !is_plain(&query) {
+        return Err(Fault::BadQuery);
+    }
+    let tables = given.tables();
+    let mut out = Vec::new(alloc);
+    eval_texts(
+        alloc,
+        in_sevens(tables.customer),
+        in_sevens(tables.supplier),
+        in_sevens(tables.part),
+        in_sevens(tables.date),
+        in_sevens(tables.lineorder),
+        &query,
+        &mut out,
+    )?;
+    Ok(out)
+}
+
+/// Each report is the text that is wanted.
+pub fn are_reported(
+    rt: &(impl AllocGlobal + Abort),
+    cases: &[(Given, Words, &str)],
+) -> Result<(), Fail> {
+    for (given, words, want) in cases {
+        let found = report(rt.alloc(), given, words)?;
+        assert!(rt; found.as_slice() == want.as_bytes(), "{want}");
+    }
+    Ok(())
+}
+
+/// Each case is refused with the fault that is wanted.
+pub fn are_refused(rt: &(impl AllocGlobal + Abort), cases: &[(Given, Words, Fault)]) {
+    for (given, words, want) in cases {
+        let found = report(rt.alloc(), given, words);
+        assert!(rt; found == Err(*want), "{want}");
+    }
+}

@@ -1,0 +1,13 @@
+//! Tests of the way from table texts to a report.
+#![tactic(auto)]
+
+#[cfg(test)]
+mod failures;
+#[cfg(test)]
+mod given;
+#[cfg(test)]
+mod ranges;
+#[cfg(test)]
+mod refusals;
+#[cfg(test)]
+mod reports;

@@ -1,6 +1,0 @@
-use Rattle.std.proofs.Common.{◌≡◌, take}
-use Rattle.cube_query.specs.Groups.{StandsFor}
-use Rattle.plain_fold.proofs.tests.running.answer_row_by_row.Given as goal
-
-abbrev pub invariant-loop-i : goal.invariant-loop-i
-invariant-loop-i l = (l.state.dimensions ≡ l.dims) × StandsFor l.state (take l.i l.rows)

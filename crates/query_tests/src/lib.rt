@@ -1,0 +1,33 @@
+//! Tests of queries: a plain program that follows the words of the definition, and the fold held against it.
+#![tactic(auto)]
+
+#[cfg(test)]
+mod aggregates;
+#[cfg(test)]
+mod attributes;
+#[cfg(test)]
+mod cases;
+#[cfg(test)]
+mod checks;
+#[cfg(test)]
+mod draw;
+#[cfg(test)]
+mod examples;
+#[cfg(test)]
+mod groupings;
+#[cfg(test)]
+mod plain;
+#[cfg(test)]
+mod printing;
+#[cfg(test)]
+mod queries;
+#[cfg(test)]
+mod running;
+#[cfg(test)]
+mod selection;
+#[cfg(test)]
+mod sorting;
+#[cfg(test)]
+mod tables;
+#[cfg(test)]
+mod tests;

@@ -1,0 +1,69 @@
+//! The plain program and the fold, held against examples and against each other.
+
+use super::cases::{QUERIES, outcome_of};
+use super::examples::{
+    AVERAGED, COARSER, Example, IMPROPER, ORDERED, OVER_SAMPLE, PLAIN, SIX_COLUMNS,
+};
+use super::queries::Reach;
+use super::running::{answer_of, is_as_worked};
+use cube_model::Fault;
+use std::alloc::Global;
+use std::process::Abort;
+use std::test::Fail;
+
+fn answers_are_as_worked(rt: &impl Abort, alloc: Global, examples: &[Example]) -> Result<(), Fail> {
+    for example in examples {
+        assert!(rt; is_as_worked(alloc, example)?, "{:?}", example.asked);
+    }
+    Ok(())
+}
+
+#[test]
+fn plain_answers_are_as_worked(rt: HostRuntime) -> Result<(), Fail> {
+    answers_are_as_worked(&rt, rt.alloc(), &PLAIN)
+}
+
+#[test]
+fn averages_are_as_worked(rt: HostRuntime) -> Result<(), Fail> {
+    answers_are_as_worked(&rt, rt.alloc(), &AVERAGED)
+}
+
+#[test]
+fn orders_are_as_worked(rt: HostRuntime) -> Result<(), Fail> {
+    answers_are_as_worked(&rt, rt.alloc(), &ORDERED)
+}
+
+#[test]
+fn cubes_and_rollups_are_as_worked(rt: HostRuntime) -> Result<(), Fail> {
+    answers_are_as_worked(&rt, rt.alloc(), &COARSER)
+}
+
+// Of the six columns three tell the second row from the others, and three the first. So of the 64 grouping sets 49 have
+// three lines, 14 have two, and the empty one has one.
+#[test]
+fn a_cube_of_six_columns_has_its_lines(rt: HostRuntime) -> Result<(), Fail> {
+    let answer = answer_of(rt.alloc(), &OVER_SAMPLE, &SIX_COLUMNS)?;
+    assert_eq!(rt; answer.map(|answer| answer.lines.len()), Some(176));
+    Ok(())
+}
+
+#[test]
+fn improper_queries_are_refused(rt: HostRuntime) {
+    for asked in &IMPROPER {
+        let answer = answer_of(rt.alloc(), &OVER_SAMPLE, asked);
+        assert_eq!(rt; answer, Err(Fault::BadQuery), "{asked:?}");
+    }
+}
+
+#[test]
+fn random_answers_agree(rt: HostRuntime) -> Result<(), Fail> {
+    let mut with_lines: u32 = 0;
+    for seed in 0..150 {
+        let outcome = outcome_of(rt.alloc(), seed, Reach::Plain)?;
+        assert_eq!(rt; outcome.agreed, QUERIES, "seed {seed}");
+        with_lines = with_lines.saturating_add(outcome.with_lines);
+    }
+    // So that it is not empty answers alone that agree.
+    assert!(rt; with_lines >= 400, "{with_lines} answers with lines");
+    Ok(())
+}

@@ -1,0 +1,13 @@
+use Rattle.std.proofs.Common.{[], inr, refl, arith}
+use Rattle.cube_model.specs.Names.{attr_name}
+use Rattle.query_words.proofs.Listed.{names_none}
+use Rattle.query_words.proofs.aggregates.columns_named.Goals as goal
+
+pub returns-in_default : goal.returns-in_default
+returns-in_default c = inr (
+  refl,
+  λ values e.
+      let parts = c.in_ok-names.ensures in
+      let items = c.deref-name-items.ensures.value in
+      names_none attr_name (λ part. part.now) c.deref-name-items.result.now c.loop-name.name-index (record { ref_ptr = (0, 0); now = [] }) (omega arith) c.in_default.ensures values (cc),
+)

@@ -1,0 +1,73 @@
+//! The words of columns and aggregates.
+ghost use Rattle.std.specs.Prelude.{◌≡◌, Some, map};
+ghost use Rattle.std.specs.Option.{option_map};
+ghost use Rattle.query_words.specs.Reading.{Finds, Reads};
+ghost use Rattle.query_words.specs.Words.{SpellsColumns, SpellsAggregates, agg_word};
+
+use crate::names::{attribute, measure};
+use crate::parts::parts;
+use cube_model::{Agg, Attr, Fault, Items};
+use std::alloc::Global;
+
+/// Reads columns that are parted by commas, such as `d_year,p_brand1`. Without a word there are none.
+pub fn read_columns(alloc: Global, by: Option<&str>) -> Result<Items<Attr>, Fault>
+    ensures { Reads (SpellsColumns (option_map (λ text. text.now) by.entry)) result }
+{
+    match by {
+        None => Ok(Items::new(alloc)),
+        Some(names) => columns_named(alloc, names),
+    }
+}
+
+fn columns_named(alloc: Global, text: &str) -> Result<Items<Attr>, Fault>
+    ensures { Reads (SpellsColumns (Some text.now)) result }
+{
+    let names = parts(alloc, text, ',')?;
+    let mut columns = Items::new(alloc);
+    for name in &names {
+        let Some(attr) = attribute(name) else {
+            return Err(Fault::BadQuery);
+        };
+        columns.push(attr)?;
+    }
+    Ok(columns)
+}
+
+/// Reads aggregates that are parted by commas, such as `count,sum:revenue`.
+pub fn read_aggregates(alloc: Global, text: &str) -> Result<Items<Agg>, Fault>
+    ensures { Reads (SpellsAggregates (Some text.now)) result }
+{
+    let words = parts(alloc, text, ',')?;
+    let mut aggregates = Items::new(alloc);
+    for word in &words {
+        let Some(agg) = aggregate(word) else {
+            return Err(Fault::BadQuery);
+        };
+        aggregates.push(agg)?;
+    }
+    Ok(aggregates)
+}
+
+fn aggregate(word: &str) -> Option<Agg>
+    ensures { Finds (λ agg. word.now ≡ agg_word agg) result }
+{
+    match word.split_once(':') {
+        None => {
+            if word == "count" {
+                Some(Agg::Count)
+            } else {
+                None
+            }
+        }
+        Some((taken, name)) => match measure(name) {
+            None => None,
+            Some(measure) => match taken {
+                "sum" => Some(Agg::Sum(measure)),
+                "min" => Some(Agg::Min(measure)),
+                "max" => Some(Agg::Max(measure)),
+                "avg" => Some(Agg::Avg(measure)),
+                _ => None,
+            },
+        },
+    }
+}

@@ -1,0 +1,29 @@
+//! Words as constants.
+use cube_model::{Fault, Query};
+use query_words::read_query;
+use std::alloc::Global;
+
+/// The words of a query.
+#[derive(Clone, Copy)]
+pub struct Words {
+    pub q: Option<&'static str>,
+    pub set: Option<&'static str>,
+    pub by: Option<&'static str>,
+    pub agg: Option<&'static str>,
+    pub conditions: &'static [&'static str],
+}
+
+/// No word at all.
+pub const NO_WORDS: Words = Words {
+    q: None,
+    set: None,
+    by: None,
+    agg: None,
+    conditions: &[],
+};
+
+impl Words {
+    pub fn read(&self, alloc: Global) -> Result<Query, Fault> {
+        read_query(alloc, self.q, self.set, self.by, self.agg, self.conditions)
+    }
+}

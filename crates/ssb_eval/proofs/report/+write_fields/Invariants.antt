@@ -1,5 +1,0 @@
-use Rattle.std.proofs.Common.{length}
-use Rattle.ssb_eval.proofs.report.+write_fields.Given as goal
-
-abbrev pub decreases-write_fields : goal.decreases-write_fields
-decreases-write_fields g l = length l.fields.now

@@ -1,0 +1,13 @@
+//! The thirteen queries of the Star Schema Benchmark, and the text of an answer.
+#![tactic(auto)]
+
+mod benchmark;
+mod field;
+mod filter;
+mod number;
+mod report;
+mod writing;
+
+pub use benchmark::query_of;
+pub use number::QNumber;
+pub use report::write_report;
