@@ -1,0 +1,132 @@
+-- The objects of a content, as entries and as bytes.
+use Rattle.std.proofs.Common.{◌≡◌, ℕ, zero, suc, ◌+◌, ◌*◌, ◌<◌, ◌≤◌, true, false, cond, eqb, List, [], ◌∷◌, length, take, drop, Option, Some, None, option_map, IsSomeAnd, refl, sym, ◌∙◌, ap, subst, arith, length-append}
+use Rattle.std.specs.List.{All}
+use Rattle.std.proofs.lemmas.List.{length-take-le}
+use Rattle.std.proofs.lemmas.List.Elements.{All-head, All-tail}
+use Rattle.sector_device.specs.Device.{Image, DeviceState}
+use Rattle.sector_device.specs.Moments.{leaves_also}
+use Rattle.extents.specs.Extents.{IsInRange, AreLaidOut}
+use Rattle.wire.specs.Parts.{Gives}
+use Rattle.superblock.specs.declared.superblock.Super.{Super}
+use Rattle.superblock.specs.Superblock.{sectors_of}
+use Rattle.catalogue.specs.declared.entry.Entry.{Entry}
+use Rattle.object_store.specs.Content.{Content, look_up}
+use Rattle.object_store.specs.Commit.{find_by}
+use Rattle.object_store.specs.Places.{run_bytes, bytes_at, extent_of, extents_of, objects_at, used_by}
+use Rattle.object_store.specs.Shows.{ShowsBy}
+use Rattle.object_store.specs.Disk.{Disk, Leaves}
+use Rattle.object_store.specs.Ready.{content_from, IsReady}
+use Rattle.object_store.specs.Reading.{IsOnlyRead}
+use Rattle.object_store.proofs.Lists.{All-unmap}
+use Rattle.object_store.proofs.Pieces.{whole_is}
+use Rattle.object_store.specs.Frames.{objects_same, shows_same, ready_shows}
+
+-- what stands at an id is what its entry names
+pub look_up_at : (image : Image) (entries : List Entry) (id : ℕ) → look_up id (objects_at image entries) ≡ option_map (λ e. bytes_at image e.first e.bytes) (find_by (λ e. e.id) id entries)
+look_up_at image [] id = refl
+look_up_at image (e ∷ entries) id =
+    elim (eqb e.id id) as (λ v. cond v (Some (bytes_at image e.first e.bytes)) (look_up id (objects_at image entries)) ≡ option_map (λ (x : Entry). bytes_at image x.first x.bytes) (cond v (Some e) (find_by (λ (x : Entry). x.id) id entries)))
+    [ true ↦ refl | false ↦ look_up_at image entries id ]
+
+some_one : (a b : Entry) → Some a ≡ Some b → a ≡ b
+some_one a b e = cc
+
+none_some : (e : Entry) → ◌≡◌ {A = Option Entry} None (Some e) → ⊥
+none_some e same = cc
+
+-- what holds of each entry holds of the one that is found
+pub found_all : (P : Entry → Type 0) (id : ℕ) (entries : List Entry) (e : Entry) → find_by (λ x. x.id) id entries ≡ Some e → All P entries → P e
+found_all P id [] e is all = absurd (none_some e is)
+found_all P id (x ∷ entries) e is all =
+    (elim (eqb x.id id) as (λ v. cond v (Some x) (find_by (λ (y : Entry). y.id) id entries) ≡ Some e → P e)
+    [ true ↦ λ here. subst P (some_one x e here) (All-head P x entries all) | false ↦ λ there. found_all P id entries e there (All-tail P x entries all) ]) is
+
+-- its sectors lie within the device
+pub found_range : (size id : ℕ) (super : Super) (entries : List Entry) (e : Entry) → find_by (λ x. x.id) id entries ≡ Some e → AreLaidOut size (used_by super entries) → IsInRange size (extent_of e.first e.bytes)
+found_range size id super entries e is laid =
+    found_all (λ (x : Entry). IsInRange size (extent_of x.first x.bytes)) id entries e is
+    (All-unmap (IsInRange size) (λ (x : Entry). extent_of x.first x.bytes) entries (All-tail (IsInRange size) (extent_of super.catalogue super.bytes) (extents_of entries) laid.in_range))
+
+-- so many bytes stand there
+length_run : (image : Image) (first n : ℕ) → ((k : ℕ) → k < n → length (image (first + k)) ≡ 512) → length (run_bytes image first n) ≡ n * 512
+length_run image first zero whole = refl
+length_run image first (suc n) whole =
+    let here : first + 0 ≡ first = omega arith in
+    let long : length (image first) ≡ 512 = sym (ap (λ (i : ℕ). length (image i)) here) ∙ whole 0 (omega arith) in
+    let rest : length (run_bytes image (suc first) n) ≡ n * 512 = length_run image (suc first) n (λ k lt. let at : suc first + k ≡ first + suc k = omega arith in ap (λ (i : ℕ). length (image i)) at ∙ whole (suc k) (omega (arith, lt))) in
+    omega (arith, long, rest, length-append (image first) (run_bytes image (suc first) n))
+
+pub length_bytes_at : (image : Image) (first bytes size : ℕ) → IsInRange size (extent_of first bytes) → ((i : ℕ) → i < size → length (image i) ≡ 512) → length (bytes_at image first bytes) ≡ bytes
+length_bytes_at image first bytes size in_range whole =
+    let ends = in_range.ends in
+    let run : length (run_bytes image first (sectors_of bytes)) ≡ sectors_of bytes * 512 = length_run image first (sectors_of bytes) (λ k lt. whole (first + k) (omega (arith, lt, ends))) in
+    length-take-le bytes (run_bytes image first (sectors_of bytes)) (omega (arith, run))
+
+-- an object's bytes, and how many they are
+module _ (image : Image) (entries : List Entry) (id : ℕ) where
+  pub bytes_none : find_by (λ e. e.id) id entries ≡ None → look_up id (objects_at image entries) ≡ None
+  bytes_none is = look_up_at image entries id ∙ ap (λ (o : Option Entry). option_map (λ (e : Entry). bytes_at image e.first e.bytes) o) is
+
+  pub bytes_some : (e : Entry) → find_by (λ e. e.id) id entries ≡ Some e → look_up id (objects_at image entries) ≡ Some (bytes_at image e.first e.bytes)
+  bytes_some e is = look_up_at image entries id ∙ ap (λ (o : Option Entry). option_map (λ (x : Entry). bytes_at image x.first x.bytes) o) is
+
+  pub gives_part : (e : Entry) (at n : ℕ) (part : List ℕ) → find_by (λ e. e.id) id entries ≡ Some e → length part ≡ n → part ≡ take n (drop at (bytes_at image e.first e.bytes)) → Gives (look_up id (objects_at image entries)) at part
+  gives_part e at n part is long same =
+      subst (λ (o : Option (List ℕ)). Gives o at part) (sym (bytes_some e is)) (same ∙ ap (λ (k : ℕ). take k (drop at (bytes_at image e.first e.bytes))) (sym long))
+
+-- an object that was read whole
+pub got_whole : (image : Image) (entries : List Entry) (id : ℕ) (e : Entry) (part whole : List ℕ) → find_by (λ x. x.id) id entries ≡ Some e → length part ≡ e.bytes → Gives (look_up id (objects_at image entries)) 0 part → whole ≡ part → Some whole ≡ look_up id (objects_at image entries)
+got_whole image entries id e part whole is long gives same =
+    let is_part : part ≡ take (length part) (drop 0 (bytes_at image e.first e.bytes)) = subst (λ (o : Option (List ℕ)). Gives o 0 part) (bytes_some image entries id e is) gives in
+    ap (λ (l : List ℕ). Some l) (same ∙ is_part ∙ ap (λ (n : ℕ). take n (drop 0 (bytes_at image e.first e.bytes))) long ∙ whole_is image e.first e.bytes) ∙ sym (bytes_some image entries id e is)
+
+-- whether a range lies within an object
+module _ (image : Image) (entries : List Entry) (id at len : ℕ) where
+  abbrev pub IsWithin : Type 0
+  IsWithin = IsSomeAnd (look_up id (objects_at image entries)) (λ bytes. at + len ≤ length bytes)
+
+  pub none_within : find_by (λ e. e.id) id entries ≡ None → IsWithin → ⊥
+  none_within is within = subst (λ (o : Option (List ℕ)). IsSomeAnd o (λ bytes. at + len ≤ length bytes)) (bytes_none image entries id is) within
+
+  module _ (e : Entry) (is : find_by (λ x. x.id) id entries ≡ Some e) (long : length (bytes_at image e.first e.bytes) ≡ e.bytes) where
+    pub is_within : at + len ≤ e.bytes → IsWithin
+    is_within le = subst (λ (o : Option (List ℕ)). IsSomeAnd o (λ bytes. at + len ≤ length bytes)) (sym (bytes_some image entries id e is)) (omega (arith, le, long))
+
+    pub from_within : IsWithin → at + len ≤ e.bytes
+    from_within within =
+        let le : at + len ≤ length (bytes_at image e.first e.bytes) = subst (λ (o : Option (List ℕ)). IsSomeAnd o (λ bytes. at + len ≤ length bytes)) (bytes_some image entries id e is) within in
+        omega (arith, le, long)
+
+-- what its entry says lies within it
+pub within_entry : (image : Image) (entries : List Entry) (id at len size : ℕ) (super : Super) → AreLaidOut size (used_by super entries) → ((i : ℕ) → i < size → length (image i) ≡ 512)
+    → IsSomeAnd (option_map (λ e. e.bytes) (find_by (λ e. e.id) id entries)) (λ total. at + len ≤ total) → IsWithin image entries id at len
+within_entry image entries id at len size super laid whole = by (find_by (λ (e : Entry). e.id) id entries) refl
+  where
+    by : (o : Option Entry) → find_by (λ e. e.id) id entries ≡ o → IsSomeAnd (option_map (λ (e : Entry). e.bytes) o) (λ total. at + len ≤ total) → IsWithin image entries id at len
+    by None is within = absurd within
+    by (Some e) is within = is_within image entries id at len e is (length_bytes_at image e.first e.bytes size (found_range size id super entries e is laid) whole) within
+
+-- a device that was only read
+module _ (s t : DeviceState) (super : Super) (entries : List Entry) (root : List ℕ) (only : IsOnlyRead s t) where
+  same : (i : ℕ) → t.reads i ≡ s.reads i
+  same i = only.others i (λ none. none)
+
+  pub content_read : content_from t.reads super entries root ≡ content_from s.reads super entries root
+  content_read = ap (λ (o : List (ℕ × List ℕ)). record { generation = super.generation; layout = super.layout; objects = o; root = root }) (objects_same t.reads s.reads entries (λ i held. same i))
+
+  pub ready_read : t.size ≡ s.size → IsReady s super entries root → IsReady t super entries root
+  ready_read size ready = record {
+    settled = λ i b may. ready.settled i b (only.no_more i b (λ none. none) may) ∙ sym (same i);
+    shows = subst (λ (n : ℕ). ShowsBy n t.reads (content_from t.reads super entries root) super entries) (sym size)
+        (subst (λ (c : Content). ShowsBy s.size t.reads c super entries) (sym content_read)
+        (shows_same s.size s.reads t.reads (content_from s.reads super entries root) super entries ready.shows (λ i used. sym (same i))));
+  }
+
+pub read_leaves : (old new : Disk) (super : Super) (entries : List Entry) (root : List ℕ) → (new.keeps_word → old.keeps_word) → new.state.size ≡ old.state.size → (old.keeps_word → IsReady old.state super entries root)
+    → (new.keeps_word → IsOnlyRead old.state new.state) → Leaves old new (λ c. c ≡ content_from old.state.reads super entries root)
+read_leaves old new super entries root word size ready only = record {
+  word = word;
+  size = λ w. size;
+  moments = λ w. leaves_also old.state new.state _ _
+      (λ image held. (content_from old.state.reads super entries root, ready_shows old.state super entries root (ready (word w)) image (λ i. held i (λ none. none)), refl)) (only w).leaves;
+}

@@ -1,0 +1,17 @@
+pub mod Content
+pub mod Commit
+pub mod Places
+pub mod Entries
+pub mod Blocks
+pub mod Shows
+pub mod Disk
+pub mod Room
+pub mod Ready
+pub mod Reading
+pub mod Found
+pub mod Store
+pub mod Frames
+pub mod Moments
+pub mod Sourced
+pub mod Publish
+pub mod Planning

@@ -1,0 +1,57 @@
+// The device calls of a creation.
+ghost use Rattle.std.specs.Prelude.{◌≡◌, ◌≢◌, ◌⊎◌, ◌+◌, ◌-◌, ◌^◌, ◌≤◌, ◌<◌, ℕ, [], min, IfOk, IfErr, OnOk};
+ghost use Rattle.cube_model.specs.declared.fault.Fault.{Fault};
+ghost use Rattle.object_store.specs.Commit.{ArePuts, IsFew, IsLayout, IsRoot, created, puts_of};
+ghost use Rattle.object_store.specs.Disk.{disk, Each, IsBlank, LeavesOrNone, OnlyImagesOf};
+ghost use Rattle.object_store.specs.Ready.{IsKept, IsReady, content_from};
+ghost use Rattle.object_store.specs.Room.{LacksPlaces, asked_for};
+
+use crate::find::newest;
+use crate::plan::{Plan, first_plan};
+use crate::publish::publish;
+use cube_model::Fault;
+use sector_device::Sectors;
+use std::alloc::Global;
+
+/// Puts the first generation on a device without a valid superblock.
+pub(crate) fn create<D: Sectors>(
+    alloc: Global,
+    device: &mut D,
+    puts: &[(u32, &[u8])],
+    root: &[u8],
+    layout: u32,
+) -> Result<Plan, Fault>
+    requires least { 64 ≤ (D.state device.old).size }
+    requires puts { ArePuts (puts_of puts.now) }
+    requires root { IsRoot root.now }
+    requires layout { IsLayout layout }
+    requires few { IsFew (created (puts_of puts.now) root.now layout) }
+    ensures kept { IfOk result (λ plan. IsKept (D.state device.new).size plan.superblock plan.entries.items plan.root.items) }
+    ensures ready { IfOk result (λ plan. D.keeps_word device.new
+        → IsReady (D.state device.new) plan.superblock plan.entries.items plan.root.items) }
+    ensures content { IfOk result (λ plan. D.keeps_word device.new
+        → content_from (D.state device.new).reads plan.superblock plan.entries.items plan.root.items ≡ created (puts_of puts.now) root.now layout) }
+    ensures failures { OnOk result (D.failed device.new ≡ D.failed device.old) }
+    ensures leaves { Each (disk D.Sectors device.old) IsBlank
+        → LeavesOrNone (disk D.Sectors device.old) (disk D.Sectors device.new) (λ c. c ≡ created (puts_of puts.now) root.now layout) }
+    ensures blank { IfErr result (λ fault. fault ≢ Fault.Device → Each (disk D.Sectors device.old) IsBlank → Each (disk D.Sectors device.new) IsBlank) }
+    ensures not_already { IfErr result (λ fault. D.keeps_word device.new → Each (disk D.Sectors device.old) IsBlank → fault ≢ Fault.AlreadyFormatted) }
+    ensures only { IfErr result (λ fault. fault ≡ Fault.AlreadyFormatted → OnlyImagesOf (disk D.Sectors device.old) (disk D.Sectors device.new)) }
+    ensures device { IfErr result (λ fault. fault ≡ Fault.Device → D.failed device.new ≡ min (D.failed device.old + 1) (2 ^ 64 - 1)) }
+    ensures full { IfErr result (λ fault. fault ≡ Fault.Full → LacksPlaces (D.state device.old).size [] (asked_for [] (puts_of puts.now) root.now)) }
+    ensures causes { IfErr result (λ fault. (fault ≡ Fault.AlreadyFormatted) ⊎ ((fault ≡ Fault.Device) ⊎ ((fault ≡ Fault.Memory) ⊎ (fault ≡ Fault.Full)))) }
+{
+    match newest(device) {
+        Ok(None) => {}
+        Ok(Some(_)) => return Err(Fault::AlreadyFormatted),
+        Err(_) => return Err(Fault::Device),
+    }
+    let plan = match first_plan(alloc, device.count(), puts, root, layout) {
+        Ok(plan) => plan,
+        Err(fault) => return Err(fault),
+    };
+    match publish(device, puts, &plan) {
+        Ok(()) => Ok(plan),
+        Err(_) => Err(Fault::Device),
+    }
+}

@@ -1,0 +1,16 @@
+//! A content of objects and a root on a device of sectors, replaced by commits that a stop leaves done or not begun.
+#![tactic(auto)]
+
+mod create;
+mod entries;
+mod extent;
+mod find;
+mod layout;
+mod place;
+mod plan;
+mod publish;
+mod read;
+mod source;
+mod store;
+
+pub use store::Store;

@@ -1,0 +1,57 @@
+// Places for the puts of a commit.
+ghost use Rattle.std.specs.Prelude.{◌≡◌, ◌^◌, ◌<◌, ℕ, length, IfErr, IfOk};
+ghost use Rattle.cube_model.specs.declared.fault.Fault.{Fault};
+ghost use Rattle.extents.specs.declared.extent.Extent.{Extent};
+ghost use Rattle.extents.specs.Extents.{AreLaidOut};
+ghost use Rattle.extents.specs.Runs.{IsFreeBeside};
+ghost use Rattle.object_store.specs.Commit.{ArePuts, puts_of};
+ghost use Rattle.object_store.specs.Room.{FitsFail, lengths_of};
+ghost use Rattle.object_store.specs.Planning.{ArePlaced, LacksMemoryOr};
+
+use catalogue::Entry;
+use cube_model::Fault;
+use extents::{Extent, Free};
+use std::alloc::Global;
+
+/// The free sectors beside extents that keep the rules of the layout.
+pub(crate) fn free_beside(alloc: Global, sectors: u32, used: &[Extent]) -> Result<Free, Fault>
+    requires { AreLaidOut sectors used.now }
+    ensures ok { IfOk result (IsFreeBeside sectors used.now) }
+    ensures memory { IfErr result (λ fault. fault ≡ Fault.Memory) }
+{
+    Free::from_used(alloc, sectors, used)
+}
+
+/// An entry for each put, in order, each by first fit.
+pub(crate) fn place(
+    alloc: Global,
+    free: &mut Free,
+    puts: &[(u32, &[u8])],
+) -> Result<Vec<Entry>, Fault>
+    requires { ArePuts (puts_of puts.now) }
+    ensures ok { IfOk result (λ placed. ArePlaced free.old (puts_of puts.now) placed.items free.new) }
+    ensures refused { IfErr result (LacksMemoryOr (FitsFail free.old (lengths_of (puts_of puts.now)))) }
+{
+    let mut placed = Vec::with_capacity(alloc, puts.len())?;
+    for k in 0..puts.len() {
+        let (id, bytes) = puts[k];
+        let extent = match free.take(bytes.len().div_ceil(512) as u32) {
+            Ok(extent) => extent,
+            Err(fault) => return Err(fault),
+        };
+        placed.push(entry(id, extent.first, bytes))?;
+    }
+    Ok(placed)
+}
+
+// The entry of an object from this sector on.
+fn entry(id: u32, first: u32, bytes: &[u8]) -> Entry
+    ensures value { result ≡ record { id = id; first = first; bytes = length bytes.now } }
+    ensures id_fits { result.id < 2 ^ 32 }
+{
+    Entry {
+        id,
+        first,
+        bytes: bytes.len() as u64,
+    }
+}

@@ -1,0 +1,156 @@
+// What a commit is to write, worked out in memory. No device is called.
+ghost use Rattle.std.specs.Prelude.{◌+◌, ◌≤◌, ◌<◌, ◌^◌, ℕ, [], length, map, All, IfErr, IfOk};
+ghost use Rattle.extents.specs.Extents.{SomeHolds, AreLaidOut};
+ghost use Rattle.superblock.specs.Superblock as superblocks;
+ghost use Rattle.catalogue.specs.Catalogue.{FitsFields, IsProperEntry, AreAscending};
+ghost use Rattle.wire.specs.Limits.{least_sectors, most_objects};
+ghost use Rattle.object_store.specs.Commit.{ArePuts, IsLayout, IsRoot, drop_each, put_each, puts_of, size_of};
+ghost use Rattle.object_store.specs.Places.{extents_of, sizes_at, used_by};
+ghost use Rattle.object_store.specs.Room.{LacksPlaces, asked_for};
+ghost use Rattle.object_store.specs.Planning.{LacksMemoryOr};
+ghost use Rattle.object_store.specs.Publish.{IsPlan};
+
+use crate::entries::{put_entries, without};
+use crate::layout::used_extents;
+use crate::place::{free_beside, place};
+use catalogue::{Entry, encode};
+use cube_model::Fault;
+use extents::Extent;
+use std::alloc::Global;
+use superblock::Super;
+
+/// What a commit is to write.
+#[derive(Drop)]
+pub(crate) struct Plan {
+    /// An entry for each put, in order.
+    pub placed: Vec<Entry>,
+    /// The entries of the new catalogue.
+    pub entries: Vec<Entry>,
+    pub root: Vec<u8>,
+    /// The bytes of the new catalogue.
+    pub catalogue: Vec<u8>,
+    pub superblock: Super,
+}
+
+/// What a new superblock says, but for its catalogue.
+#[derive(Clone, Copy)]
+pub(crate) struct Stamp {
+    pub sectors: u32,
+    pub generation: u64,
+    pub layout: u32,
+}
+
+/// The plan for puts beside the sectors in use, with the entries that are kept.
+pub(crate) fn prepare(
+    alloc: Global,
+    stamp: Stamp,
+    used: &[Extent],
+    kept: Vec<Entry>,
+    puts: &[(u32, &[u8])],
+    root: &[u8],
+) -> Result<Plan, Fault>
+    requires sectors { least_sectors ≤ stamp.sectors }
+    requires few_sectors { stamp.sectors < 2 ^ 32 }
+    requires generation { 1 ≤ stamp.generation }
+    requires last { stamp.generation < 2 ^ 64 }
+    requires layout { IsLayout stamp.layout }
+    requires used { AreLaidOut stamp.sectors used.now }
+    requires kept { AreLaidOut stamp.sectors (extents_of kept.items) }
+    requires in_use { (sector : ℕ) → SomeHolds (extents_of kept.items) sector → SomeHolds used.now sector }
+    requires fit { All FitsFields kept.items }
+    requires proper { All IsProperEntry kept.items }
+    requires ascending { AreAscending kept.items }
+    requires puts { ArePuts (puts_of puts.now) }
+    requires root { IsRoot root.now }
+    requires few { length (put_each (λ o. o.0) (map size_of (puts_of puts.now)) (sizes_at kept.items)) ≤ most_objects }
+    ensures ok { IfOk result (IsPlan stamp.sectors used.now kept.items (puts_of puts.now) root.now stamp.generation stamp.layout) }
+    ensures refused { IfErr result
+        (LacksMemoryOr (LacksPlaces stamp.sectors used.now (asked_for (sizes_at kept.items) (puts_of puts.now) root.now))) }
+{
+    let mut free = free_beside(alloc, stamp.sectors, used)?;
+    let placed = match place(alloc, &mut free, puts) {
+        Ok(placed) => placed,
+        Err(fault) => return Err(fault),
+    };
+    let mut entries = kept;
+    put_entries(&mut entries, &placed)?;
+    let catalogue = encode(alloc, &entries, root)?;
+    let root = Vec::from_slice(alloc, root)?;
+    let extent = match free.take(catalogue.len().div_ceil(512) as u32) {
+        Ok(extent) => extent,
+        Err(fault) => return Err(fault),
+    };
+    let superblock = Super {
+        layout: stamp.layout,
+        sectors: stamp.sectors,
+        generation: stamp.generation,
+        catalogue: extent.first,
+        bytes: catalogue.len() as u32,
+    };
+    Ok(Plan {
+        placed,
+        entries,
+        root,
+        catalogue,
+        superblock,
+    })
+}
+
+/// The plan of a commit over what stands there.
+pub(crate) fn next_plan(
+    alloc: Global,
+    superblock: &Super,
+    entries: &[Entry],
+    puts: &[(u32, &[u8])],
+    drops: &[u32],
+    root: &[u8],
+    layout: u32,
+) -> Result<Plan, Fault>
+    requires superblock { superblocks.IsProper superblock.now }
+    requires last { superblock.now.generation + 1 < 2 ^ 64 }
+    requires fit { All FitsFields entries.now }
+    requires proper { All IsProperEntry entries.now }
+    requires ascending { AreAscending entries.now }
+    requires laid_out { AreLaidOut superblock.now.sectors (used_by superblock.now entries.now) }
+    requires puts { ArePuts (puts_of puts.now) }
+    requires root { IsRoot root.now }
+    requires layout { IsLayout layout }
+    requires few { length (put_each (λ o. o.0) (map size_of (puts_of puts.now)) (sizes_at (drop_each (λ e. e.id) drops.now entries.now))) ≤ most_objects }
+    ensures ok { IfOk result (IsPlan superblock.now.sectors (used_by superblock.now entries.now) (drop_each (λ e. e.id) drops.now entries.now)
+        (puts_of puts.now) root.now (superblock.now.generation + 1) layout) }
+    ensures refused { IfErr result (LacksMemoryOr (LacksPlaces superblock.now.sectors (used_by superblock.now entries.now)
+        (asked_for (sizes_at (drop_each (λ e. e.id) drops.now entries.now)) (puts_of puts.now) root.now))) }
+{
+    let used = used_extents(alloc, superblock, entries)?;
+    let kept = without(alloc, entries, drops)?;
+    let stamp = Stamp {
+        sectors: superblock.sectors,
+        generation: superblock.generation + 1,
+        layout,
+    };
+    prepare(alloc, stamp, &used, kept, puts, root)
+}
+
+/// The plan of the first generation on a device of so many sectors.
+pub(crate) fn first_plan(
+    alloc: Global,
+    sectors: u32,
+    puts: &[(u32, &[u8])],
+    root: &[u8],
+    layout: u32,
+) -> Result<Plan, Fault>
+    requires sectors { least_sectors ≤ sectors }
+    requires puts { ArePuts (puts_of puts.now) }
+    requires root { IsRoot root.now }
+    requires layout { IsLayout layout }
+    requires few { length (put_each (λ o. o.0) (map size_of (puts_of puts.now)) []) ≤ most_objects }
+    ensures ok { IfOk result (IsPlan sectors [] [] (puts_of puts.now) root.now 1 layout) }
+    ensures refused { IfErr result (LacksMemoryOr (LacksPlaces sectors [] (asked_for [] (puts_of puts.now) root.now))) }
+{
+    let stamp = Stamp {
+        sectors,
+        generation: 1,
+        layout,
+    };
+    prepare(alloc, stamp, &[], Vec::new(alloc), puts, root)
+}
