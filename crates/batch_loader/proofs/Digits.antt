@@ -26,7 +26,8 @@ number_from-large limit so_far (byte ∷ bytes) large =
       | false ↦ refl
     ])
 
-drop_next : (text : List ℕ) (i : ℕ) → i < length text → drop i text ≡ get_or text i 0 ∷ drop (suc i) text
+-- what is left begins with its first byte
+pub drop_next : (text : List ℕ) (i : ℕ) → i < length text → drop i text ≡ get_or text i 0 ∷ drop (suc i) text
 drop_next [] i below = absurd (omega arith)
 drop_next (byte ∷ text) zero below = refl
 drop_next (byte ∷ text) (suc i) below = drop_next text i (omega arith)

@@ -1,12 +1,12 @@
 pub mod CallerLemmas
-pub mod Leading
 pub mod LineFronts
 pub mod LineSpelling
 pub mod ColumnByColumn
 pub mod Digits
-pub mod OnePass
 pub mod Parts
 pub mod Spelling
 pub mod Splitting
 pub mod TakingRows
 pub mod Pieces
+pub mod Windows
+pub mod ShortNumbers

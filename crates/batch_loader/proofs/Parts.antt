@@ -8,7 +8,7 @@ use Rattle.std.proofs.lemmas.Grind.{common_steps}
 use Rattle.std.proofs.lemmas.List.{drop-drop}
 use Rattle.std.proofs.lemmas.List.Sums.{position_or_len_is}
 use Rattle.std.proofs.Math.ListN.{drop_of_length-le}
-use Rattle.batch_loader.specs.Fields.{parts_of, first_parts, parts_at, bar_from}
+use Rattle.batch_loader.specs.Fields.{parts_of, first_parts, parts_at, bar_from, start_of}
 
 abbrev is_bar : ℕ → Bool
 is_bar byte = byte == 124
@@ -17,7 +17,6 @@ is_bar byte = byte == 124
 abbrev pub parts_left : List ℕ → ℕ → List (List ℕ)
 parts_left line from = cond (nat_le from (length line)) (parts_of (drop from line)) []
 
--- the part at a place lies between two ends
 begin : ℕ → List ℕ → ℕ → ℕ
 begin from ends zero = from
 begin from ends (suc place) = get_or ends place 0 + 1
@@ -30,21 +29,12 @@ part line from (end ∷ ends) zero below = refl
 part line from (end ∷ ends) (suc zero) below = part line (end + 1) ends zero (omega arith)
 part line from (end ∷ ends) (suc (suc place)) below = part line (end + 1) ends (suc place) (omega arith)
 
-pub part-first : (line ends : List ℕ) (place start : ℕ) → place < length ends → place ≡ 0 → start ≡ 0
-    → slice_range line start (get_or ends place 0) ≡ slice_index_or (parts_at line 0 ends) place []
+-- the part at a place lies between where it begins and where it ends
+pub part-at : (line ends : List ℕ) (place : ℕ) → place < length ends
+    → slice_range line (start_of ends place) (get_or ends place 0) ≡ slice_index_or (parts_at line 0 ends) place []
 unfolding begin
-part-first line ends zero start below first is = ap (λ n. slice_range line n (get_or ends zero 0)) is ∙ sym (part line 0 ends zero below)
-part-first line ends (suc place) start below first is = absurd (omega arith)
-
-pub part-later : (line ends : List ℕ) (place start : ℕ) → place < length ends → 0 < place → start ≡ get_or ends (place - 1) 0 + 1
-    → slice_range line start (get_or ends place 0) ≡ slice_index_or (parts_at line 0 ends) place []
-unfolding begin
-part-later line ends zero start below later is = absurd (omega arith)
-part-later line ends (suc place) start below later is =
-    ap (λ n. slice_range line n (get_or ends (suc place) 0)) (is ∙ ap (λ k. get_or ends k 0 + 1) (before place)) ∙ sym (part line 0 ends (suc place) below)
-  where
-    before : (place : ℕ) → suc place - 1 ≡ place
-    before place = omega arith
+part-at line ends zero below = sym (part line 0 ends zero below)
+part-at line ends (suc place) below = sym (part line 0 ends (suc place) below)
 
 not_true : (b : Bool) → (b ≡ true → ⊥) → b ≡ false
 not_true true refuted = absurd (refuted refl)

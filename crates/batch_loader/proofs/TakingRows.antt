@@ -1,6 +1,6 @@
 -- Rows of lines, taken one by one.
 use Rattle.std.proofs.Common.{◌≡◌, ◌∙◌, sym, ap, subst, refl, ℕ, ◌+◌, ◌-◌, ◌<◌, ◌≤◌, List, [], ◌∷◌, ◌++◌, length, take, drop, arith, Some, None, append-nil, append_assoc, length-append, inl, inr}
-use Rattle.std.specs.Prelude.{suc, zero, Option, ⊤, Result, Ok, Err, IfOk}
+use Rattle.std.specs.Prelude.{suc, zero, true, Option, ⊤, Result, Ok, Err, IfOk, IfErr}
 use Rattle.std.proofs.lemmas.Grind.{common_steps}
 use Rattle.std.proofs.lemmas.List.{take_all}
 use Rattle.std.proofs.lemmas.Result.{IfOk-at_ok}
@@ -9,7 +9,7 @@ use Rattle.cube_model.specs.declared.fault.Fault.{Fault}
 use Rattle.batch_loader.specs.Lines.{lines_of}
 use Rattle.batch_loader.specs.Rows.{next_number, number_after, row_before, rows_of}
 use Rattle.batch_loader.specs.Unread.{Unread}
-use Rattle.batch_loader.specs.Reading.{TakesLine, TakesNext, IsAllTaken, StaysAtEnd, IsNextFault, RefusesRow, TakesRows, IsFirstFault, TakesBatch, RefusesBatch, AreRowsOf, IsFaultOf, TakesTable, RefusesTable}
+use Rattle.batch_loader.specs.Reading.{TakesLine, TakesNext, IsAllTaken, StaysAtEnd, IsNextFault, PushesRow, PushesNext, RefusesRow, TakesRows, IsFirstFault, TakesBatch, RefusesBatch, AreRowsOf, IsFaultOf, TakesTable, RefusesTable}
 
 -- rows in front of others
 abbrev pub rows_before : {Row : Type 0} → List Row → Result (List Row) Fault → Result (List Row) Fault
@@ -88,6 +88,15 @@ IsTaking-next row max old now new rows count first below taken given before = re
   fault = taken.fault;
 }
 
+-- the same as a call says it
+pub IsTaking-push : {Row : Type 0} (row : ℕ → List ℕ → Result Row Fault) (max : ℕ) (old now new : Unread) (rows after : List Row) (count : ℕ)
+    → count < max → PushesNext row now new rows after true → IsTaking row max old now rows count → IsTaking row max old new after (count + 1)
+IsTaking-push {Row = Row} row max old now new rows after count below pushed before = by_row (row (next_number now.number) new.line) refl pushed.1
+  where
+    by_row : (found : Result Row Fault) → row (next_number now.number) new.line ≡ found → PushesRow found rows after → IsTaking row max old new after (count + 1)
+    by_row (Ok first) is stands = subst (λ list. IsTaking row max old new list (count + 1)) (sym stands) (IsTaking-next row max old now new rows count first below pushed.0 is before)
+    by_row (Err fault) is stands = absurd stands
+
 in_front-whole : {Row : Type 0} (row : ℕ → List ℕ → Result Row Fault) (max number : ℕ) (old : Option (List ℕ)) (more from : ℕ) (now : Option (List ℕ)) (rows : List Row)
     → more ≡ 0 → AreInFront row max number old more from now rows → TakesRows row max number old now rows
 in_front-whole row max number None more from now rows is before = tt
@@ -162,6 +171,10 @@ IsTaking-refused row max old now rows count fault below (inl memory) before = in
 IsTaking-refused row max old now rows count fault below (inr (inl input)) before = inr (inl input)
 IsTaking-refused row max old now rows count fault below (inr (inr next)) before =
     inr (inr (in_front-fault row max old.number old.left (max - count) (max - (count + 1)) now.number now.left rows fault (omega arith) next before.front))
+
+-- a fault that is handed on
+pub IfErr-from : {X : Type 0} (result : Result X Fault) (fault : Fault) (P : Fault → Type 0) → (other : Fault) × (result ≡ Err other) × (other ≡ fault) → P fault → IfErr result P
+IfErr-from result fault P is why = rw (is.1, is.2) why
 
 count-row_before : {Row : Type 0} (first : Result Row Fault) (others : Result (List Row) Fault) (n : ℕ) → IfOk others (λ rows. length rows ≡ n) → IfOk (row_before first others) (λ rows. length rows ≡ suc n)
 count-row_before (Err fault) others n is = tt

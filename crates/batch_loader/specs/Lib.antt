@@ -1,13 +1,14 @@
+pub mod Bars
 pub mod Columns
 pub mod Fields
 pub mod Fronts
 pub mod Grammar
-pub mod Leading
 pub mod LineFields
 pub mod Lines
 pub mod Numbers
 pub mod Parsing
 pub mod Reading
 pub mod Rows
+pub mod ShortNumbers
 pub mod Tables
 pub mod Unread

@@ -1,5 +1,5 @@
 -- What is taken from a text that is read line by line.
-use Rattle.std.specs.Prelude.{◌≡◌, ◌<◌, ◌≤◌, ◌⊎◌, ℕ, ⊤, List, [], ◌∷◌, take, drop, length, Option, Some, None}
+use Rattle.std.specs.Prelude.{◌≡◌, ◌<◌, ◌≤◌, ◌⊎◌, ℕ, ⊤, Bool, true, false, List, [], ◌∷◌, ◌++◌, take, drop, length, Option, Some, None}
 use Rattle.std.specs.Prelude.{Result, Ok, Err}
 use Rattle.std.specs.Borrow.{Bor}
 use Rattle.std.specs.Io.KnownBytes.{IsAtEnd}
@@ -50,10 +50,15 @@ NextGives old new (Ok None) = IsAllTaken old new
 NextGives old new (Ok (Some line)) = TakesNext old new line.now
 NextGives old new (Err fault) = (new.fault ≡ Some fault) × (old.fault ≡ None → RefusesNext old fault)
 
--- the row of the next line was taken, or the text was at its end
-abbrev pub TakesRow : {Row : Type 0} → (ℕ → List ℕ → Result Row Fault) → Unread → Unread → Option Row → Type 0
-TakesRow row old new None = IsAllTaken old new
-TakesRow row old new (Some taken) = TakesNext old new new.line × (row (next_number old.number) new.line ≡ Ok taken)
+-- a row stands behind some rows
+abbrev pub PushesRow : {Row : Type 0} → Result Row Fault → List Row → List Row → Type 0
+PushesRow (Ok row) old new = new ≡ old ++ row ∷ []
+PushesRow (Err fault) old new = ⊥
+
+-- the row of the next line stands behind some rows, or the text was at its end
+abbrev pub PushesNext : {Row : Type 0} → (ℕ → List ℕ → Result Row Fault) → Unread → Unread → List Row → List Row → Bool → Type 0
+PushesNext row old new before after true = TakesNext old new new.line × PushesRow (row (next_number old.number) new.line) before after
+PushesNext row old new before after false = IsAllTaken old new × (after ≡ before)
 
 -- a fault is that of the next line
 abbrev pub IsNextFault : {Row : Type 0} → (ℕ → List ℕ → Result Row Fault) → ℕ → Option (List ℕ) → Fault → Type 0

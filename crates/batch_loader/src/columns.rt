@@ -1,12 +1,10 @@
 //! The columns of the five tables, and what they make of a line's fields.
 ghost use Rattle.std.specs.Prelude.{◌≡◌, ◌<◌, ◌+◌, Some, None, IfOk, IfErr};
-ghost use Rattle.batch_loader.specs.Columns.{field_fault, fields_fault};
+ghost use Rattle.batch_loader.specs.Columns.{field_fault, fields_fault, number_in, text_in};
 ghost use Rattle.batch_loader.specs.LineFields.{texts_of};
-ghost use Rattle.batch_loader.specs.Numbers.{value_of};
 ghost use Rattle.batch_loader.specs.Parsing.{AreNumbers, FitsColumn};
 
 use crate::line_fields::LineFields;
-use crate::numbers::number;
 use cube_model::{Fault, Place};
 
 /// The most bytes of a text that is kept.
@@ -73,30 +71,33 @@ pub fn numbers_of<const N: usize>(
 {
     let mut numbers = [0u64; N];
     for place in 0..N {
-        match read_field(columns[place], fields.get(place), line, place) {
-            Ok(number) => numbers[place] = number,
-            Err(fault) => return Err(fault),
-        }
+        numbers[place] = read_field(columns[place], fields, line, place)?;
     }
     Ok(numbers)
 }
 
 /// The number of a field that stands at a place from 0, if its column is one of numbers, and else 0.
-#[inline]
-fn read_field(column: Column, text: &[u8], line: u64, place: usize) -> Result<u64, Fault>
-    requires { place < 255 }
-    ensures fits { IfOk result (λ _. field_fault line (place + 1) column text.now ≡ None) }
-    ensures number { IfOk result (FitsColumn column (value_of text.now)) }
-    ensures refused { IfErr result (λ fault. field_fault line (place + 1) column text.now ≡ Some fault) }
+#[inline(always)]
+fn read_field<const N: usize>(
+    column: Column,
+    fields: &LineFields<'_, N>,
+    line: u64,
+    place: usize,
+) -> Result<u64, Fault>
+    requires few { N < 255 }
+    requires place { place < N }
+    ensures fits { IfOk result (λ _. field_fault line (place + 1) column (text_in (texts_of fields.now) place) ≡ None) }
+    ensures number { IfOk result (FitsColumn column (number_in (texts_of fields.now) place)) }
+    ensures refused { IfErr result (λ fault. field_fault line (place + 1) column (text_in (texts_of fields.now) place) ≡ Some fault) }
 {
     let field = place as u8 + 1;
     match column {
-        Column::Number(limit) => match number(text, limit) {
+        Column::Number(limit) => match fields.number(place, limit) {
             Some(number) => Ok(number),
             None => Err(Fault::BadNumber { line, field }),
         },
         Column::Text => {
-            if text.len() > TEXT_LIMIT {
+            if fields.get(place).len() > TEXT_LIMIT {
                 let place = Place::Line(line);
                 return Err(Fault::FieldTooLong { place, field });
             }

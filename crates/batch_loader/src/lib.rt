@@ -6,7 +6,6 @@ mod laws;
 mod line_fields;
 mod lines;
 mod numbers;
-mod one_pass;
 mod reading;
 mod rows;
 mod tables;
@@ -16,6 +15,3 @@ pub use laws::{fields_are_spelled, lines_are_spelled};
 pub use line_fields::{LineFields, fields};
 pub use lines::Lines;
 pub use tables::{read_batch, read_customers, read_dates, read_parts, read_suppliers};
-
-#[cfg(test)]
-mod tests;

@@ -1,11 +1,13 @@
 //! The fields of a line.
-ghost use Rattle.std.specs.Prelude.{◌≡◌, ◌<◌, ◌≤◌, ℕ, [], length, slice_index, slice_index_or};
-ghost use Rattle.batch_loader.specs.Fields.{AreEnds, parts_at};
+ghost use Rattle.std.specs.Prelude.{◌≡◌, ◌<◌, ◌≤◌, [], length, slice_index_or, slice_index};
+ghost use Rattle.batch_loader.specs.Fields.{AreEnds, start_of};
+ghost use Rattle.batch_loader.specs.Numbers.{number_of};
 
+mod bars;
 mod split;
 
+use crate::numbers::number_between;
 pub use split::fields;
-pub(crate) use split::without_cr;
 
 /// The N fields of a line: the line, and where each field ends.
 #[derive(Clone, Copy, Drop)]
@@ -24,17 +26,30 @@ impl<'a, const N: usize> LineFields<'a, N> {
         requires { place < N }
         ensures { result.now ≡ slice_index_or (texts_of self.now) place [] }
     {
-        part_at(self.line, &self.ends, place)
+        &self.line[self.start(place)..self.ends[place]]
     }
-}
 
-/// The part of a line at a place from 0, by the ends of the parts.
-#[inline]
-fn part_at<'a>(line: &'a [u8], ends: &[usize], place: usize) -> &'a [u8]
-    requires place { place < length ends.now }
-    requires within { AreEnds line.now ends.now }
-    ensures { result.now ≡ slice_index_or (parts_at line.now 0 ends.now) place [] }
-{
-    let start = if place == 0 { 0 } else { ends[place - 1] + 1 };
-    &line[start..ends[place]]
+    /// The number up to a limit that a field spells, if it spells one.
+    #[inline]
+    pub(crate) fn number(&self, place: usize, limit: u64) -> Option<u64>
+        requires { place < N }
+        ensures { result ≡ number_of limit (slice_index_or (texts_of self.now) place []) }
+    {
+        number_between(self.line, self.start(place), self.ends[place], limit)
+    }
+
+    /// Where a field begins.
+    #[inline(always)]
+    fn start(&self, place: usize) -> usize
+        requires { place < N }
+        ensures start { result ≡ start_of self.now.ends place }
+        ensures order { result ≤ slice_index self.now.ends place }
+        ensures within { slice_index self.now.ends place ≤ length self.now.line.now }
+    {
+        if place == 0 {
+            0
+        } else {
+            self.ends[place - 1] + 1
+        }
+    }
 }

@@ -51,12 +51,8 @@ impl<R: Read> Lines<R> {
         ensures fault { IfOk result (λ lines. lines.fault ≡ None) }
         ensures err { IfErr result (λ fault. fault ≡ Fault.Memory) }
     {
-        let Ok(window) = Window::new(alloc) else {
-            return Err(Fault::Memory);
-        };
-        let Ok(line) = Vec::with_capacity(alloc, LINE_LIMIT) else {
-            return Err(Fault::Memory);
-        };
+        let window = Window::new(alloc)?;
+        let line = Vec::with_capacity(alloc, LINE_LIMIT)?;
         Ok(Lines {
             reader,
             window,
@@ -84,7 +80,8 @@ impl<R: Read> Lines<R> {
     pub fn fault(&self) -> Option<Fault>
         ensures { result ≡ self.now.fault }
     {
-        self.fault
+        let Lines { fault, .. } = self;
+        *fault
     }
 
     /// Holds a fault, which each call answers from now on.
@@ -114,17 +111,10 @@ impl<R: Read> Lines<R> {
         match found {
             Ok(found) => Ok(found),
             Err(LineFault::Long) => {
-                let fault = Fault::FieldTooLong {
-                    place: Place::Line(self.number),
-                    field: 0,
-                };
-                self.fault = Some(fault);
-                Err(fault)
+                let place = Place::Line(self.number);
+                Err(self.refuse(Fault::FieldTooLong { place, field: 0 }))
             }
-            Err(LineFault::Input) => {
-                self.fault = Some(Fault::Input);
-                Err(Fault::Input)
-            }
+            Err(LineFault::Input) => Err(self.refuse(Fault::Input)),
         }
     }
 

@@ -1,10 +1,31 @@
 //! Number fields.
-ghost use Rattle.std.specs.Prelude.{◌≡◌};
-ghost use Rattle.batch_loader.specs.Numbers.{number_of};
+ghost use Rattle.std.specs.Prelude.{◌≡◌, ◌≤◌, ◌<◌, ◌+◌, ℕ, length, slice_index, slice_range};
+ghost use Rattle.batch_loader.specs.Numbers.{number_of, value_of};
+
+mod short;
+
+use short::{digit_count, short_value};
+
+/// The number up to a limit that a part of a text spells, if it spells one.
+#[inline]
+pub fn number_between(text: &[u8], start: usize, end: usize, limit: u64) -> Option<u64>
+    requires order { start ≤ end }
+    requires within { end ≤ length text.now }
+    ensures { result ≡ number_of limit (slice_range text.now start end) }
+{
+    let count = end - start;
+    if count == 0 || count > 8 || text.len() - start < 8 || digit_count(text, start) < count {
+        return number(&text[start..end], limit);
+    }
+    let value = short_value(text, start, count);
+    if value > limit {
+        return None;
+    }
+    Some(value)
+}
 
 /// The number up to a limit that a field spells, if it spells one.
-#[inline]
-pub fn number(text: &[u8], limit: u64) -> Option<u64>
+fn number(text: &[u8], limit: u64) -> Option<u64>
     ensures { result ≡ number_of limit text.now }
 {
     if text.is_empty() {

@@ -4,7 +4,6 @@ ghost use Rattle.batch_loader.specs.Columns.{row_of};
 
 use crate::columns::{CUSTOMER, DATE, LINEORDER, PART, SUPPLIER, numbers_of};
 use crate::line_fields::fields;
-use crate::one_pass::one_pass_row;
 use cube_model::{
     Amount, CustomerRow, DateRow, Fault, Items, LineOrder, PartRow, RowText, SupplierRow, Text,
 };
@@ -38,11 +37,12 @@ impl TableRow for CustomerRow {
     fn read(alloc: Global, line: &[u8], number: u64) -> Result<Self, Fault> {
         let fields = fields::<8>(line, number)?;
         let numbers = numbers_of(&CUSTOMER, &fields, number)?;
+        let (city, nation, region) = texts(alloc, fields.get(3), fields.get(4), fields.get(5))?;
         Ok(CustomerRow {
             key: numbers[0] as u32,
-            city: text(alloc, fields.get(3))?,
-            nation: text(alloc, fields.get(4))?,
-            region: text(alloc, fields.get(5))?,
+            city,
+            nation,
+            region,
         })
     }
 }
@@ -57,11 +57,12 @@ impl TableRow for SupplierRow {
     fn read(alloc: Global, line: &[u8], number: u64) -> Result<Self, Fault> {
         let fields = fields::<7>(line, number)?;
         let numbers = numbers_of(&SUPPLIER, &fields, number)?;
+        let (city, nation, region) = texts(alloc, fields.get(3), fields.get(4), fields.get(5))?;
         Ok(SupplierRow {
             key: numbers[0] as u32,
-            city: text(alloc, fields.get(3))?,
-            nation: text(alloc, fields.get(4))?,
-            region: text(alloc, fields.get(5))?,
+            city,
+            nation,
+            region,
         })
     }
 }
@@ -76,11 +77,12 @@ impl TableRow for PartRow {
     fn read(alloc: Global, line: &[u8], number: u64) -> Result<Self, Fault> {
         let fields = fields::<9>(line, number)?;
         let numbers = numbers_of(&PART, &fields, number)?;
+        let (brand1, category, mfgr) = texts(alloc, fields.get(4), fields.get(3), fields.get(2))?;
         Ok(PartRow {
             key: numbers[0] as u32,
-            brand1: text(alloc, fields.get(4))?,
-            category: text(alloc, fields.get(3))?,
-            mfgr: text(alloc, fields.get(2))?,
+            brand1,
+            category,
+            mfgr,
         })
     }
 }
@@ -95,12 +97,19 @@ impl TableRow for DateRow {
     fn read(alloc: Global, line: &[u8], number: u64) -> Result<Self, Fault> {
         let fields = fields::<17>(line, number)?;
         let numbers = numbers_of(&DATE, &fields, number)?;
+        let (year, yearmonthnum, yearmonth) = texts(
+            alloc,
+            fields.get(4),
+            fields.get(5),
+            fields.get(6),
+        )?;
+        let weeknuminyear = text(alloc, fields.get(11))?;
         Ok(DateRow {
             key: numbers[0] as u32,
-            year: text(alloc, fields.get(4))?,
-            yearmonthnum: text(alloc, fields.get(5))?,
-            yearmonth: text(alloc, fields.get(6))?,
-            weeknuminyear: text(alloc, fields.get(11))?,
+            year,
+            yearmonthnum,
+            yearmonth,
+            weeknuminyear,
         })
     }
 }
@@ -113,12 +122,10 @@ impl TableRow for LineOrder {
     ghost of_fields = { lineorder_of_fields };
 
     fn read(alloc: Global, line: &[u8], number: u64) -> Result<Self, Fault> {
-        if let Some(row) = one_pass_row(alloc, line) {
-            return Ok(row);
-        }
-        // A line of another form, or one with a fault, is read field by field.
         let fields = fields::<17>(line, number)?;
         let numbers = numbers_of(&LINEORDER, &fields, number)?;
+        let (orderpriority, shippriority) = row_texts(alloc, fields.get(6), fields.get(7))?;
+        let (commitdate, shipmode) = row_texts(alloc, fields.get(15), fields.get(16))?;
         Ok(LineOrder {
             orderkey: Amount::new(numbers[0]),
             linenumber: numbers[1] as u32,
@@ -126,8 +133,8 @@ impl TableRow for LineOrder {
             partkey: numbers[3] as u32,
             suppkey: numbers[4] as u32,
             orderdate: numbers[5] as u32,
-            orderpriority: row_text(alloc, fields.get(6))?,
-            shippriority: row_text(alloc, fields.get(7))?,
+            orderpriority,
+            shippriority,
             quantity: numbers[8] as u8,
             extendedprice: Amount::new(numbers[9]),
             ordtotalprice: Amount::new(numbers[10]),
@@ -135,8 +142,8 @@ impl TableRow for LineOrder {
             revenue: Amount::new(numbers[12]),
             supplycost: Amount::new(numbers[13]),
             tax: numbers[14] as u8,
-            commitdate: row_text(alloc, fields.get(15))?,
-            shipmode: row_text(alloc, fields.get(16))?,
+            commitdate,
+            shipmode,
         })
     }
 }
@@ -146,19 +153,33 @@ fn text(alloc: Global, bytes: &[u8]) -> Result<Text, Fault>
     ensures ok { IfOk result (λ text. text ≡ bytes.now) }
     ensures err { IfErr result (λ fault. fault ≡ Fault.Memory) }
 {
-    match Vec::from_slice(alloc, bytes) {
-        Ok(bytes) => Ok(Items::from_vec(bytes)),
-        Err(_) => Err(Fault::Memory),
-    }
+    let bytes = Vec::from_slice(alloc, bytes)?;
+    Ok(Items::from_vec(bytes))
 }
 
-/// A copy of a field as a text of a fact row.
-fn row_text(alloc: Global, bytes: &[u8]) -> Result<RowText, Fault>
-    ensures ok { IfOk result (λ text. text ≡ bytes.now) }
+/// Copies of three fields as texts of their own.
+fn texts(
+    alloc: Global,
+    first: &[u8],
+    second: &[u8],
+    third: &[u8],
+) -> Result<(Text, Text, Text), Fault>
+    ensures ok { IfOk result (λ texts. (texts.0 ≡ first.now) × (texts.1 ≡ second.now) × (texts.2 ≡ third.now)) }
     ensures err { IfErr result (λ fault. fault ≡ Fault.Memory) }
 {
-    match RowText::from_slice(alloc, bytes) {
-        Ok(text) => Ok(text),
-        Err(_) => Err(Fault::Memory),
-    }
+    let first = text(alloc, first)?;
+    let second = text(alloc, second)?;
+    let third = text(alloc, third)?;
+    Ok((first, second, third))
+}
+
+/// Copies of two fields as texts of a fact row.
+#[inline]
+fn row_texts(alloc: Global, first: &[u8], second: &[u8]) -> Result<(RowText, RowText), Fault>
+    ensures ok { IfOk result (λ texts. (texts.0 ≡ first.now) × (texts.1 ≡ second.now)) }
+    ensures err { IfErr result (λ fault. fault ≡ Fault.Memory) }
+{
+    let first = RowText::from_slice(alloc, first)?;
+    let second = RowText::from_slice(alloc, second)?;
+    Ok((first, second))
 }

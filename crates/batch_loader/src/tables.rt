@@ -1,7 +1,7 @@
 //! The rows of the five tables.
-ghost use Rattle.std.specs.Prelude.{◌≡◌, None, IfOk, IfErr, IfSome, Err};
+ghost use Rattle.std.specs.Prelude.{◌≡◌, ◌⊎◌, ◌≤◌, None, IfOk, OnOk, IfErr, IfSome, Err, length};
 ghost use Rattle.batch_loader.specs.Columns.{row_of};
-ghost use Rattle.batch_loader.specs.Reading.{TakesRow, RefusesRow, TakesBatch, RefusesBatch, TakesTable, RefusesTable};
+ghost use Rattle.batch_loader.specs.Reading.{PushesNext, PushesRow, RefusesRow, TakesBatch, RefusesBatch, TakesTable, RefusesTable};
 ghost use Rattle.batch_loader.specs.Tables.{customer_row, supplier_row, part_row, date_row, lineorder_row};
 
 use crate::lines::Lines;
@@ -80,16 +80,12 @@ fn read_all<T: TableRow + Drop, R: Read>(
     ensures taken { IfOk result (TakesTable (row_of T.columns T.of_fields) lines.old lines.new) }
     ensures refused { lines.old.fault ≡ None → IfErr result (RefusesTable (row_of T.columns T.of_fields) lines.old) }
 {
-    match read_rows(alloc, lines, usize::MAX) {
-        Ok(rows) => {
-            // So many rows fill any memory, and it is not known whether lines are left.
-            if rows.len() == usize::MAX {
-                return Err(lines.refuse(Fault::Memory));
-            }
-            Ok(rows)
-        }
-        Err(fault) => Err(fault),
+    let rows = read_rows(alloc, lines, usize::MAX)?;
+    if rows.len() == usize::MAX {
+        // So many rows fill any memory, and it is not known whether lines are left.
+        return Err(lines.refuse(Fault::Memory));
     }
+    Ok(rows)
 }
 
 // The rows of the next lines, at most `max`.
@@ -108,34 +104,45 @@ fn read_rows<T: TableRow + Drop, R: Read>(
     }
     let mut rows = Items::new(alloc);
     for _ in 0..max {
-        match next_row::<T, R>(alloc, lines) {
-            Err(fault) => return Err(fault),
-            Ok(None) => return Ok(rows),
-            Ok(Some(row)) => match rows.push(row) {
-                Ok(()) => {}
-                Err(_) => return Err(lines.refuse(Fault::Memory)),
-            },
+        if !push_row(alloc, lines, &mut rows)? {
+            return Ok(rows);
         }
     }
     Ok(rows)
 }
 
-// The row of the next line, or nothing at the end of the text.
-fn next_row<T: TableRow + Drop, R: Read>(
+// Puts the row of the next line behind some rows. It gives false at the end of the text.
+fn push_row<T: TableRow + Drop, R: Read>(
     alloc: Global,
     lines: &mut Lines<R>,
-) -> Result<Option<T>, Fault>
+    rows: &mut Items<T>,
+) -> Result<bool, Fault>
     ensures again { IfSome lines.old.fault (λ fault. result ≡ Err fault) }
     ensures held { IfErr result (λ fault. lines.new.fault ≡ Some fault) }
-    ensures taken { IfOk result (TakesRow (row_of T.columns T.of_fields) lines.old lines.new) }
+    ensures taken { IfOk result (PushesNext (row_of T.columns T.of_fields) lines.old lines.new rows.old rows.new) }
     ensures refused { lines.old.fault ≡ None → IfErr result (RefusesRow (row_of T.columns T.of_fields) lines.old) }
 {
-    match lines.advance() {
-        Err(fault) => Err(fault),
-        Ok(false) => Ok(None),
-        Ok(true) => match T::read(alloc, lines.line(), lines.number()) {
-            Ok(row) => Ok(Some(row)),
-            Err(fault) => Err(lines.refuse(fault)),
-        },
+    if !lines.advance()? {
+        return Ok(false);
     }
+    match push_line(alloc, lines.line(), lines.number(), rows) {
+        Ok(()) => Ok(true),
+        Err(fault) => Err(lines.refuse(fault)),
+    }
+}
+
+// Puts the row of a line with a number behind some rows.
+fn push_line<T: TableRow + Drop>(
+    alloc: Global,
+    line: &[u8],
+    number: u64,
+    rows: &mut Items<T>,
+) -> Result<(), Fault>
+    requires { length line.now ≤ 8192 }
+    ensures ok { OnOk result (PushesRow (row_of T.columns T.of_fields number line.now) rows.old rows.new) }
+    ensures err { IfErr result (λ fault. (fault ≡ Fault.Memory) ⊎ (row_of T.columns T.of_fields number line.now ≡ Err fault)) }
+{
+    let row = T::read(alloc, line, number)?;
+    rows.push(row)?;
+    Ok(())
 }

@@ -1,9 +1,9 @@
 -- When the parts that were read are a catalogue. Our own.
-use Rattle.std.proofs.Common.{◌≡◌, ℕ, ◌+◌, ◌*◌, ◌<◌, ◌≤◌, List, [], ◌∷◌, ◌++◌, length, All, refl, sym, ap, ◌∙◌, subst, arith, length-append, append-nil}
+use Rattle.std.proofs.Common.{◌≡◌, ℕ, ◌+◌, ◌*◌, List, [], ◌∷◌, ◌++◌, length, All, refl, sym, ap, ◌∙◌, arith, length-append, append-nil}
 use Rattle.std.specs.List.{flat_map}
 use Rattle.catalogue.specs.declared.entry.Entry.{Entry}
-use Rattle.catalogue.specs.Catalogue.{AreAscending, IsCatalogue, IsProper, IsProperEntry, catalogue_of, entry_of, header_of}
-use Rattle.catalogue.specs.Reading.{ReadsEntries, ReadsHeader}
+use Rattle.catalogue.specs.Catalogue.{AreAscending, IsCatalogue, IsProperEntry, catalogue_of, entry_of, header_of}
+use Rattle.catalogue.specs.Reading.{IsHeaderOf, ReadsEntries, ReadsHeader}
 use Rattle.catalogue.proofs.CallerLemmas.{entries-one, entries_fit, header_of-one, length-entries, root_fits}
 
 module _ (bytes mid : List ℕ) (count root_bytes : ℕ) (header : ReadsHeader bytes mid count root_bytes) where
@@ -22,6 +22,15 @@ module _ (bytes mid : List ℕ) (count root_bytes : ℕ) (header : ReadsHeader b
       ap length same.2 ∙ length-append (flat_map entry_of entries) root ∙ ap (λ (n : ℕ). n + length root) (length-entries entries) in
       omega (arith, header.left, same.0, same.1)
 
+  -- the header of a catalogue keeps its rules
+  pub is_of : (entries : List Entry) (root : List ℕ) → IsCatalogue bytes entries root → IsHeaderOf (length bytes) count root_bytes
+  is_of entries root is =
+      let same = header_is entries root is in record {
+        most_entries = omega (arith, same.0, is.proper.most_entries);
+        most_root = omega (arith, same.1, is.proper.most_root);
+        whole = length_is entries root is;
+      }
+
   -- the entries of a catalogue are those that were read
   pub entries_are : (rest : List ℕ) (read entries : List Entry) (root : List ℕ) → ReadsEntries count mid rest read → IsCatalogue bytes entries root → read ≡ entries
   entries_are rest read entries root reads is =
@@ -29,17 +38,17 @@ module _ (bytes mid : List ℕ) (count root_bytes : ℕ) (header : ReadsHeader b
       (entries-one read entries rest root reads.fit is.proper.fit (reads.many ∙ same.0) (sym reads.spelled ∙ same.2)).0
 
   -- the bytes behind the entries
-  pub root_left : (rest : List ℕ) (read : List Entry) → ReadsEntries count mid rest read → length bytes ≡ 12 + 16 * count + root_bytes → length rest ≡ root_bytes
-  root_left rest read reads many =
+  pub root_left : (rest : List ℕ) (read : List Entry) → ReadsEntries count mid rest read → IsHeaderOf (length bytes) count root_bytes → length rest ≡ root_bytes
+  root_left rest read reads proper =
       let all : length mid ≡ length (flat_map entry_of read) + length rest = ap length reads.spelled ∙ length-append (flat_map entry_of read) rest in
-      omega (arith, header.left, length-entries read, reads.many)
+      omega (arith, header.left, length-entries read, reads.many, proper.whole)
 
   -- what keeps the rules is a catalogue
-  pub is_catalogue : (rest left root : List ℕ) (read : List Entry) → ReadsEntries count mid rest read → length bytes ≡ 12 + 16 * count + root_bytes
-      → rest ≡ root ++ left → length root ≡ root_bytes → All IsProperEntry read → AreAscending read → count ≤ 65536 → root_bytes ≤ 65536
+  pub is_catalogue : (rest left root : List ℕ) (read : List Entry) → ReadsEntries count mid rest read → IsHeaderOf (length bytes) count root_bytes
+      → rest ≡ root ++ left → length root ≡ root_bytes → All IsProperEntry read → AreAscending read
       → IsCatalogue bytes read root
-  is_catalogue rest left root read reads many split is_root each ascending most_entries most_root =
-      let all : length rest ≡ root_bytes = root_left rest read reads many in
+  is_catalogue rest left root read reads proper split is_root each ascending =
+      let all : length rest ≡ root_bytes = root_left rest read reads proper in
       let none : length left ≡ 0 = omega (arith, ap length split, length-append root left) in
       let empty : left ≡ [] = elim left as (λ (xs : List ℕ). length xs ≡ 0 → xs ≡ []) [ [] ↦ λ e. refl | x ∷ xs ↦ λ e. absurd (omega arith) ] none in
       let is_rest : rest ≡ root = split ∙ ap (λ (xs : List ℕ). root ++ xs) empty ∙ append-nil root in
@@ -51,7 +60,7 @@ module _ (bytes mid : List ℕ) (count root_bytes : ℕ) (header : ReadsHeader b
           fit = reads.fit;
           each = each;
           ascending = ascending;
-          most_entries = omega (arith, reads.many);
-          most_root = omega arith;
+          most_entries = omega (arith, reads.many, proper.most_entries);
+          most_root = omega (arith, proper.most_root);
         };
       }

@@ -1,8 +1,15 @@
 -- What is read from the front of bytes, before any rule is looked at. Our own.
-use Rattle.std.specs.Prelude.{◌≡◌, ℕ, ◌+◌, ◌^◌, ◌<◌, List, ◌++◌, length, All}
+use Rattle.std.specs.Prelude.{◌≡◌, ℕ, ◌+◌, ◌*◌, ◌^◌, ◌<◌, ◌≤◌, List, ◌++◌, length, All}
 use Rattle.std.specs.List.{flat_map}
+use Rattle.wire.specs.Limits.{most_objects, most_root_bytes}
 use Rattle.catalogue.specs.declared.entry.Entry.{Entry}
 use Rattle.catalogue.specs.Catalogue.{FitsFields, entry_of, header_of}
+
+-- a header keeps the limits, and a catalogue with it has so many bytes
+pub record IsHeaderOf (bytes entries root : ℕ) : Type 0 where
+  pub most_entries : entries ≤ most_objects
+  pub most_root : root ≤ most_root_bytes
+  pub whole : bytes ≡ 12 + 16 * entries + root
 
 -- an entry was read from the front of `old`, and `new` is left
 pub record ReadsEntry (old new : List ℕ) (entry : Entry) : Type 0 where

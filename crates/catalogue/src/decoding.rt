@@ -10,7 +10,6 @@ use crate::reading::{read_entries, read_header};
 use cube_model::Fault;
 use std::alloc::Global;
 use wire::Cursor;
-use wire::limits::{MOST_OBJECTS, MOST_ROOT_BYTES};
 
 /// The catalogue that the bytes spell. `BadLayout` where they spell none that keeps the rules.
 pub fn decode(alloc: Global, bytes: &[u8]) -> Result<Catalogue, Fault>
@@ -20,15 +19,14 @@ pub fn decode(alloc: Global, bytes: &[u8]) -> Result<Catalogue, Fault>
 {
     let mut cursor = Cursor::new(bytes);
     let header = read_header(&mut cursor)?;
-    let (count, root) = (header.entries as usize, header.root as usize);
-    if count > MOST_OBJECTS || root > MOST_ROOT_BYTES || bytes.len() != 12 + 16 * count + root {
+    if !header.is_of(bytes.len()) {
         return Err(Fault::BadLayout);
     }
-    let entries = read_entries(alloc, &mut cursor, count)?;
+    let entries = read_entries(alloc, &mut cursor, header.entries as usize)?;
     if !are_proper(&entries) || !ascend(&entries) {
         return Err(Fault::BadLayout);
     }
-    let root = Vec::from_slice(alloc, cursor.bytes(root)?)?;
+    let root = Vec::from_slice(alloc, cursor.bytes(header.root as usize)?)?;
     Ok(Catalogue { entries, root })
 }
 

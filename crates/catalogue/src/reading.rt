@@ -1,5 +1,5 @@
 //! Reading the parts of a catalogue from the front of bytes.
-ghost use Rattle.std.specs.Prelude.{◌≡◌, ◌≢◌, ◌*◌, ◌^◌, ◌≤◌, ◌<◌, ◌++◌, ℕ, List, length, IfErr, IfOk, IsErr, IsOkUnless, ◌↔◌};
+ghost use Rattle.std.specs.Prelude.{◌≡◌, ◌≢◌, ◌*◌, ◌^◌, ◌≤◌, ◌<◌, ◌++◌, ℕ, List, length, IfErr, IfOk, IsErr, IsOkUnless, IsTrue, ◌↔◌};
 ghost use Rattle.cube_model.specs.declared.fault.Fault.{Fault};
 ghost use Rattle.catalogue.specs.Catalogue.{header_of};
 ghost use Rattle.catalogue.specs.Reading.{ReadsEntries, ReadsEntry, ReadsHeader};
@@ -8,6 +8,7 @@ use crate::entry::Entry;
 use cube_model::Fault;
 use std::alloc::Global;
 use wire::Cursor;
+use wire::limits::{MOST_OBJECTS, MOST_ROOT_BYTES};
 
 // What stands before the entries: how many there are, and how many bytes the root has.
 #[derive(Clone, Copy)]
@@ -16,11 +17,24 @@ pub(crate) struct Header {
     pub(crate) root: u32,
 }
 
+impl Header {
+    ghost use Rattle.catalogue.specs.Reading.{IsHeaderOf};
+
+    // Whether it keeps the limits, and a catalogue with it has so many bytes.
+    pub(crate) fn is_of(&self, bytes: usize) -> bool
+        ensures { IsTrue result ↔ IsHeaderOf bytes self.now.entries self.now.root }
+    {
+        let (entries, root) = (self.entries as usize, self.root as usize);
+        entries <= MOST_OBJECTS && root <= MOST_ROOT_BYTES && bytes == 12 + 16 * entries + root
+    }
+}
+
 // The header at the front of bytes.
 pub(crate) fn read_header(cursor: &mut Cursor<'_>) -> Result<Header, Fault>
     ensures ok { IfOk result (λ header. ReadsHeader cursor.old cursor.new header.entries header.root) }
     ensures fault { IsOkUnless result Fault.BadLayout }
-    ensures none { IsErr result → (entries root : ℕ) (rest : List ℕ) → cursor.old ≢ header_of entries root ++ rest }
+    ensures none { IsErr result
+        → (entries root : ℕ) (rest : List ℕ) → cursor.old ≢ header_of entries root ++ rest }
 {
     if cursor.bytes(4)? != b"CAT1".as_slice() {
         return Err(Fault::BadLayout);

@@ -82,13 +82,21 @@ groups_have dimensions query rows key =
     ∙ list_any-flat_map (eq_by_cmp key_cmp key) (keys_of dimensions query) chosen)
     ∙ sym (tallies_if_any-filter query.aggregates (λ row. list_any (eq_by_cmp key_cmp key) (keys_of dimensions query row)) chosen)
 
--- the lines of the groups are those of the answer, where no order is asked for
-pub lines_are : (dimensions : DimRows) (query : Query) (rows : List LineOrder) → query.order ≡ None
-    → map (line_with query.aggregates) (groups_of dimensions query rows) ≡ (answer query dimensions rows).lines
-lines_are dimensions query rows unordered =
+-- the lines of the groups are those of the keys
+pub unordered_lines : (dimensions : DimRows) (query : Query) (rows : List LineOrder)
+    → map (line_with query.aggregates) (groups_of dimensions query rows)
+    ≡ map (line_of dimensions query (selected dimensions query.conditions rows)) (keys_among dimensions query (selected dimensions query.conditions rows))
+unordered_lines dimensions query rows =
     let chosen = selected dimensions query.conditions rows in
     let tallies = λ (key : List Member). tallies_of query.aggregates (rows_of_key dimensions query key chosen) in
     map-map_pair (line_with query.aggregates) tallies (line_of dimensions query chosen)
     (λ key i. record { key = key; values = values_of-tallies_of query.aggregates (rows_of_key dimensions query key chosen) i })
     (keys_among dimensions query chosen)
+
+-- and those of the answer, where no order is asked for
+pub lines_are : (dimensions : DimRows) (query : Query) (rows : List LineOrder) → query.order ≡ None
+    → map (line_with query.aggregates) (groups_of dimensions query rows) ≡ (answer query dimensions rows).lines
+lines_are dimensions query rows unordered =
+    let chosen = selected dimensions query.conditions rows in
+    unordered_lines dimensions query rows
     ∙ ap (λ order. in_order order (map (line_of dimensions query chosen) (keys_among dimensions query chosen))) (sym unordered)

@@ -8,18 +8,23 @@ use Rattle.std.proofs.lemmas.List.{length-map, map-append, take_more}
 use Rattle.cube_model.specs.declared.measure.Agg.{Agg}
 use Rattle.cube_model.specs.declared.measure.Agg.TheVariants.{Count}
 use Rattle.cube_model.specs.declared.rows.LineOrder.{LineOrder}
-use Rattle.cube_query.specs.Columns.{no_tally, tally_at, tallies_at, marked, HasRoom, CountsIn}
-use Rattle.cube_query.specs.Standing.{HaveRoom, CountIn}
+use Rattle.cube_query.specs.Columns.{no_tally, tally_at, tallies_at, slotted, HasRoom}
+use Rattle.cube_query.specs.FoldInvariant.{HaveRoom}
+use Rattle.cube_query.specs.Coarser.{AddsIn, AddIn}
 use Rattle.cube_query.specs.Tallies.{number_of, tally_of, tallies_of}
 use Rattle.cube_query.specs.declared.tally.Tally.{Tally}
 
--- in the columns below a place the rows are counted in, and the others are as they were
-pub record AreCountedBelow (n : ℕ) (aggs : List Agg) (rows : List LineOrder) (marks : List (Option ℕ)) (old new : List (Vec Tally Global)) : Type 0 where
+-- in the columns below a place rows are counted in, some at each slot, and the others are as they were
+pub record AreAddedBelow (n : ℕ) (aggs : List Agg) (added : ℕ → List LineOrder) (old new : List (Vec Tally Global)) : Type 0 where
   pub same_length : length new ≡ length old
-  pub counted : (k : ℕ) → k < n → (agg : Agg) (column : Vec Tally Global) → CountsIn (get_or aggs k agg) rows marks (get_or old k column).items (get_or new k column).items
+  pub counted : (k : ℕ) → k < n → (agg : Agg) (column : Vec Tally Global) → AddsIn (get_or aggs k agg) added (get_or old k column).items (get_or new k column).items
   pub kept : (k : ℕ) → n ≤ k → (column : Vec Tally Global) → get_or new k column ≡ get_or old k column
 
-All-at : {X : Type 0} (P : X → Type 0) (xs : List X) → AllByRecursion P xs → (k : ℕ) → k < length xs → (x : X) → P (get_or xs k x)
+-- those of slotted rows
+abbrev pub AreCountedBelow : ℕ → List Agg → List LineOrder → List (Option ℕ) → List (Vec Tally Global) → List (Vec Tally Global) → Type 0
+AreCountedBelow n aggs rows group_slots old new = AreAddedBelow n aggs (λ slot. slotted slot rows group_slots) old new
+
+pub All-at : {X : Type 0} (P : X → Type 0) (xs : List X) → AllByRecursion P xs → (k : ℕ) → k < length xs → (x : X) → P (get_or xs k x)
 All-at P [] all k h x = absurd (omega (arith, h))
 All-at P (first ∷ xs) all zero h x = all.0
 All-at P (first ∷ xs) all (suc k) h x = All-at P xs all.1 k (omega (arith, h)) x
@@ -28,7 +33,7 @@ pub tallies-length : (aggs : List Agg) (columns : List (Vec Tally Global)) (slot
 tallies-length aggs columns slot rows same =
     sym (length-map columns (λ (column : Vec Tally Global). tally_at column.items slot)) ∙ ap length same ∙ length-map aggs (λ agg. tally_of (map (number_of agg) rows))
 
-tallies-one : (aggs : List Agg) (columns : List (Vec Tally Global)) (slot : ℕ) (rows : List LineOrder) → tallies_at columns slot ≡ tallies_of aggs rows
+pub tallies-one : (aggs : List Agg) (columns : List (Vec Tally Global)) (slot : ℕ) (rows : List LineOrder) → tallies_at columns slot ≡ tallies_of aggs rows
     → (k : ℕ) → k < length aggs → (agg : Agg) (column : Vec Tally Global) → tally_at (get_or columns k column).items slot ≡ tally_of (map (number_of (get_or aggs k agg)) rows)
 tallies-one [] columns slot rows same k h agg column = absurd (omega (arith, h))
 tallies-one (first ∷ aggs) [] slot rows same k h agg column = absurd (cc same)
@@ -47,11 +52,11 @@ tallies-each (first ∷ aggs) (one ∷ columns) slot rows same each =
     let rest = tallies-each aggs columns slot rows (omega (arith, same)) (λ k h agg column. each (suc k) (omega (arith, h)) agg column) in
     λ i. here i ∷ rest i
 
-module _ (aggs : List Agg) (rows : List LineOrder) (marks : List (Option ℕ)) where
-  pub HasRoom-at : (old now : List (Vec Tally Global)) (n : ℕ) → length old ≡ length aggs → n < length aggs → HaveRoom aggs old rows marks → AreCountedBelow n aggs rows marks old now
-      → (agg : Agg) (column : Vec Tally Global) → HasRoom (get_or aggs n agg) (get_or now n column).items rows marks
+module _ (aggs : List Agg) (rows : List LineOrder) (group_slots : List (Option ℕ)) where
+  pub HasRoom-at : (old now : List (Vec Tally Global)) (n : ℕ) → length old ≡ length aggs → n < length aggs → HaveRoom aggs old rows group_slots → AreCountedBelow n aggs rows group_slots old now
+      → (agg : Agg) (column : Vec Tally Global) → HasRoom (get_or aggs n agg) (get_or now n column).items rows group_slots
   HasRoom-at old now n same h room below agg column =
-      subst (λ (c : Vec Tally Global). HasRoom (get_or aggs n agg) c.items rows marks) (sym (below.kept n (omega arith) column))
+      subst (λ (c : Vec Tally Global). HasRoom (get_or aggs n agg) c.items rows group_slots) (sym (below.kept n (omega arith) column))
       (λ place slot at.
       let given = room place slot at in (
         All-at (λ (column : Vec Tally Global). slot < length column.items) old given.0 n (omega (arith, same, h)) column,
@@ -60,25 +65,26 @@ module _ (aggs : List Agg) (rows : List LineOrder) (marks : List (Option ℕ)) w
         given.3 (get_or aggs n agg),
       ))
 
-  pub AreCountedBelow-set : (old now : List (Vec Tally Global)) (n : ℕ) (column : Vec Tally Global) → length old ≡ length aggs → n < length aggs → AreCountedBelow n aggs rows marks old now
-      → ((agg : Agg) (first : Vec Tally Global) → CountsIn (get_or aggs n agg) rows marks (get_or now n first).items column.items)
-      → AreCountedBelow (n + 1) aggs rows marks old (slice_set now n column)
-  AreCountedBelow-set old now n column same h before here =
+module _ (aggs : List Agg) (added : ℕ → List LineOrder) where
+  pub AreAddedBelow-set : (old now : List (Vec Tally Global)) (n : ℕ) (column : Vec Tally Global) → length old ≡ length aggs → n < length aggs → AreAddedBelow n aggs added old now
+      → ((agg : Agg) (first : Vec Tally Global) → AddsIn (get_or aggs n agg) added (get_or now n first).items column.items)
+      → AreAddedBelow (n + 1) aggs added old (slice_set now n column)
+  AreAddedBelow-set old now n column same h before here =
       let in_now : n < length now = omega (arith, before.same_length, same, h) in
       record {
         same_length = length-set now n column ∙ before.same_length;
         counted = below_more _ _
             (λ k below agg first. let other : k ≢ n = omega (arith, below) in
-            subst (λ (c : Vec Tally Global). CountsIn (get_or aggs k agg) rows marks (get_or old k first).items c.items) (sym (get_or-set_other now n k column first other)) (before.counted k below agg first))
+            subst (λ (c : Vec Tally Global). AddsIn (get_or aggs k agg) added (get_or old k first).items c.items) (sym (get_or-set_other now n k column first other)) (before.counted k below agg first))
             (λ agg first.
-            subst (λ (c : Vec Tally Global). CountsIn (get_or aggs n agg) rows marks (get_or old n first).items c.items) (sym (get_or-set_same now n column first in_now))
-            (subst (λ (c : Vec Tally Global). CountsIn (get_or aggs n agg) rows marks c.items column.items) (before.kept n (omega arith) first) (here agg first)));
+            subst (λ (c : Vec Tally Global). AddsIn (get_or aggs n agg) added (get_or old n first).items c.items) (sym (get_or-set_same now n column first in_now))
+            (subst (λ (c : Vec Tally Global). AddsIn (get_or aggs n agg) added c.items column.items) (before.kept n (omega arith) first) (here agg first)));
         kept = λ k above first. let other : k ≢ n = omega (arith, above) in get_or-set_other now n k column first other ∙ before.kept k (omega (arith, above)) first;
       }
 
-  pub CountIn-whole : (old new : List (Vec Tally Global)) (n : ℕ) → length old ≡ length aggs → length aggs ≤ n → AreCountedBelow n aggs rows marks old new → CountIn aggs rows marks old new
-  CountIn-whole old new n same h done = λ slot before reads.
-      tallies-each aggs new slot (before ++ marked slot rows marks) (done.same_length ∙ same)
+  pub AddIn-whole : (old new : List (Vec Tally Global)) (n : ℕ) → length old ≡ length aggs → length aggs ≤ n → AreAddedBelow n aggs added old new → AddIn aggs added old new
+  AddIn-whole old new n same h done = λ slot before reads.
+      tallies-each aggs new slot (before ++ added slot) (done.same_length ∙ same)
       (λ k below agg column. done.counted k (omega (arith, below, h)) agg column slot before (tallies-one aggs old slot before reads k below agg column))
 
 -- one column more that has no tally

@@ -1,4 +1,4 @@
--- Rows that are counted in at the slots that they are marked with.
+-- Rows that are counted in at the slots that they are slotted with.
 use Rattle.std.proofs.Common.{◌≡◌, ◌≢◌, ◌∙◌, sym, ap, refl, subst, ℕ, zero, suc, ◌+◌, ◌<◌, ◌≤◌, ◌^◌, true, false, cond, ℤ, ◌+ℤ◌, List, [], ◌∷◌, ◌++◌, map, length, length-append, append-nil, append_assoc, take, drop, get_or, Some, None, arith, FitsSigned, w64, slice_set, get_or-set_same, get_or-set_other}
 use Rattle.std.specs.Prelude.{Option, ◌==◌, nat_abs, slice_get}
 use Rattle.std.proofs.lemmas.Bool.Decides.{nat_tests}
@@ -8,7 +8,7 @@ use Rattle.std.proofs.lemmas.Option.{slice_get-get_or}
 use Rattle.cube_model.specs.declared.measure.Agg.{Agg}
 use Rattle.cube_model.specs.declared.rows.LineOrder.{LineOrder}
 use Rattle.cube_model.specs.Aggregates.{total}
-use Rattle.cube_query.specs.Columns.{tally_after, tally_at, no_tally, marked, IsCountable, HasRoom, CountsIn}
+use Rattle.cube_query.specs.Columns.{tally_after, tally_at, no_tally, slotted, IsCountable, HasRoom, CountsIn}
 use Rattle.cube_query.specs.Tallies.{number_of, tally_of, tally_with}
 use Rattle.cube_query.specs.declared.tally.Tally.{Tally}
 use Rattle.cube_query.proofs.OneRow.{tally_of-push}
@@ -37,49 +37,49 @@ IsCountable-front agg rows others all = record {
   small = omega (arith, all.small, sum_by-append (λ row. nat_abs (number_of agg row)) rows others);
 }
 
--- ---- marked rows
-marked-append : (slot : ℕ) (rows others : List LineOrder) (marks others_marks : List (Option ℕ)) → length rows ≡ length marks
-    → marked slot (rows ++ others) (marks ++ others_marks) ≡ marked slot rows marks ++ marked slot others others_marks
-marked-append slot [] others [] others_marks same = refl
-marked-append slot [] others (mark ∷ marks) others_marks same = absurd (omega (arith, same))
-marked-append slot (row ∷ rows) others [] others_marks same = absurd (omega (arith, same))
-marked-append slot (row ∷ rows) others (None ∷ marks) others_marks same = marked-append slot rows others marks others_marks (omega (arith, same))
-marked-append slot (row ∷ rows) others (Some other ∷ marks) others_marks same =
-    let rest = marked-append slot rows others marks others_marks (omega (arith, same)) in
-    elim (other == slot) as (λ b. cond b (row ∷ marked slot (rows ++ others) (marks ++ others_marks)) (marked slot (rows ++ others) (marks ++ others_marks)) ≡ cond b (row ∷ marked slot rows marks) (marked slot rows marks) ++ marked slot others others_marks) [
+-- ---- slotted rows
+slotted-append : (slot : ℕ) (rows others : List LineOrder) (group_slots others_group_slots : List (Option ℕ)) → length rows ≡ length group_slots
+    → slotted slot (rows ++ others) (group_slots ++ others_group_slots) ≡ slotted slot rows group_slots ++ slotted slot others others_group_slots
+slotted-append slot [] others [] others_group_slots same = refl
+slotted-append slot [] others (group_slot ∷ group_slots) others_group_slots same = absurd (omega (arith, same))
+slotted-append slot (row ∷ rows) others [] others_group_slots same = absurd (omega (arith, same))
+slotted-append slot (row ∷ rows) others (None ∷ group_slots) others_group_slots same = slotted-append slot rows others group_slots others_group_slots (omega (arith, same))
+slotted-append slot (row ∷ rows) others (Some other ∷ group_slots) others_group_slots same =
+    let rest = slotted-append slot rows others group_slots others_group_slots (omega (arith, same)) in
+    elim (other == slot) as (λ b. cond b (row ∷ slotted slot (rows ++ others) (group_slots ++ others_group_slots)) (slotted slot (rows ++ others) (group_slots ++ others_group_slots)) ≡ cond b (row ∷ slotted slot rows group_slots) (slotted slot rows group_slots) ++ slotted slot others others_group_slots) [
       | true ↦ ap (λ more. row ∷ more) rest
       | false ↦ rest
     ]
 
-same_take : (rows : List LineOrder) (marks : List (Option ℕ)) (n : ℕ) → length marks ≡ length rows → n ≤ length rows → length (take n rows) ≡ length (take n marks)
-same_take rows marks n same h = length-take-le n rows h ∙ sym (length-take-le n marks (omega (arith, same, h)))
+same_take : (rows : List LineOrder) (group_slots : List (Option ℕ)) (n : ℕ) → length group_slots ≡ length rows → n ≤ length rows → length (take n rows) ≡ length (take n group_slots)
+same_take rows group_slots n same h = length-take-le n rows h ∙ sym (length-take-le n group_slots (omega (arith, same, h)))
 
-module _ (slot : ℕ) (rows : List LineOrder) (marks : List (Option ℕ)) (place : ℕ) (row : LineOrder) (mark : Option ℕ) (same : length marks ≡ length rows) (h : place < length rows)
-    (row_is : row ≡ get_or rows place row) (mark_is : mark ≡ get_or marks place mark) where
-  pub marked-next : marked slot (take (place + 1) rows) (take (place + 1) marks) ≡ marked slot (take place rows) (take place marks) ++ marked slot (row ∷ []) (mark ∷ [])
-  marked-next =
+module _ (slot : ℕ) (rows : List LineOrder) (group_slots : List (Option ℕ)) (place : ℕ) (row : LineOrder) (group_slot : Option ℕ) (same : length group_slots ≡ length rows) (h : place < length rows)
+    (row_is : row ≡ get_or rows place row) (group_slot_is : group_slot ≡ get_or group_slots place group_slot) where
+  pub slotted-next : slotted slot (take (place + 1) rows) (take (place + 1) group_slots) ≡ slotted slot (take place rows) (take place group_slots) ++ slotted slot (row ∷ []) (group_slot ∷ [])
+  slotted-next =
       let rows_are : take (place + 1) rows ≡ take place rows ++ row ∷ [] = take_more rows place row h ∙ ap (λ r. take place rows ++ r ∷ []) (sym row_is) in
-      let marks_are : take (place + 1) marks ≡ take place marks ++ mark ∷ [] = take_more marks place mark (omega (arith, same, h)) ∙ ap (λ m. take place marks ++ m ∷ []) (sym mark_is) in
-      ap (λ rs. marked slot rs (take (place + 1) marks)) rows_are
-      ∙ ap (marked slot (take place rows ++ row ∷ [])) marks_are
-      ∙ marked-append slot (take place rows) (row ∷ []) (take place marks) (mark ∷ []) (same_take rows marks place same (omega (arith, h)))
+      let group_slots_are : take (place + 1) group_slots ≡ take place group_slots ++ group_slot ∷ [] = take_more group_slots place group_slot (omega (arith, same, h)) ∙ ap (λ m. take place group_slots ++ m ∷ []) (sym group_slot_is) in
+      ap (λ rs. slotted slot rs (take (place + 1) group_slots)) rows_are
+      ∙ ap (slotted slot (take place rows ++ row ∷ [])) group_slots_are
+      ∙ slotted-append slot (take place rows) (row ∷ []) (take place group_slots) (group_slot ∷ []) (same_take rows group_slots place same (omega (arith, h)))
 
   -- those up to the next come before the others
-  marked-split : (before : List LineOrder)
-      → ((before ++ marked slot (take place rows) (take place marks)) ++ marked slot (row ∷ []) (mark ∷ [])) ++ marked slot (drop (place + 1) rows) (drop (place + 1) marks) ≡ before ++ marked slot rows marks
-  marked-split before =
-      append_assoc (before ++ marked slot (take place rows) (take place marks)) (marked slot (row ∷ []) (mark ∷ [])) (marked slot (drop (place + 1) rows) (drop (place + 1) marks))
-      ∙ append_assoc before (marked slot (take place rows) (take place marks)) (marked slot (row ∷ []) (mark ∷ []) ++ marked slot (drop (place + 1) rows) (drop (place + 1) marks))
+  slotted-split : (before : List LineOrder)
+      → ((before ++ slotted slot (take place rows) (take place group_slots)) ++ slotted slot (row ∷ []) (group_slot ∷ [])) ++ slotted slot (drop (place + 1) rows) (drop (place + 1) group_slots) ≡ before ++ slotted slot rows group_slots
+  slotted-split before =
+      append_assoc (before ++ slotted slot (take place rows) (take place group_slots)) (slotted slot (row ∷ []) (group_slot ∷ [])) (slotted slot (drop (place + 1) rows) (drop (place + 1) group_slots))
+      ∙ append_assoc before (slotted slot (take place rows) (take place group_slots)) (slotted slot (row ∷ []) (group_slot ∷ []) ++ slotted slot (drop (place + 1) rows) (drop (place + 1) group_slots))
       ∙ ap (λ more. before ++ more) (
-      sym (append_assoc (marked slot (take place rows) (take place marks)) (marked slot (row ∷ []) (mark ∷ [])) (marked slot (drop (place + 1) rows) (drop (place + 1) marks)))
-      ∙ ap (λ front. front ++ marked slot (drop (place + 1) rows) (drop (place + 1) marks)) (sym marked-next)
-      ∙ sym (marked-append slot (take (place + 1) rows) (drop (place + 1) rows) (take (place + 1) marks) (drop (place + 1) marks) (same_take rows marks (place + 1) same (omega (arith, h))))
-      ∙ ap (λ rs. marked slot rs (take (place + 1) marks ++ drop (place + 1) marks)) (take-append-drop (place + 1) rows)
-      ∙ ap (marked slot rows) (take-append-drop (place + 1) marks)
+      sym (append_assoc (slotted slot (take place rows) (take place group_slots)) (slotted slot (row ∷ []) (group_slot ∷ [])) (slotted slot (drop (place + 1) rows) (drop (place + 1) group_slots)))
+      ∙ ap (λ front. front ++ slotted slot (drop (place + 1) rows) (drop (place + 1) group_slots)) (sym slotted-next)
+      ∙ sym (slotted-append slot (take (place + 1) rows) (drop (place + 1) rows) (take (place + 1) group_slots) (drop (place + 1) group_slots) (same_take rows group_slots (place + 1) same (omega (arith, h))))
+      ∙ ap (λ rs. slotted slot rs (take (place + 1) group_slots ++ drop (place + 1) group_slots)) (take-append-drop (place + 1) rows)
+      ∙ ap (slotted slot rows) (take-append-drop (place + 1) group_slots)
       )
 
 -- ---- a column
--- nothing changes where the row has no mark
+-- nothing changes where the row has no group_slot
 pub CountsIn-none : (agg : Agg) (row : LineOrder) (column : List Tally) → CountsIn agg (row ∷ []) (None ∷ []) column column
 CountsIn-none agg row column slot before reads = reads ∙ ap (λ rows. tally_of (map (number_of agg) rows)) (sym (append-nil before))
 
@@ -102,41 +102,41 @@ CountsIn-one agg row slot old h other before reads =
           ∙ ap (λ rows. tally_of (map (number_of agg) rows)) (sym (append-nil before))
     ] refl
 
-module _ (agg : Agg) (rows : List LineOrder) (marks : List (Option ℕ)) (place : ℕ) (row : LineOrder) (mark : Option ℕ) (same : length marks ≡ length rows) (h : place < length rows)
-    (row_is : row ≡ get_or rows place row) (mark_is : mark ≡ get_or marks place mark) where
-  pub HasRoom-next : (old now : List Tally) → HasRoom agg old rows marks → CountsIn agg (take place rows) (take place marks) old now → length now ≡ length old → HasRoom agg now (row ∷ []) (mark ∷ [])
+module _ (agg : Agg) (rows : List LineOrder) (group_slots : List (Option ℕ)) (place : ℕ) (row : LineOrder) (group_slot : Option ℕ) (same : length group_slots ≡ length rows) (h : place < length rows)
+    (row_is : row ≡ get_or rows place row) (group_slot_is : group_slot ≡ get_or group_slots place group_slot) where
+  pub HasRoom-next : (old now : List Tally) → HasRoom agg old rows group_slots → CountsIn agg (take place rows) (take place group_slots) old now → length now ≡ length old → HasRoom agg now (row ∷ []) (group_slot ∷ [])
   HasRoom-next old now room counted long zero slot here =
-      let is : mark ≡ Some slot = cc here in
-      let at : slice_get marks place ≡ Some (Some slot) = slice_get-get_or marks place mark (omega (arith, same, h)) ∙ ap Some (sym mark_is ∙ is) in
+      let is : group_slot ≡ Some slot = cc here in
+      let at : slice_get group_slots place ≡ Some (Some slot) = slice_get-get_or group_slots place group_slot (omega (arith, same, h)) ∙ ap Some (sym group_slot_is ∙ is) in
       let given = room place slot at in
-      let before = given.1 ++ marked slot (take place rows) (take place marks) in (
+      let before = given.1 ++ slotted slot (take place rows) (take place group_slots) in (
         omega (arith, given.0, long),
         before,
         counted slot given.1 given.2,
-        IsCountable-front agg (before ++ marked slot (row ∷ []) (mark ∷ [])) (marked slot (drop (place + 1) rows) (drop (place + 1) marks))
-            (subst (IsCountable agg) (sym (marked-split slot rows marks place row mark same h row_is mark_is given.1)) given.3),
+        IsCountable-front agg (before ++ slotted slot (row ∷ []) (group_slot ∷ [])) (slotted slot (drop (place + 1) rows) (drop (place + 1) group_slots))
+            (subst (IsCountable agg) (sym (slotted-split slot rows group_slots place row group_slot same h row_is group_slot_is given.1)) given.3),
       )
   HasRoom-next old now room counted long (suc k) slot here = absurd (cc here)
 
-  pub CountsIn-next : (old now new : List Tally) → CountsIn agg (take place rows) (take place marks) old now → CountsIn agg (row ∷ []) (mark ∷ []) now new → CountsIn agg (take (place + 1) rows) (take (place + 1) marks) old new
+  pub CountsIn-next : (old now new : List Tally) → CountsIn agg (take place rows) (take place group_slots) old now → CountsIn agg (row ∷ []) (group_slot ∷ []) now new → CountsIn agg (take (place + 1) rows) (take (place + 1) group_slots) old new
   CountsIn-next old now new counted next slot before reads =
-      next slot (before ++ marked slot (take place rows) (take place marks)) (counted slot before reads)
-      ∙ ap (λ all. tally_of (map (number_of agg) all)) (append_assoc before (marked slot (take place rows) (take place marks)) (marked slot (row ∷ []) (mark ∷ []))
-      ∙ ap (λ more. before ++ more) (sym (marked-next slot rows marks place row mark same h row_is mark_is)))
+      next slot (before ++ slotted slot (take place rows) (take place group_slots)) (counted slot before reads)
+      ∙ ap (λ all. tally_of (map (number_of agg) all)) (append_assoc before (slotted slot (take place rows) (take place group_slots)) (slotted slot (row ∷ []) (group_slot ∷ []))
+      ∙ ap (λ more. before ++ more) (sym (slotted-next slot rows group_slots place row group_slot same h row_is group_slot_is)))
 
--- what room for one marked row says
-module _ (agg : Agg) (column : List Tally) (row : LineOrder) (mark : Option ℕ) (room : HasRoom agg column (row ∷ []) (mark ∷ [])) (slot : ℕ) (is : mark ≡ Some slot) where
-  marked-here : marked slot (row ∷ []) (mark ∷ []) ≡ row ∷ []
-  marked-here = ap (λ m. marked slot (row ∷ []) (m ∷ [])) is ∙ ap (λ b. cond b (row ∷ []) []) (let same : (slot == slot) ≡ true = grind (arith, nat_tests) in same)
+-- what room for one slotted row says
+module _ (agg : Agg) (column : List Tally) (row : LineOrder) (group_slot : Option ℕ) (room : HasRoom agg column (row ∷ []) (group_slot ∷ [])) (slot : ℕ) (is : group_slot ≡ Some slot) where
+  slotted-here : slotted slot (row ∷ []) (group_slot ∷ []) ≡ row ∷ []
+  slotted-here = ap (λ m. slotted slot (row ∷ []) (m ∷ [])) is ∙ ap (λ b. cond b (row ∷ []) []) (let same : (slot == slot) ≡ true = grind (arith, nat_tests) in same)
 
-  room_here : (slot < length column) × (before : List LineOrder) × (tally_at column slot ≡ tally_of (map (number_of agg) before)) × IsCountable agg (before ++ marked slot (row ∷ []) (mark ∷ []))
+  room_here : (slot < length column) × (before : List LineOrder) × (tally_at column slot ≡ tally_of (map (number_of agg) before)) × IsCountable agg (before ++ slotted slot (row ∷ []) (group_slot ∷ []))
   room_here = room 0 slot (ap Some is)
 
   pub slot_in : slot < length column
   slot_in = room_here.0
 
   countable_here : IsCountable agg (room_here.1 ++ row ∷ [])
-  countable_here = subst (λ rows. IsCountable agg (room_here.1 ++ rows)) marked-here room_here.3
+  countable_here = subst (λ rows. IsCountable agg (room_here.1 ++ rows)) slotted-here room_here.3
 
   pub number_room : FitsSigned w64 (number_of agg row)
   number_room = number_fits agg room_here.1 row countable_here
@@ -151,7 +151,7 @@ module _ (agg : Agg) (column : List Tally) (row : LineOrder) (mark : Option ℕ)
     pub sum_room : FitsSigned w64 (tally.sum +ℤ number_of agg row)
     sum_room = subst (λ (t : Tally). FitsSigned w64 (t.sum +ℤ number_of agg row)) (sym (tally_is ∙ room_here.2)) (sum_fits agg room_here.1 row countable_here)
 
-    pub counted_here : CountsIn agg (row ∷ []) (mark ∷ []) column (slice_set column slot (tally_after tally (number_of agg row)))
+    pub counted_here : CountsIn agg (row ∷ []) (group_slot ∷ []) column (slice_set column slot (tally_after tally (number_of agg row)))
     counted_here =
         subst (λ m. CountsIn agg (row ∷ []) (m ∷ []) column (slice_set column slot (tally_after tally (number_of agg row)))) (sym is)
         (subst (λ t. CountsIn agg (row ∷ []) (Some slot ∷ []) column (slice_set column slot (tally_after t (number_of agg row)))) (sym tally_is)

@@ -12,3 +12,12 @@ pub mod Ranges
 pub mod Seen
 pub mod Steps
 pub mod Sums
+pub mod Ordered
+pub mod LineLaws
+pub mod MergeLaws
+pub mod Stages
+pub mod Coarsening
+pub mod Merging
+pub mod Targets
+pub mod Passes
+pub mod Ends

@@ -1,4 +1,4 @@
--- Rows that are marked with a slot are those of its number's key.
+-- Rows that are slotted with a slot are those of its number's key.
 use Rattle.std.proofs.Common.{◌≡◌, ◌≢◌, ◌∙◌, sym, ap, refl, ℕ, zero, suc, ◌<◌, ◌≤◌, true, false, cond, List, [], ◌∷◌, ◌++◌, length, Some, None, arith, inl, inr}
 use Rattle.std.specs.Prelude.{Option, ◌==◌, slice_get}
 use Rattle.std.specs.Cmp.{Equal-is}
@@ -15,10 +15,10 @@ use Rattle.cube_model.specs.declared.rows.DimRows.{DimRows}
 use Rattle.cube_model.specs.declared.rows.LineOrder.{LineOrder}
 use Rattle.cube_model.specs.Keys.{key_cmp}
 use Rattle.cube_model.specs.Order.{key_cmp_total, key_cmp-IsAntisymmetric}
-use Rattle.cube_query.specs.Columns.{marked}
+use Rattle.cube_query.specs.Columns.{slotted}
 use Rattle.group_plan.specs.Numbers.{group_count, key_at, KeysRise}
 use Rattle.cube_query.specs.Slots.{slot_of, AreSlots}
-use Rattle.cube_query.specs.Standing.{rows_at, IsMark, AreMarks}
+use Rattle.cube_query.specs.FoldInvariant.{rows_at, IsGroupSlot, AreGroupSlots}
 use Rattle.cube_query.proofs.OneRow.{plain_key, rows_at-skip, rows_at-take}
 
 -- ---- keys
@@ -55,91 +55,91 @@ keys_apart dimensions columns rising c d in_c in_d same =
           ]
     ] refl
 
--- ---- marks
+-- ---- group_slots
 module _ (dimensions : DimRows) (query : Query) where
-  pub AreMarks-length : (entries : List (ℕ × ℕ)) (rows : List LineOrder) (marks : List (Option ℕ)) → AreMarks dimensions query entries rows marks → length marks ≡ length rows
-  AreMarks-length entries [] [] are = refl
-  AreMarks-length entries [] (mark ∷ marks) are = absurd are
-  AreMarks-length entries (row ∷ rows) [] are = absurd are
-  AreMarks-length entries (row ∷ rows) (mark ∷ marks) are = ap suc (AreMarks-length entries rows marks are.1)
+  pub AreGroupSlots-length : (entries : List (ℕ × ℕ)) (rows : List LineOrder) (group_slots : List (Option ℕ)) → AreGroupSlots dimensions query entries rows group_slots → length group_slots ≡ length rows
+  AreGroupSlots-length entries [] [] are = refl
+  AreGroupSlots-length entries [] (group_slot ∷ group_slots) are = absurd are
+  AreGroupSlots-length entries (row ∷ rows) [] are = absurd are
+  AreGroupSlots-length entries (row ∷ rows) (group_slot ∷ group_slots) are = ap suc (AreGroupSlots-length entries rows group_slots are.1)
 
-  IsMark-keep : (old new : List (ℕ × ℕ)) → ((number slot : ℕ) → slot_of old number ≡ Some slot → slot_of new number ≡ Some slot) → (row : LineOrder) (mark : Option ℕ) → IsMark dimensions query old row mark → IsMark dimensions query new row mark
-  IsMark-keep old new keep row None is = is
-  IsMark-keep old new keep row (Some slot) is = (is.0, is.1, keep is.0 slot is.2)
+  IsGroupSlot-keep : (old new : List (ℕ × ℕ)) → ((number slot : ℕ) → slot_of old number ≡ Some slot → slot_of new number ≡ Some slot) → (row : LineOrder) (group_slot : Option ℕ) → IsGroupSlot dimensions query old row group_slot → IsGroupSlot dimensions query new row group_slot
+  IsGroupSlot-keep old new keep row None is = is
+  IsGroupSlot-keep old new keep row (Some slot) is = (is.0, is.1, keep is.0 slot is.2)
 
-  pub AreMarks-keep : (old new : List (ℕ × ℕ)) → ((number slot : ℕ) → slot_of old number ≡ Some slot → slot_of new number ≡ Some slot) → (rows : List LineOrder) (marks : List (Option ℕ)) → AreMarks dimensions query old rows marks → AreMarks dimensions query new rows marks
-  AreMarks-keep old new keep [] [] are = tt
-  AreMarks-keep old new keep [] (mark ∷ marks) are = absurd are
-  AreMarks-keep old new keep (row ∷ rows) [] are = absurd are
-  AreMarks-keep old new keep (row ∷ rows) (mark ∷ marks) are = (IsMark-keep old new keep row mark are.0, AreMarks-keep old new keep rows marks are.1)
+  pub AreGroupSlots-keep : (old new : List (ℕ × ℕ)) → ((number slot : ℕ) → slot_of old number ≡ Some slot → slot_of new number ≡ Some slot) → (rows : List LineOrder) (group_slots : List (Option ℕ)) → AreGroupSlots dimensions query old rows group_slots → AreGroupSlots dimensions query new rows group_slots
+  AreGroupSlots-keep old new keep [] [] are = tt
+  AreGroupSlots-keep old new keep [] (group_slot ∷ group_slots) are = absurd are
+  AreGroupSlots-keep old new keep (row ∷ rows) [] are = absurd are
+  AreGroupSlots-keep old new keep (row ∷ rows) (group_slot ∷ group_slots) are = (IsGroupSlot-keep old new keep row group_slot are.0, AreGroupSlots-keep old new keep rows group_slots are.1)
 
-  pub AreMarks-push : (entries : List (ℕ × ℕ)) (rows : List LineOrder) (marks : List (Option ℕ)) (row : LineOrder) (mark : Option ℕ) → AreMarks dimensions query entries rows marks → IsMark dimensions query entries row mark
-      → AreMarks dimensions query entries (rows ++ row ∷ []) (marks ++ mark ∷ [])
-  AreMarks-push entries [] [] row mark are is = (is, tt)
-  AreMarks-push entries [] (other ∷ marks) row mark are is = absurd are
-  AreMarks-push entries (first ∷ rows) [] row mark are is = absurd are
-  AreMarks-push entries (first ∷ rows) (other ∷ marks) row mark are is = (are.0, AreMarks-push entries rows marks row mark are.1 is)
+  pub AreGroupSlots-push : (entries : List (ℕ × ℕ)) (rows : List LineOrder) (group_slots : List (Option ℕ)) (row : LineOrder) (group_slot : Option ℕ) → AreGroupSlots dimensions query entries rows group_slots → IsGroupSlot dimensions query entries row group_slot
+      → AreGroupSlots dimensions query entries (rows ++ row ∷ []) (group_slots ++ group_slot ∷ [])
+  AreGroupSlots-push entries [] [] row group_slot are is = (is, tt)
+  AreGroupSlots-push entries [] (other ∷ group_slots) row group_slot are is = absurd are
+  AreGroupSlots-push entries (first ∷ rows) [] row group_slot are is = absurd are
+  AreGroupSlots-push entries (first ∷ rows) (other ∷ group_slots) row group_slot are is = (are.0, AreGroupSlots-push entries rows group_slots row group_slot are.1 is)
 
-  -- a slot with which a row is marked is that of a number
-  pub AreMarks-at : (entries : List (ℕ × ℕ)) (rows : List LineOrder) (marks : List (Option ℕ)) → AreMarks dimensions query entries rows marks → (place slot : ℕ) → slice_get marks place ≡ Some (Some slot) → (number : ℕ) × (slot_of entries number ≡ Some slot)
-  AreMarks-at entries [] [] are place slot at = absurd (cc at)
-  AreMarks-at entries [] (mark ∷ marks) are place slot at = absurd are
-  AreMarks-at entries (row ∷ rows) [] are place slot at = absurd are
-  AreMarks-at entries (row ∷ rows) (None ∷ marks) are zero slot at = absurd (cc at)
-  AreMarks-at entries (row ∷ rows) (Some other ∷ marks) are zero slot at =
+  -- a slot with which a row is slotted is that of a number
+  pub AreGroupSlots-at : (entries : List (ℕ × ℕ)) (rows : List LineOrder) (group_slots : List (Option ℕ)) → AreGroupSlots dimensions query entries rows group_slots → (place slot : ℕ) → slice_get group_slots place ≡ Some (Some slot) → (number : ℕ) × (slot_of entries number ≡ Some slot)
+  AreGroupSlots-at entries [] [] are place slot at = absurd (cc at)
+  AreGroupSlots-at entries [] (group_slot ∷ group_slots) are place slot at = absurd are
+  AreGroupSlots-at entries (row ∷ rows) [] are place slot at = absurd are
+  AreGroupSlots-at entries (row ∷ rows) (None ∷ group_slots) are zero slot at = absurd (cc at)
+  AreGroupSlots-at entries (row ∷ rows) (Some other ∷ group_slots) are zero slot at =
       let same : other ≡ slot = cc at in
       (are.0.0, are.0.2 ∙ ap Some same)
-  AreMarks-at entries (row ∷ rows) (mark ∷ marks) are (suc place) slot at = AreMarks-at entries rows marks are.1 place slot at
+  AreGroupSlots-at entries (row ∷ rows) (group_slot ∷ group_slots) are (suc place) slot at = AreGroupSlots-at entries rows group_slots are.1 place slot at
 
-  -- no row is marked with a slot behind the last
-  pub marked-none : (bound : ℕ) (entries : List (ℕ × ℕ)) → AreSlots bound entries → (rows : List LineOrder) (marks : List (Option ℕ)) → AreMarks dimensions query entries rows marks → (slot : ℕ) → length entries ≤ slot → marked slot rows marks ≡ []
-  marked-none bound entries slots [] marks are slot h = refl
-  marked-none bound entries slots (row ∷ rows) [] are slot h = refl
-  marked-none bound entries slots (row ∷ rows) (None ∷ marks) are slot h = marked-none bound entries slots rows marks are.1 slot h
-  marked-none bound entries slots (row ∷ rows) (Some other ∷ marks) are slot h =
+  -- no row is slotted with a slot behind the last
+  pub slotted-none : (bound : ℕ) (entries : List (ℕ × ℕ)) → AreSlots bound entries → (rows : List LineOrder) (group_slots : List (Option ℕ)) → AreGroupSlots dimensions query entries rows group_slots → (slot : ℕ) → length entries ≤ slot → slotted slot rows group_slots ≡ []
+  slotted-none bound entries slots [] group_slots are slot h = refl
+  slotted-none bound entries slots (row ∷ rows) [] are slot h = refl
+  slotted-none bound entries slots (row ∷ rows) (None ∷ group_slots) are slot h = slotted-none bound entries slots rows group_slots are.1 slot h
+  slotted-none bound entries slots (row ∷ rows) (Some other ∷ group_slots) are slot h =
       let within = slots.within are.0.0 other are.0.2 in
       let apart : other ≢ slot = omega (arith, within, h) in
       let test : (other == slot) ≡ false = grind (arith, nat_tests) in
-      ap (λ b. cond b (row ∷ marked slot rows marks) (marked slot rows marks)) test ∙ marked-none bound entries slots rows marks are.1 slot h
+      ap (λ b. cond b (row ∷ slotted slot rows group_slots) (slotted slot rows group_slots)) test ∙ slotted-none bound entries slots rows group_slots are.1 slot h
 
   -- no row has a key that is not that of a number with a slot
   pub rows_at-none : query.kind ≡ Plain → (entries : List (ℕ × ℕ)) (key : List Member) → ((number slot : ℕ) → slot_of entries number ≡ Some slot → key_at dimensions query.columns number ≡ key → ⊥)
-      → (rows : List LineOrder) (marks : List (Option ℕ)) → AreMarks dimensions query entries rows marks → rows_at dimensions query key rows ≡ []
-  rows_at-none plain entries key absent [] marks are = refl
+      → (rows : List LineOrder) (group_slots : List (Option ℕ)) → AreGroupSlots dimensions query entries rows group_slots → rows_at dimensions query key rows ≡ []
+  rows_at-none plain entries key absent [] group_slots are = refl
   rows_at-none plain entries key absent (row ∷ rows) [] are = absurd are
-  rows_at-none plain entries key absent (row ∷ rows) (None ∷ marks) are = rows_at-skip dimensions query key row rows are.0 ∙ rows_at-none plain entries key absent rows marks are.1
-  rows_at-none plain entries key absent (row ∷ rows) (Some other ∷ marks) are =
-      let mark = are.0 in
-      rows_at-take dimensions query plain key row rows mark.1.0
+  rows_at-none plain entries key absent (row ∷ rows) (None ∷ group_slots) are = rows_at-skip dimensions query key row rows are.0 ∙ rows_at-none plain entries key absent rows group_slots are.1
+  rows_at-none plain entries key absent (row ∷ rows) (Some other ∷ group_slots) are =
+      let group_slot = are.0 in
+      rows_at-take dimensions query plain key row rows group_slot.1.0
       ∙ ap (λ b. cond b (row ∷ rows_at dimensions query key rows) (rows_at dimensions query key rows))
-      (key_eq-apart key (plain_key dimensions query row) (λ same. absent mark.0 other mark.2 (mark.1.2 ∙ sym same)))
-      ∙ rows_at-none plain entries key absent rows marks are.1
+      (key_eq-apart key (plain_key dimensions query row) (λ same. absent group_slot.0 other group_slot.2 (group_slot.1.2 ∙ sym same)))
+      ∙ rows_at-none plain entries key absent rows group_slots are.1
 
-  -- the rows of a number's key are those that are marked with its slot
-  pub rows_at-marked : query.kind ≡ Plain → KeysRise dimensions query.columns → (entries : List (ℕ × ℕ)) → AreSlots (group_count dimensions query.columns) entries → (number slot : ℕ) → slot_of entries number ≡ Some slot
-      → (rows : List LineOrder) (marks : List (Option ℕ)) → AreMarks dimensions query entries rows marks → rows_at dimensions query (key_at dimensions query.columns number) rows ≡ marked slot rows marks
-  rows_at-marked plain rising entries slots number slot found [] marks are = refl
-  rows_at-marked plain rising entries slots number slot found (row ∷ rows) [] are = absurd are
-  rows_at-marked plain rising entries slots number slot found (row ∷ rows) (None ∷ marks) are =
-      rows_at-skip dimensions query (key_at dimensions query.columns number) row rows are.0 ∙ rows_at-marked plain rising entries slots number slot found rows marks are.1
-  rows_at-marked plain rising entries slots number slot found (row ∷ rows) (Some other ∷ marks) are =
-      let mark = are.0 in
+  -- the rows of a number's key are those that are slotted with its slot
+  pub rows_at-slotted : query.kind ≡ Plain → KeysRise dimensions query.columns → (entries : List (ℕ × ℕ)) → AreSlots (group_count dimensions query.columns) entries → (number slot : ℕ) → slot_of entries number ≡ Some slot
+      → (rows : List LineOrder) (group_slots : List (Option ℕ)) → AreGroupSlots dimensions query entries rows group_slots → rows_at dimensions query (key_at dimensions query.columns number) rows ≡ slotted slot rows group_slots
+  rows_at-slotted plain rising entries slots number slot found [] group_slots are = refl
+  rows_at-slotted plain rising entries slots number slot found (row ∷ rows) [] are = absurd are
+  rows_at-slotted plain rising entries slots number slot found (row ∷ rows) (None ∷ group_slots) are =
+      rows_at-skip dimensions query (key_at dimensions query.columns number) row rows are.0 ∙ rows_at-slotted plain rising entries slots number slot found rows group_slots are.1
+  rows_at-slotted plain rising entries slots number slot found (row ∷ rows) (Some other ∷ group_slots) are =
+      let group_slot = are.0 in
       let key = key_at dimensions query.columns number in
-      let rest = rows_at-marked plain rising entries slots number slot found rows marks are.1 in
-      rows_at-take dimensions query plain key row rows mark.1.0
-      ∙ elim (other == slot) as (λ b. (other == slot) ≡ b → cond (eq_by_cmp key_cmp key (plain_key dimensions query row)) (row ∷ rows_at dimensions query key rows) (rows_at dimensions query key rows) ≡ cond b (row ∷ marked slot rows marks) (marked slot rows marks)) [
+      let rest = rows_at-slotted plain rising entries slots number slot found rows group_slots are.1 in
+      rows_at-take dimensions query plain key row rows group_slot.1.0
+      ∙ elim (other == slot) as (λ b. (other == slot) ≡ b → cond (eq_by_cmp key_cmp key (plain_key dimensions query row)) (row ∷ rows_at dimensions query key rows) (rows_at dimensions query key rows) ≡ cond b (row ∷ slotted slot rows group_slots) (slotted slot rows group_slots)) [
         | true ↦ λ e.
             let same : other ≡ slot = grind (arith, nat_tests) in
-            let one : mark.0 ≡ number = slots.apart mark.0 number slot (mark.2 ∙ ap Some same) found in
+            let one : group_slot.0 ≡ number = slots.apart group_slot.0 number slot (group_slot.2 ∙ ap Some same) found in
             let equal : eq_by_cmp key_cmp key (plain_key dimensions query row) ≡ true =
-            ap (eq_by_cmp key_cmp key) (sym mark.1.2 ∙ ap (key_at dimensions query.columns) one) ∙ key_eq-same key in
+            ap (eq_by_cmp key_cmp key) (sym group_slot.1.2 ∙ ap (key_at dimensions query.columns) one) ∙ key_eq-same key in
             ap (λ b. cond b (row ∷ rows_at dimensions query key rows) (rows_at dimensions query key rows)) equal ∙ ap (λ more. row ∷ more) rest
         | false ↦ λ e.
             let apart : other ≢ slot = grind (arith, nat_tests) in
             let unequal : eq_by_cmp key_cmp key (plain_key dimensions query row) ≡ false =
             key_eq-apart key (plain_key dimensions query row) (λ same.
-            let one : number ≡ mark.0 = keys_apart dimensions query.columns rising number mark.0 (slots.below number slot found) mark.1.1 (same ∙ sym mark.1.2) in
-            let place : Some other ≡ Some slot = sym mark.2 ∙ ap (slot_of entries) (sym one) ∙ found in
+            let one : number ≡ group_slot.0 = keys_apart dimensions query.columns rising number group_slot.0 (slots.below number slot found) group_slot.1.1 (same ∙ sym group_slot.1.2) in
+            let place : Some other ≡ Some slot = sym group_slot.2 ∙ ap (slot_of entries) (sym one) ∙ found in
             apart (cc place)) in
             ap (λ b. cond b (row ∷ rows_at dimensions query key rows) (rows_at dimensions query key rows)) unequal ∙ rest
       ] refl

@@ -26,7 +26,7 @@ at_apart number other apart =
       | false ↦ λ e. refl
     ] refl
 
-below_less : (number other : ℕ) → number < other → nat_cmp number other ≡ Less
+pub below_less : (number other : ℕ) → number < other → nat_cmp number other ≡ Less
 below_less number other h = grind (arith, nat_tests)
 
 -- ---- numbers that have themselves for slots

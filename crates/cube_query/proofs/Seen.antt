@@ -1,8 +1,8 @@
 -- The groups that are seen are those of the rows that were counted in.
 use Rattle.std.proofs.Common.{◌≡◌, ◌∙◌, sym, ap, refl, ℕ, zero, suc, ◌<◌, ◌≤◌, true, false, cond, List, [], ◌∷◌, ◌++◌, append-nil, map, length, get_or, Some, None, arith, ◌⊎◌, inl, inr}
-use Rattle.std.specs.Prelude.{Option, nat_lt}
+use Rattle.std.specs.Prelude.{Option, nat_lt, ◌&&◌}
 use Rattle.std.specs.BTreeMap.{is_at}
-use Rattle.std.specs.List.{AllByRecursion}
+use Rattle.std.specs.List.{AllByRecursion, list_all}
 use Rattle.std.specs.List.Sorted.{IsStrictlySortedBy}
 use Rattle.std.specs.Map.{lookup}
 use Rattle.std.specs.Ordering.{eq_by_cmp, is_eq, nat_cmp}
@@ -25,7 +25,7 @@ use Rattle.cube_query.specs.Columns.{tallies_at, is_seen, seen_groups, line_with
 use Rattle.cube_query.specs.Groups.{groups_of}
 use Rattle.group_plan.specs.Numbers.{group_count, key_at, KeysRise}
 use Rattle.cube_query.specs.Slots.{slot_of, AreSlots}
-use Rattle.cube_query.specs.Standing.{rows_at, AreTallied}
+use Rattle.cube_query.specs.FoldInvariant.{rows_at, AreTallied}
 use Rattle.cube_query.specs.Tallies.{number_of, tallies_of, tallies_if_any}
 use Rattle.cube_query.specs.declared.tally.Tally.{Tally}
 use Rattle.cube_query.proofs.Answered.{groups_are}
@@ -140,7 +140,7 @@ module _ (dimensions : DimRows) (columns : List Attr) (rising : KeysRise dimensi
       ] refl
 
 -- whether a key is that of a number below a bound with a slot
-which : (dimensions : DimRows) (columns : List Attr) (entries : List (ℕ × ℕ)) (key : List Member) (bound : ℕ)
+pub which : (dimensions : DimRows) (columns : List Attr) (entries : List (ℕ × ℕ)) (key : List Member) (bound : ℕ)
     → ((number : ℕ) × (slot : ℕ) × (number < bound) × (slot_of entries number ≡ Some slot) × (key_at dimensions columns number ≡ key)) ⊎ ((number slot : ℕ) → number < bound → slot_of entries number ≡ Some slot → key_at dimensions columns number ≡ key → ⊥)
 which dimensions columns entries key zero = inr (λ number slot h found same. absurd (omega (arith, h)))
 which dimensions columns entries key (suc bound) =
@@ -169,12 +169,16 @@ which dimensions columns entries key (suc bound) =
           ]) refl
     ]
 
+pub some_seen : (aggs : List Agg) (row : LineOrder) (rows : List LineOrder) → list_all (λ (tally : Tally). nat_lt 0 tally.count) (tallies_of aggs (row ∷ rows)) ≡ true
+some_seen [] row rows = refl
+some_seen (agg ∷ aggs) row rows =
+    let here : nat_lt 0 (length (map (number_of agg) (row ∷ rows))) ≡ true = grind (arith, nat_tests) in
+    ap (λ b. b && list_all (λ (tally : Tally). nat_lt 0 tally.count) (tallies_of aggs (row ∷ rows))) here ∙ some_seen aggs row rows
+
 seen-tallies_of : (aggs : List Agg) (rows : List LineOrder) → 1 ≤ length aggs → cond (is_seen (tallies_of aggs rows)) (Some (tallies_of aggs rows)) None ≡ tallies_if_any aggs rows
 seen-tallies_of [] rows some = absurd (omega (arith, some))
 seen-tallies_of (agg ∷ aggs) [] some = refl
-seen-tallies_of (agg ∷ aggs) (row ∷ rows) some =
-    let seen : nat_lt 0 (length (map (number_of agg) (row ∷ rows))) ≡ true = grind (arith, nat_tests) in
-    ap (λ b. cond b (Some (tallies_of (agg ∷ aggs) (row ∷ rows))) None) seen
+seen-tallies_of (agg ∷ aggs) (row ∷ rows) some = ap (λ b. cond b (Some (tallies_of (agg ∷ aggs) (row ∷ rows))) None) (some_seen (agg ∷ aggs) row rows)
 
 -- the groups that are seen
 pub seen_are : (dimensions : DimRows) (query : Query) (entries : List (ℕ × ℕ)) (columns : List (Vec Tally Global)) (rows : List LineOrder) → 1 ≤ length query.aggregates → KeysRise dimensions query.columns

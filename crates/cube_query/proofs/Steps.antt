@@ -18,11 +18,11 @@ use Rattle.cube_query.specs.Groups.{groups_of}
 use Rattle.cube_query.specs.Limits.{AreFoldable}
 use Rattle.group_plan.specs.Numbers.{group_count, key_at, KeysRise}
 use Rattle.cube_query.specs.Slots.{slot_of, AreSlots, Grow}
-use Rattle.cube_query.specs.Standing.{rows_at, AreMarks, HaveRoom, CountIn, AreTallied}
+use Rattle.cube_query.specs.FoldInvariant.{rows_at, AreGroupSlots, HaveRoom, CountIn, AreTallied}
 use Rattle.cube_query.specs.Tallies.{tallies_of, tallies_if_any}
 use Rattle.cube_query.specs.declared.tally.Tally.{Tally}
 use Rattle.cube_query.proofs.Answered.{groups_have}
-use Rattle.cube_query.proofs.Marking.{keys_apart, marked-none, rows_at-none, rows_at-marked, AreMarks-at}
+use Rattle.cube_query.proofs.Marking.{keys_apart, slotted-none, rows_at-none, rows_at-slotted, AreGroupSlots-at}
 use Rattle.cube_query.proofs.OneRow.{rows_at-append}
 use Rattle.cube_query.proofs.Ranges.{IsCountable-at}
 
@@ -72,24 +72,24 @@ AreTallied-grow dimensions query old new columns longer rows rising slots grow s
     }
 
 -- ---- more rows
-pub AreTallied-count : (dimensions : DimRows) (query : Query) (entries : List (ℕ × ℕ)) (old new : List (Vec Tally Global)) (so_far rows : List LineOrder) (marks : List (Option ℕ)) → query.kind ≡ Plain → KeysRise dimensions query.columns
-    → AreSlots (group_count dimensions query.columns) entries → AreMarks dimensions query entries rows marks → CountIn query.aggregates rows marks old new
+pub AreTallied-count : (dimensions : DimRows) (query : Query) (entries : List (ℕ × ℕ)) (old new : List (Vec Tally Global)) (so_far rows : List LineOrder) (group_slots : List (Option ℕ)) → query.kind ≡ Plain → KeysRise dimensions query.columns
+    → AreSlots (group_count dimensions query.columns) entries → AreGroupSlots dimensions query entries rows group_slots → CountIn query.aggregates rows group_slots old new
     → AreTallied dimensions query entries old so_far → AreTallied dimensions query entries new (so_far ++ rows)
-AreTallied-count dimensions query entries old new so_far rows marks plain rising slots marks_are counted tallied =
+AreTallied-count dimensions query entries old new so_far rows group_slots plain rising slots group_slots_are counted tallied =
     let aggs = query.aggregates in
     let key_of = key_at dimensions query.columns in
     record {
       each = λ number slot found.
           counted slot (rows_at dimensions query (key_of number) so_far) (tallied.each number slot found)
-          ∙ ap (λ more. tallies_of aggs (rows_at dimensions query (key_of number) so_far ++ more)) (sym (rows_at-marked dimensions query plain rising entries slots number slot found rows marks marks_are))
+          ∙ ap (λ more. tallies_of aggs (rows_at dimensions query (key_of number) so_far ++ more)) (sym (rows_at-slotted dimensions query plain rising entries slots number slot found rows group_slots group_slots_are))
           ∙ ap (tallies_of aggs) (sym (rows_at-append dimensions query (key_of number) so_far rows));
       others = λ key absent.
           rows_at-append dimensions query key so_far rows
           ∙ ap (λ front. front ++ rows_at dimensions query key rows) (tallied.others key absent)
-          ∙ rows_at-none dimensions query plain entries key absent rows marks marks_are;
+          ∙ rows_at-none dimensions query plain entries key absent rows group_slots group_slots_are;
       fresh = λ slot h.
           counted slot [] (tallied.fresh slot h)
-          ∙ ap (tallies_of aggs) (marked-none dimensions query (group_count dimensions query.columns) entries slots rows marks marks_are slot h);
+          ∙ ap (tallies_of aggs) (slotted-none dimensions query (group_count dimensions query.columns) entries slots rows group_slots group_slots_are slot h);
     }
 
 -- ---- room for them
@@ -97,11 +97,11 @@ All-weaker : {X : Type 0} (P Q : X → Type 0) (xs : List X) → ((x : X) → P 
 All-weaker P Q [] weaker all = tt
 All-weaker P Q (x ∷ xs) weaker all = (weaker x all.0, All-weaker P Q xs weaker all.1)
 
-pub HaveRoom-foldable : (dimensions : DimRows) (query : Query) (entries : List (ℕ × ℕ)) (columns : List (Vec Tally Global)) (so_far rows : List LineOrder) (marks : List (Option ℕ)) → query.kind ≡ Plain → KeysRise dimensions query.columns
-    → AreSlots (group_count dimensions query.columns) entries → AreMarks dimensions query entries rows marks → AllByRecursion (λ column. length entries ≤ length column.items) columns
-    → AreFoldable dimensions (so_far ++ rows) → AreTallied dimensions query entries columns so_far → HaveRoom query.aggregates columns rows marks
-HaveRoom-foldable dimensions query entries columns so_far rows marks plain rising slots marks_are long foldable tallied = λ place slot at.
-    let found = AreMarks-at dimensions query entries rows marks marks_are place slot at in
+pub HaveRoom-foldable : (dimensions : DimRows) (query : Query) (entries : List (ℕ × ℕ)) (columns : List (Vec Tally Global)) (so_far rows : List LineOrder) (group_slots : List (Option ℕ)) → query.kind ≡ Plain → KeysRise dimensions query.columns
+    → AreSlots (group_count dimensions query.columns) entries → AreGroupSlots dimensions query entries rows group_slots → AllByRecursion (λ column. length entries ≤ length column.items) columns
+    → AreFoldable dimensions (so_far ++ rows) → AreTallied dimensions query entries columns so_far → HaveRoom query.aggregates columns rows group_slots
+HaveRoom-foldable dimensions query entries columns so_far rows group_slots plain rising slots group_slots_are long foldable tallied = λ place slot at.
+    let found = AreGroupSlots-at dimensions query entries rows group_slots group_slots_are place slot at in
     let key = key_at dimensions query.columns found.0 in
     let within = slots.within found.0 slot found.1 in (
       All-weaker (λ (column : Vec Tally Global). length entries ≤ length column.items) (λ (column : Vec Tally Global). slot < length column.items) columns (λ column h. omega (arith, within, h)) long,
@@ -109,6 +109,6 @@ HaveRoom-foldable dimensions query entries columns so_far rows marks plain risin
       tallied.each found.0 slot found.1,
       λ agg. subst (IsCountable agg)
           (rows_at-append dimensions query key so_far rows
-          ∙ ap (λ more. rows_at dimensions query key so_far ++ more) (rows_at-marked dimensions query plain rising entries slots found.0 slot found.1 rows marks marks_are))
+          ∙ ap (λ more. rows_at dimensions query key so_far ++ more) (rows_at-slotted dimensions query plain rising entries slots found.0 slot found.1 rows group_slots group_slots_are))
           (IsCountable-at dimensions query key (so_far ++ rows) foldable agg),
     )

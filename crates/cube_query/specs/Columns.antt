@@ -1,6 +1,6 @@
 -- Tallies in columns, one column for each aggregate, each with a tally at each slot. Our own.
 use Rattle.std.specs.Prelude.{◌≡◌, ℕ, ◌^◌, ◌<◌, ◌==◌, Bool, false, cond, ℤ, nat_abs, nat_lt, List, [], ◌∷◌, ◌++◌, map, length, Option, Some, None, slice_index_or, slice_get}
-use Rattle.std.specs.List.{sum_by}
+use Rattle.std.specs.List.{sum_by, list_all, filter}
 use Rattle.std.specs.declared.alloc.Global.{Global}
 use Rattle.std.specs.declared.vec.Vec.{Vec}
 use Rattle.cube_model.specs.declared.answer.Line.{Line}
@@ -29,7 +29,11 @@ tallies_at columns slot = map (λ column. tally_at column.items slot) columns
 -- tallies of some row, and not of none
 abbrev pub is_seen : List Tally → Bool
 is_seen [] = false
-is_seen (tally ∷ tallies) = nat_lt 0 tally.count
+is_seen (tally ∷ tallies) = list_all (λ one. nat_lt 0 one.count) (tally ∷ tallies)
+
+-- the groups that have rows, each by its number and its slot
+abbrev pub seen_entries : (ℕ → List Tally) → List (ℕ × ℕ) → List (ℕ × ℕ)
+seen_entries tallies entries = filter (λ entry. is_seen (tallies entry.1)) entries
 
 -- the groups that have rows: the key of each number, and the tallies at its slot
 abbrev pub seen_groups : (ℕ → List Member) → (ℕ → List Tally) → List (ℕ × ℕ) → List (List Member × List Tally)
@@ -38,30 +42,35 @@ seen_groups key tallies (entry ∷ entries) =
     cond (is_seen (tallies entry.1)) ((key entry.0, tallies entry.1) ∷ seen_groups key tallies entries)
     (seen_groups key tallies entries)
 
--- the rows that are marked with a slot
-abbrev pub marked : ℕ → List LineOrder → List (Option ℕ) → List LineOrder
-marked slot [] marks = []
-marked slot (row ∷ rows) [] = []
-marked slot (row ∷ rows) (None ∷ marks) = marked slot rows marks
-marked slot (row ∷ rows) (Some other ∷ marks) = cond (other == slot) (row ∷ marked slot rows marks) (marked slot rows marks)
+-- the rows whose group has a slot
+abbrev pub slotted : ℕ → List LineOrder → List (Option ℕ) → List LineOrder
+slotted slot [] group_slots = []
+slotted slot (row ∷ rows) [] = []
+slotted slot (row ∷ rows) (None ∷ group_slots) = slotted slot rows group_slots
+slotted slot (row ∷ rows) (Some other ∷ group_slots) = cond (other == slot) (row ∷ slotted slot rows group_slots) (slotted slot rows group_slots)
 
 -- rows whose count and whose sum fit a tally
 pub record IsCountable (agg : Agg) (rows : List LineOrder) : Type 0 where
   pub few : length rows < 2 ^ 63
   pub small : sum_by (λ row. nat_abs (number_of agg row)) rows < 2 ^ 63
 
--- each slot with which a row is marked lies in the column, and its tally has room for the rows that are marked with it
+-- the slot of each row lies in the column, and its tally has room for the rows of that slot
 abbrev pub HasRoom : Agg → List Tally → List LineOrder → List (Option ℕ) → Type 0
-HasRoom agg column rows marks = (place slot : ℕ) → slice_get marks place ≡ Some (Some slot)
-    → (slot < length column) × (before : List LineOrder) × (tally_at column slot ≡ tally_of (map (number_of agg) before))
-    × IsCountable agg (before ++ marked slot rows marks)
+HasRoom agg column rows group_slots = (place slot : ℕ) → slice_get group_slots place ≡ Some (Some slot)
+    → (slot < length column) × (before : List LineOrder) × (tally_at column slot
+    ≡ tally_of (map (number_of agg) before))
+    × IsCountable agg (before ++ slotted slot rows group_slots)
 
--- the marked rows are counted in, each at its slot
+-- the rows are counted in, each at its slot
 abbrev pub CountsIn : Agg → List LineOrder → List (Option ℕ) → List Tally → List Tally → Type 0
-CountsIn agg rows marks old new = (slot : ℕ) (before : List LineOrder)
+CountsIn agg rows group_slots old new = (slot : ℕ) (before : List LineOrder)
     → tally_at old slot ≡ tally_of (map (number_of agg) before)
-    → tally_at new slot ≡ tally_of (map (number_of agg) (before ++ marked slot rows marks))
+    → tally_at new slot ≡ tally_of (map (number_of agg) (before ++ slotted slot rows group_slots))
 
 -- the line of a key and its tallies
 abbrev pub line_with : List Agg → List Member × List Tally → Line
 line_with aggs entry = record { key = entry.0; values = values_of aggs entry.1 }
+
+-- the line of a group, by its number and its slot
+abbrev pub entry_line : (ℕ → List Member) → List Agg → List (Vec Tally Global) → ℕ × ℕ → Line
+entry_line key aggs columns entry = line_with aggs (key entry.0, tallies_at columns entry.1)

@@ -1,6 +1,7 @@
 -- What a fold has in hand: the groups of the fact rows so far. Our own.
-use Rattle.std.specs.Prelude.{◌≡◌, List, [], ◌++◌, map}
+use Rattle.std.specs.Prelude.{◌≡◌, None, List, [], ◌++◌, map}
 use Rattle.cube_model.specs.declared.answer.Member.{Member}
+use Rattle.cube_model.specs.declared.query.Kind.TheVariants.{Plain}
 use Rattle.cube_model.specs.declared.query.Query.{Query}
 use Rattle.cube_model.specs.declared.rows.DimRows.{DimRows}
 use Rattle.cube_model.specs.declared.rows.LineOrder.{LineOrder}
@@ -17,7 +18,11 @@ groups_of dimensions query rows =
     map (λ key. (key, tallies_of query.aggregates (rows_of_key dimensions query key chosen)))
     (keys_among dimensions query chosen)
 
--- a fold: its dimensions, its query, and the groups so far
+-- the query's finest grouping, by all columns
+abbrev pub finest : Query → Query
+finest query = record { kind = Plain; columns = query.columns; conditions = query.conditions; aggregates = query.aggregates; order = None }
+
+-- a fold: its dimensions, its query, and the groups so far, by all columns
 pub record FoldState : Type 0 where
   pub dimensions : DimRows
   pub query : Query
@@ -25,7 +30,7 @@ pub record FoldState : Type 0 where
 
 -- the groups are those of some fact rows
 abbrev pub StandsFor : FoldState → List LineOrder → Type 0
-StandsFor state rows = state.groups ≡ groups_of state.dimensions state.query rows
+StandsFor state rows = state.groups ≡ groups_of state.dimensions (finest state.query) rows
 
 -- a fold that begins: it stands for no fact row
 pub record Begins (dimensions : DimRows) (query : Query) (fold : FoldState) : Type 0 where

@@ -1,6 +1,8 @@
+pub mod Coarser
 pub mod Columns
 pub mod Groups
 pub mod Limits
+pub mod Ranks
 pub mod Slots
-pub mod Standing
+pub mod FoldInvariant
 pub mod Tallies

@@ -5,7 +5,7 @@ use Rattle.std.specs.List.Sorted.{IsStrictlySortedBy}
 use Rattle.std.specs.Map.{lookup}
 use Rattle.std.specs.Ordering.{nat_cmp}
 use Rattle.cube_query.specs.declared.slots.Slots.{Slots}
-use Rattle.cube_query.specs.declared.slots.Slots.TheVariants.{Same, Given}
+use Rattle.cube_query.specs.declared.slots.Slots.TheVariants.{Direct, Mapped}
 
 -- a number from the first on, so many of them, each with itself for its slot
 abbrev pub numbers_from : ℕ → ℕ → List (ℕ × ℕ)
@@ -14,8 +14,8 @@ numbers_from first (suc count) = (first, first) ∷ numbers_from (suc first) cou
 
 -- the numbers that have a slot, ascending, each with its slot
 abbrev pub entries_of : Slots → List (ℕ × ℕ)
-entries_of (Same count) = numbers_from 0 count
-entries_of (Given slots) = slots.entries
+entries_of (Direct count) = numbers_from 0 count
+entries_of (Mapped slots) = slots.entries
 
 -- the slot of a number
 abbrev pub slot_of : List (ℕ × ℕ) → ℕ → Option ℕ
@@ -26,17 +26,18 @@ pub record AreSlots (bound : ℕ) (entries : List (ℕ × ℕ)) : Type 0 where
   pub sorted : IsStrictlySortedBy nat_cmp (map (λ e. e.0) entries)
   pub below : (number slot : ℕ) → slot_of entries number ≡ Some slot → number < bound
   pub within : (number slot : ℕ) → slot_of entries number ≡ Some slot → slot < length entries
-  pub apart : (number other slot : ℕ) → slot_of entries number ≡ Some slot → slot_of entries other ≡ Some slot → number ≡ other
+  pub apart : (number other slot : ℕ) → slot_of entries number ≡ Some slot → slot_of entries other ≡ Some slot
+      → number ≡ other
 
 -- there is a slot for a number, or one can be given
 abbrev pub CanPlace : Slots → ℕ → Type 0
-CanPlace (Same count) number = number < count
-CanPlace (Given slots) number = Unit {0}
+CanPlace (Direct count) number = number < count
+CanPlace (Mapped slots) number = Unit {0}
 
 -- where slots are there from the start, there is one for each number below the bound
 abbrev pub Cover : ℕ → Slots → Type 0
-Cover bound (Same count) = count ≡ bound
-Cover bound (Given slots) = Unit {0}
+Cover bound (Direct count) = count ≡ bound
+Cover bound (Mapped slots) = Unit {0}
 
 -- a new number with the next slot
 pub record Adds (old : List (ℕ × ℕ)) (number slot : ℕ) (new : List (ℕ × ℕ)) : Type 0 where
@@ -47,7 +48,8 @@ pub record Adds (old : List (ℕ × ℕ)) (number slot : ℕ) (new : List (ℕ �
 
 -- a number that has a slot keeps it, and a new one gets the next
 abbrev pub Places : List (ℕ × ℕ) → ℕ → ℕ → List (ℕ × ℕ) → Type 0
-Places old number slot new = MatchOption (slot_of old number) (Adds old number slot new) (λ kept. (slot ≡ kept) × (new ≡ old))
+Places old number slot new = MatchOption (slot_of old number) (Adds old number slot new) (λ kept. (slot ≡ kept)
+    × (new ≡ old))
 
 -- more numbers may have a slot, and those that had one keep it
 pub record Grow (bound : ℕ) (old new : List (ℕ × ℕ)) : Type 0 where

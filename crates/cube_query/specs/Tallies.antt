@@ -1,5 +1,5 @@
 -- Tallies: what is kept of the numbers of a group, from which each aggregate can be taken. Our own.
-use Rattle.std.specs.Prelude.{◌+◌, ℤ, pos, ◌+ℤ◌, List, [], ◌∷◌, map, length, Option, Some, None}
+use Rattle.std.specs.Prelude.{◌+◌, ◌==◌, cond, ℤ, pos, ◌+ℤ◌, List, [], ◌∷◌, map, length, Option, Some, None}
 use Rattle.std.specs.Int.{int_min, int_max}
 use Rattle.cube_query.specs.declared.tally.Tally.{Tally}
 use Rattle.cube_model.specs.declared.answer.Value.{Value}
@@ -23,6 +23,15 @@ tally_with tally number = record {
   least = int_min tally.least number;
   greatest = int_max tally.greatest number;
 }
+
+-- two tallies as one, where either may be that of none
+abbrev pub merged : Tally → Tally → Tally
+merged left right = cond (left.count == 0) right (cond (right.count == 0) left (record {
+  count = left.count + right.count;
+  sum = left.sum +ℤ right.sum;
+  least = int_min left.least right.least;
+  greatest = int_max left.greatest right.greatest;
+}))
 
 -- what an aggregate is taken of: its measure, and nothing for a count
 abbrev pub number_of : Agg → LineOrder → ℤ

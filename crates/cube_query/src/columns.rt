@@ -1,11 +1,13 @@
 //! The tallies of groups in columns, one column for each aggregate, each with a tally at each slot.
-ghost use Rattle.std.specs.Prelude.{◌≡◌, ℕ, ◌≤◌, ◌<◌, false, [], ◌∷◌, length, slice_get, slice_index_or, IfOk, OnOk, FitsSigned};
-ghost use Rattle.std.specs.List.{All, AllByRecursion};
+ghost use Rattle.std.specs.Prelude.{◌≡◌, ℕ, ◌≤◌, ◌<◌, true, [], ◌∷◌, length, slice_get, slice_index_or, IfOk, OnOk, FitsSigned, nat_lt, slice_set, List, ◌+◌, ◌^◌, ◌+ℤ◌};
+ghost use Rattle.std.specs.List.{AllByRecursion, list_all};
 ghost use Rattle.std.specs.Int.{w64};
-ghost use Rattle.cube_model.specs.Proper.{is_average};
+ghost use Rattle.cube_model.specs.declared.measure.Agg.{Agg};
+ghost use Rattle.cube_model.specs.declared.rows.LineOrder.{LineOrder};
+ghost use Rattle.cube_query.specs.Coarser.{gathered, AddsIn, CanMerge, HasMergeRoom, MayMerge, MergesIn};
 ghost use Rattle.cube_query.specs.Columns.{tally_at, tallies_at, is_seen, CountsIn, HasRoom};
-ghost use Rattle.cube_query.specs.Standing.{CountIn, HaveRoom};
-ghost use Rattle.cube_query.specs.Tallies.{number_of, tallies_of, values_of};
+ghost use Rattle.cube_query.specs.FoldInvariant.{CountIn, HaveRoom};
+ghost use Rattle.cube_query.specs.Tallies.{merged, number_of, tallies_of, values_of};
 
 use crate::tally::Tally;
 use cube_model::{Agg, Items, LineOrder, Value};
@@ -24,45 +26,83 @@ fn number_of(agg: Agg, row: &LineOrder) -> i64
     }
 }
 
-// Counts a row in at the slot that it is marked with, if it is.
-fn count_row(column: &mut [Tally], agg: Agg, row: &LineOrder, mark: Option<u32>)
-    requires { HasRoom agg column.old (row.now ∷ []) (mark ∷ []) }
-    ensures counted { CountsIn agg (row.now ∷ []) (mark ∷ []) column.old column.new }
+// Counts a row in at the slot of its group, if it has one.
+fn count_row(column: &mut [Tally], agg: Agg, row: &LineOrder, group_slot: Option<u32>)
+    requires { HasRoom agg column.old (row.now ∷ []) (group_slot ∷ []) }
+    ensures counted { CountsIn agg (row.now ∷ []) (group_slot ∷ []) column.old column.new }
     ensures length { length column.new ≡ length column.old }
 {
-    if let Some(slot) = mark {
+    if let Some(slot) = group_slot {
         let tally = column[slot as usize];
         column[slot as usize] = tally.after(number_of(agg, row));
     }
 }
 
-/// Counts marked rows in at their slots. It takes no memory.
-pub fn count_in(column: &mut [Tally], agg: Agg, rows: &[LineOrder], marks: &[Option<u32>])
-    requires marks { length marks.now ≡ length rows.now }
-    requires room { HasRoom agg column.old rows.now marks.now }
-    ensures counted { CountsIn agg rows.now marks.now column.old column.new }
+/// Counts rows in at the slots of their groups. It takes no memory.
+pub fn count_in(column: &mut [Tally], agg: Agg, rows: &[LineOrder], group_slots: &[Option<u32>])
+    requires group_slots { length group_slots.now ≡ length rows.now }
+    requires room { HasRoom agg column.old rows.now group_slots.now }
+    ensures counted { CountsIn agg rows.now group_slots.now column.old column.new }
     ensures length { length column.new ≡ length column.old }
 {
     for place in 0..rows.len() {
-        count_row(column, agg, &rows[place], marks[place]);
+        count_row(column, agg, &rows[place], group_slots[place]);
     }
 }
 
-/// Counts marked rows in at their slots, in all columns. It takes no memory.
+/// Counts rows in at the slots of their groups, in all columns. It takes no memory.
 pub fn count_in_all(
     columns: &mut [Vec<Tally>],
     aggs: &[Agg],
     rows: &[LineOrder],
-    marks: &[Option<u32>],
+    group_slots: &[Option<u32>],
 )
     requires columns { length columns.old ≡ length aggs.now }
-    requires marks { length marks.now ≡ length rows.now }
-    requires room { HaveRoom aggs.now columns.old rows.now marks.now }
-    ensures { CountIn aggs.now rows.now marks.now columns.old columns.new }
+    requires group_slots { length group_slots.now ≡ length rows.now }
+    requires room { HaveRoom aggs.now columns.old rows.now group_slots.now }
+    ensures { CountIn aggs.now rows.now group_slots.now columns.old columns.new }
 {
     for i in 0..aggs.len() {
         let column = &mut columns[i];
-        count_in(column.as_mut_slice(), aggs[i], rows, marks);
+        count_in(column.as_mut_slice(), aggs[i], rows, group_slots);
+    }
+}
+
+// Merges the tally of a source into that of its target.
+fn merge_one(column: &mut [Tally], source: u32, target: u32)
+    requires source { source < length column.old }
+    requires target { target < length column.old }
+    requires count { (tally_at column.old target).count + (tally_at column.old source).count < 2 ^ 63 }
+    requires sum { FitsSigned w64 ((tally_at column.old target).sum +ℤ (tally_at column.old source).sum) }
+    ensures { column.new ≡ slice_set column.old target (merged (tally_at column.old target) (tally_at column.old source)) }
+{
+    let tally = column[source as usize];
+    column[target as usize] = column[target as usize].merge(tally);
+}
+
+/// Merges the tallies of sources into those of their targets. It takes no memory.
+pub fn merge_in(column: &mut [Tally], sources: &[(u128, u32)], targets: &[u32])
+    requires targets { length targets.now ≡ length sources.now }
+    requires room { (agg : Agg) × (part : ℕ × ℕ → List LineOrder)
+        × (CanMerge agg column.old sources.now targets.now part × HasMergeRoom agg column.old sources.now targets.now part) }
+    ensures merged { (agg : Agg) (part : ℕ × ℕ → List LineOrder) → CanMerge agg column.old sources.now targets.now part
+        → AddsIn agg (λ slot. gathered slot part sources.now targets.now) column.old column.new }
+    ensures length { length column.new ≡ length column.old }
+{
+    for place in 0..sources.len() {
+        merge_one(column, sources[place].1, targets[place]);
+    }
+}
+
+/// Merges the tallies of sources into those of their targets, in all columns. It takes no memory.
+pub fn merge_in_all(columns: &mut [Vec<Tally>], sources: &[(u128, u32)], targets: &[u32])
+    requires targets { length targets.now ≡ length sources.now }
+    requires room { MayMerge sources.now targets.now columns.old }
+    ensures { MergesIn sources.now targets.now columns.old columns.new }
+{
+    for i in 0..columns.len() {
+        let column = &mut columns[i];
+        merge_in(column.as_mut_slice(), sources, targets);
     }
 }
 
@@ -99,23 +139,8 @@ pub fn lengthen_all(columns: &mut [Vec<Tally>], len: usize) -> Result<(), AllocE
     Ok(())
 }
 
-/// The tallies at a slot.
-pub fn tallies_at(
-    alloc: Global,
-    columns: &[Vec<Tally>],
-    slot: usize,
-) -> Result<Vec<Tally>, AllocError>
-    ensures { IfOk result (λ tallies. tallies.items ≡ tallies_at columns.now slot) }
-{
-    let mut tallies = Vec::with_capacity(alloc, columns.len())?;
-    for column in columns {
-        tallies.push(tally_at(column.as_slice(), slot))?;
-    }
-    Ok(tallies)
-}
-
-// The tally at a slot.
-fn tally_at(column: &[Tally], slot: usize) -> Tally
+/// The tally at a slot.
+pub fn tally_at(column: &[Tally], slot: usize) -> Tally
     ensures { result ≡ tally_at column.now slot }
 {
     match column.get(slot) {
@@ -128,23 +153,44 @@ fn tally_at(column: &[Tally], slot: usize) -> Tally
 pub fn is_seen(columns: &[Vec<Tally>], slot: usize) -> bool
     ensures { result ≡ is_seen (tallies_at columns.now slot) }
 {
-    match columns {
-        [] => false,
-        [column, ..] => tally_at(column.as_slice(), slot).count.get() > 0,
-    }
+    !columns.is_empty() && all_count(columns, slot)
+}
+
+// Whether each tally at a slot counts some row.
+fn all_count(columns: &[Vec<Tally>], slot: usize) -> bool
+    ensures { result ≡ list_all (λ column. nat_lt 0 (tally_at column.items slot).count) columns.now }
+{
+    columns
+        .iter()
+        .all(|column| 0 < tally_at(column.as_slice(), slot).count.get())
 }
 
 /// The values of a line.
-pub fn values_of(alloc: Global, aggs: &[Agg], tallies: &[Tally]) -> Result<Items<Value>, AllocError>
-    requires { All (λ agg. is_average agg ≡ false) aggs.now }
-    ensures { IfOk result (λ values. values ≡ values_of aggs.now tallies.now) }
+pub fn values_of(
+    alloc: Global,
+    aggs: &[Agg],
+    columns: &[Vec<Tally>],
+    slot: usize,
+) -> Result<Items<Value>, AllocError>
+    requires seen { is_seen (tallies_at columns.now slot) ≡ true }
+    requires columns { length columns.now ≡ length aggs.now }
+    ensures { IfOk result (λ values. values ≡ values_of aggs.now (tallies_at columns.now slot)) }
 {
-    let mut values = Vec::new(alloc);
-    for (i, agg) in aggs.iter().enumerate() {
-        if i >= tallies.len() {
-            break;
-        }
-        values.push(tallies[i].value(*agg))?;
+    let mut values = Vec::with_capacity(alloc, aggs.len())?;
+    for i in 0..aggs.len() {
+        let tally = tally_at(columns[i].as_slice(), slot);
+        values.push(tally.value(aggs[i]))?;
     }
     Ok(Items::from_vec(values))
+}
+
+/// The same columns once more.
+pub fn copy_columns(alloc: Global, columns: &[Vec<Tally>]) -> Result<Vec<Vec<Tally>>, AllocError>
+    ensures { IfOk result (λ copy. (slot : ℕ) → tallies_at copy.items slot ≡ tallies_at columns.now slot) }
+{
+    let mut copy = Vec::with_capacity(alloc, columns.len())?;
+    for i in 0..columns.len() {
+        copy.push(Vec::from_slice(alloc, columns[i].as_slice())?)?;
+    }
+    Ok(copy)
 }

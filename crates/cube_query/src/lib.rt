@@ -1,14 +1,19 @@
-//! The answer to a plain query over fact rows.
+//! The answer to a query over fact rows.
 #![tactic(auto)]
 
+mod coarser;
 mod columns;
+mod finish;
+mod fraction;
+mod group_slots;
 mod lines;
-mod marks;
+mod order;
 mod slots;
 mod state;
 mod tally;
 mod whole;
 
+pub use fraction::fraction_of;
 pub use state::Fold;
 pub use tally::Tally;
 pub use whole::fold;

@@ -1,77 +1,109 @@
 //! The lines of the groups that have rows.
-ghost use Rattle.std.specs.Prelude.{◌≡◌, ◌<◌, false, map, IfOk};
+ghost use Rattle.std.specs.Prelude.{◌≡◌, ◌<◌, ℕ, List, true, map, length, IfOk};
 ghost use Rattle.std.specs.List.{All};
-ghost use Rattle.cube_model.specs.Proper.{is_average};
-ghost use Rattle.cube_query.specs.Columns.{line_with, seen_groups, tallies_at};
-ghost use Rattle.group_plan.specs.Numbers.{group_count, key_at};
+ghost use Rattle.cube_model.specs.Answers.{answer};
+ghost use Rattle.cube_model.specs.Proper.{IsProper};
+ghost use Rattle.cube_model.specs.declared.rows.LineOrder.{LineOrder};
+ghost use Rattle.cube_query.specs.Columns.{entry_line, is_seen, seen_entries, seen_groups, tallies_at};
+ghost use Rattle.cube_query.specs.Groups.{groups_of};
 ghost use Rattle.cube_query.specs.Slots.{entries_of, AreSlots};
+ghost use Rattle.group_plan.specs.Numbers.{group_count, key_at};
 
-use crate::columns::{is_seen, tallies_at, values_of};
+use crate::columns::{is_seen, values_of};
+use crate::order::in_order;
 use crate::slots::Slots;
 use crate::tally::Tally;
-use cube_model::{Agg, Items, Line};
+use cube_model::{Agg, Items, Line, Query, answer_is_the_one};
 use group_plan::Plan;
 use std::alloc::{AllocError, Global};
 
-// The line of the group with a number.
+// The line of a group, by its number and its slot.
 fn line_of(
     alloc: Global,
     plan: &Plan,
     aggregates: &[Agg],
     columns: &[Vec<Tally>],
-    entry: (u128, u32),
+    group: (u128, u32),
 ) -> Result<Line, AllocError>
-    requires no_average { All (λ agg. is_average agg ≡ false) aggregates.now }
-    requires below { entry.0 < group_count plan.now.dimensions plan.now.query.columns }
-    ensures { IfOk result (λ line. line ≡ line_with aggregates.now
-        (key_at plan.now.dimensions plan.now.query.columns entry.0, tallies_at columns.now entry.1)) }
+    requires columns { length columns.now ≡ length aggregates.now }
+    requires below { group.0 < group_count plan.now.dimensions plan.now.query.columns }
+    requires seen { is_seen (tallies_at columns.now group.1) ≡ true }
+    ensures { IfOk result (λ line. line
+        ≡ entry_line (key_at plan.now.dimensions plan.now.query.columns) aggregates.now columns.now group) }
 {
-    let (number, slot) = entry;
+    let (number, slot) = group;
     let key = plan.key(alloc, number)?;
-    let tallies = tallies_at(alloc, columns, slot as usize)?;
-    let values = values_of(alloc, aggregates, tallies.as_slice())?;
+    let values = values_of(alloc, aggregates, columns, slot as usize)?;
     Ok(Line { key, values })
 }
 
-// The lines of the numbers in a list, in their order.
+// The lines of groups, in their order.
 fn lines_among(
     alloc: Global,
     plan: &Plan,
     aggregates: &[Agg],
     columns: &[Vec<Tally>],
-    entries: &[(u128, u32)],
+    groups: &[(u128, u32)],
 ) -> Result<Items<Line>, AllocError>
-    requires no_average { All (λ agg. is_average agg ≡ false) aggregates.now }
-    requires below { All (λ entry. entry.0 < group_count plan.now.dimensions plan.now.query.columns) entries.now }
+    requires columns { length columns.now ≡ length aggregates.now }
+    requires below { All (λ group. group.0 < group_count plan.now.dimensions plan.now.query.columns) groups.now }
+    requires seen { All (λ group. is_seen (tallies_at columns.now group.1) ≡ true) groups.now }
     ensures { IfOk result (λ lines. lines
-        ≡ map (line_with aggregates.now) (seen_groups (key_at plan.now.dimensions plan.now.query.columns)
-        (tallies_at columns.now) entries.now)) }
+        ≡ map (entry_line (key_at plan.now.dimensions plan.now.query.columns) aggregates.now columns.now) groups.now) }
 {
-    let mut lines = Vec::new(alloc);
-    for i in 0..entries.len() {
-        let entry = entries[i];
-        if is_seen(columns, entry.1 as usize) {
-            let line = line_of(alloc, plan, aggregates, columns, entry)?;
-            lines.push(line)?;
-        }
+    let mut lines = Vec::with_capacity(alloc, groups.len())?;
+    for i in 0..groups.len() {
+        let line = line_of(alloc, plan, aggregates, columns, groups[i])?;
+        lines.push(line)?;
     }
     Ok(Items::from_vec(lines))
 }
 
-/// The lines of the groups that have rows, in the order of their keys.
+// The groups that have rows, in the order of their numbers.
+fn seen_among(
+    alloc: Global,
+    columns: &[Vec<Tally>],
+    entries: &[(u128, u32)],
+) -> Result<Vec<(u128, u32)>, AllocError>
+    ensures { IfOk result (λ groups. groups.items ≡ seen_entries (tallies_at columns.now) entries.now) }
+{
+    let mut groups = Vec::new(alloc);
+    for i in 0..entries.len() {
+        let entry = entries[i];
+        if is_seen(columns, entry.1 as usize) {
+            groups.push(entry)?;
+        }
+    }
+    Ok(groups)
+}
+
+/// The lines of the groups that have rows, in the order that the query asks for.
 pub fn lines_of(
     alloc: Global,
     plan: &Plan,
-    aggregates: &[Agg],
+    query: &Query,
     columns: &[Vec<Tally>],
     slots: &Slots,
 ) -> Result<Items<Line>, AllocError>
-    requires no_average { All (λ agg. is_average agg ≡ false) aggregates.now }
+    requires query { query.now ≡ plan.now.query }
+    requires proper { IsProper plan.now.query }
     requires numbers { AreSlots (group_count plan.now.dimensions plan.now.query.columns) (entries_of slots.now) }
-    ensures { IfOk result (λ lines. lines
-        ≡ map (line_with aggregates.now) (seen_groups (key_at plan.now.dimensions plan.now.query.columns)
-        (tallies_at columns.now) (entries_of slots.now))) }
+    requires columns { length columns.now ≡ length plan.now.query.aggregates }
+    ensures { IfOk result (λ lines. (rows : List LineOrder)
+        → seen_groups (key_at plan.now.dimensions plan.now.query.columns) (tallies_at columns.now) (entries_of slots.now)
+        ≡ groups_of plan.now.dimensions plan.now.query rows
+        → lines ≡ (answer plan.now.query plan.now.dimensions rows).lines) }
 {
+    let aggregates = query.aggregates.as_slice();
     let entries = slots.entries(alloc)?;
-    lines_among(alloc, plan, aggregates, columns, entries.as_slice())
+    let groups = seen_among(alloc, columns, entries.as_slice())?;
+    match query.order {
+        None => lines_among(alloc, plan, aggregates, columns, groups.as_slice()),
+        Some(order) => {
+            let sorted = in_order(alloc, plan, aggregates, columns, order, groups.as_slice())?;
+            // Lines in order that are those of the groups are the answer's: no other lines are.
+            answer_is_the_one();
+            lines_among(alloc, plan, aggregates, columns, sorted.as_slice())
+        }
+    }
 }

@@ -12,9 +12,9 @@ const MOST_FROM_THE_START: u128 = 65_536;
 #[derive(Drop)]
 pub enum Slots {
     /// Each number below the count, from the start, in the slot with that number.
-    Same(u32),
+    Direct(u32),
     /// The numbers that were seen, in slots in the order of their first sight.
-    Given(BTreeMap<u128, u32>),
+    Mapped(BTreeMap<u128, u32>),
 }
 
 impl Slots {
@@ -24,9 +24,9 @@ impl Slots {
         ensures cover { Cover bound result }
     {
         if bound <= MOST_FROM_THE_START {
-            Slots::Same(bound as u32)
+            Slots::Direct(bound as u32)
         } else {
-            Slots::Given(BTreeMap::new(alloc))
+            Slots::Mapped(BTreeMap::new(alloc))
         }
     }
 
@@ -35,8 +35,8 @@ impl Slots {
         ensures { result ≡ length (entries_of self.now) }
     {
         match self {
-            Slots::Same(count) => *count as usize,
-            Slots::Given(slots) => slots.len(),
+            Slots::Direct(count) => *count as usize,
+            Slots::Mapped(slots) => slots.len(),
         }
     }
 
@@ -48,11 +48,22 @@ impl Slots {
         ensures cover { (bound : ℕ) → Cover bound self.old → Cover bound self.new }
     {
         match self {
-            Slots::Same(count) => {
+            Slots::Direct(count) => {
                 prove!(number < u128::from(*count));
                 Ok(number as u32)
             }
-            Slots::Given(slots) => place_in(slots, number),
+            Slots::Mapped(slots) => place_in(slots, number),
+        }
+    }
+
+    /// The same slots once more.
+    pub fn copy(&self) -> Result<Slots, AllocError>
+        ensures entries { IfOk result (λ copy. entries_of copy ≡ entries_of self.now) }
+        ensures cover { IfOk result (λ copy. (bound : ℕ) → Cover bound self.now → Cover bound copy) }
+    {
+        match self {
+            Slots::Direct(count) => Ok(Slots::Direct(*count)),
+            Slots::Mapped(slots) => Ok(Slots::Mapped(slots.clone()?)),
         }
     }
 
@@ -61,8 +72,8 @@ impl Slots {
         ensures { IfOk result (λ entries. entries.items ≡ entries_of self.now) }
     {
         match self {
-            Slots::Same(count) => same_entries(alloc, *count),
-            Slots::Given(slots) => given_entries(alloc, slots),
+            Slots::Direct(count) => direct_entries(alloc, *count),
+            Slots::Mapped(slots) => mapped_entries(alloc, slots),
         }
     }
 }
@@ -87,7 +98,7 @@ fn place_in(slots: &mut BTreeMap<u128, u32>, number: u128) -> Result<u32, AllocE
 }
 
 // Each number below a count, with itself for its slot.
-fn same_entries(alloc: Global, count: u32) -> Result<Vec<(u128, u32)>, AllocError>
+fn direct_entries(alloc: Global, count: u32) -> Result<Vec<(u128, u32)>, AllocError>
     ensures { IfOk result (λ entries. entries.items ≡ numbers_from 0 count) }
 {
     let mut entries = Vec::with_capacity(alloc, count as usize)?;
@@ -98,7 +109,10 @@ fn same_entries(alloc: Global, count: u32) -> Result<Vec<(u128, u32)>, AllocErro
 }
 
 // The entries of a map.
-fn given_entries(alloc: Global, slots: &BTreeMap<u128, u32>) -> Result<Vec<(u128, u32)>, AllocError>
+fn mapped_entries(
+    alloc: Global,
+    slots: &BTreeMap<u128, u32>,
+) -> Result<Vec<(u128, u32)>, AllocError>
     ensures { IfOk result (λ entries. entries.items ≡ slots.now.entries) }
 {
     let mut entries = Vec::with_capacity(alloc, slots.len())?;

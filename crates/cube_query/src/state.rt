@@ -6,14 +6,13 @@ ghost use Rattle.cube_model.specs.Proper.{IsProper};
 ghost use Rattle.cube_model.specs.declared.rows.LineOrder.{LineOrder};
 ghost use Rattle.cube_query.specs.Columns.{tallies_at};
 ghost use Rattle.cube_query.specs.Groups.{StandsFor, Begins, CanTake, Takes};
-ghost use Rattle.cube_query.specs.Limits.{IsPlain};
 ghost use Rattle.group_plan.specs.Numbers.{group_count, IsKnown};
 ghost use Rattle.cube_query.specs.Slots.{entries_of, AreSlots, Cover, Grow};
-ghost use Rattle.cube_query.specs.Standing.{AreMarks};
+ghost use Rattle.cube_query.specs.FoldInvariant.{AreGroupSlots};
 
 use crate::columns::{count_in_all, lengthen_all, no_columns};
-use crate::lines::lines_of;
-use crate::marks::marks_of;
+use crate::finish::answer_lines;
+use crate::group_slots::group_slots_of;
 use crate::slots::Slots;
 use crate::tally::Tally;
 use cube_model::{Answer, Fault, LineOrder, Query};
@@ -22,7 +21,7 @@ use group_plan::Plan;
 use std::alloc::{AllocError, Global};
 use std::marker::Model;
 
-/// The groups of a plain query over the fact rows that were added so far.
+/// The groups of a query over the fact rows that were added so far.
 ///
 /// What it answers depends on those rows, and not on the calls that they came in.
 ///
@@ -43,7 +42,7 @@ impl<'a> Model for Fold<'a> {
     ghost use Rattle.cube_query.specs.Groups.{FoldState};
     ghost use Rattle.group_plan.specs.Numbers.{key_at};
     ghost use Rattle.cube_query.specs.Slots.{entries_of};
-    ghost use Rattle.cube_query.specs.Standing.{IsFold};
+    ghost use Rattle.cube_query.specs.FoldInvariant.{IsFold};
 
     ghost Value = { FoldState };
 
@@ -61,7 +60,6 @@ impl<'a> Model for Fold<'a> {
 impl<'a> Fold<'a> {
     /// A fold of a query, with no row yet.
     pub fn new(alloc: Global, dims: &'a Dims, query: &'a Query) -> Result<Self, Fault>
-        requires { IsPlain query.now }
         ensures ok { IfOk result (Begins dims.now query.now) }
         ensures proper { OnOk result (IsProper query.now) }
         ensures improper { (IsProper query.now → ⊥) → result ≡ Err Fault.BadQuery }
@@ -86,12 +84,17 @@ impl<'a> Fold<'a> {
         ensures only { IfErr result (λ fault. fault ≡ Fault.Memory) }
     {
         let columns = &mut self.columns;
-        let marks = match ready(self.alloc, &self.plan, &mut self.slots, columns, rows) {
-            Ok(marks) => marks,
+        let group_slots = match ready(self.alloc, &self.plan, &mut self.slots, columns, rows) {
+            Ok(group_slots) => group_slots,
             Err(_) => return Err(Fault::Memory),
         };
         let aggregates = self.query.aggregates.as_slice();
-        count_in_all(columns.as_mut_slice(), aggregates, rows, marks.as_slice());
+        count_in_all(
+            columns.as_mut_slice(),
+            aggregates,
+            rows,
+            group_slots.as_slice(),
+        );
         Ok(())
     }
 
@@ -101,9 +104,8 @@ impl<'a> Fold<'a> {
             → found ≡ answer self.now.query self.now.dimensions rows) }
         ensures only { IfErr result (λ fault. fault ≡ Fault.Memory) }
     {
-        let aggregates = self.query.aggregates.as_slice();
         let columns = self.columns.as_slice();
-        match lines_of(self.alloc, &self.plan, aggregates, columns, &self.slots) {
+        match answer_lines(self.alloc, &self.plan, self.query, columns, &self.slots) {
             Ok(lines) => Ok(Answer { lines }),
             Err(_) => Err(Fault::Memory),
         }
@@ -112,8 +114,7 @@ impl<'a> Fold<'a> {
 
 // A fold of a proper query, with no row yet.
 fn begin<'a>(alloc: Global, dims: &'a Dims, query: &'a Query) -> Result<Fold<'a>, AllocError>
-    requires plain { IsPlain query.now }
-    requires proper { IsProper query.now }
+    requires { IsProper query.now }
     ensures { IfOk result (Begins dims.now query.now) }
 {
     let plan = Plan::new(alloc, dims, query)?;
@@ -128,7 +129,7 @@ fn begin<'a>(alloc: Global, dims: &'a Dims, query: &'a Query) -> Result<Fold<'a>
     })
 }
 
-// Makes all ready for rows to be counted in: their marks, and a place for each slot. Nothing is counted yet.
+// Makes all ready for rows to be counted in: the slots of their groups, and a place for each slot. Nothing is counted yet.
 fn ready(
     alloc: Global,
     plan: &Plan,
@@ -139,8 +140,8 @@ fn ready(
     requires known { All (IsKnown plan.now.dimensions) rows.now }
     requires numbers { AreSlots (group_count plan.now.dimensions plan.now.query.columns) (entries_of slots.old) }
     requires cover { Cover (group_count plan.now.dimensions plan.now.query.columns) slots.old }
-    ensures marks { IfOk result (λ marks.
-        AreMarks plan.now.dimensions plan.now.query (entries_of slots.new) rows.now marks.items) }
+    ensures group_slots { IfOk result (λ group_slots.
+        AreGroupSlots plan.now.dimensions plan.now.query (entries_of slots.new) rows.now group_slots.items) }
     ensures long { OnOk result (AllByRecursion (λ column. length (entries_of slots.new) ≤ length column.items)
         columns.new.items) }
     ensures same { (slot : ℕ) → tallies_at columns.new.items slot ≡ tallies_at columns.old.items slot }
@@ -148,7 +149,7 @@ fn ready(
     ensures grow { Grow (group_count plan.now.dimensions plan.now.query.columns) (entries_of slots.old)
         (entries_of slots.new) }
 {
-    let marks = marks_of(alloc, plan, slots, rows)?;
+    let group_slots = group_slots_of(alloc, plan, slots, rows)?;
     lengthen_all(columns.as_mut_slice(), slots.len())?;
-    Ok(marks)
+    Ok(group_slots)
 }

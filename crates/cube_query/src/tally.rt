@@ -1,10 +1,12 @@
 //! The tally of some numbers.
-ghost use Rattle.std.specs.Prelude.{◌≡◌, ◌+◌, ◌+ℤ◌, ◌<◌, ◌^◌, false, [], ◌∷◌, FitsSigned};
+ghost use Rattle.std.specs.Prelude.{◌≡◌, ◌+◌, ◌+ℤ◌, ◌<◌, ◌≤◌, ◌^◌, false, [], ◌∷◌, FitsSigned};
 ghost use Rattle.std.specs.Int.{w64};
 ghost use Rattle.cube_model.specs.Proper.{is_average};
+ghost use Rattle.cube_model.specs.declared.answer.Value.TheVariants.{Whole};
 ghost use Rattle.cube_query.specs.Columns.{no_tally, tally_after};
 ghost use Rattle.cube_query.specs.Tallies as spec;
 
+use crate::fraction::fraction_of;
 use cube_model::{Agg, Amount, Value};
 
 /// The count of some numbers with their sum, the least and the greatest.
@@ -68,9 +70,29 @@ impl Tally {
         }
     }
 
-    /// What an aggregate that is no average takes of its tally.
+    /// Two tallies as one, where either may be that of none.
+    pub fn merge(self, other: Tally) -> Self
+        requires count { self.count + other.count < 2 ^ 63 }
+        requires sum { FitsSigned w64 (self.sum +ℤ other.sum) }
+        ensures { result ≡ spec.merged self other }
+    {
+        if self.count.get() == 0 {
+            return other;
+        }
+        if other.count.get() == 0 {
+            return self;
+        }
+        Tally {
+            count: Amount::new(self.count.get() + other.count.get()),
+            sum: self.sum + other.sum,
+            least: self.least.min(other.least),
+            greatest: self.greatest.max(other.greatest),
+        }
+    }
+
+    /// What an aggregate takes of its tally.
     pub fn value(&self, agg: Agg) -> Value
-        requires { is_average agg ≡ false }
+        requires { 1 ≤ self.now.count }
         ensures { result ≡ spec.value_of agg self.now }
     {
         match agg {
@@ -78,6 +100,20 @@ impl Tally {
             Agg::Sum(_) => Value::Whole(self.sum),
             Agg::Min(_) => Value::Whole(self.least),
             Agg::Max(_) => Value::Whole(self.greatest),
+            Agg::Avg(_) => Value::Ratio(fraction_of(self.sum, self.count.get())),
+        }
+    }
+
+    /// What an aggregate that is no average takes of its tally.
+    pub fn whole(&self, agg: Agg) -> i64
+        requires { is_average agg ≡ false }
+        ensures { spec.value_of agg self.now ≡ Whole result }
+    {
+        match agg {
+            Agg::Count => self.count.get() as i64,
+            Agg::Sum(_) => self.sum,
+            Agg::Min(_) => self.least,
+            Agg::Max(_) => self.greatest,
             Agg::Avg(_) => unreachable!(),
         }
     }

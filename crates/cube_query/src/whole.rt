@@ -2,7 +2,7 @@
 ghost use Rattle.std.specs.Prelude.{◌≡◌, ◌≢◌, Err, IfOk, IfErr, OnOk};
 ghost use Rattle.cube_model.specs.Answers.{answer};
 ghost use Rattle.cube_model.specs.Proper.{IsProper};
-ghost use Rattle.cube_query.specs.Limits.{AreFoldable, IsPlain};
+ghost use Rattle.cube_query.specs.Limits.{AreFoldable};
 
 use crate::state::Fold;
 use cube_model::{Answer, Fault, LineOrder, Query};
@@ -11,8 +11,7 @@ use std::alloc::Global;
 
 /// The answer to a query over fact rows.
 pub fn fold(alloc: Global, dims: &Dims, rows: &[LineOrder], query: &Query) -> Result<Answer, Fault>
-    requires plain { IsPlain query.now }
-    requires foldable { AreFoldable dims.now rows.now }
+    requires { AreFoldable dims.now rows.now }
     ensures answer { IfOk result (λ found. found ≡ answer query.now dims.now rows.now) }
     ensures proper { OnOk result (IsProper query.now) }
     ensures improper { (IsProper query.now → ⊥) → result ≡ Err Fault.BadQuery }

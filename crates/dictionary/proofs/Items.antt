@@ -1,8 +1,7 @@
 -- The texts of a set's keys, and what an addition does to them.
-use Rattle.std.proofs.Common.{◌≡◌, ◌<◌, ◌≤◌, ◌∙◌, ◌+◌, sym, ap, refl, rules, arith, cond, not, ℕ, Bool, true, false, nat_lt, List, [], ◌∷◌, ◌++◌, map, length, position, Option, Some, None, if◌then◌else◌}
+use Rattle.std.proofs.Common.{◌≡◌, ◌<◌, ◌≤◌, ◌∙◌, ◌+◌, ap, refl, cond, not, ℕ, Bool, false, nat_lt, List, [], ◌∷◌, ◌++◌, map, length, position, Some, None, if◌then◌else◌}
 use Rattle.std.proofs.lemmas.List.{length-map, map-append}
 use Rattle.std.specs.List.{list_any, position_or_len}
-use Rattle.std.specs.Str.{bytes_eq}
 use Rattle.indexmap.specs.IndexSet.{insert_key}
 use Rattle.dictionary.specs.Dictionary.{Texts, Adds, code_of, with_text}
 

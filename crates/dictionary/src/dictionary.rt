@@ -1,16 +1,16 @@
 //! The texts that were seen, and their codes.
-ghost use Rattle.std.specs.Prelude.{◌≡◌, ◌<◌, ◌≤◌, ◌^◌, [], length, slice_get, IfOk, IfSome, IfErr, OnErr};
+ghost use Rattle.std.specs.Prelude.{◌≡◌, ◌<◌, ◌≤◌, ◌^◌, [], length, slice_get, Some, IfOk, IfSome, IfErr, OnErr};
 ghost use Rattle.std.specs.Option.{option_map};
 ghost use Rattle.dictionary.specs.Dictionary.{code_of, Adds};
 
 use cube_model::Fault;
 use indexmap::IndexSet;
-use std::alloc::{AllocError, Global};
+use std::alloc::Global;
 use std::marker::Model;
 
-/// Texts in the order of their first use, as many as a limit allows.
+/// Texts in the order of their first use, each once, as many as a limit allows.
 ///
-/// Contracts see it as the list of its texts with the limit. A code is a place from 0.
+/// Contracts see it as the list of its texts with the limit. A code is a place from 0: that of the text's first use.
 #[derive(Drop)]
 pub struct Dictionary {
     texts: IndexSet<Vec<u8>>,
@@ -20,13 +20,13 @@ pub struct Dictionary {
 impl Model for Dictionary {
     ghost use Rattle.std.specs.Prelude.{◌^◌, ◌<◌, ◌≤◌, map};
     ghost use Rattle.indexmap.specs.IndexSet.{index_set_len};
-    ghost use Rattle.dictionary.specs.Dictionary.{Texts};
+    ghost use Rattle.dictionary.specs.Dictionary.{Texts, EachOnce};
 
     ghost Value = { Texts };
 
     ghost view = { λ d. record { texts = map (λ v. v.items) d.texts.keys; limit = d.limit } };
 
-    ghost invariant = { λ d. (index_set_len d.texts ≤ d.limit) × (d.limit < 2 ^ 32) };
+    ghost invariant = { λ d. (index_set_len d.texts ≤ d.limit) × (d.limit < 2 ^ 32) × EachOnce (map (λ v. v.items) d.texts.keys) };
 }
 
 impl Dictionary {
@@ -59,9 +59,10 @@ impl Dictionary {
         }
     }
 
-    /// The text of a code, if there is such a code.
+    /// The text of a code, if there is such a code. Its code is that one.
     pub fn text(&self, code: u32) -> Option<&[u8]>
-        ensures { option_map (λ text. text.now) result ≡ slice_get self.now.texts code }
+        ensures text { option_map (λ text. text.now) result ≡ slice_get self.now.texts code }
+        ensures again { IfSome result (λ text. code_of self.now.texts text.now ≡ Some code) }
     {
         match self.texts.get_index(code as usize) {
             None => None,
@@ -77,18 +78,6 @@ impl Dictionary {
         ensures within { IfOk result (λ code. IfSome code (λ c. c < self.old.limit)) }
         ensures err { OnErr result (self.new ≡ self.old) }
         ensures memory { IfErr result (λ fault. fault ≡ Fault.Memory) }
-    {
-        match self.look_or_push(alloc, text) {
-            Ok(code) => Ok(code),
-            Err(_) => Err(Fault::Memory),
-        }
-    }
-
-    // The code of a text, which is put behind the others where it is new and there is room.
-    fn look_or_push(&mut self, alloc: Global, text: &[u8]) -> Result<Option<u32>, AllocError>
-        ensures ok { IfOk result (λ code. Adds self.old text.now code self.new) }
-        ensures within { IfOk result (λ code. IfSome code (λ c. c < self.old.limit)) }
-        ensures err { OnErr result (self.new ≡ self.old) }
     {
         if let Some(place) = self.texts.get_index_of(text) {
             return Ok(Some(place as u32));

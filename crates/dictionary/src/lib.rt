@@ -2,7 +2,5 @@
 #![tactic(auto)]
 
 mod dictionary;
-#[cfg(test)]
-mod tests;
 
 pub use dictionary::Dictionary;

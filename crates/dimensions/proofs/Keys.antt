@@ -1,5 +1,5 @@
 -- The place of a key.
-use Rattle.std.proofs.Common.{◌≡◌, ◌<◌, ◌≤◌, ◌+◌, ◌∙◌, sym, ap, refl, cond, not, ℕ, Bool, true, false, nat_lt, List, [], ◌∷◌, length, suc, position, Option, Some, None, arith}
+use Rattle.std.proofs.Common.{◌≡◌, ◌≤◌, ◌+◌, refl, cond, not, Bool, true, false, nat_lt, List, [], ◌∷◌, length, suc, position, Some, None, arith}
 use Rattle.std.specs.List.{position_or_len}
 
 pub position_or_len-le : {X : Type 0} (p : X → Bool) (xs : List X) → position_or_len p xs ≤ length xs

@@ -1,13 +1,12 @@
 -- Members in order, and the place of a text among them.
-use Rattle.std.proofs.Common.{◌≡◌, ◌<◌, ◌≤◌, ◌+◌, ◌∙◌, ◌⊎◌, inl, inr, zero, suc, sym, ap, refl, subst, rules, arith, true≢false, ℕ, Bool, true, false, List, [], ◌∷◌, ◌++◌, length, get_or, slice_get, take, map, Some, Ok, Err, Result}
+use Rattle.std.proofs.Common.{◌≡◌, ◌<◌, ◌+◌, ◌∙◌, inl, inr, zero, suc, sym, ap, refl, arith, ℕ, Bool, true, false, List, [], ◌∷◌, ◌++◌, length, get_or, slice_get, take, Some, Ok, Err, Result}
 use Rattle.std.specs.Str.{bytes_eq}
 use Rattle.std.specs.List.{list_any, Contains, HoldsAt, dedup}
 use Rattle.std.specs.List.Sorted.{IsSorted, IsSortedBy, IsStrictlySortedBy, IsPermutation, IsBinarySearchResult}
-use Rattle.std.specs.Ordering.{eq_by_cmp, nat_cmp, is_lt, ordering_reverse}
+use Rattle.std.specs.Ordering.{is_lt, ordering_reverse}
 use Rattle.std.specs.Result.{IsOk}
 use Rattle.std.specs.declared.cmp.Ordering.TheVariants.{Less, Equal, Greater}
-use Rattle.std.specs.Cmp.{IsTotalOrder}
-use Rattle.std.specs.Cmp.Lexicographic.{slice_cmp, texts_ties, nat_list_cmp_total, nat_list_eq_equiv}
+use Rattle.std.specs.Cmp.Lexicographic.{texts_ties, nat_list_cmp_total, nat_list_eq_equiv}
 use Rattle.std.specs.FinMap.{IsAntisymmetric, nat_cmp-IsAntisymmetric, slice_cmp-IsAntisymmetric}
 use Rattle.std.proofs.lemmas.Bool.{cases_lt}
 use Rattle.std.proofs.lemmas.List.Kept.{IsStrictlySortedBy-dedup, Contains-dedup, Contains-from_dedup}
@@ -16,8 +15,8 @@ use Rattle.std.proofs.lemmas.Map.Keys.{Less-from_sorted}
 use Rattle.std.proofs.lemmas.Map.Views.{list_any-from_Contains, Contains-from_any}
 use Rattle.cube_model.specs.Ascending.{IsAscending, IsAscending-ascending}
 use Rattle.cube_model.specs.Validity.{members_of}
-use Rattle.dimensions.proofs.ApartTexts.{text_cmp, bytes_eq-same, bytes_eq-refl, has_by_cmp, has-members_of, IsAscending-unique, reflexive}
-use Rattle.dimensions.proofs.Step.{list_any_here}
+use Rattle.dictionary.proofs.CallerLemmas.{bytes_eq-same, bytes_eq-refl, list_any_here}
+use Rattle.dimensions.proofs.MemberLaws.{text_cmp, has_by_cmp, has-members_of, IsAscending-unique, reflexive}
 
 text_cmp_same : IsAntisymmetric text_cmp
 text_cmp_same = slice_cmp-IsAntisymmetric nat_cmp-IsAntisymmetric

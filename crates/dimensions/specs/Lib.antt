@@ -1,10 +1,9 @@
-pub mod Built
-pub mod Days
+pub mod Columns
 pub mod Entries
-pub mod Indexes
-pub mod Levels
+pub mod KeyMaps
 pub mod Ranked
-pub mod RankedTables
+pub mod Shapes
+pub mod ShortTexts
+pub mod Shown
 pub mod Tables
-pub mod Texts
-pub mod Whole
+pub mod TextRows

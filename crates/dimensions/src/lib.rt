@@ -1,15 +1,17 @@
 //! The four dimensions: their members, and the attributes of their rows.
 #![tactic(auto)]
 
-mod build;
-mod days;
+mod column;
+mod dimension;
 mod dims;
-mod index;
-mod levels;
+mod key_index;
+mod key_map;
 mod members;
-mod places;
 mod ranks;
-#[cfg(test)]
-mod tests;
+mod row;
+mod shape;
+mod short;
+mod table;
 
 pub use dims::Dims;
+pub use short::have_short_texts;

@@ -1,17 +1,19 @@
 //! The members among texts, in order by bytes, and the rank of each text.
-ghost use Rattle.std.specs.Prelude.{◌≡◌, ◌<◌, ◌≤◌, true, [], length, vec_len, slice_index_or, IfOk, IfErr};
+ghost use Rattle.std.specs.Prelude.{◌≡◌, ◌<◌, ◌≤◌, true, [], length, vec_len, slice_index_or, map, IfOk, IfErr};
+ghost use Rattle.std.specs.Fmt.{decimal};
 ghost use Rattle.std.specs.List.{list_any};
 ghost use Rattle.std.specs.Str.{bytes_eq};
 ghost use Rattle.std.specs.Ordering.{nat_cmp};
 ghost use Rattle.std.specs.Cmp.Lexicographic.{slice_cmp};
+ghost use Rattle.cube_model.specs.Limits.{most_members};
 ghost use Rattle.cube_model.specs.Ascending.{IsAscending};
 ghost use Rattle.cube_model.specs.Validity.{members_of};
-ghost use Rattle.dimensions.specs.Levels.{AreCodes};
-ghost use Rattle.dimensions.specs.Ranked.{texts_of_ranks};
+ghost use Rattle.dimensions.specs.Ranked.{AreCodes, texts_of_ranks};
 
-use crate::members::all_texts;
-use cube_model::{Fault, Items, Text};
+use crate::members::copied_texts;
+use cube_model::{DateRow, Fault, Items, Text};
 use dictionary::Dictionary;
+use itoa::Buffer;
 use std::alloc::{AllocError, Global};
 use std::marker::Model;
 
@@ -33,75 +35,42 @@ impl Model for Ranks {
     ghost invariant = { λ r. AreRanks r.members.items r.ranks.items };
 }
 
-/// The ranks of the members of each level, at their codes.
-pub struct LevelRanks {
-    pub lowest: Ranks,
-    pub middle: Ranks,
-    pub top: Ranks,
-}
-
-// Written out, so that a proof has one call to follow where the ranks are let go.
-impl Drop for LevelRanks {
-    fn drop(self) {
-        let LevelRanks {
-            lowest: _,
-            middle: _,
-            top: _,
-        } = self;
-    }
-}
-
-/// The ranks of the days, at their places, and those of their other members, at their codes.
-pub struct DayRanks {
-    pub days: Ranks,
-    pub months: Ranks,
-    pub years: Ranks,
-    pub yearmonths: Ranks,
-    pub weeks: Ranks,
-}
-
-// Written out, so that a proof has one call to follow where the ranks are let go.
-impl Drop for DayRanks {
-    fn drop(self) {
-        let DayRanks {
-            days: _,
-            months: _,
-            years: _,
-            yearmonths: _,
-            weeks: _,
-        } = self;
-    }
-}
-
 impl Ranks {
     /// The ranks of texts. It can only fail for want of memory.
     pub fn of(alloc: Global, texts: &[Text]) -> Result<Ranks, Fault>
-        requires { length texts.now ≤ 65535 }
+        requires { length texts.now ≤ most_members }
         ensures ok { IfOk result (λ ranks. ranks ≡ texts.now) }
         ensures memory { IfErr result (λ fault. fault ≡ Fault.Memory) }
     {
-        match ranked(alloc, texts) {
-            Ok(ranks) => Ok(ranks),
-            Err(_) => Err(Fault::Memory),
-        }
+        let members = sorted_members(alloc, texts)?;
+        let ranks = ranks_among(alloc, members.as_slice(), texts)?;
+        Ok(Ranks { members, ranks })
+    }
+
+    /// The ranks of the keys of some days, in decimal without leading zeros. It can only fail for want of memory.
+    pub fn of_days(alloc: Global, days: &[DateRow]) -> Result<Ranks, Fault>
+        requires { length days.now ≤ most_members }
+        ensures ok { IfOk result (λ ranks. ranks ≡ map (λ day. decimal day.key) days.now) }
+        ensures memory { IfErr result (λ fault. fault ≡ Fault.Memory) }
+    {
+        let texts = day_texts(alloc, days)?;
+        Ranks::of(alloc, texts.as_slice())
     }
 
     /// The ranks of the texts of a dictionary, at their codes. It can only fail for want of memory.
     pub fn of_dictionary(alloc: Global, dictionary: &Dictionary) -> Result<Ranks, Fault>
-        requires { length dictionary.now.texts ≤ 65535 }
+        requires { length dictionary.now.texts ≤ most_members }
         ensures ok { IfOk result (λ ranks. ranks ≡ dictionary.now.texts) }
         ensures memory { IfErr result (λ fault. fault ≡ Fault.Memory) }
     {
-        match all_texts(alloc, dictionary) {
-            Ok(texts) => Ranks::of(alloc, texts.as_slice()),
-            Err(fault) => Err(fault),
-        }
+        let texts = copied_texts(alloc, dictionary)?;
+        Ranks::of(alloc, texts.as_slice())
     }
 
     /// The number of members.
     pub fn count(&self) -> usize
         ensures count { result ≡ length (members_of self.now) }
-        ensures few { result ≤ 65535 }
+        ensures few { result ≤ most_members }
     {
         self.members.len()
     }
@@ -122,16 +91,6 @@ impl Ranks {
     {
         self.members[usize::from(rank)].as_slice()
     }
-}
-
-// The ranks of texts.
-fn ranked(alloc: Global, texts: &[Text]) -> Result<Ranks, AllocError>
-    requires { length texts.now ≤ 65535 }
-    ensures { IfOk result (λ ranks. ranks ≡ texts.now) }
-{
-    let members = sorted_members(alloc, texts)?;
-    let ranks = ranks_among(alloc, members.as_slice(), texts)?;
-    Ok(Ranks { members, ranks })
 }
 
 // The members among texts.
@@ -160,7 +119,7 @@ fn copied(alloc: Global, texts: &[Text]) -> Result<Vec<Text>, AllocError>
 // The rank of each of some texts among their members.
 fn ranks_among(alloc: Global, members: &[Text], texts: &[Text]) -> Result<Vec<u16>, AllocError>
     requires members { members.now ≡ members_of texts.now }
-    requires few { length members.now ≤ 65535 }
+    requires few { length members.now ≤ most_members }
     ensures texts { IfOk result (λ ranks. texts_of_ranks members.now ranks.items ≡ texts.now) }
     ensures within { IfOk result (λ ranks. AreCodes (length members.now) ranks.items) }
 {
@@ -174,11 +133,24 @@ fn ranks_among(alloc: Global, members: &[Text], texts: &[Text]) -> Result<Vec<u1
 
 // The rank of one of them.
 fn rank_among(members: &[Text], text: &Text) -> u16
-    requires few { length members.now ≤ 65535 }
+    requires few { length members.now ≤ most_members }
     requires ascending { IsAscending (slice_cmp nat_cmp) members.now }
     requires among { list_any (bytes_eq text.now) members.now ≡ true }
     ensures within { result < length members.now }
     ensures text { slice_index_or members.now result [] ≡ text.now }
 {
     members.binary_search(text).unwrap() as u16
+}
+
+// The keys of some days in decimal.
+fn day_texts(alloc: Global, days: &[DateRow]) -> Result<Vec<Text>, AllocError>
+    ensures { IfOk result (λ texts. texts.items ≡ map (λ day. decimal day.key) days.now) }
+{
+    let mut texts = Vec::with_capacity(alloc, days.len())?;
+    for day in days {
+        let mut buffer = Buffer::new();
+        let text = Vec::from_slice(alloc, buffer.format(day.key).as_bytes())?;
+        texts.push(Items::from_vec(text))?;
+    }
+    Ok(texts)
 }

@@ -2,23 +2,26 @@
 use crate::given::FIRST;
 use cube_model::{Fault, Query};
 use sample_star::{TABLES, Taker, in_sevens};
-use ssb_eval::{eval_texts, exit_of, is_plain};
+use ssb_eval::{eval_texts, exit_of};
 use std::alloc::Global;
 use std::test::Fail;
 
 static WHOLE: &[u8] = b"sum(discounted)\n2000\nrows 1\n";
 
-// What comes of tables whose readers fail at a read, or not at 0, and a writer with so much room; and the bytes that it took.
-fn evaluated(
+// Whether tables whose readers fail at a read, or not at 0, give a writer with so much room just so much of the report,
+// and what comes of it is as wanted.
+fn is_taken(
     alloc: Global,
     query: &Query,
     fails: [u32; 5],
     room: usize,
-) -> (Result<(), Fault>, Vec<u8>) {
-    let mut taker = Taker::new(alloc, room);
-    if !is_plain(query) {
-        return (Err(Fault::BadQuery), taker.bytes);
+    taken: usize,
+    want: Result<(), Fault>,
+) -> bool {
+    if taken > WHOLE.len() {
+        return false;
     }
+    let mut taker = Taker::new(alloc, room);
     let done = eval_texts(
         alloc,
         in_sevens(TABLES.customer).failing_at(fails[0]),
@@ -29,41 +32,52 @@ fn evaluated(
         query,
         &mut taker,
     );
-    (done, taker.bytes)
+    done == want && taker.bytes.as_slice() == &WHOLE[..taken]
+}
+
+// The least room at which a failing writer is not answered. With just the room of the report its flush fails.
+fn first_wrong_room(alloc: Global) -> Result<Option<usize>, Fault> {
+    let query = FIRST.read(alloc)?;
+    for room in 0..WHOLE.len() + 1 {
+        if !is_taken(alloc, &query, [0; 5], room, room, Err(Fault::Output)) {
+            return Ok(Some(room));
+        }
+    }
+    let rooms = WHOLE.len() + 1;
+    if is_taken(alloc, &query, [0; 5], rooms, WHOLE.len(), Ok(())) {
+        Ok(None)
+    } else {
+        Ok(Some(rooms))
+    }
 }
 
 #[test]
 fn a_failing_write_stands_behind_what_was_taken(rt: HostRuntime) -> Result<(), Fail> {
-    let query = FIRST.read(rt.alloc())?;
-    for room in 0..WHOLE.len() + 1 {
-        let (done, bytes) = evaluated(rt.alloc(), &query, [0; 5], room);
-        assert!(rt;
-            done == Err(Fault::Output) && bytes.as_slice() == &WHOLE[..room],
-            "{room}"
-        );
-    }
-    let (done, bytes) = evaluated(rt.alloc(), &query, [0; 5], WHOLE.len() + 1);
-    assert!(rt; done == Ok(()) && bytes.as_slice() == WHOLE);
+    assert_eq!(rt; first_wrong_room(rt.alloc())?, None);
     Ok(())
 }
 
 // Each table has more than 77 bytes, so eleven reads of seven bytes come before its end.
 const READS: u32 = 11;
 
-#[test]
-fn a_failing_read_is_answered_before_anything_is_written(rt: HostRuntime) -> Result<(), Fail> {
-    let query = FIRST.read(rt.alloc())?;
+// The first table and read whose failure is not answered before anything is written.
+fn first_wrong_read(alloc: Global) -> Result<Option<(usize, u32)>, Fault> {
+    let query = FIRST.read(alloc)?;
     for table in 0..5 {
         for read in 1..READS + 1 {
             let mut fails = [0; 5];
             fails[table] = read;
-            let (done, bytes) = evaluated(rt.alloc(), &query, fails, WHOLE.len() + 1);
-            assert!(rt;
-                done == Err(Fault::Input) && bytes.is_empty(),
-                "{table} {read}"
-            );
+            if !is_taken(alloc, &query, fails, WHOLE.len() + 1, 0, Err(Fault::Input)) {
+                return Ok(Some((table, read)));
+            }
         }
     }
+    Ok(None)
+}
+
+#[test]
+fn a_failing_read_is_answered_before_anything_is_written(rt: HostRuntime) -> Result<(), Fail> {
+    assert_eq!(rt; first_wrong_read(rt.alloc())?, None);
     Ok(())
 }
 

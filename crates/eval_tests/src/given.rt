@@ -2,10 +2,8 @@
 use cube_model::{Fault, Query};
 use query_words::read_query;
 use sample_star::{TABLES, Tables, in_sevens};
-use ssb_eval::{eval_texts, is_plain};
+use ssb_eval::eval_texts;
 use std::alloc::Global;
-use std::process::Abort;
-use std::test::Fail;
 
 /// The words of a query.
 #[derive(Clone, Copy)]
@@ -79,9 +77,6 @@ fn given_or(text: Option<&'static str>, sample: &'static [u8]) -> &'static [u8] 
 /// The report of a query over the texts of tables.
 pub fn report(alloc: Global, given: &Given, words: &Words) -> Result<Vec<u8>, Fault> {
     let query = words.read(alloc)?;
-    if !is_plain(&query) {
-        return Err(Fault::BadQuery);
-    }
     let tables = given.tables();
     let mut out = Vec::new(alloc);
     eval_texts(
@@ -97,22 +92,18 @@ pub fn report(alloc: Global, given: &Given, words: &Words) -> Result<Vec<u8>, Fa
     Ok(out)
 }
 
-/// Each report is the text that is wanted.
-pub fn are_reported(
-    rt: &(impl AllocGlobal + Abort),
-    cases: &[(Given, Words, &str)],
-) -> Result<(), Fail> {
-    for (given, words, want) in cases {
-        let found = report(rt.alloc(), given, words)?;
-        assert!(rt; found.as_slice() == want.as_bytes(), "{want}");
+/// The place of the first case whose report is another text than the one that is wanted.
+pub fn first_other(alloc: Global, cases: &[(Given, Words, &str)]) -> Result<Option<usize>, Fault> {
+    for (place, (given, words, want)) in cases.iter().enumerate() {
+        let found = report(alloc, given, words)?;
+        if found.as_slice() != want.as_bytes() {
+            return Ok(Some(place));
+        }
     }
-    Ok(())
+    Ok(None)
 }
 
-/// Each case is refused with the fault that is wanted.
-pub fn are_refused(rt: &(impl AllocGlobal + Abort), cases: &[(Given, Words, Fault)]) {
-    for (given, words, want) in cases {
-        let found = report(rt.alloc(), given, words);
-        assert!(rt; found == Err(*want), "{want}");
-    }
+/// The place of the first case that is not refused with the fault that is wanted.
+pub fn first_taken(alloc: Global, cases: &[(Given, Words, Fault)]) -> Option<usize> {
+    cases.iter().position(|(given, words, want)| report(alloc, given, words) != Err(*want))
 }

@@ -1,5 +1,5 @@
 //! Reports that were worked by hand.
-use crate::given::{FIRST, Given, NO_WORDS, SAMPLE, Words, are_reported};
+use crate::given::{FIRST, Given, NO_WORDS, SAMPLE, Words, first_other};
 use std::test::Fail;
 
 const MORE_PARTS: Given = Given {
@@ -100,5 +100,6 @@ static CASES: [(Given, Words, &str); 10] = [
 
 #[test]
 fn reports_are_as_worked_by_hand(rt: HostRuntime) -> Result<(), Fail> {
-    are_reported(&rt, &CASES)
+    assert_eq!(rt; first_other(rt.alloc(), &CASES)?, None);
+    Ok(())
 }

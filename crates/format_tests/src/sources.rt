@@ -10,7 +10,8 @@ use wire::{SliceSource, Source, read_part};
 
 // The bytes of a text, if there is one of that id.
 fn read_whole<S: Source>(alloc: Global, source: &mut S, id: u32) -> Result<Option<Vec<u8>>, Fault>
-    ensures found { IfOk result (λ found. S.keeps_word source.new → option_map (λ bytes. bytes.items) found ≡ S.texts source.old id) }
+    ensures found { IfOk result (λ found. S.keeps_word source.new
+        → option_map (λ bytes. bytes.items) found ≡ S.texts source.old id) }
     ensures run { MatchResult result (λ _. HasRead S.Source source.old source.new)
         (λ fault. ((fault ≡ Fault.Memory) × HasRead S.Source source.old source.new) ⊎ IsRefused S.Source fault source.old source.new) }
 {
@@ -31,7 +32,8 @@ fn read_to_end<S: Source>(
 ) -> Result<(), Fault>
     requires total { S.totals source.old id ≡ Some total }
     requires empty { vec_len out.old ≡ 0 }
-    ensures found { OnOk result (S.keeps_word source.new → S.totals source.old id ≡ option_map length (S.texts source.old id) → Some out.new.items ≡ S.texts source.old id) }
+    ensures found { OnOk result (S.keeps_word source.new → S.totals source.old id ≡ option_map length (S.texts source.old id)
+        → Some out.new.items ≡ S.texts source.old id) }
     ensures run { MatchResult result (λ _. HasRead S.Source source.old source.new)
         (λ fault. ((fault ≡ Fault.Memory) × HasRead S.Source source.old source.new) ⊎ IsRefused S.Source fault source.old source.new) }
 {

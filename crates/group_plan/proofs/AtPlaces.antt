@@ -1,8 +1,8 @@
 -- The attribute of a fact row by the place of its dimension's row.
-use Rattle.std.proofs.Common.{◌≡◌, ◌∙◌, zero, suc, sym, ap, refl, ◌==◌, ℕ, Bool, List, [], ◌∷◌, map, get_or, slice_get, find, Option, Some, None}
+use Rattle.std.proofs.Common.{◌≡◌, ◌∙◌, zero, suc, ap, refl, ◌==◌, ℕ, Bool, List, [], ◌∷◌, map, get_or, slice_get, find, Some}
 use Rattle.std.specs.Prelude.{unwrap_or}
 use Rattle.std.specs.List.{position_or_len}
-use Rattle.std.specs.Option.{option_map, option_and_then}
+use Rattle.std.specs.Option.{option_and_then}
 use Rattle.std.specs.Fmt.{decimal}
 use Rattle.std.proofs.lemmas.List.Folds.{find_at}
 use Rattle.cube_model.specs.declared.attr.Attr.{Attr}

@@ -1,4 +1,5 @@
 pub mod AtPlaces
+pub mod EachDigit
 pub mod Members
 pub mod Numbers
 pub mod Outcomes

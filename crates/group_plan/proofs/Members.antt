@@ -1,7 +1,7 @@
 -- Members stand in order, so each text has one rank.
-use Rattle.std.proofs.Common.{◌≡◌, ◌<◌, ◌∙◌, zero, suc, sym, ap, refl, subst, arith, ℕ, true, false, List, [], ◌∷◌, length, get_or}
+use Rattle.std.proofs.Common.{◌≡◌, ◌<◌, ◌∙◌, zero, suc, sym, ap, refl, arith, ℕ, List, [], ◌∷◌, length, get_or}
 use Rattle.std.specs.Str.{bytes_eq}
-use Rattle.std.specs.List.{AllByRecursion, position_or_len}
+use Rattle.std.specs.List.{AllByRecursion}
 use Rattle.std.specs.Ordering.{nat_cmp, is_eq}
 use Rattle.std.specs.declared.cmp.Ordering.{Ordering}
 use Rattle.std.specs.declared.cmp.Ordering.TheVariants.{Less}

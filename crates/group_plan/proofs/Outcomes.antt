@@ -1,5 +1,5 @@
 -- What becomes of a fact row by the plan's bounds and sides.
-use Rattle.std.proofs.Common.{◌≡◌, ◌∙◌, sym, ap, refl, subst, true≢false, arith, ℕ, ◌+◌, ◌*◌, ◌<◌, ◌≤◌, Bool, true, false, cond, ◌&&◌, ◌||◌, nat_le, min, max, Option, Some, None, List, [], ◌∷◌, map, length}
+use Rattle.std.proofs.Common.{◌≡◌, ◌∙◌, ap, refl, true≢false, arith, ℕ, ◌+◌, ◌*◌, ◌<◌, ◌≤◌, Bool, true, false, cond, ◌&&◌, ◌||◌, nat_le, min, max, Option, Some, None, List, [], ◌∷◌, map, length}
 use Rattle.std.specs.Prelude.{unwrap_or, slice_get, IfSome}
 use Rattle.cube_model.specs.Places.{row_count_of}
 use Rattle.std.specs.List.{list_any, list_all, range_with_len}
@@ -17,7 +17,7 @@ use Rattle.cube_model.specs.declared.rows.LineOrder.{LineOrder}
 use Rattle.cube_model.specs.Attributes.{axis_of}
 use Rattle.group_plan.specs.Numbers.{group_count}
 use Rattle.group_plan.specs.Parts.{is_same, is_on, is_used, holds_at, holds_in, rank_at, part_at, given_at}
-use Rattle.group_plan.specs.Plans.{AreBounds, bounds_with, is_within}
+use Rattle.group_plan.specs.Plans.{AreBounds, bounds_with}
 use Rattle.group_plan.specs.declared.bounds.Bounds.{Bounds}
 use Rattle.cube_model.specs.Selection.{is_selected}
 use Rattle.group_plan.proofs.Split.{all_five, place_on, passes_at, selected_by_places}

@@ -1,5 +1,5 @@
 -- There is room for the numbers of groups.
-use Rattle.std.proofs.Common.{◌≡◌, ◌∙◌, sym, ap, refl, ℕ, ◌+◌, ◌*◌, ◌^◌, ◌<◌, ◌≤◌, zero, suc, List, [], ◌∷◌, length, arith}
+use Rattle.std.proofs.Common.{ℕ, ◌*◌, ◌^◌, ◌<◌, ◌≤◌, List, [], ◌∷◌, length, arith}
 use Rattle.std.proofs.lemmas.Nat.{mul-le}
 use Rattle.cube_model.specs.declared.attr.Attr.{Attr}
 use Rattle.group_plan.specs.Parts.{room_of}
@@ -15,8 +15,8 @@ room_bound (a ∷ b ∷ c ∷ d ∷ e ∷ []) few = omega arith
 room_bound (a ∷ b ∷ c ∷ d ∷ e ∷ f ∷ columns) few = absurd (omega (arith, few))
 
 -- one digit more
-pub product_bound : (digit count : ℕ) (columns : List Attr) → digit ≤ 65535 → count ≤ room_of columns → digit * count ≤ 65535 * room_of columns
-product_bound digit count columns small within = mul-le digit count 65535 (room_of columns) small within
+pub product_bound : (digit count : ℕ) (columns : List Attr) → digit ≤ 65536 → count ≤ room_of columns → digit * count ≤ 65536 * room_of columns
+product_bound digit count columns small within = mul-le digit count 65536 (room_of columns) small within
 
-pub product_fits : (digit count : ℕ) (columns : List Attr) → digit ≤ 65535 → count ≤ room_of columns → length columns ≤ 5 → digit * count < 2 ^ 96
+pub product_fits : (digit count : ℕ) (columns : List Attr) → digit ≤ 65536 → count ≤ room_of columns → length columns ≤ 5 → digit * count < 2 ^ 97
 product_fits digit count columns small within few = omega (arith, product_bound digit count columns small within, room_bound columns few)

@@ -1,5 +1,5 @@
 -- Conditions and columns, dimension by dimension.
-use Rattle.std.proofs.Common.{◌≡◌, ◌∙◌, sym, ap, refl, subst, arith, ℕ, ◌+◌, ◌*◌, Bool, true, false, cond, ◌&&◌, List, [], ◌∷◌, length, get_or}
+use Rattle.std.proofs.Common.{◌≡◌, ◌∙◌, ap, refl, ℕ, Bool, true, false, cond, ◌&&◌, List, [], ◌∷◌}
 use Rattle.std.specs.List.{list_any, list_all}
 use Rattle.std.specs.Str.{bytes_eq}
 use Rattle.cube_model.specs.declared.attr.Attr.{Attr}
@@ -12,8 +12,7 @@ use Rattle.cube_model.specs.declared.rows.LineOrder.{LineOrder}
 use Rattle.cube_model.specs.Attributes.{attribute_of, axis_of, key_on}
 use Rattle.cube_model.specs.Places.{row_index_of, text_at}
 use Rattle.cube_model.specs.Selection.{holds_of, is_selected, text_le}
-use Rattle.group_plan.specs.Numbers.{group_count}
-use Rattle.group_plan.specs.Parts.{is_same, holds_at, holds_in, rank_at, part_at}
+use Rattle.group_plan.specs.Parts.{is_same, holds_at, holds_in}
 use Rattle.group_plan.proofs.AtPlaces.{attribute_at_place}
 
 -- what five tests say together

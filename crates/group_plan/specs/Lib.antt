@@ -1,3 +1,4 @@
+pub mod Columns
 pub mod Numbers
 pub mod Parts
 pub mod Plans

@@ -1,9 +1,9 @@
--- The groups of a plain query by numbers. The ranks of a group's members are the digits of its number, the first column's
--- the highest, so that keys rise with their numbers. Our own.
-use Rattle.std.specs.Prelude.{◌≡◌, ℕ, ◌*◌, ◌/◌, ◌%◌, ◌<◌, true, false, Option, Some, None, List, [], ◌∷◌, map, length, slice_index_or}
+-- The groups of a query by numbers. The ranks of a group's members are the digits of its number, the first column's the
+-- highest. ALL is the digit behind those of a column's members, so that keys rise with their numbers. Our own.
+use Rattle.std.specs.Prelude.{◌≡◌, ℕ, ◌+◌, ◌*◌, ◌/◌, ◌%◌, ◌<◌, nat_lt, true, false, cond, Option, Some, None, List, [], ◌∷◌, map, length, slice_index_or}
 use Rattle.std.specs.declared.cmp.Ordering.TheVariants.{Less}
 use Rattle.cube_model.specs.declared.answer.Member.{Member}
-use Rattle.cube_model.specs.declared.answer.Member.TheVariants.{Text}
+use Rattle.cube_model.specs.declared.answer.Member.TheVariants.{All, Text}
 use Rattle.cube_model.specs.declared.attr.Attr.{Attr}
 use Rattle.cube_model.specs.declared.attr.Axis.{Axis}
 use Rattle.cube_model.specs.declared.query.Query.{Query}
@@ -14,16 +14,25 @@ use Rattle.cube_model.specs.Keys.{key_cmp, key_under}
 use Rattle.cube_model.specs.Places.{attr_members, row_index_of, row_count_of}
 use Rattle.cube_model.specs.Selection.{is_selected}
 
--- how many groups the members of some columns can make
+-- how many digits a column has: one for each member, and one for ALL
+abbrev pub digit_count : DimRows → Attr → ℕ
+digit_count dimensions column = length (attr_members dimensions column) + 1
+
+-- how many groups the digits of some columns can make
 abbrev pub group_count : DimRows → List Attr → ℕ
 group_count dimensions [] = 1
-group_count dimensions (column ∷ columns) = length (attr_members dimensions column) * group_count dimensions columns
+group_count dimensions (column ∷ columns) = digit_count dimensions column * group_count dimensions columns
+
+-- what a digit of a column stands for
+abbrev pub member_at : DimRows → Attr → ℕ → Member
+member_at dimensions column digit =
+    cond (nat_lt digit (length (attr_members dimensions column))) (Text (slice_index_or (attr_members dimensions column) digit [])) All
 
 -- the key of the group with a number
 abbrev pub key_at : DimRows → List Attr → ℕ → List Member
 key_at dimensions [] number = []
 key_at dimensions (column ∷ columns) number =
-    Text (slice_index_or (attr_members dimensions column) (number / group_count dimensions columns) [])
+    member_at dimensions column (number / group_count dimensions columns)
     ∷ key_at dimensions columns (number % group_count dimensions columns)
 
 -- keys rise with their numbers

@@ -8,7 +8,7 @@ use crate::places::is_same;
 use cube_model::{Attr, Axis};
 use dimensions::Dims;
 
-/// How many groups the members of some columns can make, at most six.
+/// How many groups the digits of some columns can make, at most six.
 pub fn group_count(dims: &Dims, columns: &[Attr]) -> u128
     requires { length columns.now ≤ 6 }
     ensures count { result ≡ group_count dims.now columns.now }
@@ -16,7 +16,10 @@ pub fn group_count(dims: &Dims, columns: &[Attr]) -> u128
 {
     match columns {
         [] => 1,
-        [column, others @ ..] => dims.members(*column) as u128 * group_count(dims, others),
+        [column, others @ ..] => {
+            let digits = dims.members(*column) as u128 + 1;
+            digits * group_count(dims, others)
+        }
     }
 }
 
@@ -41,7 +44,8 @@ impl Digits {
             [] => Digits { part: 0, count: 1 },
             [column, others @ ..] => {
                 let lower = Digits::at(dims, axis, place, others);
-                let count = dims.members(*column) as u128 * lower.count;
+                let digits = dims.members(*column) as u128 + 1;
+                let count = digits * lower.count;
                 if is_same(column.axis(), axis) {
                     let rank = u128::from(dims.rank(*column, place));
                     Digits {

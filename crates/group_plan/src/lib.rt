@@ -2,6 +2,7 @@
 #![tactic(auto)]
 
 mod bounds;
+mod column;
 mod digits;
 mod places;
 mod plan;

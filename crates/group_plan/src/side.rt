@@ -45,7 +45,7 @@ impl Side {
         if !is_used(query, axis) {
             return Ok(Side::Unused);
         }
-        if 0 < count && count <= NARROW {
+        if count <= NARROW {
             Ok(Side::Narrow(narrow_parts(alloc, dims, query, axis)?))
         } else {
             Ok(Side::Wide(wide_parts(alloc, dims, query, axis)?))
@@ -89,7 +89,6 @@ fn narrow_parts(
     axis: Axis,
 ) -> Result<Vec<Option<u32>>, AllocError>
     requires few { length query.now.columns ≤ 6 }
-    requires some { 0 < group_count dims.now query.now.columns }
     requires narrow { group_count dims.now query.now.columns ≤ 2 ^ 32 }
     ensures { IfOk result (λ parts. parts.items ≡ map (given_at dims.now query.now axis) (range_with_len 0 (row_count_of dims.now axis))) }
 {

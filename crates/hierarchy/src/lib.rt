@@ -2,7 +2,5 @@
 #![tactic(auto)]
 
 mod hierarchy;
-#[cfg(test)]
-mod tests;
 
-pub use hierarchy::{Hierarchy, Level};
+pub use hierarchy::Hierarchy;

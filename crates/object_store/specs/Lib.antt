@@ -15,3 +15,4 @@ pub mod Moments
 pub mod Sourced
 pub mod Publish
 pub mod Planning
+pub mod Lawful

@@ -5,6 +5,7 @@ mod create;
 mod entries;
 mod extent;
 mod find;
+pub mod laws;
 mod layout;
 mod place;
 mod plan;

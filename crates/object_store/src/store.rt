@@ -139,11 +139,12 @@ impl<D: Sectors> Store<D> {
         self.device
     }
 
-    /// Whether the device failed in an earlier call. Until then every image shows the content.
+    /// Whether the device failed in an earlier call. Until then there is one image, and it shows the content.
     pub fn is_broken(&self) -> bool
         ensures broken { result ≡ has_failed self.now }
         ensures shows { has_failed self.now ≡ false → AllShow (disk_of D.Sectors self.now) (λ c. c ≡ content_of D.Sectors self.now) }
         ensures leaves { has_failed self.now ≡ false → Leaves (disk_of D.Sectors self.now) (disk_of D.Sectors self.now) (λ c. c ≡ content_of D.Sectors self.now) }
+        ensures settled { has_failed self.now ≡ false → (disk_of D.Sectors self.now).keeps_word → HasOneImage (disk_of D.Sectors self.now) }
     {
         self.failed
     }
@@ -188,6 +189,7 @@ impl<D: Sectors> Store<D> {
         ensures leaves { has_failed self.old ≡ false → Leaves (disk_of D.Sectors self.old) (disk_of D.Sectors self.new) (λ c. c ≡ content_of D.Sectors self.old) }
         ensures stays { (IsErrOf result Device → ⊥) → IsStill D.Sectors self.old self.new }
         ensures kept { KeepsObjects D.Sectors self.old self.new }
+        ensures no_call { IsErrOf result Failed → device_of self.new ≡ device_of self.old }
 
         // When each error comes.
         ensures failed { IsErrOf result Failed ↔ (has_failed self.old ≡ true) }
@@ -221,6 +223,7 @@ impl<D: Sectors> Store<D> {
         ensures leaves { has_failed self.old ≡ false → Leaves (disk_of D.Sectors self.old) (disk_of D.Sectors self.new) (λ c. c ≡ content_of D.Sectors self.old) }
         ensures stays { (IsErrOf result Device → ⊥) → IsStill D.Sectors self.old self.new }
         ensures kept { KeepsObjects D.Sectors self.old self.new }
+        ensures no_call { IsErrOf result Failed → device_of self.new ≡ device_of self.old }
 
         // When each error comes.
         ensures failed { IsErrOf result Failed ↔ (has_failed self.old ≡ true) }

@@ -1,22 +1,12 @@
-//! Which queries and fact rows a fold may be asked about, decided by looking at them.
+//! Which fact rows may be folded, decided by looking at them.
 ghost use Rattle.std.specs.Prelude.{◌≡◌, ◌↔◌, ◌<◌, ◌^◌, ℕ, None, IsTrue};
 ghost use Rattle.cube_model.specs.Admission.{AreInRange, absolute_total, unknown_axis, unknown_key};
-ghost use Rattle.cube_query.specs.Limits.{AreFoldable, IsPlain};
+ghost use Rattle.cube_query.specs.Limits.{AreFoldable};
 
-use cube_model::{Attr, Axis, Kind, LineOrder, Measure, Query};
+use cube_model::{Attr, Axis, LineOrder, Measure};
 use dimensions::Dims;
 
 const SUM_LIMIT: u128 = 1 << 63;
-
-/// Whether a query has one group a key, no order and no average.
-pub fn is_plain(query: &Query) -> bool
-    ensures { IsTrue result ↔ IsPlain query.now }
-{
-    let aggregates = query.aggregates.as_slice();
-    query.kind == Kind::Plain
-        && query.order.is_none()
-        && aggregates.iter().all(|agg| !agg.is_average())
-}
 
 /// Whether fact rows may be folded. More than a thousand are never let through.
 pub fn are_foldable(dims: &Dims, rows: &[LineOrder]) -> bool

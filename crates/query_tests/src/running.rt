@@ -1,13 +1,13 @@
 //! Answers by the plain program, and by the fold in one call and in several.
-ghost use Rattle.cube_query.specs.Limits.{AreFoldable, IsPlain};
+ghost use Rattle.cube_query.specs.Limits.{AreFoldable};
 
-use super::checks::{are_foldable, is_plain};
+use super::checks::are_foldable;
 use super::examples::Example;
 use super::plain::plain_answer;
 use super::printing::printed;
 use cube_model::{Answer, DimRows, Fault, LineOrder, Query};
 use cube_query::{Fold, fold};
-use dimensions::Dims;
+use dimensions::{Dims, have_short_texts};
 use sample_star::{Asked, dim_rows, line_orders, query};
 use std::alloc::Global;
 
@@ -18,8 +18,7 @@ fn answer_row_by_row(
     rows: &[LineOrder],
     query: &Query,
 ) -> Result<Answer, Fault>
-    requires plain { IsPlain query.now }
-    requires foldable { AreFoldable dims.now rows.now }
+    requires { AreFoldable dims.now rows.now }
 {
     let mut state = Fold::new(alloc, dims, query)?;
     for i in 0..rows.len() {
@@ -29,40 +28,25 @@ fn answer_row_by_row(
     state.finish()
 }
 
-// Whether the fold answers a plain query as the plain program does, in one call and row by row.
-fn is_that_of_the_fold(
-    alloc: Global,
-    dims: &Dims,
-    rows: &[LineOrder],
-    query: &Query,
-    answer: &Answer,
-) -> Result<bool, Fault>
-    requires plain { IsPlain query.now }
-    requires foldable { AreFoldable dims.now rows.now }
-{
-    Ok(
-        fold(alloc, dims, rows, query)? == *answer
-            && answer_row_by_row(alloc, dims, rows, query)? == *answer,
-    )
-}
-
-/// The answer that the plain program and the fold agree on; none where they do not, or where the rows may not be folded.
-/// Queries that the fold does not answer yet have the plain program's answer.
+/// The answer that the fold, in one call and row by row, and the plain program agree on; none where they do not, or where
+/// the rows may not be folded.
 pub fn agreed_answer(
     alloc: Global,
     dimensions: &DimRows,
     rows: &[LineOrder],
     query: &Query,
 ) -> Result<Option<Answer>, Fault> {
+    if !have_short_texts(dimensions) {
+        return Ok(None);
+    }
     let dims = Dims::build(alloc, dimensions)?;
     if !are_foldable(&dims, rows) {
         return Ok(None);
     }
-    let answer = plain_answer(alloc, dimensions, rows, query)?;
-    if is_plain(query) && !is_that_of_the_fold(alloc, &dims, rows, query, &answer)? {
-        return Ok(None);
-    }
-    Ok(Some(answer))
+    let answer = fold(alloc, &dims, rows, query)?;
+    let is_agreed = answer == plain_answer(alloc, dimensions, rows, query)?
+        && answer == answer_row_by_row(alloc, &dims, rows, query)?;
+    Ok(if is_agreed { Some(answer) } else { None })
 }
 
 /// The answer that is agreed on for an example's rows and a query.

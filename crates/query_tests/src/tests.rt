@@ -8,6 +8,7 @@ use super::queries::Reach;
 use super::running::{answer_of, is_as_worked};
 use cube_model::Fault;
 use std::alloc::Global;
+use std::ops::Range;
 use std::process::Abort;
 use std::test::Fail;
 
@@ -55,15 +56,40 @@ fn improper_queries_are_refused(rt: HostRuntime) {
     }
 }
 
-#[test]
-fn random_answers_agree(rt: HostRuntime) -> Result<(), Fail> {
+// The answers by many ways agree, and enough of them have lines, so that it is not empty answers alone that agree.
+fn answers_agree(
+    rt: &impl Abort,
+    alloc: Global,
+    seeds: Range<u64>,
+    reach: Reach,
+    least: u32,
+) -> Result<(), Fail> {
     let mut with_lines: u32 = 0;
-    for seed in 0..150 {
-        let outcome = outcome_of(rt.alloc(), seed, Reach::Plain)?;
+    for seed in seeds {
+        let outcome = outcome_of(alloc, seed, reach)?;
         assert_eq!(rt; outcome.agreed, QUERIES, "seed {seed}");
         with_lines = with_lines.saturating_add(outcome.with_lines);
     }
-    // So that it is not empty answers alone that agree.
-    assert!(rt; with_lines >= 400, "{with_lines} answers with lines");
+    assert!(rt; with_lines >= least, "{with_lines} answers with lines");
     Ok(())
+}
+
+#[test]
+fn random_plain_answers_agree(rt: HostRuntime) -> Result<(), Fail> {
+    answers_agree(&rt, rt.alloc(), 0..50, Reach::Plain, 130)
+}
+
+#[test]
+fn more_random_plain_answers_agree(rt: HostRuntime) -> Result<(), Fail> {
+    answers_agree(&rt, rt.alloc(), 50..100, Reach::Plain, 130)
+}
+
+#[test]
+fn still_more_random_plain_answers_agree(rt: HostRuntime) -> Result<(), Fail> {
+    answers_agree(&rt, rt.alloc(), 100..150, Reach::Plain, 130)
+}
+
+#[test]
+fn random_answers_of_every_kind_agree(rt: HostRuntime) -> Result<(), Fail> {
+    answers_agree(&rt, rt.alloc(), 0..25, Reach::Every, 60)
 }

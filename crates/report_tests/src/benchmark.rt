@@ -1,8 +1,8 @@
 //! The thirteen queries of the benchmark, each written out whole from the benchmark's text.
-use cube_model::{Agg, Attr, Kind, Measure, Order};
+use cube_model::{Agg, Attr, Fault, Kind, Measure, Order};
 use sample_star::{Asked, Condition, query};
 use ssb_reports::{QNumber, query_of};
-use std::process::Abort;
+use std::alloc::Global;
 use std::test::Fail;
 
 static TABLE: [(QNumber, &str, Asked<'static>); 13] = [
@@ -215,20 +215,24 @@ static TABLE: [(QNumber, &str, Asked<'static>); 13] = [
     ),
 ];
 
-fn are_the_benchmarks(
-    rt: &(impl AllocGlobal + Abort),
-    table: &[(QNumber, &str, Asked<'_>)],
-) -> Result<(), Fail> {
+// The name of the first query that is not the one in the table.
+fn first_other(
+    alloc: Global,
+    table: &[(QNumber, &'static str, Asked<'_>)],
+) -> Result<Option<&'static str>, Fault> {
     for (number, name, asked) in table {
-        let want = query(rt.alloc(), asked)?;
-        let found = query_of(rt.alloc(), *number)?;
-        assert!(rt; found == want && number.name() == *name, "{name}");
+        let want = query(alloc, asked)?;
+        let found = query_of(alloc, *number)?;
+        if found != want || number.name() != *name {
+            return Ok(Some(*name));
+        }
     }
-    Ok(())
+    Ok(None)
 }
 
 #[test]
 fn thirteen_queries_are_the_benchmarks(rt: HostRuntime) -> Result<(), Fail> {
     assert_eq!(rt; TABLE.len(), QNumber::ALL.len());
-    are_the_benchmarks(&rt, &TABLE)
+    assert_eq!(rt; first_other(rt.alloc(), &TABLE)?, None);
+    Ok(())
 }

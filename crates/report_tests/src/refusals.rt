@@ -1,7 +1,7 @@
 //! Words that spell no query.
 use crate::given::{NO_WORDS, Words};
 use cube_model::Fault;
-use std::process::Abort;
+use std::alloc::Global;
 
 static WRONG: [Words; 58] = [
     Words { ..NO_WORDS },
@@ -274,14 +274,14 @@ static WRONG: [Words; 58] = [
     },
 ];
 
-fn are_refused(rt: &(impl AllocGlobal + Abort), table: &[Words]) {
-    for (place, words) in table.iter().enumerate() {
-        let found = words.read(rt.alloc());
-        assert!(rt; found == Err(Fault::BadQuery), "{place}: {found:?}");
-    }
+// The place of the first words that are not refused so.
+fn first_taken(alloc: Global, table: &[Words]) -> Option<usize> {
+    table
+        .iter()
+        .position(|words| words.read(alloc) != Err(Fault::BadQuery))
 }
 
 #[test]
 fn words_that_spell_no_query_are_refused(rt: HostRuntime) {
-    are_refused(&rt, &WRONG);
+    assert_eq!(rt; first_taken(rt.alloc(), &WRONG), None);
 }

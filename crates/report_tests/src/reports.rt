@@ -3,7 +3,6 @@ use cube_model::{Agg, Answer, Attr, Fault, Fraction, Items, Kind, Line, Measure,
 use sample_star::{Asked, query, text};
 use ssb_reports::write_report;
 use std::alloc::Global;
-use std::process::Abort;
 use std::test::Fail;
 
 /// A line of an answer: its members, `None` for ALL, and its values.
@@ -134,21 +133,26 @@ fn members(alloc: Global, key: &[Option<&str>]) -> Result<Items<Member>, Fault> 
     Ok(members)
 }
 
-fn are_written(
-    rt: &(impl AllocGlobal + Abort),
-    cases: &[(Asked<'_>, &[Row], &str)],
-) -> Result<(), Fail> {
-    for (asked, rows, want) in cases {
-        let query = query(rt.alloc(), asked)?;
-        let answer = answer(rt.alloc(), rows)?;
-        let mut out = Vec::new(rt.alloc());
-        write_report(&query, &answer, &mut out)?;
-        assert!(rt; out.as_slice() == want.as_bytes(), "{want}");
+// The place of the first answer whose report is another text.
+fn first_other(alloc: Global, cases: &[(Asked<'_>, &[Row], &str)]) -> Result<Option<usize>, Fault> {
+    for (place, (asked, rows, want)) in cases.iter().enumerate() {
+        if !is_reported(alloc, asked, rows, want)? {
+            return Ok(Some(place));
+        }
     }
-    Ok(())
+    Ok(None)
+}
+
+fn is_reported(alloc: Global, asked: &Asked<'_>, rows: &[Row], want: &str) -> Result<bool, Fault> {
+    let query = query(alloc, asked)?;
+    let answer = answer(alloc, rows)?;
+    let mut out = Vec::new(alloc);
+    write_report(&query, &answer, &mut out)?;
+    Ok(out.as_slice() == want.as_bytes())
 }
 
 #[test]
 fn reports_are_as_written_by_hand(rt: HostRuntime) -> Result<(), Fail> {
-    are_written(&rt, &CASES)
+    assert_eq!(rt; first_other(rt.alloc(), &CASES)?, None);
+    Ok(())
 }

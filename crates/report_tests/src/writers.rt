@@ -33,53 +33,56 @@ static ROWS: [Row; 2] = [
 
 static WHOLE: &[u8] = b"d_year|avg(revenue)\n1997|-5/2\nALL|-5/2\nrows 2\n";
 
-// What comes of a report for a writer with so much room, and the bytes that it took.
-fn written(
+// Whether a writer that has so much room takes just so much of a report, and what comes of it is as wanted.
+fn is_taken(
     alloc: Global,
-    query: &Query,
-    answer: &Answer,
+    answered: &(Query, Answer),
     room: usize,
     when_full: WhenFull,
-) -> (Result<(), Fault>, Vec<u8>) {
+    want: Result<(), Fault>,
+) -> bool {
     let mut taker = Taker::new(alloc, room);
     taker.when_full = when_full;
-    let done = write_report(query, answer, &mut taker);
-    (done, taker.bytes)
+    let done = write_report(&answered.0, &answered.1, &mut taker);
+    done == want && taker.bytes.as_slice() == &WHOLE[..room.min(WHOLE.len())]
 }
 
+fn answered(alloc: Global) -> Result<(Query, Answer), Fault> {
+    let query = query(alloc, &ASKED)?;
+    Ok((query, answer(alloc, &ROWS)?))
+}
+
+// The least room at which a report is not answered as a writer that fails so wants it.
+fn first_wrong(alloc: Global, when_full: WhenFull, rooms: usize) -> Result<Option<usize>, Fault> {
+    let answered = answered(alloc)?;
+    for room in 0..rooms {
+        if !is_taken(alloc, &answered, room, when_full, Err(Fault::Output)) {
+            return Ok(Some(room));
+        }
+    }
+    if is_taken(alloc, &answered, rooms, when_full, Ok(())) {
+        Ok(None)
+    } else {
+        Ok(Some(rooms))
+    }
+}
+
+// With just the room of the report the last byte is taken, and the flush fails.
 #[test]
 fn a_failing_write_stands_behind_what_was_taken(rt: HostRuntime) -> Result<(), Fail> {
-    let query = query(rt.alloc(), &ASKED)?;
-    let answer = answer(rt.alloc(), &ROWS)?;
-    for room in 0..WHOLE.len() + 1 {
-        let (done, bytes) = written(rt.alloc(), &query, &answer, room, WhenFull::Fails);
-        assert!(rt;
-            done == Err(Fault::Output) && bytes.as_slice() == &WHOLE[..room],
-            "{room}"
-        );
-    }
-    let (done, bytes) = written(
-        rt.alloc(),
-        &query,
-        &answer,
-        WHOLE.len() + 1,
-        WhenFull::Fails,
+    assert_eq!(rt;
+        first_wrong(rt.alloc(), WhenFull::Fails, WHOLE.len() + 1)?,
+        None
     );
-    assert!(rt; done == Ok(()) && bytes.as_slice() == WHOLE);
     Ok(())
 }
 
 #[test]
 fn a_writer_that_takes_nothing_has_failed(rt: HostRuntime) -> Result<(), Fail> {
-    let query = query(rt.alloc(), &ASKED)?;
-    let answer = answer(rt.alloc(), &ROWS)?;
-    for room in 0..WHOLE.len() {
-        let (done, bytes) = written(rt.alloc(), &query, &answer, room, WhenFull::TakesNone);
-        assert!(rt;
-            done == Err(Fault::Output) && bytes.as_slice() == &WHOLE[..room],
-            "{room}"
-        );
-    }
+    assert_eq!(rt;
+        first_wrong(rt.alloc(), WhenFull::TakesNone, WHOLE.len())?,
+        None
+    );
     Ok(())
 }
 
@@ -106,15 +109,18 @@ impl Write for Interrupted {
     }
 }
 
-#[test]
-fn an_interrupted_write_is_tried_again(rt: HostRuntime) -> Result<(), Fail> {
-    let query = query(rt.alloc(), &ASKED)?;
-    let answer = answer(rt.alloc(), &ROWS)?;
+fn is_written_although_interrupted(alloc: Global) -> Result<bool, Fault> {
+    let answered = answered(alloc)?;
     let mut out = Interrupted {
-        bytes: Vec::new(rt.alloc()),
+        bytes: Vec::new(alloc),
         next: false,
     };
-    write_report(&query, &answer, &mut out)?;
-    assert!(rt; out.bytes.as_slice() == WHOLE);
+    write_report(&answered.0, &answered.1, &mut out)?;
+    Ok(out.bytes.as_slice() == WHOLE)
+}
+
+#[test]
+fn an_interrupted_write_is_tried_again(rt: HostRuntime) -> Result<(), Fail> {
+    assert!(rt; is_written_although_interrupted(rt.alloc())?);
     Ok(())
 }

@@ -1,5 +1,7 @@
 pub mod Batches
 pub mod Checks
 pub mod Endings
+pub mod ShortRows
 pub mod Tables
 pub mod WholeText
+pub mod Taking

@@ -5,11 +5,11 @@ ghost use Rattle.ssb_eval.specs.Evaluation.{Gives, Texts, table_rows, dimensions
 
 use batch_loader::{Lines, read_customers, read_dates, read_parts, read_suppliers};
 use cube_model::{CustomerRow, DateRow, DimRows, Fault, Items, PartRow, SupplierRow};
-use dimensions::Dims;
+use dimensions::{Dims, have_short_texts};
 use std::alloc::Global;
 use std::io::Read;
 
-/// Reads the four tables, and then checks their rows.
+/// Reads the four tables, and then checks their rows. That a text is too long is never found here: its table refuses it.
 pub fn read_dimensions<C: Read + Drop, S: Read + Drop, P: Read + Drop, D: Read + Drop>(
     alloc: Global,
     customer: C,
@@ -30,6 +30,9 @@ pub fn read_dimensions<C: Read + Drop, S: Read + Drop, P: Read + Drop, D: Read +
         parts,
         dates,
     };
+    if !have_short_texts(&rows) {
+        return Err(Fault::Input);
+    }
     Dims::build(alloc, &rows)
 }
 

@@ -2,7 +2,6 @@
 ghost use Rattle.std.specs.Prelude.{◌≡◌, Err};
 ghost use Rattle.std.specs.Io.KnownBytes.{Keeps};
 ghost use Rattle.cube_model.specs.Proper.{IsProper};
-ghost use Rattle.cube_query.specs.Limits.{IsPlain};
 ghost use Rattle.ssb_eval.specs.Evaluation.{HaveTexts, Reports, Texts, eval_of};
 
 use crate::dimension_tables::read_dimensions;
@@ -34,8 +33,6 @@ pub fn eval_texts<
     query: &Query,
     out: &mut W,
 ) -> Result<(), Fault>
-    requires { IsPlain query.now }
-
     // Of a proper query the outcome is that of the texts.
     ensures proper { IsProper query.now → (texts : Texts)
         → HaveTexts (C.remaining customer) (S.remaining supplier) (P.remaining part) (D.remaining date) (L.remaining lineorder) texts

@@ -1,12 +1,14 @@
 //! The answer over the text of the fact table.
-ghost use Rattle.std.specs.Prelude.{◌≡◌, ℕ, List, Some};
+ghost use Rattle.std.specs.Prelude.{◌≡◌, ℕ, List, Some, None};
 ghost use Rattle.cube_model.specs.Proper.{IsProper};
-ghost use Rattle.cube_query.specs.Limits.{IsPlain};
+ghost use Rattle.cube_model.specs.declared.rows.LineOrder.{LineOrder};
+ghost use Rattle.cube_query.specs.Groups.{Begins};
 ghost use Rattle.ssb_eval.specs.Evaluation.{Gives, answer_of};
+ghost use Rattle.ssb_eval.specs.Taken.{AreTaken, CanGoOn, TakesNextBatch, TakesBatchIn};
 
 use crate::admission::Admission;
 use batch_loader::{Lines, read_batch};
-use cube_model::{Answer, Fault, Query};
+use cube_model::{Answer, Fault, LineOrder, Query};
 use cube_query::Fold;
 use dimensions::Dims;
 use std::alloc::Global;
@@ -21,21 +23,68 @@ pub fn answer_facts<R: Read + Drop>(
     query: &Query,
     lineorder: R,
 ) -> Result<Answer, Fault>
-    requires plain { IsPlain query.now }
     requires proper { IsProper query.now }
     ensures { (text : List ℕ) → R.remaining lineorder ≡ Some text → Gives (answer_of query.now dims.now text) result }
 {
     let mut lines = Lines::new(alloc, lineorder)?;
     let mut fold = Fold::new(alloc, dims, query)?;
+    fold_lines(alloc, dims, &mut lines, &mut fold)
+}
+
+/// The answer of a fold that begins, over all batches of some lines.
+fn fold_lines<R: Read>(
+    alloc: Global,
+    dims: &Dims,
+    lines: &mut Lines<R>,
+    fold: &mut Fold<'_>,
+) -> Result<Answer, Fault>
+    requires begins { Begins dims.now fold.old.query fold.old }
+    requires number { lines.old.number ≡ 0 }
+    requires fault { lines.old.fault ≡ None }
+    ensures { (text : List ℕ) → lines.old.left ≡ Some text → Gives (answer_of fold.old.query dims.now text) result }
+{
     let mut admission = Admission::new();
     loop {
-        let rows = read_batch(alloc, &mut lines, BATCH_ROWS)?;
-        if rows.is_empty() {
+        let more = take_batch(alloc, dims, lines, &mut admission, fold)?;
+        if !more {
             return fold.finish();
         }
-        let batch = rows.as_slice();
-        let number = admission.next_number();
-        admission.admit(dims, number, batch)?;
-        fold.add_rows(batch)?;
     }
+}
+
+/// Reads the next batch, checks it, and folds it. It gives false where no row is left.
+fn take_batch<R: Read>(
+    alloc: Global,
+    dims: &Dims,
+    lines: &mut Lines<R>,
+    admission: &mut Admission,
+    fold: &mut Fold<'_>,
+) -> Result<bool, Fault>
+    requires goes_on { CanGoOn dims.now admission.old fold.old }
+    requires fault { lines.old.fault ≡ None }
+    ensures { (batches : List (List LineOrder)) → AreTaken dims.now fold.old.query admission.old fold.old batches
+        → TakesNextBatch dims.now fold.old.query batches lines.old lines.new admission.new fold.new result }
+{
+    let rows = read_batch(alloc, lines, BATCH_ROWS)?;
+    if rows.is_empty() {
+        return Ok(false);
+    }
+    take_rows(dims, rows.as_slice(), admission, fold)?;
+    Ok(true)
+}
+
+/// Checks the rows of a batch, and folds them.
+fn take_rows(
+    dims: &Dims,
+    rows: &[LineOrder],
+    admission: &mut Admission,
+    fold: &mut Fold<'_>,
+) -> Result<(), Fault>
+    requires { CanGoOn dims.now admission.old fold.old }
+    ensures { (batches : List (List LineOrder)) → AreTaken dims.now fold.old.query admission.old fold.old batches
+        → TakesBatchIn dims.now fold.old.query batches rows.now admission.new fold.new result }
+{
+    let number = admission.next_number();
+    admission.admit(dims, number, rows)?;
+    fold.add_rows(rows)
 }

@@ -8,10 +8,8 @@ mod exit;
 mod facts;
 mod findings;
 mod laws;
-mod plain;
 mod totals;
 
 pub use evaluation::eval_texts;
 pub use exit::exit_of;
 pub use laws::facts_are_the_rows_of_their_text;
-pub use plain::is_plain;

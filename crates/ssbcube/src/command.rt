@@ -32,8 +32,6 @@ Examples, with the five tables as in 'ssbcube eval --customer customer.tbl
   ssbcube eval .. --set cube --by c_region,d_year --agg count,sum:revenue,avg:revenue
   ssbcube eval .. --set rollup --by d_year,d_yearmonthnum --agg sum:revenue
 
-Not answered yet, and refused with fault 24: sets but plain, averages, and the third flight.
-
 The report goes to standard output. A refusal is one line on standard error, such as
 'fault 9 FieldCount line 1', and the status is then 1.";
 

@@ -2,7 +2,7 @@
 use clap::ArgMatches;
 use cube_model::{Fault, Query};
 use query_words::read_query;
-use ssb_eval::{eval_texts, is_plain};
+use ssb_eval::eval_texts;
 use std::alloc::Global;
 use std::fs;
 use std::io::{self, BufWriter, Read};
@@ -65,9 +65,6 @@ fn report<R: AllocGlobal + Print, F: Read + Drop>(
     dimensions: DimensionFiles<F>,
     lineorder: F,
 ) -> Result<(), Fault> {
-    if !is_plain(query) {
-        return Err(Fault::BadQuery);
-    }
     let Ok(mut out) = BufWriter::new(rt.alloc(), io::writer(rt)) else {
         return Err(Fault::Memory);
     };

@@ -4,7 +4,7 @@ use Rattle.std.proofs.Math.Seq.{drop-append_seam}
 use Rattle.wire.specs.Spelling.{spelling}
 use Rattle.wire.specs.Writing.{with_field}
 use Rattle.wire.specs.Reading.{ReadsNumber, TakesBytes}
-use Rattle.wire.proofs.CallerLemmas.{length-spelling, with_field-done}
+use Rattle.wire.proofs.CallerLemmas.{with_field-done}
 use Rattle.superblock.specs.declared.superblock.Super.{Super}
 use Rattle.superblock.specs.Superblock.{sector_of, IsProper}
 use Rattle.superblock.proofs.CallerLemmas.{bytes_fit, catalogue_fits, layout_fits, made_of}

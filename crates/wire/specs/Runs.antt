@@ -25,10 +25,16 @@ pub record IsRefused {S : Type 0} (g : Ghosts S) (fault : Fault) (old new : S) :
 
 -- before the first read
 pub Stays-none : {S : Type 0} (g : Ghosts S) (s : S) → Stays g s s
-Stays-none g s = record { totals = λ id. refl; texts = λ keeps id. refl; word = λ keeps. keeps; goes_on = λ always keeps. keeps }
+Stays-none g s = record {
+  totals = λ id. refl;
+  texts = λ keeps id. refl;
+  word = λ keeps. keeps;
+  goes_on = λ always keeps. keeps;
+}
 
 -- one run behind another
-pub Stays-then : {S : Type 0} (g : Ghosts S) (old mid new : S) → Stays g old mid → Stays g mid new → Stays g old new
+pub Stays-then : {S : Type 0} (g : Ghosts S) (old mid new : S)
+    → Stays g old mid → Stays g mid new → Stays g old new
 Stays-then g old mid new first second = record {
   totals = λ id. second.totals id ∙ first.totals id;
   texts = λ keeps id. second.texts keeps id ∙ first.texts (second.word keeps) id;

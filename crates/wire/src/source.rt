@@ -52,7 +52,8 @@ pub trait Source {
     ghost reads_on: { (old mid new : Self) → reads old mid → reads mid new → reads old new };
 
     /// A refusal behind a run of reads is one behind a longer run.
-    ghost fails_later: { (fault : Fault) (old mid new : Self) → reads old mid → fails fault mid new → fails fault old new };
+    ghost fails_later: { (fault : Fault) (old mid new : Self)
+        → reads old mid → fails fault mid new → fails fault old new };
 }
 
 /// Bytes in memory, which stand at every id.

@@ -1,9 +1,10 @@
 //! Splitting a line at its bars.
-ghost use Rattle.std.specs.Prelude.{◌≡◌, ◌<◌, ◌≤◌, ℕ, Some, None, length, slice_index, MatchResult};
-ghost use Rattle.batch_loader.specs.Fields.{without_cr, fields_of, bar_from};
+ghost use Rattle.std.specs.Prelude.{◌≡◌, Some, None, MatchResult};
+ghost use Rattle.batch_loader.specs.Fields.{without_cr, fields_of};
 ghost use Rattle.batch_loader.specs.LineFields.{texts_of};
 
 use super::LineFields;
+use super::bars::{first_window, next_bar};
 use cube_model::Fault;
 
 /// The fields of a line with a number. A line spells N fields where it has N parts between its bars, or one more that is empty.
@@ -13,13 +14,15 @@ pub fn fields<const N: usize>(line: &[u8], number: u64) -> Result<LineFields<'_,
     let text = without_cr(line);
     let mut ends = [0usize; N];
     let mut from = 0;
+    let mut window = first_window(text);
     for place in 0..N {
         if from > text.len() {
             return Err(Fault::FieldCount { line: number });
         }
-        let end = next_bar(text, from);
+        let (end, behind) = next_bar(text, from, window);
         ends[place] = end;
         from = end + 1;
+        window = behind;
     }
     if from < text.len() {
         return Err(Fault::FieldCount { line: number });
@@ -28,7 +31,7 @@ pub fn fields<const N: usize>(line: &[u8], number: u64) -> Result<LineFields<'_,
 }
 
 /// A line without its CR.
-pub fn without_cr(line: &[u8]) -> &[u8]
+fn without_cr(line: &[u8]) -> &[u8]
     ensures { result.now ≡ without_cr line.now }
 {
     let len = line.len();
@@ -37,18 +40,4 @@ pub fn without_cr(line: &[u8]) -> &[u8]
     } else {
         line
     }
-}
-
-/// The place of the first bar from a place on, or the length of the text.
-fn next_bar(text: &[u8], from: usize) -> usize
-    requires { from ≤ length text.now }
-    ensures bar { result ≡ bar_from text.now from }
-    ensures within { result ≤ length text.now }
-{
-    for at in from..text.len() {
-        if text[at] == b'|' {
-            return at;
-        }
-    }
-    text.len()
 }

@@ -1,14 +1,15 @@
-use Rattle.std.proofs.Common.{sym, subst, ◌+◌}
+use Rattle.std.proofs.lemmas.Result.{err_from_is_err_and}
 use Rattle.batch_loader.specs.Columns.{row_of}
-use Rattle.batch_loader.proofs.TakingRows.{IsTaking, IsTaking-next, IsTaking-refused}
+use Rattle.batch_loader.specs.Reading.{RefusesBatch}
+use Rattle.batch_loader.proofs.TakingRows.{IsTaking-push, IsTaking-refused, IfErr-from}
 use Rattle.batch_loader.proofs.tables.read_rows.Goals as goal
 
-pub returns-in-Err-clause-refused : goal.returns-in-Err-clause-refused
-returns-in-Err-clause-refused g c = λ none.
-    IsTaking-refused (row_of g.T.TableRow.columns g.T.TableRow.of_fields) c.args.max c.args.lines.now c.loop.lines c.loop.rows c.loop.counter c.in-Err.fault c.loop-test.true (c.in-Err.ensures.refused c.loop.invariant.fault) c.loop.invariant
+pub returns-in_err-push_row-clause-refused : goal.returns-in_err-push_row-clause-refused
+returns-in_err-push_row-clause-refused g c = λ none.
+    IfErr-from c.from_residual.result _ (RefusesBatch (row_of g.T.TableRow.columns g.T.TableRow.of_fields) c.args.max c.args.lines.now) (err_from_is_err_and _ c.from_residual.ensures.1)
+    (IsTaking-refused (row_of g.T.TableRow.columns g.T.TableRow.of_fields) c.args.max c.args.lines.now c.loop.lines c.loop.rows c.loop.counter _ c.loop-test.true (c.in_err-push_row.ensures.refused c.loop.invariant.fault) c.loop.invariant)
 
 pub loop-preserved : goal.loop-preserved
 loop-preserved g c =
-    let taken = rw c.in-Ok-Some.field-0-is at c.in-Ok-Some.ensures.taken in
-    subst (λ rows. IsTaking (row_of g.T.TableRow.columns g.T.TableRow.of_fields) c.args.max c.args.lines.now c.next_row.new.lines rows (c.loop.counter + 1)) (sym c.in-Ok.ensures.ok)
-    (IsTaking-next (row_of g.T.TableRow.columns g.T.TableRow.of_fields) c.args.max c.args.lines.now c.loop.lines c.next_row.new.lines c.loop.rows c.loop.counter c.in-Ok-Some.row c.loop-test.true taken.0 taken.1 c.loop.invariant)
+    IsTaking-push (row_of g.T.TableRow.columns g.T.TableRow.of_fields) c.args.max c.args.lines.now c.loop.lines c.push_row.new.lines c.loop.rows c.push_row.new.rows c.loop.counter c.loop-test.true
+    (rw c.if-not-branch.false at c.in_ok-push_row.ensures.taken) c.loop.invariant

@@ -1,4 +1,4 @@
-use Rattle.std.proofs.Common.{refl, arith, replicate}
+use Rattle.std.proofs.Common.{arith, replicate}
 use Rattle.wire.specs.Spelling.{spelling}
 use Rattle.wire.proofs.CallerLemmas.{length-spelling}
 use Rattle.catalogue.proofs.Places.{three_put}

@@ -1,4 +1,4 @@
-use Rattle.std.proofs.Common.{◌≡◌, ◌+◌, ◌<◌, ◌∙◌, sym, refl, codes, length, arith}
+use Rattle.std.proofs.Common.{◌≡◌, ◌<◌, ◌∙◌, sym, refl, codes, length, arith}
 use Rattle.catalogue.proofs.Read.{header_read, name_of, told_apart, told_same, too_short}
 use Rattle.catalogue.proofs.reading.read_header.Goals as goal
 

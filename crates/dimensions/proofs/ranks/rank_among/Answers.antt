@@ -1,4 +1,3 @@
-use Rattle.std.proofs.Common.{rules}
 use Rattle.dimensions.proofs.RankLaws.{found, found_text}
 use Rattle.dimensions.proofs.ranks.rank_among.Goals as goal
 

@@ -1,9 +1,8 @@
-use Rattle.std.proofs.Common.{◌≡◌, List, ℕ, sym, subst, true, get_or}
+use Rattle.std.proofs.Common.{◌≡◌, sym, subst, true}
 use Rattle.std.specs.List.{list_any}
 use Rattle.std.specs.Str.{bytes_eq}
 use Rattle.cube_model.specs.Ascending.{IsAscending}
-use Rattle.cube_model.specs.Validity.{members_of}
-use Rattle.dimensions.proofs.ApartTexts.{text_cmp}
+use Rattle.dimensions.proofs.MemberLaws.{text_cmp}
 use Rattle.dimensions.proofs.RankLaws.{members_ascend, is_member}
 use Rattle.dimensions.proofs.ranks.ranks_among.Goals as goal
 

@@ -1,6 +1,5 @@
 use Rattle.std.proofs.Common.{◌≡◌, take, length}
-use Rattle.dimensions.specs.Levels.{AreCodes}
-use Rattle.dimensions.specs.Ranked.{texts_of_ranks}
+use Rattle.dimensions.specs.Ranked.{AreCodes, texts_of_ranks}
 use Rattle.dimensions.proofs.ranks.ranks_among.Given as goal
 
 abbrev pub invariant-loop-text : goal.invariant-loop-text

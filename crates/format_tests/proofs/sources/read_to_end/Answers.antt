@@ -1,4 +1,4 @@
-use Rattle.std.proofs.Common.{◌≡◌, ◌+◌, Some, length, option_map, sym, ap, ◌∙◌, subst, arith, take, length-take}
+use Rattle.std.proofs.Common.{◌≡◌, Some, length, sym, ap, ◌∙◌, subst, arith, take, length-take}
 use Rattle.wire.specs.Parts.{Gives}
 use Rattle.wire.specs.Runs.{HasRead}
 use Rattle.wire.proofs.CallerLemmas.{HasRead-then}

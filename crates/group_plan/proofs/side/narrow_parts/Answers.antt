@@ -1,15 +1,15 @@
-use Rattle.std.proofs.Common.{◌≡◌, ◌≤◌, ◌<◌, ◌^◌, ◌∙◌, sym, ap, refl, subst, arith, ◌++◌, ◌∷◌, [], map, length}
+use Rattle.std.proofs.Common.{◌<◌, ◌^◌, ◌∙◌, sym, subst, arith, ◌++◌, ◌∷◌, []}
 use Rattle.std.specs.Prelude.{IfSome}
-use Rattle.std.specs.List.{range_with_len}
 use Rattle.std.proofs.lemmas.List.FromFn.{map-range_with_len_more}
 use Rattle.group_plan.specs.Parts.{given_at}
+use Rattle.group_plan.proofs.EachDigit.{some_groups}
 use Rattle.group_plan.proofs.Outcomes.{given_below}
 use Rattle.group_plan.proofs.side.narrow_parts.Goals as goal
 
 pub narrow-requires : goal.narrow-requires
 narrow-requires c =
     subst (λ part. IfSome part (λ number. number < 2 ^ 32)) (sym c.given_at.ensures)
-    (given_below c.args.dims.now c.args.query.now c.args.axis c.loop-place.place (2 ^ 32) (omega (arith, c.row_count-count.ensures.count, c.loop-place-test.true)) c.requires.some c.requires.narrow)
+    (given_below c.args.dims.now c.args.query.now c.args.axis c.loop-place.place (2 ^ 32) (omega (arith, c.row_count-count.ensures.count, c.loop-place-test.true)) (some_groups c.args.dims.now c.args.query.now.columns) c.requires.narrow)
 
 pub loop-place-preserved : goal.loop-place-preserved
 loop-place-preserved c =

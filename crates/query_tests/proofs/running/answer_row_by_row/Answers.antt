@@ -7,7 +7,7 @@ use Rattle.query_tests.proofs.running.answer_row_by_row.Goals as goal
 pub add_rows-requires : goal.add_rows-requires
 add_rows-requires c =
     let before = take c.loop-i.i c.args.rows.now in
-    let foldable = subst (AreFoldable c.args.dims.now) (sym (append-nil before)) (AreFoldable-take c.args.dims.now c.args.rows.now c.loop-i.i c.requires.foldable) in
+    let foldable = subst (AreFoldable c.args.dims.now) (sym (append-nil before)) (AreFoldable-take c.args.dims.now c.args.rows.now c.loop-i.i c.requires) in
     (before, (c.loop-i.invariant.1, subst (λ dimensions. AreFoldable dimensions (before ++ [])) (sym c.loop-i.invariant.0) foldable))
 
 pub add_rows-requires-in-loop-i : goal.add_rows-requires-in-loop-i
@@ -16,7 +16,7 @@ add_rows-requires-in-loop-i c =
     let rows = c.args.rows.now in
     let before = take i rows in
     let takes = c.in_ok-add_rows.ensures.ok in
-    let foldable = subst (AreFoldable c.args.dims.now) (sym (one_more rows i)) (AreFoldable-take c.args.dims.now rows (i + 1) c.requires.foldable) in
+    let foldable = subst (AreFoldable c.args.dims.now) (sym (one_more rows i)) (AreFoldable-take c.args.dims.now rows (i + 1) c.requires) in
     (before ++ [], (takes.stands before c.loop-i.invariant.1, subst (λ dimensions. AreFoldable dimensions ((before ++ []) ++ take (i + 1 - i) (drop i rows))) (sym (takes.dimensions ∙ c.loop-i.invariant.0)) foldable))
 
 pub loop-i-preserved : goal.loop-i-preserved

@@ -1,4 +1,6 @@
 use Rattle.std.proofs.lemmas.Result.{err_from_is_err_and}
+use Rattle.batch_loader.specs.Lines.{lines_of}
+use Rattle.ssb_eval.proofs.ShortRows.{customers_short, suppliers_short, parts_short, dates_short}
 use Rattle.ssb_eval.proofs.Tables.{gives-stop, gives-on, gives-valid}
 use Rattle.ssb_eval.proofs.dimension_tables.read_dimensions.Goals as goal
 
@@ -31,3 +33,12 @@ returns g c = λ texts customer supplier part date.
     (gives-on _ _ c.in_ok-parts.parts _ (c.in_ok-parts.ensures texts.part part)
     (gives-on _ _ c.in_ok-dates.dates _ (c.in_ok-dates.ensures texts.date date)
     (gives-valid _ _ c.build.ensures.ok c.build.ensures.valid c.build.ensures.err))))
+
+pub returns-then-not-have_short_texts : goal.returns-then-not-have_short_texts
+returns-then-not-have_short_texts g c = λ texts customer supplier part date.
+    absurd (c.if-not-have_short_texts.ensures.no (record {
+      customers = customers_short (lines_of texts.customer) c.in_ok-customers.customers (c.in_ok-customers.ensures texts.customer customer);
+      suppliers = suppliers_short (lines_of texts.supplier) c.in_ok-suppliers.suppliers (c.in_ok-suppliers.ensures texts.supplier supplier);
+      parts = parts_short (lines_of texts.part) c.in_ok-parts.parts (c.in_ok-parts.ensures texts.part part);
+      dates = dates_short (lines_of texts.date) c.in_ok-dates.dates (c.in_ok-dates.ensures texts.date date);
+    }))

@@ -1,5 +1,10 @@
+use Rattle.std.proofs.Common.{◌≤◌, length}
+use Rattle.batch_loader.specs.Bars.{AreBarsBehind}
 use Rattle.batch_loader.proofs.Splitting.{IsSplitting}
 use Rattle.batch_loader.proofs.line_fields.split.fields.Given as goal
 
 abbrev pub invariant-loop-place : goal.invariant-loop-place
-invariant-loop-place g l = IsSplitting l.place-end l.text l.ends l.place l.from
+invariant-loop-place g l = record {
+  splitting : IsSplitting l.place-end l.text l.ends l.place l.from;
+  bars : l.from ≤ length l.text → AreBarsBehind l.text l.from l.window.first l.window.bars;
+}

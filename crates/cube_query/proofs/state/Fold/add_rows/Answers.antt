@@ -6,12 +6,12 @@ use Rattle.cube_query.specs.Columns.{seen_groups, tallies_at}
 use Rattle.cube_query.specs.Groups.{FoldState, StandsFor, CanTake}
 use Rattle.group_plan.specs.Numbers.{key_at}
 use Rattle.cube_query.specs.Slots.{entries_of}
-use Rattle.cube_query.specs.Standing.{HaveRoom, CountIn, IsFold}
+use Rattle.cube_query.specs.FoldInvariant.{HaveRoom, CountIn, IsFold}
 use Rattle.cube_query.specs.declared.tally.Tally.{Tally}
 use Rattle.cube_query.proofs.Columnwise.{tallies-length}
 use Rattle.cube_query.proofs.Folds.{IsFold-ready, shown_ready, HaveRoom-ready, IsFold-count, shown_count}
 use Rattle.cube_query.proofs.Known.{known_behind}
-use Rattle.cube_query.proofs.Marking.{AreMarks-length}
+use Rattle.cube_query.proofs.Marking.{AreGroupSlots-length}
 use Rattle.cube_query.proofs.state.Fold.add_rows.Goals as goal
 
 pub ready-requires-clause-known : goal.ready-requires-clause-known
@@ -38,42 +38,43 @@ count_in_all-requires-clause-columns c =
     let entries = entries_of c.ready.new.slots in
     let is = IsFold-ready inside.plan.dimensions inside.plan.query inside.slots inside.columns.items c.self.invariant.1 c.ready.new.slots c.ready.new.columns.items c.ready.ensures.cover c.ready.ensures.grow c.ready.ensures.same in
     ap length c.as_mut_slice.ensures.value
-    ∙ tallies-length inside.plan.query.aggregates c.ready.new.columns.items (length entries) [] (is.tallied.1.fresh (length entries) (omega arith))
+    ∙ tallies-length inside.plan.query.aggregates c.ready.new.columns.items (length entries) [] (is.tallied.1.1.fresh (length entries) (omega arith))
     ∙ sym (ap length (c.as_slice-aggregates.ensures ∙ ap (λ q. q.aggregates) c.self.invariant.0))
 
-pub count_in_all-requires-clause-marks : goal.count_in_all-requires-clause-marks
-count_in_all-requires-clause-marks c =
+pub count_in_all-requires-clause-group_slots : goal.count_in_all-requires-clause-group_slots
+count_in_all-requires-clause-group_slots c =
     let inside = c.self.inside in
-    ap length c.as_slice.ensures.value ∙ AreMarks-length inside.plan.dimensions inside.plan.query (entries_of c.ready.new.slots) c.args.rows.now c.in-Ok.marks.items c.in-Ok.ensures.marks
+    ap length c.as_slice.ensures.value ∙ AreGroupSlots-length inside.plan.dimensions inside.plan.query (entries_of c.ready.new.slots) c.args.rows.now c.in-Ok.group_slots.items c.in-Ok.ensures.group_slots
 
 pub count_in_all-requires-clause-room : goal.count_in_all-requires-clause-room
 count_in_all-requires-clause-room c =
     let inside = c.self.inside in
     let rows = c.args.rows.now in
     let longer = c.ready.new.columns.items in
-    let marks = c.in-Ok.marks.items in
+    let group_slots = c.in-Ok.group_slots.items in
     let aggregates : c.as_slice-aggregates.result.now ≡ inside.plan.query.aggregates = c.as_slice-aggregates.ensures ∙ ap (λ q. q.aggregates) c.self.invariant.0 in
     let given = subst (λ (state : FoldState). CanTake state rows) (sym c.self.view_is) c.requires in
     let room = HaveRoom-ready inside.plan.dimensions inside.plan.query inside.slots inside.columns.items c.self.invariant.1 c.ready.new.slots longer c.ready.ensures.cover c.ready.ensures.grow c.ready.ensures.same
-    rows marks c.in-Ok.ensures.marks given.0 given.1.0 given.1.1 c.in-Ok.ensures.long in
+    rows group_slots c.in-Ok.ensures.group_slots given.0 given.1.0 given.1.1 c.in-Ok.ensures.long in
     subst (λ ms. HaveRoom c.as_slice-aggregates.result.now c.as_mut_slice.result.now rows ms) (sym c.as_slice.ensures.value)
-    (subst (λ (columns : List (Vec Tally Global)). HaveRoom c.as_slice-aggregates.result.now columns rows marks) (sym c.as_mut_slice.ensures.value)
-    (subst (λ aggs. HaveRoom aggs longer rows marks) (sym aggregates) room))
+    (subst (λ (columns : List (Vec Tally Global)). HaveRoom c.as_slice-aggregates.result.now columns rows group_slots) (sym c.as_mut_slice.ensures.value)
+    (subst (λ aggs. HaveRoom aggs longer rows group_slots) (sym aggregates) room))
 
 pub invariant_of-self-2 : goal.invariant_of-self-2
 invariant_of-self-2 c =
     let inside = c.self.inside in
     let rows = c.args.rows.now in
     let longer = c.ready.new.columns.items in
-    let marks = c.in-Ok.marks.items in
+    let group_slots = c.in-Ok.group_slots.items in
     let new = c.count_in_all.new.columns in
     let aggregates : c.as_slice-aggregates.result.now ≡ inside.plan.query.aggregates = c.as_slice-aggregates.ensures ∙ ap (λ q. q.aggregates) c.self.invariant.0 in
-    let count = subst (λ aggs. CountIn aggs rows marks longer new) aggregates
-    (subst (λ (columns : List (Vec Tally Global)). CountIn c.as_slice-aggregates.result.now rows marks columns new) c.as_mut_slice.ensures.value
+    let given = subst (λ (state : FoldState). CanTake state rows) (sym c.self.view_is) c.requires in
+    let count = subst (λ aggs. CountIn aggs rows group_slots longer new) aggregates
+    (subst (λ (columns : List (Vec Tally Global)). CountIn c.as_slice-aggregates.result.now rows group_slots columns new) c.as_mut_slice.ensures.value
     (subst (λ ms. CountIn c.as_slice-aggregates.result.now rows ms c.as_mut_slice.result.now new) c.as_slice.ensures.value c.count_in_all.ensures)) in
     let len : length new ≡ c.ready.new.columns.len = c.count_in_all.auto.columns ∙ c.as_mut_slice.ensures.len in
     let is = IsFold-count inside.plan.dimensions inside.plan.query inside.slots inside.columns.items c.self.invariant.1 c.ready.new.slots longer c.ready.ensures.cover c.ready.ensures.grow c.ready.ensures.same
-    rows marks c.in-Ok.ensures.marks new count in (
+    rows group_slots c.in-Ok.ensures.group_slots new count given.0 given.1.0 given.1.1 in (
       c.self.invariant.0,
       subst (IsFold inside.plan.dimensions inside.plan.query c.ready.new.slots) (sym (with_items_is c.ready.new.columns new len)) is,
     )
@@ -83,11 +84,11 @@ returns-clause-ok c =
     let inside = c.self.inside in
     let rows = c.args.rows.now in
     let longer = c.ready.new.columns.items in
-    let marks = c.in-Ok.marks.items in
+    let group_slots = c.in-Ok.group_slots.items in
     let new = c.count_in_all.new.columns in
     let aggregates : c.as_slice-aggregates.result.now ≡ inside.plan.query.aggregates = c.as_slice-aggregates.ensures ∙ ap (λ q. q.aggregates) c.self.invariant.0 in
-    let count = subst (λ aggs. CountIn aggs rows marks longer new) aggregates
-    (subst (λ (columns : List (Vec Tally Global)). CountIn c.as_slice-aggregates.result.now rows marks columns new) c.as_mut_slice.ensures.value
+    let count = subst (λ aggs. CountIn aggs rows group_slots longer new) aggregates
+    (subst (λ (columns : List (Vec Tally Global)). CountIn c.as_slice-aggregates.result.now rows group_slots columns new) c.as_mut_slice.ensures.value
     (subst (λ ms. CountIn c.as_slice-aggregates.result.now rows ms c.as_mut_slice.result.now new) c.as_slice.ensures.value c.count_in_all.ensures)) in
     let len : length new ≡ c.ready.new.columns.len = c.count_in_all.auto.columns ∙ c.as_mut_slice.ensures.len in
     record {
@@ -96,5 +97,5 @@ returns-clause-ok c =
       stands = λ so_far stands.
           ap (λ columns. seen_groups (key_at inside.plan.dimensions inside.plan.query.columns) (tallies_at columns) (entries_of c.ready.new.slots)) (with_items_is c.ready.new.columns new len)
           ∙ shown_count inside.plan.dimensions inside.plan.query inside.slots inside.columns.items c.self.invariant.1 c.ready.new.slots longer c.ready.ensures.cover c.ready.ensures.grow c.ready.ensures.same
-          rows marks c.in-Ok.ensures.marks new count so_far (subst (λ (state : FoldState). StandsFor state so_far) (sym c.self.view_is) stands);
+          rows group_slots c.in-Ok.ensures.group_slots new count so_far (subst (λ (state : FoldState). StandsFor state so_far) (sym c.self.view_is) stands);
     }

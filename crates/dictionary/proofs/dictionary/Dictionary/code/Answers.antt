@@ -1,4 +1,4 @@
-use Rattle.std.proofs.Common.{rules, ◌≡◌, ◌∙◌, sym}
+use Rattle.std.proofs.Common.{◌∙◌, sym}
 use Rattle.std.specs.Str.{bytes_eq}
 use Rattle.dictionary.proofs.Items.{position-map}
 use Rattle.dictionary.proofs.dictionary.Dictionary.code.Goals as goal

@@ -1,68 +1,63 @@
-use Rattle.dimensions.specs.Whole.{shown_rows, dim_rows}
-use Rattle.std.proofs.Common.{rules, ◌≡◌, ◌∙◌, List, ap, sym, map, subst, None, Some, Ok, Err, IfOk}
-use Rattle.cube_model.specs.declared.attr.Axis.TheVariants.{Customer, Supplier, Part}
-use Rattle.cube_model.specs.declared.fault.Fault.TheVariants.{Memory}
-use Rattle.cube_model.specs.Validity.{IsValid}
-use Rattle.dimensions.specs.Built.{level_of_customer, level_of_supplier, level_of_part, BuildsTable, BuildsDays}
-use Rattle.dimensions.proofs.Assembled.{refused_customers, refused_suppliers, refused_parts, refused_dates, accepted, stands_for, are_tables, holds_on_ok}
+use Rattle.std.proofs.Common.{◌∙◌, ap, map, subst, Ok, Err}
+use Rattle.std.specs.Fmt.{decimal}
+use Rattle.std.proofs.lemmas.Result.{err_from_is_err_and}
+use Rattle.cube_model.specs.declared.attr.Axis.TheVariants.{Customer, Supplier, Part, Date}
+use Rattle.dimensions.specs.TextRows.{row_of_customer, row_of_supplier, row_of_part, row_of_date}
+use Rattle.dimensions.specs.Shown.{BuildsDimension}
+use Rattle.dimensions.proofs.ShownLaws.{refused_customers, refused_suppliers, refused_parts, refused_dates, accepted, shown_is, are_dimensions}
 use Rattle.dimensions.proofs.dims.Dims.build.Goals as goal
 
-pub returns-in-Err-clause-err : goal.returns-in-Err-clause-err
-unfolding shown_rows
-returns-in-Err-clause-err c =
-    let customers : BuildsTable Customer (map level_of_customer c.args.rows.now.customers) (Err c.in-Err.fault) = subst (λ l. BuildsTable Customer (map level_of_customer l) (Err c.in-Err.fault)) c.as_slice.ensures c.in-Err.ensures in
-    refused_customers c.args.rows.now c.in-Err.fault customers
+pub returns-in_err-customers-clause-err : goal.returns-in_err-customers-clause-err
+returns-in_err-customers-clause-err c =
+    let p = err_from_is_err_and c.from_residual.result c.from_residual.ensures.1 in
+    let customers = subst (λ l. BuildsDimension Customer (map row_of_customer l) (Err c.in_err-customers.field-0.0)) c.as_slice.ensures c.in_err-customers.ensures in
+    rw (p.1, p.2) (refused_customers c.args.rows.now c.in_err-customers.field-0.0 customers)
 
-pub returns-in-Err-build_table-clause-err : goal.returns-in-Err-build_table-clause-err
-unfolding shown_rows
-returns-in-Err-build_table-clause-err c =
-    let customers : BuildsTable Customer (map level_of_customer c.args.rows.now.customers) (Ok c.in-Ok.table) = subst (λ l. BuildsTable Customer (map level_of_customer l) (Ok c.in-Ok.table)) c.as_slice.ensures c.in-Ok.ensures in
-    let suppliers : BuildsTable Supplier (map level_of_supplier c.args.rows.now.suppliers) (Err c.in-Err-build_table.fault) = subst (λ l. BuildsTable Supplier (map level_of_supplier l) (Err c.in-Err-build_table.fault)) c.as_slice-2.ensures c.in-Err-build_table.ensures in
-    refused_suppliers c.args.rows.now c.in-Err-build_table.fault customers.2 suppliers
+pub returns-in_err-suppliers-clause-err : goal.returns-in_err-suppliers-clause-err
+returns-in_err-suppliers-clause-err c =
+    let p = err_from_is_err_and c.from_residual-in_err-suppliers.result c.from_residual-in_err-suppliers.ensures.1 in
+    let customers = subst (λ l. BuildsDimension Customer (map row_of_customer l) (Ok c.in_ok-customers.customers)) c.as_slice.ensures c.in_ok-customers.ensures in
+    let suppliers = subst (λ l. BuildsDimension Supplier (map row_of_supplier l) (Err c.in_err-suppliers.field-0.0)) c.as_slice-2.ensures c.in_err-suppliers.ensures in
+    rw (p.1, p.2) (refused_suppliers c.args.rows.now c.in_err-suppliers.field-0.0 customers.1 suppliers)
 
-pub returns-in-Err-build_table-2-clause-err : goal.returns-in-Err-build_table-2-clause-err
-unfolding shown_rows
-returns-in-Err-build_table-2-clause-err c =
-    let customers : BuildsTable Customer (map level_of_customer c.args.rows.now.customers) (Ok c.in-Ok.table) = subst (λ l. BuildsTable Customer (map level_of_customer l) (Ok c.in-Ok.table)) c.as_slice.ensures c.in-Ok.ensures in
-    let suppliers : BuildsTable Supplier (map level_of_supplier c.args.rows.now.suppliers) (Ok c.in-Ok-build_table.table) = subst (λ l. BuildsTable Supplier (map level_of_supplier l) (Ok c.in-Ok-build_table.table)) c.as_slice-2.ensures c.in-Ok-build_table.ensures in
-    let parts : BuildsTable Part (map level_of_part c.args.rows.now.parts) (Err c.in-Err-build_table-2.fault) = subst (λ l. BuildsTable Part (map level_of_part l) (Err c.in-Err-build_table-2.fault)) c.as_slice-3.ensures c.in-Err-build_table-2.ensures in
-    refused_parts c.args.rows.now c.in-Err-build_table-2.fault customers.2 suppliers.2 parts
+pub returns-in_err-parts-clause-err : goal.returns-in_err-parts-clause-err
+returns-in_err-parts-clause-err c =
+    let p = err_from_is_err_and c.from_residual-in_err-parts.result c.from_residual-in_err-parts.ensures.1 in
+    let customers = subst (λ l. BuildsDimension Customer (map row_of_customer l) (Ok c.in_ok-customers.customers)) c.as_slice.ensures c.in_ok-customers.ensures in
+    let suppliers = subst (λ l. BuildsDimension Supplier (map row_of_supplier l) (Ok c.in_ok-suppliers.suppliers)) c.as_slice-2.ensures c.in_ok-suppliers.ensures in
+    let parts = subst (λ l. BuildsDimension Part (map row_of_part l) (Err c.in_err-parts.field-0.0)) c.as_slice-3.ensures c.in_err-parts.ensures in
+    rw (p.1, p.2) (refused_parts c.args.rows.now c.in_err-parts.field-0.0 customers.1 suppliers.1 parts)
 
-pub returns-in-Err-build_days-clause-err : goal.returns-in-Err-build_days-clause-err
-unfolding shown_rows
-returns-in-Err-build_days-clause-err c =
-    let customers : BuildsTable Customer (map level_of_customer c.args.rows.now.customers) (Ok c.in-Ok.table) = subst (λ l. BuildsTable Customer (map level_of_customer l) (Ok c.in-Ok.table)) c.as_slice.ensures c.in-Ok.ensures in
-    let suppliers : BuildsTable Supplier (map level_of_supplier c.args.rows.now.suppliers) (Ok c.in-Ok-build_table.table) = subst (λ l. BuildsTable Supplier (map level_of_supplier l) (Ok c.in-Ok-build_table.table)) c.as_slice-2.ensures c.in-Ok-build_table.ensures in
-    let parts : BuildsTable Part (map level_of_part c.args.rows.now.parts) (Ok c.in-Ok-build_table-2.table) = subst (λ l. BuildsTable Part (map level_of_part l) (Ok c.in-Ok-build_table-2.table)) c.as_slice-3.ensures c.in-Ok-build_table-2.ensures in
-    let dates : BuildsDays c.args.rows.now.dates (Err c.in-Err-build_days.fault) = subst (λ l. BuildsDays l (Err c.in-Err-build_days.fault)) c.as_slice-4.ensures c.in-Err-build_days.ensures in
-    refused_dates c.args.rows.now c.in-Err-build_days.fault customers.2 suppliers.2 parts.2 dates
+pub returns-in_err-dates-clause-err : goal.returns-in_err-dates-clause-err
+returns-in_err-dates-clause-err c =
+    let p = err_from_is_err_and c.from_residual-in_err-dates.result c.from_residual-in_err-dates.ensures.1 in
+    let customers = subst (λ l. BuildsDimension Customer (map row_of_customer l) (Ok c.in_ok-customers.customers)) c.as_slice.ensures c.in_ok-customers.ensures in
+    let suppliers = subst (λ l. BuildsDimension Supplier (map row_of_supplier l) (Ok c.in_ok-suppliers.suppliers)) c.as_slice-2.ensures c.in_ok-suppliers.ensures in
+    let parts = subst (λ l. BuildsDimension Part (map row_of_part l) (Ok c.in_ok-parts.parts)) c.as_slice-3.ensures c.in_ok-parts.ensures in
+    let dates = subst (λ l. BuildsDimension Date (map row_of_date l) (Err c.in_err-dates.field-0.0)) c.as_slice-4.ensures c.in_err-dates.ensures in
+    rw (p.1, p.2) (refused_dates c.args.rows.now c.in_err-dates.field-0.0 customers.1 suppliers.1 parts.1 dates)
 
-pub with_ranks-requires : goal.with_ranks-requires
-unfolding shown_rows
-with_ranks-requires c =
-    let customers : BuildsTable Customer (map level_of_customer c.args.rows.now.customers) (Ok c.in-Ok.table) = subst (λ l. BuildsTable Customer (map level_of_customer l) (Ok c.in-Ok.table)) c.as_slice.ensures c.in-Ok.ensures in
-    let suppliers : BuildsTable Supplier (map level_of_supplier c.args.rows.now.suppliers) (Ok c.in-Ok-build_table.table) = subst (λ l. BuildsTable Supplier (map level_of_supplier l) (Ok c.in-Ok-build_table.table)) c.as_slice-2.ensures c.in-Ok-build_table.ensures in
-    let parts : BuildsTable Part (map level_of_part c.args.rows.now.parts) (Ok c.in-Ok-build_table-2.table) = subst (λ l. BuildsTable Part (map level_of_part l) (Ok c.in-Ok-build_table-2.table)) c.as_slice-3.ensures c.in-Ok-build_table-2.ensures in
-    let dates : BuildsDays c.args.rows.now.dates (Ok c.in-Ok-build_days.table) = subst (λ l. BuildsDays l (Ok c.in-Ok-build_days.table)) c.as_slice-4.ensures c.in-Ok-build_days.ensures in
-    let valid : IsValid c.args.rows.now = accepted c.args.rows.now Memory customers.2 suppliers.2 parts.2 dates.3 in
-    are_tables c.args.rows.now c.in-Ok.table c.in-Ok-build_table.table c.in-Ok-build_table-2.table c.in-Ok-build_days.table customers.1 suppliers.1 parts.1 dates.1 customers.0 suppliers.0 parts.0 dates.0 dates.2 valid
+pub invariant_of-result : goal.invariant_of-result
+invariant_of-result c =
+    let customers = subst (λ l. BuildsDimension Customer (map row_of_customer l) (Ok c.in_ok-customers.customers)) c.as_slice.ensures c.in_ok-customers.ensures in
+    let suppliers = subst (λ l. BuildsDimension Supplier (map row_of_supplier l) (Ok c.in_ok-suppliers.suppliers)) c.as_slice-2.ensures c.in_ok-suppliers.ensures in
+    let parts = subst (λ l. BuildsDimension Part (map row_of_part l) (Ok c.in_ok-parts.parts)) c.as_slice-3.ensures c.in_ok-parts.ensures in
+    let dates = subst (λ l. BuildsDimension Date (map row_of_date l) (Ok c.in_ok-dates.dates)) c.as_slice-4.ensures c.in_ok-dates.ensures in
+    are_dimensions c.args.rows.now c.in_ok-customers.customers c.in_ok-suppliers.suppliers c.in_ok-parts.parts c.in_ok-dates.dates customers.0 suppliers.0 parts.0 dates.0
+    c.in_ok-days.days (c.in_ok-days.ensures.ok ∙ ap (map (λ day. decimal day.key)) c.as_slice-5.ensures) (accepted c.args.rows.now customers.1 suppliers.1 parts.1 dates.1) c.requires.short
 
 pub returns-clause-ok : goal.returns-clause-ok
-unfolding shown_rows
 returns-clause-ok c =
-    let customers : BuildsTable Customer (map level_of_customer c.args.rows.now.customers) (Ok c.in-Ok.table) = subst (λ l. BuildsTable Customer (map level_of_customer l) (Ok c.in-Ok.table)) c.as_slice.ensures c.in-Ok.ensures in
-    let suppliers : BuildsTable Supplier (map level_of_supplier c.args.rows.now.suppliers) (Ok c.in-Ok-build_table.table) = subst (λ l. BuildsTable Supplier (map level_of_supplier l) (Ok c.in-Ok-build_table.table)) c.as_slice-2.ensures c.in-Ok-build_table.ensures in
-    let parts : BuildsTable Part (map level_of_part c.args.rows.now.parts) (Ok c.in-Ok-build_table-2.table) = subst (λ l. BuildsTable Part (map level_of_part l) (Ok c.in-Ok-build_table-2.table)) c.as_slice-3.ensures c.in-Ok-build_table-2.ensures in
-    let dates : BuildsDays c.args.rows.now.dates (Ok c.in-Ok-build_days.table) = subst (λ l. BuildsDays l (Ok c.in-Ok-build_days.table)) c.as_slice-4.ensures c.in-Ok-build_days.ensures in
-    let stands : dim_rows c.in-Ok.table c.in-Ok-build_table.table c.in-Ok-build_table-2.table c.in-Ok-build_days.table ≡ c.args.rows.now = stands_for c.args.rows.now c.in-Ok.table c.in-Ok-build_table.table c.in-Ok-build_table-2.table c.in-Ok-build_days.table customers.1 suppliers.1 parts.1 dates.1 in
-    subst (λ rows. IfOk c.with_ranks.result (λ dims. dims ≡ rows)) stands c.with_ranks.ensures.ok
+    let customers = subst (λ l. BuildsDimension Customer (map row_of_customer l) (Ok c.in_ok-customers.customers)) c.as_slice.ensures c.in_ok-customers.ensures in
+    let suppliers = subst (λ l. BuildsDimension Supplier (map row_of_supplier l) (Ok c.in_ok-suppliers.suppliers)) c.as_slice-2.ensures c.in_ok-suppliers.ensures in
+    let parts = subst (λ l. BuildsDimension Part (map row_of_part l) (Ok c.in_ok-parts.parts)) c.as_slice-3.ensures c.in_ok-parts.ensures in
+    let dates = subst (λ l. BuildsDimension Date (map row_of_date l) (Ok c.in_ok-dates.dates)) c.as_slice-4.ensures c.in_ok-dates.ensures in
+    shown_is c.args.rows.now c.in_ok-customers.customers c.in_ok-suppliers.suppliers c.in_ok-parts.parts c.in_ok-dates.dates customers.0 suppliers.0 parts.0 dates.0
 
 pub returns-clause-valid : goal.returns-clause-valid
-unfolding shown_rows
 returns-clause-valid c =
-    let customers : BuildsTable Customer (map level_of_customer c.args.rows.now.customers) (Ok c.in-Ok.table) = subst (λ l. BuildsTable Customer (map level_of_customer l) (Ok c.in-Ok.table)) c.as_slice.ensures c.in-Ok.ensures in
-    let suppliers : BuildsTable Supplier (map level_of_supplier c.args.rows.now.suppliers) (Ok c.in-Ok-build_table.table) = subst (λ l. BuildsTable Supplier (map level_of_supplier l) (Ok c.in-Ok-build_table.table)) c.as_slice-2.ensures c.in-Ok-build_table.ensures in
-    let parts : BuildsTable Part (map level_of_part c.args.rows.now.parts) (Ok c.in-Ok-build_table-2.table) = subst (λ l. BuildsTable Part (map level_of_part l) (Ok c.in-Ok-build_table-2.table)) c.as_slice-3.ensures c.in-Ok-build_table-2.ensures in
-    let dates : BuildsDays c.args.rows.now.dates (Ok c.in-Ok-build_days.table) = subst (λ l. BuildsDays l (Ok c.in-Ok-build_days.table)) c.as_slice-4.ensures c.in-Ok-build_days.ensures in
-    let valid : IsValid c.args.rows.now = accepted c.args.rows.now Memory customers.2 suppliers.2 parts.2 dates.3 in
-    holds_on_ok c.with_ranks.result valid
+    let customers = subst (λ l. BuildsDimension Customer (map row_of_customer l) (Ok c.in_ok-customers.customers)) c.as_slice.ensures c.in_ok-customers.ensures in
+    let suppliers = subst (λ l. BuildsDimension Supplier (map row_of_supplier l) (Ok c.in_ok-suppliers.suppliers)) c.as_slice-2.ensures c.in_ok-suppliers.ensures in
+    let parts = subst (λ l. BuildsDimension Part (map row_of_part l) (Ok c.in_ok-parts.parts)) c.as_slice-3.ensures c.in_ok-parts.ensures in
+    let dates = subst (λ l. BuildsDimension Date (map row_of_date l) (Ok c.in_ok-dates.dates)) c.as_slice-4.ensures c.in_ok-dates.ensures in
+    accepted c.args.rows.now customers.1 suppliers.1 parts.1 dates.1

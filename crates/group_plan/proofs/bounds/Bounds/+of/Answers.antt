@@ -1,4 +1,4 @@
-use Rattle.std.proofs.Common.{◌≡◌, ◌∙◌, sym, ap, arith, length, take, drop, ◌-◌, ◌∷◌}
+use Rattle.std.proofs.Common.{◌≡◌, ◌∙◌, sym, arith, length, take, drop, ◌-◌, ◌∷◌}
 use Rattle.std.proofs.lemmas.List.{drop_more, take_rest}
 use Rattle.group_plan.specs.Plans.{AreBounds, bounds_with}
 use Rattle.group_plan.proofs.Outcomes.{AreBounds-with}

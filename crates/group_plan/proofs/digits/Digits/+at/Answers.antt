@@ -1,4 +1,4 @@
-use Rattle.std.proofs.Common.{arith, ◌≡◌, ◌∙◌, sym, ap, true, cond, get_or, ◌≤◌, ◌<◌, ◌*◌, ◌+◌, ◌^◌, ◌-◌, length, take, drop, ◌∷◌}
+use Rattle.std.proofs.Common.{arith, ◌≡◌, ◌∙◌, sym, ap, true, cond, get_or, ◌≤◌, ◌*◌, ◌+◌, ◌-◌, length, take, drop, ◌∷◌}
 use Rattle.std.proofs.lemmas.Grind.{common_steps}
 use Rattle.std.proofs.lemmas.List.{drop_more, take_rest}
 use Rattle.cube_model.specs.declared.attr.Attr.{Attr}
@@ -13,20 +13,20 @@ pub overflow_mul-count : goal.overflow_mul-count
 overflow_mul-count t c =
     let others = take (length c.args.columns.now - 1) (drop 1 c.args.columns.now) in
     let few : length others ≤ 5 = grind (arith, common_steps, c.requires.few) in
-    record { fits = omega (arith, product_fits c.members.result c.at-lower.result.count others c.members.ensures.few c.at-lower.ensures.count_bound few) }
+    record { fits = omega (arith, product_fits (c.members.result + 1) c.at-lower.result.count others (omega (arith, c.members.ensures.few)) c.at-lower.ensures.count_bound few) }
 
 pub overflow_mul-result : goal.overflow_mul-result
 overflow_mul-result t c =
     let others = take (length c.args.columns.now - 1) (drop 1 c.args.columns.now) in
     let few : length others ≤ 5 = grind (arith, common_steps, c.requires.few) in
-    let small : c.from-rank.result ≤ 65535 = omega (arith, c.from-rank.ensures, c.rank.type_inv) in
+    let small : c.from-rank.result ≤ 65536 = omega (arith, c.from-rank.ensures, c.rank.type_inv) in
     record { fits = omega (arith, product_fits c.from-rank.result c.at-lower.result.count others small c.at-lower.ensures.count_bound few) }
 
 pub overflow_add-result : goal.overflow_add-result
 overflow_add-result t c =
     let others = take (length c.args.columns.now - 1) (drop 1 c.args.columns.now) in
     let few : length others ≤ 5 = grind (arith, common_steps, c.requires.few) in
-    let small : c.from-rank.result ≤ 65535 = omega (arith, c.from-rank.ensures, c.rank.type_inv) in
+    let small : c.from-rank.result ≤ 65536 = omega (arith, c.from-rank.ensures, c.rank.type_inv) in
     record { fits = omega (arith, product_fits c.from-rank.result c.at-lower.result.count others small c.at-lower.ensures.count_bound few, room_bound others few, c.at-lower.ensures.part_bound) }
 
 pub returns-then-is_same-clause-part : goal.returns-then-is_same-clause-part

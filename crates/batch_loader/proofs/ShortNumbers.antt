@@ -1,0 +1,265 @@
+-- Numbers of at most eight digits, by the bytes of a number.
+use Rattle.std.proofs.Common.{◌≡◌, ◌∙◌, sym, ap, subst, refl, ℕ, ◌+◌, ◌-◌, ◌*◌, ◌/◌, ◌%◌, ◌^◌, ◌<◌, ◌≤◌, Bool, true, false, cond, List, [], ◌∷◌, ◌++◌, length, map, get_or, take, drop, slice_range, arith, Some, None, w64}
+use Rattle.std.specs.Prelude.{◌==◌, ◌&&◌, nat_le, nat_lt, suc, zero, Option, replicate, slice_index}
+use Rattle.std.specs.Int.{bit_at, trailing_ones}
+use Rattle.std.specs.List.{list_all}
+use Rattle.std.specs.Simd.Lanes.{Each1, number_l, mask_l, chunk}
+use Rattle.std.proofs.lemmas.Bool.Decides.{nat_tests}
+use Rattle.std.proofs.lemmas.Nat.Bits.{bit_at-trailing_ones}
+use Rattle.std.proofs.lemmas.Simd.{map-map, mask_l-lt, length-chunk}
+use Rattle.batch_loader.specs.Numbers.{is_digit, value_of, number_of}
+use Rattle.batch_loader.specs.ShortNumbers.{AreDigits, IsSpread, decimal_of}
+use Rattle.batch_loader.proofs.Windows.{bit_at-window}
+use Rattle.batch_loader.proofs.Digits.{drop_next}
+
+-- a test of a byte as a bit
+
+abbrev is_near : ℕ → Bool
+is_near byte = nat_lt ((byte + 208) % 256) 10
+
+abbrev near_bit : ℕ → ℕ
+near_bit byte = cond (is_near byte) 1 0
+
+set_near : (b : Bool) → cond {A = ℕ} b 1 0 ≡ 1 → b ≡ true
+set_near true is = refl
+set_near false is = absurd (omega arith)
+
+near_zero : (byte : ℕ) → byte < 256 → near_bit byte ≡ 1 → (48 ≤ byte) × (byte ≤ 57)
+near_zero byte small set =
+    let near = less ((byte + 208) % 256) (set_near (is_near byte) set) in
+    (omega arith, omega arith)
+  where
+    less : (n : ℕ) → nat_lt n 10 ≡ true → n < 10
+    less n is = grind (arith, nat_tests)
+
+-- the digits that the lowest bits count
+pub AreDigits-counted : (text lanes : List ℕ) (start bits : ℕ) → start + 8 ≤ length text → ((i : ℕ) → get_or text i 0 < 256) → lanes ≡ map (λ byte. (byte + 208) % 256) (chunk start 8 text)
+    → bits ≡ mask_l (map (λ digit. nat_lt digit 10) lanes) → (count : ℕ) → count ≤ trailing_ones w64 bits → count ≤ 8 → AreDigits text start count
+AreDigits-counted text lanes start bits room bytes is bits_are count counted few =
+    let same : bits ≡ mask_l (map is_near (chunk start 8 text)) =
+    bits_are ∙ ap (λ list. mask_l (map (λ digit. nat_lt digit 10) list)) is ∙ ap mask_l (map-map (λ digit. nat_lt digit 10) (λ byte. (byte + 208) % 256) (chunk start 8 text)) in
+    let small : mask_l (map is_near (chunk start 8 text)) < 2 ^ 8 = subst (λ n. mask_l (map is_near (chunk start 8 text)) < 2 ^ n) (length-near start text room) (mask_l-lt (map is_near (chunk start 8 text))) in
+    let low : bits < 256 = omega (arith, same, small) in
+    let ones = bit_at-trailing_ones w64 bits (omega arith) in
+    λ k below. near_zero (slice_index text (start + k)) (bytes (start + k))
+    (sym (bit_at-window is_near text (chunk start 8 text) start 8 k room (omega arith) refl) ∙ ap (λ n. bit_at n k) (sym same) ∙ ones.2 k (omega arith))
+  where
+    length-map : {A B : Type 0} (f : A → B) (items : List A) → length (map f items) ≡ length items
+    length-map f [] = refl
+    length-map f (item ∷ items) = ap suc (length-map f items)
+
+    length-near : (start : ℕ) (text : List ℕ) → start + 8 ≤ length text → length (map is_near (chunk start 8 text)) ≡ 8
+    length-near start text room = length-map is_near (chunk start 8 text) ∙ length-chunk start 8 text room
+
+-- the value of eight digits
+
+abbrev pub pairs_of : ℕ → ℕ
+pairs_of number = (number * 10 % 18446744073709551616 + number / 256) % 18446744073709551616
+
+low_byte : (a q : ℕ) → a < 256 → (a + 256 * q) / 1 % 256 ≡ a
+low_byte a q small = omega arith
+
+byte_behind : (a b c q : ℕ) → a < 256 → b < 256 → c < 256 → (a + 256 * (b + 256 * (c + 256 * q))) / 65536 % 256 ≡ c
+byte_behind a b c q one two three = omega arith
+
+skipped : (a b q : ℕ) → a < 256 → b < 256 → (a + 256 * (b + 256 * q)) / 65536 ≡ q
+skipped a b q one two = omega arith
+
+further : (n : ℕ) → n / 4294967296 ≡ n / 65536 / 65536
+further n = omega arith
+
+furthest : (n : ℕ) → n / 281474976710656 ≡ n / 65536 / 65536 / 65536
+furthest n = omega arith
+
+pairs-are : (a b c d e f g h : ℕ) → a ≤ 9 → b ≤ 9 → c ≤ 9 → d ≤ 9 → e ≤ 9 → f ≤ 9 → g ≤ 9 → h ≤ 9
+    → pairs_of (a + 256 * (b + 256 * (c + 256 * (d + 256 * (e + 256 * (f + 256 * (g + 256 * (h + 256 * 0))))))))
+    ≡ (a * 10 + b) + 256 * ((b * 10 + c) + 256 * ((c * 10 + d) + 256 * ((d * 10 + e) + 256 * ((e * 10 + f) + 256 * ((f * 10 + g) + 256 * ((g * 10 + h) + 256 * (h * 10)))))))
+pairs-are a b c d e f g h sa sb sc sd se sf sg sh = omega arith
+
+decimal-pairs : (pairs a b c d e f g h : ℕ) → a ≤ 9 → b ≤ 9 → c ≤ 9 → d ≤ 9 → e ≤ 9 → f ≤ 9 → g ≤ 9 → h ≤ 9
+    → pairs ≡ (a * 10 + b) + 256 * ((b * 10 + c) + 256 * ((c * 10 + d) + 256 * ((d * 10 + e) + 256 * ((e * 10 + f) + 256 * ((f * 10 + g) + 256 * ((g * 10 + h) + 256 * (h * 10)))))))
+    → pairs / 1 % 256 * 1000000 + pairs / 65536 % 256 * 10000 + pairs / 4294967296 % 256 * 100 + pairs / 281474976710656 % 256 ≡ decimal_of (a ∷ b ∷ c ∷ d ∷ e ∷ f ∷ g ∷ h ∷ [])
+decimal-pairs pairs a b c d e f g h sa sb sc sd se sf sg sh is =
+    let q1 : ℕ = (c * 10 + d) + 256 * ((d * 10 + e) + 256 * ((e * 10 + f) + 256 * ((f * 10 + g) + 256 * ((g * 10 + h) + 256 * (h * 10))))) in
+    let q2 : ℕ = (e * 10 + f) + 256 * ((f * 10 + g) + 256 * ((g * 10 + h) + 256 * (h * 10))) in
+    let q3 : ℕ = (g * 10 + h) + 256 * (h * 10) in
+    let one : pairs / 65536 ≡ q1 = ap (λ n. n / 65536) is ∙ skipped (a * 10 + b) (b * 10 + c) q1 (omega arith) (omega arith) in
+    let two : pairs / 4294967296 ≡ q2 = further pairs ∙ ap (λ n. n / 65536) one ∙ skipped (c * 10 + d) (d * 10 + e) q2 (omega arith) (omega arith) in
+    let three : pairs / 281474976710656 ≡ q3 = furthest pairs ∙ ap (λ n. n / 65536 / 65536) one ∙ ap (λ n. n / 65536) (skipped (c * 10 + d) (d * 10 + e) q2 (omega arith) (omega arith)) ∙ skipped (e * 10 + f) (f * 10 + g) q3 (omega arith) (omega arith) in
+    let byte0 : pairs / 1 % 256 ≡ a * 10 + b = ap (λ n. n / 1 % 256) is ∙ low_byte (a * 10 + b) ((b * 10 + c) + 256 * q1) (omega arith) in
+    let byte1 : pairs / 65536 % 256 ≡ c * 10 + d = ap (λ n. n % 256) one ∙ low (c * 10 + d) ((d * 10 + e) + 256 * q2) (omega arith) in
+    let byte2 : pairs / 4294967296 % 256 ≡ e * 10 + f = ap (λ n. n % 256) two ∙ low (e * 10 + f) ((f * 10 + g) + 256 * q3) (omega arith) in
+    let byte3 : pairs / 281474976710656 % 256 ≡ g * 10 + h = ap (λ n. n % 256) three ∙ low (g * 10 + h) (h * 10) (omega arith) in
+    rw (byte0, byte1, byte2, byte3) (sums a b c d e f g h)
+  where
+    low : (a q : ℕ) → a < 256 → (a + 256 * q) % 256 ≡ a
+    low a q small = omega arith
+
+    sums : (a b c d e f g h : ℕ) → (a * 10 + b) * 1000000 + (c * 10 + d) * 10000 + (e * 10 + f) * 100 + (g * 10 + h) ≡ decimal_of (a ∷ b ∷ c ∷ d ∷ e ∷ f ∷ g ∷ h ∷ [])
+    sums a b c d e f g h = omega arith
+
+pub decimal-spread : (number : ℕ) (digits : List ℕ) → IsSpread number digits
+    → pairs_of number / 1 % 256 * 1000000 + pairs_of number / 65536 % 256 * 10000 + pairs_of number / 4294967296 % 256 * 100 + pairs_of number / 281474976710656 % 256 ≡ decimal_of digits
+decimal-spread number (a ∷ b ∷ c ∷ d ∷ e ∷ f ∷ g ∷ h ∷ []) spread =
+    decimal-pairs (pairs_of number) a b c d e f g h spread.small.0 spread.small.1.0 spread.small.1.1.0 spread.small.1.1.1.0 spread.small.1.1.1.1.0 spread.small.1.1.1.1.1.0 spread.small.1.1.1.1.1.1.0 spread.small.1.1.1.1.1.1.1.0
+    (ap pairs_of spread.bytes ∙ pairs-are a b c d e f g h spread.small.0 spread.small.1.0 spread.small.1.1.0 spread.small.1.1.1.0 spread.small.1.1.1.1.0 spread.small.1.1.1.1.1.0 spread.small.1.1.1.1.1.1.0 spread.small.1.1.1.1.1.1.1.0)
+decimal-spread number ([]) spread = absurd (omega (arith, spread.eight))
+decimal-spread number (a ∷ []) spread = absurd (omega (arith, spread.eight))
+decimal-spread number (a ∷ b ∷ []) spread = absurd (omega (arith, spread.eight))
+decimal-spread number (a ∷ b ∷ c ∷ []) spread = absurd (omega (arith, spread.eight))
+decimal-spread number (a ∷ b ∷ c ∷ d ∷ []) spread = absurd (omega (arith, spread.eight))
+decimal-spread number (a ∷ b ∷ c ∷ d ∷ e ∷ []) spread = absurd (omega (arith, spread.eight))
+decimal-spread number (a ∷ b ∷ c ∷ d ∷ e ∷ f ∷ []) spread = absurd (omega (arith, spread.eight))
+decimal-spread number (a ∷ b ∷ c ∷ d ∷ e ∷ f ∷ g ∷ []) spread = absurd (omega (arith, spread.eight))
+decimal-spread number (a ∷ b ∷ c ∷ d ∷ e ∷ f ∷ g ∷ h ∷ i ∷ more) spread = absurd (omega (arith, spread.eight))
+
+-- the bytes of a text from a place on
+
+abbrev bytes_from : ℕ → ℕ → (ℕ → ℕ) → List ℕ
+bytes_from zero k b = []
+bytes_from (suc n) k b = b k ∷ bytes_from n (suc k) b
+
+abbrev digits_from : ℕ → ℕ → (ℕ → ℕ) → List ℕ
+digits_from zero k b = []
+digits_from (suc n) k b = (b k - 48) ∷ digits_from n (suc k) b
+
+abbrev spread : ℕ → (ℕ → ℕ) → List ℕ
+spread n b = replicate (8 - n) 0 ++ digits_from n 0 b
+
+abbrev shifted : ℕ → ℕ → ℕ
+shifted word count = (word + (18446744073709551616 - 3472328296227680304)) % 18446744073709551616 * 2 ^ (64 - 8 * count) % 18446744073709551616
+
+abbrev word_of : (ℕ → ℕ) → ℕ
+word_of b = b 0 + b 1 * 256 + b 2 * 65536 + b 3 * 16777216 + b 4 * 4294967296 + b 5 * 1099511627776 + b 6 * 281474976710656 + b 7 * 72057594037927936
+
+module _ (b : ℕ → ℕ) (byte : (k : ℕ) → b k < 256) where
+  shifted-1 : 48 ≤ b 0 → b 0 ≤ 57 → shifted (word_of b) 1 ≡ number_l 256 (spread 1 b)
+  shifted-1 l0 h0 = omega (arith, byte 0, byte 1, byte 2, byte 3, byte 4, byte 5, byte 6, byte 7)
+
+  shifted-2 : 48 ≤ b 0 → b 0 ≤ 57 → 48 ≤ b 1 → b 1 ≤ 57 → shifted (word_of b) 2 ≡ number_l 256 (spread 2 b)
+  shifted-2 l0 h0 l1 h1 = omega (arith, byte 0, byte 1, byte 2, byte 3, byte 4, byte 5, byte 6, byte 7)
+
+  shifted-3 : 48 ≤ b 0 → b 0 ≤ 57 → 48 ≤ b 1 → b 1 ≤ 57 → 48 ≤ b 2 → b 2 ≤ 57 → shifted (word_of b) 3 ≡ number_l 256 (spread 3 b)
+  shifted-3 l0 h0 l1 h1 l2 h2 = omega (arith, byte 0, byte 1, byte 2, byte 3, byte 4, byte 5, byte 6, byte 7)
+
+  shifted-4 : 48 ≤ b 0 → b 0 ≤ 57 → 48 ≤ b 1 → b 1 ≤ 57 → 48 ≤ b 2 → b 2 ≤ 57 → 48 ≤ b 3 → b 3 ≤ 57 → shifted (word_of b) 4 ≡ number_l 256 (spread 4 b)
+  shifted-4 l0 h0 l1 h1 l2 h2 l3 h3 = omega (arith, byte 0, byte 1, byte 2, byte 3, byte 4, byte 5, byte 6, byte 7)
+
+  shifted-5 : 48 ≤ b 0 → b 0 ≤ 57 → 48 ≤ b 1 → b 1 ≤ 57 → 48 ≤ b 2 → b 2 ≤ 57 → 48 ≤ b 3 → b 3 ≤ 57 → 48 ≤ b 4 → b 4 ≤ 57 → shifted (word_of b) 5 ≡ number_l 256 (spread 5 b)
+  shifted-5 l0 h0 l1 h1 l2 h2 l3 h3 l4 h4 = omega (arith, byte 0, byte 1, byte 2, byte 3, byte 4, byte 5, byte 6, byte 7)
+
+  shifted-6 : 48 ≤ b 0 → b 0 ≤ 57 → 48 ≤ b 1 → b 1 ≤ 57 → 48 ≤ b 2 → b 2 ≤ 57 → 48 ≤ b 3 → b 3 ≤ 57 → 48 ≤ b 4 → b 4 ≤ 57 → 48 ≤ b 5 → b 5 ≤ 57 → shifted (word_of b) 6 ≡ number_l 256 (spread 6 b)
+  shifted-6 l0 h0 l1 h1 l2 h2 l3 h3 l4 h4 l5 h5 = omega (arith, byte 0, byte 1, byte 2, byte 3, byte 4, byte 5, byte 6, byte 7)
+
+  shifted-7 : 48 ≤ b 0 → b 0 ≤ 57 → 48 ≤ b 1 → b 1 ≤ 57 → 48 ≤ b 2 → b 2 ≤ 57 → 48 ≤ b 3 → b 3 ≤ 57 → 48 ≤ b 4 → b 4 ≤ 57 → 48 ≤ b 5 → b 5 ≤ 57 → 48 ≤ b 6 → b 6 ≤ 57 → shifted (word_of b) 7 ≡ number_l 256 (spread 7 b)
+  shifted-7 l0 h0 l1 h1 l2 h2 l3 h3 l4 h4 l5 h5 l6 h6 = omega (arith, byte 0, byte 1, byte 2, byte 3, byte 4, byte 5, byte 6, byte 7)
+
+  all-up : (d0 d1 d2 d3 d4 d5 d6 d7 : ℕ) → b 0 ≡ 48 + d0 → d0 ≤ 9 → b 1 ≡ 48 + d1 → d1 ≤ 9 → b 2 ≡ 48 + d2 → d2 ≤ 9 → b 3 ≡ 48 + d3 → d3 ≤ 9 → b 4 ≡ 48 + d4 → d4 ≤ 9 → b 5 ≡ 48 + d5 → d5 ≤ 9 → b 6 ≡ 48 + d6 → d6 ≤ 9 → b 7 ≡ 48 + d7 → d7 ≤ 9 → shifted (word_of b) 8 ≡ number_l 256 (d0 ∷ d1 ∷ d2 ∷ d3 ∷ d4 ∷ d5 ∷ d6 ∷ d7 ∷ [])
+  all-up d0 d1 d2 d3 d4 d5 d6 d7 e0 s0 e1 s1 e2 s2 e3 s3 e4 s4 e5 s5 e6 s6 e7 s7 = omega arith
+
+  shifted-8 : 48 ≤ b 0 → b 0 ≤ 57 → 48 ≤ b 1 → b 1 ≤ 57 → 48 ≤ b 2 → b 2 ≤ 57 → 48 ≤ b 3 → b 3 ≤ 57 → 48 ≤ b 4 → b 4 ≤ 57 → 48 ≤ b 5 → b 5 ≤ 57 → 48 ≤ b 6 → b 6 ≤ 57 → 48 ≤ b 7 → b 7 ≤ 57 → shifted (word_of b) 8 ≡ number_l 256 (spread 8 b)
+  shifted-8 l0 h0 l1 h1 l2 h2 l3 h3 l4 h4 l5 h5 l6 h6 l7 h7 = all-up (b 0 - 48) (b 1 - 48) (b 2 - 48) (b 3 - 48) (b 4 - 48) (b 5 - 48) (b 6 - 48) (b 7 - 48) (omega arith) (omega arith) (omega arith) (omega arith) (omega arith) (omega arith) (omega arith) (omega arith) (omega arith) (omega arith) (omega arith) (omega arith) (omega arith) (omega arith) (omega arith) (omega arith)
+
+  stands : (n : ℕ) → 0 < n → n ≤ 8 → ((k : ℕ) → k < n → (48 ≤ b k) × (b k ≤ 57)) → IsSpread (shifted (word_of b) n) (spread n b)
+  stands zero some few digits = absurd (omega arith)
+  stands (suc zero) some few digits = record { eight = refl; small = (omega arith, (omega arith, (omega arith, (omega arith, (omega arith, (omega arith, (omega arith, (omega (arith, (digits 0 (omega arith)).1), tt)))))))); bytes = shifted-1 (digits 0 (omega arith)).0 (digits 0 (omega arith)).1 }
+  stands (suc (suc zero)) some few digits = record { eight = refl; small = (omega arith, (omega arith, (omega arith, (omega arith, (omega arith, (omega arith, (omega (arith, (digits 0 (omega arith)).1), (omega (arith, (digits 1 (omega arith)).1), tt)))))))); bytes = shifted-2 (digits 0 (omega arith)).0 (digits 0 (omega arith)).1 (digits 1 (omega arith)).0 (digits 1 (omega arith)).1 }
+  stands (suc (suc (suc zero))) some few digits = record { eight = refl; small = (omega arith, (omega arith, (omega arith, (omega arith, (omega arith, (omega (arith, (digits 0 (omega arith)).1), (omega (arith, (digits 1 (omega arith)).1), (omega (arith, (digits 2 (omega arith)).1), tt)))))))); bytes = shifted-3 (digits 0 (omega arith)).0 (digits 0 (omega arith)).1 (digits 1 (omega arith)).0 (digits 1 (omega arith)).1 (digits 2 (omega arith)).0 (digits 2 (omega arith)).1 }
+  stands (suc (suc (suc (suc zero)))) some few digits = record { eight = refl; small = (omega arith, (omega arith, (omega arith, (omega arith, (omega (arith, (digits 0 (omega arith)).1), (omega (arith, (digits 1 (omega arith)).1), (omega (arith, (digits 2 (omega arith)).1), (omega (arith, (digits 3 (omega arith)).1), tt)))))))); bytes = shifted-4 (digits 0 (omega arith)).0 (digits 0 (omega arith)).1 (digits 1 (omega arith)).0 (digits 1 (omega arith)).1 (digits 2 (omega arith)).0 (digits 2 (omega arith)).1 (digits 3 (omega arith)).0 (digits 3 (omega arith)).1 }
+  stands (suc (suc (suc (suc (suc zero))))) some few digits = record { eight = refl; small = (omega arith, (omega arith, (omega arith, (omega (arith, (digits 0 (omega arith)).1), (omega (arith, (digits 1 (omega arith)).1), (omega (arith, (digits 2 (omega arith)).1), (omega (arith, (digits 3 (omega arith)).1), (omega (arith, (digits 4 (omega arith)).1), tt)))))))); bytes = shifted-5 (digits 0 (omega arith)).0 (digits 0 (omega arith)).1 (digits 1 (omega arith)).0 (digits 1 (omega arith)).1 (digits 2 (omega arith)).0 (digits 2 (omega arith)).1 (digits 3 (omega arith)).0 (digits 3 (omega arith)).1 (digits 4 (omega arith)).0 (digits 4 (omega arith)).1 }
+  stands (suc (suc (suc (suc (suc (suc zero)))))) some few digits = record { eight = refl; small = (omega arith, (omega arith, (omega (arith, (digits 0 (omega arith)).1), (omega (arith, (digits 1 (omega arith)).1), (omega (arith, (digits 2 (omega arith)).1), (omega (arith, (digits 3 (omega arith)).1), (omega (arith, (digits 4 (omega arith)).1), (omega (arith, (digits 5 (omega arith)).1), tt)))))))); bytes = shifted-6 (digits 0 (omega arith)).0 (digits 0 (omega arith)).1 (digits 1 (omega arith)).0 (digits 1 (omega arith)).1 (digits 2 (omega arith)).0 (digits 2 (omega arith)).1 (digits 3 (omega arith)).0 (digits 3 (omega arith)).1 (digits 4 (omega arith)).0 (digits 4 (omega arith)).1 (digits 5 (omega arith)).0 (digits 5 (omega arith)).1 }
+  stands (suc (suc (suc (suc (suc (suc (suc zero))))))) some few digits = record { eight = refl; small = (omega arith, (omega (arith, (digits 0 (omega arith)).1), (omega (arith, (digits 1 (omega arith)).1), (omega (arith, (digits 2 (omega arith)).1), (omega (arith, (digits 3 (omega arith)).1), (omega (arith, (digits 4 (omega arith)).1), (omega (arith, (digits 5 (omega arith)).1), (omega (arith, (digits 6 (omega arith)).1), tt)))))))); bytes = shifted-7 (digits 0 (omega arith)).0 (digits 0 (omega arith)).1 (digits 1 (omega arith)).0 (digits 1 (omega arith)).1 (digits 2 (omega arith)).0 (digits 2 (omega arith)).1 (digits 3 (omega arith)).0 (digits 3 (omega arith)).1 (digits 4 (omega arith)).0 (digits 4 (omega arith)).1 (digits 5 (omega arith)).0 (digits 5 (omega arith)).1 (digits 6 (omega arith)).0 (digits 6 (omega arith)).1 }
+  stands (suc (suc (suc (suc (suc (suc (suc (suc zero)))))))) some few digits = record { eight = refl; small = (omega (arith, (digits 0 (omega arith)).1), (omega (arith, (digits 1 (omega arith)).1), (omega (arith, (digits 2 (omega arith)).1), (omega (arith, (digits 3 (omega arith)).1), (omega (arith, (digits 4 (omega arith)).1), (omega (arith, (digits 5 (omega arith)).1), (omega (arith, (digits 6 (omega arith)).1), (omega (arith, (digits 7 (omega arith)).1), tt)))))))); bytes = shifted-8 (digits 0 (omega arith)).0 (digits 0 (omega arith)).1 (digits 1 (omega arith)).0 (digits 1 (omega arith)).1 (digits 2 (omega arith)).0 (digits 2 (omega arith)).1 (digits 3 (omega arith)).0 (digits 3 (omega arith)).1 (digits 4 (omega arith)).0 (digits 4 (omega arith)).1 (digits 5 (omega arith)).0 (digits 5 (omega arith)).1 (digits 6 (omega arith)).0 (digits 6 (omega arith)).1 (digits 7 (omega arith)).0 (digits 7 (omega arith)).1 }
+  stands (suc (suc (suc (suc (suc (suc (suc (suc (suc more))))))))) some few digits = absurd (omega arith)
+
+  same_value : (n : ℕ) → n ≤ 8 → decimal_of (spread n b) ≡ value_of (bytes_from n 0 b)
+  same_value zero few = refl
+  same_value (suc zero) few = refl
+  same_value (suc (suc zero)) few = refl
+  same_value (suc (suc (suc zero))) few = refl
+  same_value (suc (suc (suc (suc zero)))) few = refl
+  same_value (suc (suc (suc (suc (suc zero))))) few = refl
+  same_value (suc (suc (suc (suc (suc (suc zero)))))) few = refl
+  same_value (suc (suc (suc (suc (suc (suc (suc zero))))))) few = refl
+  same_value (suc (suc (suc (suc (suc (suc (suc (suc zero)))))))) few = refl
+  same_value (suc (suc (suc (suc (suc (suc (suc (suc (suc more))))))))) few = absurd (omega arith)
+
+firsts : (n k start : ℕ) (text : List ℕ) → start + k + n ≤ length text → take n (drop (start + k) text) ≡ bytes_from n k (λ j. slice_index text (start + j))
+firsts zero k start text room = refl
+firsts (suc n) k start text room =
+    ap (take (suc n)) (drop_next text (start + k) (omega arith))
+    ∙ ap (λ m. slice_index text (start + k) ∷ take n (drop m text)) (moved start k)
+    ∙ ap (λ rest. slice_index text (start + k) ∷ rest) (firsts n (suc k) start text (omega arith))
+  where
+    moved : (start k : ℕ) → suc (start + k) ≡ start + suc k
+    moved start k = omega arith
+
+-- a part of a text by its bytes
+part-is : (text : List ℕ) (start end : ℕ) → start ≤ end → end ≤ length text → slice_range text start end ≡ bytes_from (end - start) 0 (λ j. slice_index text (start + j))
+part-is text start end order within = ap (λ n. take (end - start) (drop n text)) (nothing start) ∙ firsts (end - start) 0 start text (omega arith)
+  where
+    nothing : (start : ℕ) → start ≡ start + 0
+    nothing start = omega arith
+
+abbrev pub little_word : List ℕ → ℕ → ℕ
+little_word text start = slice_index text start + slice_index text (start + 1) * 256 + slice_index text (start + 2) * 65536 + slice_index text (start + 3) * 16777216 + slice_index text (start + 4) * 4294967296 + slice_index text (start + 5) * 1099511627776 + slice_index text (start + 6) * 281474976710656 + slice_index text (start + 7) * 72057594037927936
+
+-- the value of some digits of a text
+pub short-value : (text : List ℕ) (start count word value : ℕ) → 0 < count → count ≤ 8 → start + 8 ≤ length text → ((i : ℕ) → get_or text i 0 < 256) → AreDigits text start count
+    → word ≡ little_word text start → ((digits : List ℕ) → IsSpread (shifted word count) digits → value ≡ decimal_of digits)
+    → value ≡ value_of (slice_range text start (start + count))
+short-value text start count word value some few room bytes digits word_is by_digits =
+    let same : word ≡ word_of (λ j. slice_index text (start + j)) = word_is ∙ ap (λ n. slice_index text n + slice_index text (start + 1) * 256 + slice_index text (start + 2) * 65536 + slice_index text (start + 3) * 16777216 + slice_index text (start + 4) * 4294967296 + slice_index text (start + 5) * 1099511627776 + slice_index text (start + 6) * 281474976710656 + slice_index text (start + 7) * 72057594037927936) (nothing start) in
+    by_digits (spread count (λ j. slice_index text (start + j))) (rw same (stands (λ j. slice_index text (start + j)) (λ k. bytes (start + k)) count some few digits))
+    ∙ same_value (λ j. slice_index text (start + j)) (λ k. bytes (start + k)) count few
+    ∙ sym (ap value_of (part-is text start (start + count) (omega arith) (omega arith) ∙ ap (λ n. bytes_from n 0 (λ j. slice_index text (start + j))) (counted start count)))
+  where
+    nothing : (start : ℕ) → start ≡ start + 0
+    nothing start = omega arith
+
+    counted : (start count : ℕ) → start + count - start ≡ count
+    counted start count = omega arith
+
+all_digits : (n k : ℕ) (b : ℕ → ℕ) → ((j : ℕ) → k ≤ j → j < k + n → (48 ≤ b j) × (b j ≤ 57)) → list_all is_digit (bytes_from n k b) ≡ true
+all_digits zero k b digits = refl
+all_digits (suc n) k b digits =
+    both (is_digit (b k)) (list_all is_digit (bytes_from n (suc k) b)) (digit (b k) (digits k (omega arith) (omega arith)).0 (digits k (omega arith) (omega arith)).1)
+    (all_digits n (suc k) b (λ j after below. digits j (omega arith) (omega arith)))
+  where
+    both : (a b : Bool) → a ≡ true → b ≡ true → (a && b) ≡ true
+    both a b first second = rw (first, second) refl
+
+    digit : (byte : ℕ) → 48 ≤ byte → byte ≤ 57 → is_digit byte ≡ true
+    digit byte low high = grind (arith, nat_tests)
+
+length-bytes : (n k : ℕ) (b : ℕ → ℕ) → length (bytes_from n k b) ≡ n
+length-bytes zero k b = refl
+length-bytes (suc n) k b = ap suc (length-bytes n (suc k) b)
+
+-- a part of a text that is digits spells their value, where it is within the limit
+pub number_of-digits : (limit : ℕ) (text : List ℕ) (start end : ℕ) → start < end → end ≤ length text → AreDigits text start (end - start)
+    → number_of limit (slice_range text start end) ≡ cond (nat_le (value_of (slice_range text start end)) limit) (Some (value_of (slice_range text start end))) None
+number_of-digits limit text start end some within digits =
+    let part = part-is text start end (omega arith) within in
+    let long : length (slice_range text start end) ≡ end - start = ap length part ∙ length-bytes (end - start) 0 (λ j. slice_index text (start + j)) in
+    let all : list_all is_digit (slice_range text start end) ≡ true = ap (list_all is_digit) part ∙ all_digits (end - start) 0 (λ j. slice_index text (start + j)) (λ j after below. digits j (omega arith)) in
+    rw (all, positive (length (slice_range text start end)) (omega arith)) refl
+  where
+    positive : (n : ℕ) → 0 < n → nat_lt 0 n ≡ true
+    positive n some = grind (arith, nat_tests)
+
+pub number_of-within : (limit : ℕ) (text : List ℕ) (start end value : ℕ) → start < end → end ≤ length text → AreDigits text start (end - start)
+    → value ≡ value_of (slice_range text start end) → value ≤ limit → Some value ≡ number_of limit (slice_range text start end)
+number_of-within limit text start end value some within digits is small =
+    ap Some is ∙ sym (number_of-digits limit text start end some within digits ∙ ap (λ b. cond b (Some (value_of (slice_range text start end))) None) (fits (value_of (slice_range text start end)) (omega arith)))
+  where
+    fits : (n : ℕ) → n ≤ limit → nat_le n limit ≡ true
+    fits n below = grind (arith, nat_tests)
+
+pub number_of-above : (limit : ℕ) (text : List ℕ) (start end value : ℕ) → start < end → end ≤ length text → AreDigits text start (end - start)
+    → value ≡ value_of (slice_range text start end) → limit < value → None ≡ number_of limit (slice_range text start end)
+number_of-above limit text start end value some within digits is large =
+    sym (number_of-digits limit text start end some within digits ∙ ap (λ b. cond b (Some (value_of (slice_range text start end))) None) (misses (value_of (slice_range text start end)) (omega arith)))
+  where
+    misses : (n : ℕ) → limit < n → nat_le n limit ≡ false
+    misses n above = grind (arith, nat_tests)

@@ -1,0 +1,13 @@
+-- The bars of a text behind a place, by the bits of a number.
+use Rattle.std.specs.Prelude.{◌≡◌, ℕ, ◌+◌, ◌<◌, ◌≤◌, ◌==◌, nat_le, List, cond, slice_index}
+use Rattle.std.specs.Int.{bit_at}
+
+-- 1 where the byte at a place is a bar (124), and else 0, also past the end
+abbrev pub bar_bit : List ℕ → ℕ → ℕ
+bar_bit text place = cond (slice_index text place == 124) 1 0
+
+-- of the bars from a place on none stands before a window of 64 bytes, and those in it are the bits; the place is not behind the window
+pub record AreBarsBehind (text : List ℕ) (from first bars : ℕ) : Type 0 where
+  pub near : from ≤ first + 64
+  pub none : (place : ℕ) → from ≤ place → place < first → bar_bit text place ≡ 0
+  pub bits : (k : ℕ) → k < 64 → bit_at bars k ≡ cond (nat_le from (first + k)) (bar_bit text (first + k)) 0

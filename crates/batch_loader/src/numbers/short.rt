@@ -1,0 +1,90 @@
+//! Numbers of at most eight digits, all digits at once.
+ghost use Rattle.std.specs.Prelude.{◌≡◌, ◌≤◌, ◌+◌, ◌*◌, ◌/◌, ◌%◌, ◌^◌, ◌<◌, ℕ, List, length, map, nat_lt, slice_range};
+ghost use Rattle.std.specs.Simd.Lanes.{mask_l};
+ghost use Rattle.std.specs.Slice.Scan.{little_endian};
+ghost use Rattle.batch_loader.specs.Numbers.{value_of};
+ghost use Rattle.batch_loader.specs.ShortNumbers.{AreDigits, IsSpread, decimal_of};
+
+use std::simd::prelude::*;
+
+/// Eight digits 0.
+const ZEROS: u64 = 0x3030_3030_3030_3030;
+
+/// How many of the eight bytes from a place on are digits, before the first one that is not; or more than eight where all are.
+#[inline(always)]
+pub fn digit_count(text: &[u8], start: usize) -> usize
+    requires { start + 8 ≤ length text.now }
+    ensures { (count : ℕ) → count ≤ result → count ≤ 8 → AreDigits text.now start count }
+{
+    let digits = digits_of_lanes(behind_zero(u8x8::from_slice(&text[start..])));
+    digits.trailing_ones() as usize
+}
+
+/// How far each lane stands behind the digit 0, round the numbers of 8 bits.
+#[inline(always)]
+fn behind_zero(lanes: u8x8) -> u8x8
+    requires { length lanes ≡ 8 }
+    ensures { result ≡ map (λ byte. (byte + 208) % 256) lanes }
+{
+    lanes - u8x8::splat(b'0')
+}
+
+/// A bit for each lane below 10.
+#[inline(always)]
+fn digits_of_lanes(lanes: u8x8) -> u64
+    requires { length lanes ≡ 8 }
+    ensures { result ≡ mask_l (map (λ digit. nat_lt digit 10) lanes) }
+{
+    lanes.simd_lt(u8x8::splat(10)).to_bitmask()
+}
+
+/// The value of at most eight digits from a place on.
+#[inline(always)]
+pub fn short_value(text: &[u8], start: usize, count: usize) -> u64
+    requires some { 0 < count }
+    requires few { count ≤ 8 }
+    requires room { start + 8 ≤ length text.now }
+    requires digits { AreDigits text.now start count }
+    ensures { result ≡ value_of (slice_range text.now start (start + count)) }
+{
+    let digits = word_at(text, start).wrapping_sub(ZEROS) << (64 - 8 * count);
+    value_of_eight(digits)
+}
+
+/// The eight bytes from a place on as a number, the first one lowest.
+#[inline(always)]
+fn word_at(text: &[u8], start: usize) -> u64
+    requires { start + 8 ≤ length text.now }
+    ensures { result ≡ little_endian text.now start }
+{
+    u64::from_le_bytes([
+        text[start],
+        text[start + 1],
+        text[start + 2],
+        text[start + 3],
+        text[start + 4],
+        text[start + 5],
+        text[start + 6],
+        text[start + 7],
+    ])
+}
+
+/// The value of eight digits that are the bytes of a number, the first one lowest.
+#[inline(always)]
+fn value_of_eight(number: u64) -> u64
+    ensures { (digits : List ℕ) → IsSpread number digits → result ≡ decimal_of digits }
+{
+    // Each byte of a pair at an even place is ten times its digit and the next one.
+    let pairs = number.wrapping_mul(10).wrapping_add(number >> 8);
+    byte(pairs, 0) * 1_000_000 + byte(pairs, 16) * 10_000 + byte(pairs, 32) * 100 + byte(pairs, 48)
+}
+
+/// The byte of a number behind some bits.
+#[inline(always)]
+fn byte(number: u64, bits: u32) -> u64
+    requires { bits < 64 }
+    ensures value { result ≡ number / 2 ^ bits % 256 }
+    ensures small { result < 256 }
+{
+    (number >> bits) & 255
+}

@@ -1,0 +1,64 @@
+use Rattle.std.proofs.Common.{◌≡◌, ◌∙◌, [], sym, ap, subst, arith, length}
+use Rattle.std.proofs.lemmas.Result.{IfOk-weaker}
+use Rattle.cube_query.specs.Coarser.{AreTalliedFrom, CanCoarsen}
+use Rattle.cube_query.specs.Columns.{seen_groups, tallies_at}
+use Rattle.cube_query.specs.Groups.{groups_of, finest}
+use Rattle.cube_query.specs.Slots.{entries_of, AreSlots}
+use Rattle.cube_query.specs.FoldInvariant.{AreTallied}
+use Rattle.cube_query.proofs.Columnwise.{tallies-length}
+use Rattle.cube_query.proofs.Ends.{start, all_groups}
+use Rattle.cube_query.proofs.Folds.{tallied_for}
+use Rattle.cube_query.proofs.Seen.{seen_are}
+use Rattle.group_plan.specs.Numbers.{group_count, key_at}
+use Rattle.cube_query.proofs.finish.coarser_lines.Goals as goal
+
+pub coarsen_all-requires-clause-can : goal.coarsen_all-requires-clause-can
+coarsen_all-requires-clause-can c =
+    let d = c.args.plan.now.dimensions in
+    let q = c.args.plan.now.query in
+    let fold = c.requires.fold in
+    let entries = entries_of c.args.slots.now in
+    let columns = c.args.columns.now in
+    let copy = c.in_ok-columns.columns.items in
+    let slots = c.in_ok-slots.slots in
+    let same_entries : entries_of slots ≡ entries = c.in_ok-slots.ensures.entries in
+    let count : c.len-count.result ≡ length q.columns = c.len-count.ensures ∙ ap (λ query. length query.columns) c.requires.query in
+    let tallied : AreTalliedFrom d q (length q.columns) entries copy fold.tallied.0 = start d q entries columns copy fold.tallied.0 c.in_ok-columns.ensures fold.tallied.1.1 in
+    subst (λ n. CanCoarsen d q n slots copy) (sym count) (record {
+      proper = fold.proper;
+      rising = fold.rising;
+      numbers = subst (AreSlots (group_count d q.columns)) (sym same_entries) fold.numbers;
+      cover = c.in_ok-slots.ensures.cover (group_count d q.columns) fold.cover;
+      tallied = (fold.tallied.0, (fold.tallied.1.0, subst (λ es. AreTalliedFrom d q (length q.columns) es copy fold.tallied.0) (sym same_entries) tallied));
+    })
+
+pub lines_of-requires-clause-columns : goal.lines_of-requires-clause-columns
+lines_of-requires-clause-columns c =
+    let q = c.args.plan.now.query in
+    let can = c.in_ok-coarsen_all.ensures.can in
+    let entries = entries_of c.coarsen_all.new.slots in
+    ap length c.as_slice.ensures.value ∙ tallies-length q.aggregates c.coarsen_all.new.columns.items (length entries) [] (can.tallied.1.1.fresh (length entries) (omega arith))
+
+pub returns : goal.returns
+returns c =
+    let d = c.args.plan.now.dimensions in
+    let q = c.args.plan.now.query in
+    let fold = c.requires.fold in
+    let entries = entries_of c.args.slots.now in
+    let columns = c.args.columns.now in
+    let copy = c.in_ok-columns.columns.items in
+    let same_entries : entries_of c.in_ok-slots.slots ≡ entries = c.in_ok-slots.ensures.entries in
+    let count : c.len-count.result ≡ length q.columns = c.len-count.ensures ∙ ap (λ query. length query.columns) c.requires.query in
+    let can = c.in_ok-coarsen_all.ensures.can in
+    let new = entries_of c.coarsen_all.new.slots in
+    let all = c.coarsen_all.new.columns.items in
+    IfOk-weaker c.lines_of.result _ _
+    (λ lines is rows stands.
+    let first : AreTallied d (finest q) entries columns rows = tallied_for d q c.args.slots.now columns rows fold stands in
+    let begun : AreTalliedFrom d q c.len-count.result (entries_of c.in_ok-slots.slots) copy rows =
+    subst (λ n. AreTalliedFrom d q n (entries_of c.in_ok-slots.slots) copy rows) (sym count)
+    (subst (λ es. AreTalliedFrom d q (length q.columns) es copy rows) (sym same_entries) (start d q entries columns copy rows c.in_ok-columns.ensures first)) in
+    let ended : AreTallied d q new all rows = all_groups d q new all rows (c.in_ok-coarsen_all.ensures.tallied rows begun) in
+    is rows (subst (λ cs. seen_groups (key_at d q.columns) (tallies_at cs) new ≡ groups_of d q rows) (sym c.as_slice.ensures.value)
+    (seen_are d q new all rows can.proper.some_aggregate can.rising can.numbers ended)))
+    c.lines_of.ensures

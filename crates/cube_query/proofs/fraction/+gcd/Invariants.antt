@@ -1,0 +1,4 @@
+use Rattle.cube_query.proofs.fraction.+gcd.Given as goal
+
+abbrev pub decreases-gcd : goal.decreases-gcd
+decreases-gcd l = l.b

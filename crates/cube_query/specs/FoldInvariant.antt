@@ -1,0 +1,75 @@
+-- How the slots and the columns of a fold stand to the fact rows that were counted in. Our own.
+use Rattle.std.specs.Prelude.{◌≡◌, ℕ, ◌≤◌, ◌<◌, false, Option, Some, None, List, [], ◌∷◌, ◌++◌, length, slice_get}
+use Rattle.std.specs.List.{AllByRecursion}
+use Rattle.std.specs.declared.alloc.Global.{Global}
+use Rattle.std.specs.declared.vec.Vec.{Vec}
+use Rattle.cube_model.specs.declared.answer.Member.{Member}
+use Rattle.cube_model.specs.declared.measure.Agg.{Agg}
+use Rattle.cube_model.specs.declared.query.Query.{Query}
+use Rattle.cube_model.specs.declared.rows.DimRows.{DimRows}
+use Rattle.cube_model.specs.declared.rows.LineOrder.{LineOrder}
+use Rattle.cube_model.specs.Answers.{rows_of_key}
+use Rattle.cube_model.specs.Proper.{IsProper}
+use Rattle.cube_model.specs.Selection.{selected, is_selected}
+use Rattle.cube_query.specs.Columns.{tallies_at, slotted, IsCountable}
+use Rattle.cube_query.specs.Groups.{finest}
+use Rattle.cube_query.specs.Limits.{AreFoldable}
+use Rattle.group_plan.specs.Numbers.{group_count, key_at, KeysRise, IsNumber}
+use Rattle.cube_query.specs.Slots.{slot_of, entries_of, AreSlots, Cover}
+use Rattle.cube_query.specs.Tallies.{tallies_of}
+use Rattle.cube_query.specs.declared.slots.Slots.{Slots}
+use Rattle.cube_query.specs.declared.tally.Tally.{Tally}
+
+-- the selected rows of a key
+abbrev pub rows_at : DimRows → Query → List Member → List LineOrder → List LineOrder
+rows_at dimensions query key rows = rows_of_key dimensions query key (selected dimensions query.conditions rows)
+
+-- the slot of a fact row's group, and none where the row is not selected
+abbrev pub IsGroupSlot : DimRows → Query → List (ℕ × ℕ) → LineOrder → Option ℕ → Type 0
+IsGroupSlot dimensions query entries row None = is_selected dimensions query.conditions row ≡ false
+IsGroupSlot dimensions query entries row (Some slot) =
+    (number : ℕ) × IsNumber dimensions query row (Some number) × (slot_of entries number ≡ Some slot)
+
+-- the slots of the groups of fact rows
+abbrev pub AreGroupSlots : DimRows → Query → List (ℕ × ℕ) → List LineOrder → List (Option ℕ) → Type 0
+AreGroupSlots dimensions query entries [] [] = Unit {0}
+AreGroupSlots dimensions query entries [] (group_slot ∷ group_slots) = ⊥
+AreGroupSlots dimensions query entries (row ∷ rows) [] = ⊥
+AreGroupSlots dimensions query entries (row ∷ rows) (group_slot ∷ group_slots) =
+    IsGroupSlot dimensions query entries row group_slot × AreGroupSlots dimensions query entries rows group_slots
+
+-- the slot of each row lies in all columns, and the tallies there have room for the rows of that slot
+abbrev pub HaveRoom : List Agg → List (Vec Tally Global) → List LineOrder → List (Option ℕ) → Type 0
+HaveRoom aggs columns rows group_slots = (place slot : ℕ) → slice_get group_slots place ≡ Some (Some slot)
+    → AllByRecursion (λ column. slot < length column.items) columns × (before : List LineOrder)
+    × (tallies_at columns slot ≡ tallies_of aggs before) × ((agg : Agg)
+    → IsCountable agg (before ++ slotted slot rows group_slots))
+
+-- the rows are counted in, each at its slot
+abbrev pub CountIn : List Agg → List LineOrder → List (Option ℕ) → List (Vec Tally Global)
+    → List (Vec Tally Global) → Type 0
+CountIn aggs rows group_slots old new = (slot : ℕ) (before : List LineOrder)
+    → tallies_at old slot ≡ tallies_of aggs before
+    → tallies_at new slot ≡ tallies_of aggs (before ++ slotted slot rows group_slots)
+
+-- each slot has the tallies over the rows of its number's key, and the key of each selected row has a slot
+pub record AreTallied (dimensions : DimRows) (query : Query) (entries : List (ℕ × ℕ)) (columns : List
+    (Vec Tally Global))
+    (rows : List LineOrder) : Type 0 where
+  pub each : (number slot : ℕ) → slot_of entries number ≡ Some slot
+      → tallies_at columns slot
+      ≡ tallies_of query.aggregates (rows_at dimensions query (key_at dimensions query.columns number) rows)
+  pub others : (key : List Member)
+      → ((number slot : ℕ) → slot_of entries number ≡ Some slot → key_at dimensions query.columns number ≡ key → ⊥)
+      → rows_at dimensions query key rows ≡ []
+  pub fresh : (slot : ℕ) → length entries ≤ slot → tallies_at columns slot ≡ tallies_of query.aggregates []
+
+-- what holds of each fold
+pub record IsFold (dimensions : DimRows) (query : Query) (slots : Slots) (columns : List
+    (Vec Tally Global)) : Type 0 where
+  pub proper : IsProper query
+  pub rising : KeysRise dimensions query.columns
+  pub numbers : AreSlots (group_count dimensions query.columns) (entries_of slots)
+  pub cover : Cover (group_count dimensions query.columns) slots
+  pub tallied : (rows : List LineOrder) × (AreFoldable dimensions rows
+      × AreTallied dimensions (finest query) (entries_of slots) columns rows)

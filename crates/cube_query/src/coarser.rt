@@ -1,0 +1,182 @@
+//! Coarser groupings, made from finer ones: column by column, from the last to the first, each group is merged into the one
+//! that has ALL in that column.
+ghost use Rattle.std.specs.Prelude.{◌≡◌, ℕ, ◌+◌, ◌≤◌, ◌<◌, List, length, Some, OnOk, IfOk};
+ghost use Rattle.std.specs.List.{All, AllByRecursion};
+ghost use Rattle.cube_model.specs.declared.rows.LineOrder.{LineOrder};
+ghost use Rattle.cube_query.specs.Coarser.{leads, sources_of, AreTalliedFrom, AreTargets, CanCoarsen, IsTarget, MayMerge, MergesIn};
+ghost use Rattle.cube_query.specs.Columns.{tallies_at};
+ghost use Rattle.cube_query.specs.Slots.{entries_of, slot_of, AreSlots, Cover, Grow};
+ghost use Rattle.group_plan.specs.Numbers.{group_count, key_at};
+
+use crate::columns::{is_seen, lengthen_all, merge_in_all};
+use crate::slots::Slots;
+use crate::tally::Tally;
+use cube_model::Kind;
+use group_plan::Plan;
+use std::alloc::{AllocError, Global};
+
+// Whether the group with a number leads to one with ALL in a column: of a rollup those with ALL in all columns behind it.
+fn leads(plan: &Plan, kind: Kind, column: usize, number: u128) -> bool
+    requires column { column < length plan.now.query.columns }
+    requires few { length plan.now.query.columns ≤ 6 }
+    requires below { number < group_count plan.now.dimensions plan.now.query.columns }
+    ensures { result ≡ leads kind column (key_at plan.now.dimensions plan.now.query.columns number) }
+{
+    match kind {
+        Kind::Plain => false,
+        Kind::Rollup => plan.is_all(column + 1, number),
+        Kind::Cube => true,
+    }
+}
+
+// The groups that have rows and lead to ones with ALL in a column.
+fn sources_of(
+    alloc: Global,
+    plan: &Plan,
+    kind: Kind,
+    column: usize,
+    columns: &[Vec<Tally>],
+    entries: &[(u128, u32)],
+) -> Result<Vec<(u128, u32)>, AllocError>
+    requires kind { kind ≡ plan.now.query.kind }
+    requires column { column < length plan.now.query.columns }
+    requires few { length plan.now.query.columns ≤ 6 }
+    requires below { All (λ entry. entry.0 < group_count plan.now.dimensions plan.now.query.columns) entries.now }
+    ensures { IfOk result (λ sources. sources.items
+        ≡ sources_of plan.now.dimensions plan.now.query column (tallies_at columns.now) entries.now) }
+{
+    let mut sources = Vec::new(alloc);
+    for i in 0..entries.len() {
+        let entry = entries[i];
+        if is_seen(columns, entry.1 as usize) && leads(plan, kind, column, entry.0) {
+            sources.push(entry)?;
+        }
+    }
+    Ok(sources)
+}
+
+// The slot of the group with ALL in a column and all else as a source. Where it has none it is given one.
+fn target_of(
+    plan: &Plan,
+    column: usize,
+    slots: &mut Slots,
+    source: (u128, u32),
+) -> Result<u32, AllocError>
+    requires column { column < length plan.now.query.columns }
+    requires below { source.0 < group_count plan.now.dimensions plan.now.query.columns }
+    requires cover { Cover (group_count plan.now.dimensions plan.now.query.columns) slots.old }
+    ensures target { IfOk result (λ target.
+        IsTarget plan.now.dimensions plan.now.query.columns column (entries_of slots.new) source target) }
+    ensures cover { Cover (group_count plan.now.dimensions plan.now.query.columns) slots.new }
+    ensures keep { (number slot : ℕ) → slot_of (entries_of slots.old) number ≡ Some slot
+        → slot_of (entries_of slots.new) number ≡ Some slot }
+    ensures grow { (first : List (ℕ × ℕ))
+        → Grow (group_count plan.now.dimensions plan.now.query.columns) first (entries_of slots.old)
+        → Grow (group_count plan.now.dimensions plan.now.query.columns) first (entries_of slots.new) }
+{
+    match slots.place(plan.with_all(column, source.0)) {
+        Ok(target) => Ok(target),
+        Err(error) => Err(error),
+    }
+}
+
+// The slots of the groups with ALL in a column. Those that have none are given one.
+fn targets_of(
+    alloc: Global,
+    plan: &Plan,
+    column: usize,
+    slots: &mut Slots,
+    sources: &[(u128, u32)],
+) -> Result<Vec<u32>, AllocError>
+    requires column { column < length plan.now.query.columns }
+    requires below { All (λ source. source.0 < group_count plan.now.dimensions plan.now.query.columns) sources.now }
+    requires numbers { AreSlots (group_count plan.now.dimensions plan.now.query.columns) (entries_of slots.old) }
+    requires cover { Cover (group_count plan.now.dimensions plan.now.query.columns) slots.old }
+    ensures targets { IfOk result (λ targets.
+        AreTargets plan.now.dimensions plan.now.query.columns column (entries_of slots.new) sources.now targets.items) }
+    ensures cover { Cover (group_count plan.now.dimensions plan.now.query.columns) slots.new }
+    ensures grow { Grow (group_count plan.now.dimensions plan.now.query.columns) (entries_of slots.old)
+        (entries_of slots.new) }
+{
+    let mut targets = Vec::with_capacity(alloc, sources.len())?;
+    for i in 0..sources.len() {
+        let target = target_of(plan, column, slots, sources[i])?;
+        targets.push(target)?;
+    }
+    Ok(targets)
+}
+
+// Makes all columns as long as there are slots.
+fn make_room(columns: &mut Vec<Vec<Tally>>, slots: &Slots) -> Result<(), AllocError>
+    ensures same { (slot : ℕ) → tallies_at columns.new.items slot ≡ tallies_at columns.old.items slot }
+    ensures long { OnOk result (AllByRecursion (λ column. length (entries_of slots.now) ≤ length column.items)
+        columns.new.items) }
+{
+    lengthen_all(columns.as_mut_slice(), slots.len())?;
+    Ok(())
+}
+
+// Merges the tallies of sources into those of their targets.
+fn merge(columns: &mut Vec<Vec<Tally>>, sources: &[(u128, u32)], targets: &[u32])
+    requires targets { length targets.now ≡ length sources.now }
+    requires room { MayMerge sources.now targets.now columns.old.items }
+    ensures { MergesIn sources.now targets.now columns.old.items columns.new.items }
+{
+    merge_in_all(columns.as_mut_slice(), sources, targets);
+}
+
+// Adds the groups with ALL in a column to those that there are from the next column on.
+fn coarsen(
+    alloc: Global,
+    plan: &Plan,
+    kind: Kind,
+    column: usize,
+    slots: &mut Slots,
+    columns: &mut Vec<Vec<Tally>>,
+) -> Result<(), AllocError>
+    requires kind { kind ≡ plan.now.query.kind }
+    requires column { column < length plan.now.query.columns }
+    requires can { CanCoarsen plan.now.dimensions plan.now.query (column + 1) slots.old columns.old.items }
+    ensures can { OnOk result (CanCoarsen plan.now.dimensions plan.now.query column slots.new columns.new.items) }
+    ensures tallied { OnOk result ((rows : List LineOrder)
+        → AreTalliedFrom plan.now.dimensions plan.now.query (column + 1) (entries_of slots.old) columns.old.items rows
+        → AreTalliedFrom plan.now.dimensions plan.now.query column (entries_of slots.new) columns.new.items rows) }
+{
+    let entries = slots.entries(alloc)?;
+    let sources = sources_of(
+        alloc,
+        plan,
+        kind,
+        column,
+        columns.as_slice(),
+        entries.as_slice(),
+    )?;
+    let targets = targets_of(alloc, plan, column, slots, sources.as_slice())?;
+    make_room(columns, slots)?;
+    merge(columns, sources.as_slice(), targets.as_slice());
+    Ok(())
+}
+
+/// Adds all groups of the query's kind to those by all columns, of which there are so many.
+pub fn coarsen_all(
+    alloc: Global,
+    plan: &Plan,
+    kind: Kind,
+    count: usize,
+    slots: &mut Slots,
+    columns: &mut Vec<Vec<Tally>>,
+) -> Result<(), AllocError>
+    requires kind { kind ≡ plan.now.query.kind }
+    requires count { count ≤ length plan.now.query.columns }
+    requires can { CanCoarsen plan.now.dimensions plan.now.query count slots.old columns.old.items }
+    ensures can { OnOk result (CanCoarsen plan.now.dimensions plan.now.query 0 slots.new columns.new.items) }
+    ensures tallied { OnOk result ((rows : List LineOrder)
+        → AreTalliedFrom plan.now.dimensions plan.now.query count (entries_of slots.old) columns.old.items rows
+        → AreTalliedFrom plan.now.dimensions plan.now.query 0 (entries_of slots.new) columns.new.items rows) }
+{
+    if count == 0 {
+        return Ok(());
+    }
+    coarsen(alloc, plan, kind, count - 1, slots, columns)?;
+    coarsen_all(alloc, plan, kind, count - 1, slots, columns)
+}

@@ -1,6 +1,0 @@
-use Rattle.dimensions.specs.Tables.{day_coded_of}
-use Rattle.dimensions.proofs.CodesAt.{month_code_at}
-use Rattle.dimensions.proofs.days.DayTable.month_code.Goals as goal
-
-pub returns : goal.returns
-returns c = month_code_at (day_coded_of c.args.self.now) c.requires.sound c.args.place c.requires.within c.index.result.now c.index.ensures

@@ -1,0 +1,13 @@
+-- The row indexes of keys: read direct, at the key, from a first key on, and from a map by hash elsewhere.
+use Rattle.std.specs.Prelude.{ℕ, ◌-◌, Bool, ◌&&◌, nat_eq, nat_le, nat_lt, Option, if◌then◌else◌, length, slice_index_or}
+use Rattle.std.specs.HashMap as hash
+use Rattle.dimensions.specs.declared.key_map.KeyMap.{KeyMap}
+use Rattle.dimensions.specs.Entries.{entry_row}
+
+-- there is a direct entry for a key
+abbrev pub covers : KeyMap → ℕ → Bool
+covers map key = nat_le map.first key && nat_lt (key - map.first) (length map.direct.items)
+
+-- the row index of a key, if it is there
+abbrev pub row_index_in : KeyMap → ℕ → Option ℕ
+row_index_in map key = if covers map key then entry_row (slice_index_or map.direct.items (key - map.first) 0) else hash.get nat_eq map.hashed key

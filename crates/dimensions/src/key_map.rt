@@ -1,0 +1,133 @@
+//! From keys to row indexes.
+ghost use Rattle.std.specs.Prelude.{◌≡◌, ◌==◌, ◌<◌, ◌≤◌, ◌+◌, ◌^◌, ℕ, Some, None, nat_eq, position, length, vec_len, slice_index, slice_set, if◌then◌else◌, IfOk, OnOk, OnErr, IfSome};
+ghost use Rattle.std.specs.List.{AllWithin};
+ghost use Rattle.dimensions.specs.Entries.{entry_row};
+
+use std::alloc::{AllocError, Global};
+use std::collections::HashMap;
+
+/// How many direct entries there may be beside four for each key.
+const WIDTH_SPARED: usize = 65536;
+
+/// The row indexes of keys: direct entries from a first key on, read at the key, and a map by hash for the keys
+/// elsewhere.
+///
+/// An entry is 0 for a key that is not there, and otherwise one more than the key's row index.
+#[derive(Drop)]
+pub struct KeyMap {
+    first: u32,
+    direct: Vec<u32>,
+    hashed: HashMap<u32, u32>,
+}
+
+impl KeyMap {
+    ghost use Rattle.dimensions.specs.KeyMaps.{covers, row_index_in};
+
+    /// The map of no key.
+    pub fn new(alloc: Global) -> KeyMap
+        ensures { (key : ℕ) → row_index_in result key ≡ None }
+    {
+        KeyMap {
+            first: 0,
+            direct: Vec::new(alloc),
+            hashed: HashMap::new(alloc),
+        }
+    }
+
+    // Whether there is an entry for a key.
+    fn covers(&self, key: u32) -> bool
+        ensures { result ≡ covers self.now key }
+    {
+        self.first <= key && ((key - self.first) as usize) < self.direct.len()
+    }
+
+    /// The row index of a key, if it is there.
+    pub fn row_index(&self, key: u32) -> Option<u32>
+        ensures { result ≡ row_index_in self.now key }
+    {
+        if self.covers(key) {
+            return match self.direct[(key - self.first) as usize] {
+                0 => None,
+                entry => Some(entry - 1),
+            };
+        }
+        self.hashed.get(&key).copied()
+    }
+
+    /// Puts a key at a row index. It can only fail for want of memory, and then changes nothing.
+    pub fn put(&mut self, key: u32, row: u32) -> Result<(), AllocError>
+        requires { row < 4294967295 }
+        ensures ok { OnOk result ((other : ℕ) → row_index_in self.new other ≡ (if nat_eq key other then Some row else row_index_in self.old other)) }
+        ensures err { OnErr result ((other : ℕ) → row_index_in self.new other ≡ row_index_in self.old other) }
+    {
+        if self.covers(key) {
+            self.direct[(key - self.first) as usize] = row + 1;
+            return Ok(());
+        }
+        self.hashed.insert(key, row)?;
+        Ok(())
+    }
+
+    /// Reads all keys of a list direct from now on, if they lie close together. It can only fail for want of
+    /// memory, and then changes nothing.
+    pub fn densify(&mut self, alloc: Global, keys: &[u32]) -> Result<(), AllocError>
+        requires rows { (key : ℕ) → row_index_in self.old key ≡ position (λ other. other == key) keys.now }
+        requires few { length keys.now < 2 ^ 32 }
+        ensures { (key : ℕ) → row_index_in self.new key ≡ position (λ other. other == key) keys.now }
+    {
+        let Some((first, last)) = span(keys) else {
+            return Ok(());
+        };
+        let width = (last - first) as usize;
+        if width >= 4 * keys.len() + WIDTH_SPARED {
+            return Ok(());
+        }
+        let direct = direct_of(alloc, keys, first, width + 1)?;
+        *self = KeyMap {
+            first,
+            direct,
+            hashed: HashMap::new(alloc),
+        };
+        Ok(())
+    }
+}
+
+// The first and the last of some keys, if there are any.
+fn span(keys: &[u32]) -> Option<(u32, u32)>
+    ensures order { IfSome result (λ span. span.0 ≤ span.1) }
+    ensures within { IfSome result (λ span. AllWithin (λ key. (span.0 ≤ key) × (key ≤ span.1)) keys.now 0 (length keys.now)) }
+{
+    let mut first = *keys.first()?;
+    let mut last = first;
+    for key in keys {
+        first = first.min(*key);
+        last = last.max(*key);
+    }
+    Some((first, last))
+}
+
+// The entries of keys that lie from a first key on.
+fn direct_of(alloc: Global, keys: &[u32], first: u32, width: usize) -> Result<Vec<u32>, AllocError>
+    requires within { AllWithin (λ key. (first ≤ key) × (key < first + width)) keys.now 0 (length keys.now) }
+    requires few { length keys.now < 2 ^ 32 }
+    ensures width { IfOk result (λ direct. vec_len direct ≡ width) }
+    ensures entries { IfOk result (λ direct. (k : ℕ) → k < width → entry_row (slice_index direct.items k) ≡ position (λ other. other == first + k) keys.now) }
+{
+    let mut direct = vec![in alloc; 0; width]?;
+    for row in 0..keys.len() {
+        let at = (keys[row] - first) as usize;
+        set_entry(&mut direct, at, row as u32);
+    }
+    Ok(direct)
+}
+
+// Writes an entry for a row where there is none.
+fn set_entry(direct: &mut Vec<u32>, at: usize, row: u32)
+    requires within { at < vec_len direct.old }
+    requires few { row < 4294967295 }
+    ensures { direct.new.items ≡ (if nat_eq (slice_index direct.old.items at) 0 then slice_set direct.old.items at (row + 1) else direct.old.items) }
+{
+    if direct[at] == 0 {
+        direct[at] = row + 1;
+    }
+}

@@ -1,0 +1,9 @@
+use Rattle.std.proofs.Common.{sym, subst, ◌+◌}
+use Rattle.group_plan.specs.Columns.{AreColumns}
+use Rattle.group_plan.proofs.EachDigit.{AreColumns-next}
+use Rattle.group_plan.proofs.column.Column.all.Goals as goal
+
+pub loop-i-preserved : goal.loop-i-preserved
+loop-i-preserved c =
+    subst (AreColumns c.args.dims.now c.args.columns.now (c.loop-i.i + 1)) (sym c.in_ok-push.ensures.items)
+    (AreColumns-next c.args.dims.now c.args.columns.now c.loop-i.i c.loop-i.all.items c.at.result c.loop-i.invariant c.at.ensures)

@@ -1,0 +1,75 @@
+//! The columns of a query, and where their digits stand in the numbers of groups.
+ghost use Rattle.std.specs.Prelude.{◌≡◌, ◌<◌, ◌≤◌, ◌*◌, ◌+◌, ◌-◌, ◌^◌, length, drop, nat_eq, IfOk};
+ghost use Rattle.group_plan.specs.Columns.{digit_of, with_highest, AreColumns, IsColumn};
+
+use crate::digits::group_count;
+use cube_model::Attr;
+use dimensions::Dims;
+use std::alloc::{AllocError, Global};
+
+/// A column of a query: its attribute, how many digits it has, and what each counts in the number of a group.
+#[derive(Clone, Copy, Debug, PartialEq, Eq)]
+pub struct Column {
+    pub attr: Attr,
+    pub digits: u128,
+    pub weight: u128,
+}
+
+impl Column {
+    // The column at a place, of at most six.
+    fn at(dims: &Dims, columns: &[Attr], i: usize) -> Column
+        requires place { i < length columns.now }
+        requires few { length columns.now ≤ 6 }
+        ensures { IsColumn dims.now columns.now i result }
+    {
+        let attr = columns[i];
+        Column {
+            attr,
+            digits: dims.members(attr) as u128 + 1,
+            weight: group_count(dims, &columns[i + 1..]),
+        }
+    }
+
+    /// The columns of a query, of which there are at most six.
+    pub fn all(alloc: Global, dims: &Dims, columns: &[Attr]) -> Result<Vec<Column>, AllocError>
+        requires { length columns.now ≤ 6 }
+        ensures { IfOk result (λ all. AreColumns dims.now columns.now (length columns.now) all.items) }
+    {
+        let mut all = Vec::with_capacity(alloc, columns.len())?;
+        for i in 0..columns.len() {
+            all.push(Column::at(dims, columns, i))?;
+        }
+        Ok(all)
+    }
+
+    /// The digit of a number in the column.
+    pub fn digit(&self, number: u128) -> u128
+        requires digits { 0 < self.now.digits }
+        requires weight { 0 < self.now.weight }
+        ensures value { result ≡ digit_of self.now.digits self.now.weight number }
+        ensures below { result < self.now.digits }
+    {
+        number / self.weight % self.digits
+    }
+
+    /// Whether a number has the digit of ALL in the column.
+    pub fn is_all(&self, number: u128) -> bool
+        requires digits { 0 < self.now.digits }
+        requires weight { 0 < self.now.weight }
+        ensures { result ≡ nat_eq (digit_of self.now.digits self.now.weight number) (self.now.digits - 1) }
+    {
+        self.digit(number) == self.digits - 1
+    }
+
+    /// A number with the digit of ALL in the column.
+    pub fn with_all(&self, number: u128) -> u128
+        requires digits { 0 < self.now.digits }
+        requires weight { 0 < self.now.weight }
+        requires whole { self.now.digits * self.now.weight < 2 ^ 128 }
+        requires fits { with_highest self.now.digits self.now.weight number < 2 ^ 128 }
+        ensures { result ≡ with_highest self.now.digits self.now.weight number }
+    {
+        let above = number / (self.digits * self.weight) * self.digits;
+        (above + (self.digits - 1)) * self.weight + number % self.weight
+    }
+}

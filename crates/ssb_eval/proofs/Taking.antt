@@ -1,0 +1,87 @@
+-- A batch that is taken, and one that is refused.
+use Rattle.std.proofs.Common.{◌≡◌, ℕ, ◌+◌, ◌-◌, ◌<◌, ◌≤◌, Bool, true, false, List, [], ◌∷◌, ◌++◌, length, Option, Some, None, Result, Ok, Err, refl, sym, ap, subst, ◌∙◌, arith, ◌⊎◌, inl, inr, IfOk, IfErr, OnOk}
+use Rattle.std.proofs.lemmas.List.{length_push}
+use Rattle.batch_loader.specs.Reading.{TakesBatch, RefusesBatch}
+use Rattle.batch_loader.specs.Tables.{lineorder_row}
+use Rattle.batch_loader.specs.Unread.{Unread}
+use Rattle.cube_model.specs.declared.answer.Answer.{Answer}
+use Rattle.cube_model.specs.declared.fault.Fault.{Fault}
+use Rattle.cube_model.specs.declared.fault.Fault.TheVariants.{Memory}
+use Rattle.cube_model.specs.declared.query.Query.{Query}
+use Rattle.cube_model.specs.declared.rows.DimRows.{DimRows}
+use Rattle.cube_model.specs.declared.rows.LineOrder.{LineOrder}
+use Rattle.cube_model.specs.Admission.{refusal}
+use Rattle.cube_query.specs.Groups.{FoldState, Takes}
+use Rattle.ssb_eval.specs.Accepted.{Accepted}
+use Rattle.ssb_eval.specs.Admission.{StandsBehind}
+use Rattle.ssb_eval.specs.Evaluation.{Gives, answer_of}
+use Rattle.ssb_eval.specs.Taken.{AreTaken, LeavesFacts, TakesBatchIn, TakesNextBatch, IsNextBatch, IsRefusedBatch}
+use Rattle.ssb_eval.proofs.Batches.{passes, taken_more, leaves_on, gives-unread, gives-refused}
+
+-- what was taken, by the fold's own query, and back
+pub AreTaken-own : (dimensions : DimRows) (query : Query) (accepted : Accepted) (fold : FoldState) (batches : List (List LineOrder)) → AreTaken dimensions query accepted fold batches → AreTaken dimensions fold.query accepted fold batches
+AreTaken-own dimensions query accepted fold batches taken = record {
+  stands = taken.stands;
+  dimensions_are = taken.dimensions_are;
+  query_is = refl;
+  folded = taken.folded;
+  few = taken.few;
+  known = taken.known;
+}
+
+pub AreTaken-of : (dimensions : DimRows) (query other : Query) (accepted : Accepted) (fold : FoldState) (batches : List (List LineOrder)) → query ≡ other → AreTaken dimensions query accepted fold batches → AreTaken dimensions other accepted fold batches
+AreTaken-of dimensions query other accepted fold batches same taken = subst (λ q. AreTaken dimensions q accepted fold batches) same taken
+
+-- the check refused a batch
+pub TakesBatchIn-refused : (dimensions : DimRows) (query : Query) (batches : List (List LineOrder)) (rows : List LineOrder) (accepted : Accepted) (fold : FoldState) (number : ℕ) (fault : Fault) (result : Result Unit Fault)
+    → number ≡ length batches + 1 → Some fault ≡ refusal dimensions batches number rows → (other : Fault) × (result ≡ Err other) × (other ≡ fault) → TakesBatchIn dimensions query batches rows accepted fold result
+TakesBatchIn-refused dimensions query batches rows accepted fold number fault result place refused is =
+    rw (is.1, is.2) (inr (ap (λ n. refusal dimensions batches n rows) (sym place) ∙ sym refused))
+
+-- the check accepted it, and its rows were folded
+pub TakesBatchIn-added : (dimensions : DimRows) (query : Query) (batches : List (List LineOrder)) (rows : List LineOrder) (accepted next : Accepted) (fold more : FoldState) (number : ℕ) (result : Result Unit Fault)
+    → AreTaken dimensions query accepted fold batches → number ≡ length batches + 1 → None ≡ refusal dimensions batches number rows → StandsBehind next (batches ++ rows ∷ [])
+    → OnOk result (Takes fold rows more) → IfErr result (λ fault. fault ≡ Memory) → TakesBatchIn dimensions query batches rows next more result
+TakesBatchIn-added dimensions query batches rows accepted next fold more number (Ok done) taken place passed stands takes only = (
+  ap (λ n. refusal dimensions batches n rows) (sym place) ∙ sym passed,
+  taken_more dimensions query accepted next fold more batches rows taken (passes dimensions batches number rows (sym passed)) stands takes,
+)
+TakesBatchIn-added dimensions query batches rows accepted next fold more number (Err fault) taken place passed stands takes only = inl only
+
+-- a batch could not be read
+pub TakesNextBatch-unread : (dimensions : DimRows) (query : Query) (batches : List (List LineOrder)) (old new : Unread) (accepted : Accepted) (fold : FoldState) (fault : Fault) (result : Result Bool Fault)
+    → RefusesBatch lineorder_row 65536 old fault → (other : Fault) × (result ≡ Err other) × (other ≡ fault) → TakesNextBatch dimensions query batches old new accepted fold result
+TakesNextBatch-unread dimensions query batches old new accepted fold fault result (inl memory) is = rw (is.1, is.2) (inl memory)
+TakesNextBatch-unread dimensions query batches old new accepted fold fault result (inr (inl input)) is = rw (is.1, is.2) (inr (inl input))
+TakesNextBatch-unread dimensions query batches old new accepted fold fault result (inr (inr first)) is = rw (is.1, is.2) (inr (inr (inl first)))
+
+-- or was read, and is refused
+pub TakesNextBatch-refused : (dimensions : DimRows) (query : Query) (batches : List (List LineOrder)) (old new : Unread) (accepted : Accepted) (fold : FoldState) (rows : List LineOrder) (fault : Fault) (result : Result Bool Fault)
+    → 1 ≤ length rows → TakesBatch lineorder_row 65536 old new rows → TakesBatchIn dimensions query batches rows accepted fold (Err fault) → (other : Fault) × (result ≡ Err other) × (other ≡ fault)
+    → TakesNextBatch dimensions query batches old new accepted fold result
+TakesNextBatch-refused dimensions query batches old new accepted fold rows fault result some read (inl memory) is = rw (is.1, is.2) (inl memory)
+TakesNextBatch-refused dimensions query batches old new accepted fold rows fault result some read (inr refused) is =
+    rw (is.1, is.2) (inr (inr (inr (rows, record { some = some; read = read; refused = refused }))))
+
+-- no row was left
+pub no_rows : (old new : Unread) (rows : List LineOrder) → length rows ≡ 0 → TakesBatch lineorder_row 65536 old new rows → TakesBatch lineorder_row 65536 old new []
+no_rows old new [] none read = read
+no_rows old new (row ∷ rows) none read = absurd (omega arith)
+
+-- the evaluation ends with the fault of the next batch
+pub gives-stopped : (query : Query) (dimensions : DimRows) (text : List ℕ) (batches : List (List LineOrder)) (old new : Unread) (accepted : Accepted) (fold : FoldState) (own : Query) (fault : Fault) (result : Result Answer Fault)
+    → LeavesFacts dimensions text batches old.number old.left → TakesNextBatch dimensions own batches old new accepted fold (Err fault) → (other : Fault) × (result ≡ Err other) × (other ≡ fault)
+    → Gives (answer_of query dimensions text) result
+gives-stopped query dimensions text batches old new accepted fold own fault result before (inl memory) is = gives-unread query dimensions text batches old.number old.left fault result before (inl memory) is
+gives-stopped query dimensions text batches old new accepted fold own fault result before (inr (inl input)) is = gives-unread query dimensions text batches old.number old.left fault result before (inr (inl input)) is
+gives-stopped query dimensions text batches old new accepted fold own fault result before (inr (inr (inl first))) is =
+    gives-unread query dimensions text batches old.number old.left fault result before (inr (inr first)) is
+gives-stopped query dimensions text batches old new accepted fold own fault result before (inr (inr (inr (rows, refused)))) is =
+    gives-refused query dimensions text batches old.number (length batches + 1) old.left new.left rows fault result before refused.read.taken refused.some refl (sym refused.refused) is
+
+-- the number of accepted batches grows, and stays within its limit
+pub count_more : (dimensions : DimRows) (query own : Query) (batches : List (List LineOrder)) (old new : Unread) (accepted next : Accepted) (fold more : FoldState) (rows : List LineOrder)
+    → AreTaken dimensions query accepted fold batches → IsNextBatch dimensions own batches old new next more rows → 4097 - next.count < 4097 - accepted.count
+count_more dimensions query own batches old new accepted next fold more rows taken batch =
+    let pass = passes dimensions batches (length batches + 1) rows batch.passes in
+    omega (arith, taken.stands.count, batch.taken.stands.count, pass.batches_left, length_push batches rows)

@@ -1,0 +1,14 @@
+use Rattle.std.proofs.Common.{◌≡◌, ℕ, ◌-◌, List, Some, None}
+use Rattle.cube_model.specs.declared.rows.LineOrder.{LineOrder}
+use Rattle.ssb_eval.specs.Taken.{AreTaken, LeavesFacts}
+use Rattle.ssb_eval.proofs.facts.fold_lines.Given as goal
+
+abbrev pub invariant-loop-more : goal.invariant-loop-more
+invariant-loop-more g l =
+    (batches : List (List LineOrder))
+    × AreTaken l.dims l.fn.fold.query l.admission l.fold batches
+    × (l.lines.fault ≡ None)
+    × ((text : List ℕ) → l.fn.lines.left ≡ Some text → LeavesFacts l.dims text batches l.lines.number l.lines.left)
+
+abbrev pub decreases-loop-more : goal.decreases-loop-more
+decreases-loop-more g l = 4097 - l.admission.count

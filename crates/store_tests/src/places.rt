@@ -1,0 +1,153 @@
+// Where the store puts what.
+use crate::steps::{made, put};
+use cube_model::Fault;
+use object_store::Store;
+use sector_device::{DeviceError, MemDisk, Sectors};
+use std::alloc::Global;
+use std::test::Fail;
+use superblock::{Super, decode};
+use wire::Source;
+
+// A store whose object 1 was replaced so many times.
+fn replaced(alloc: Global, times: u8) -> Result<Store<MemDisk>, Fault> {
+    let mut store = made(alloc, 64, 1, b"first")?;
+    for time in 0..times {
+        put(alloc, &mut store, 1, &[b'a' + time % 20; 5])?;
+    }
+    Ok(store)
+}
+
+// What stands in a sector.
+fn sector(disk: &mut MemDisk, i: u32) -> Result<[u8; 512], DeviceError> {
+    let mut bytes = [0; 512];
+    if i >= disk.count() {
+        return Err(DeviceError);
+    }
+    disk.read(i, &mut bytes)?;
+    Ok(bytes)
+}
+
+// A sector of these bytes and zeros.
+fn padded(bytes: &[u8]) -> [u8; 512] {
+    let mut sector = [0; 512];
+    let n = bytes.len().min(512);
+    sector[..n].copy_from_slice(&bytes[..n]);
+    sector
+}
+
+// After so many replacements: the generation, the slot of its superblock, the sectors of the catalogue and of the
+// object, and the object.
+const PLACES: [(u8, u64, u8, u32, u32, &[u8; 5]); 4] = [
+    (0, 1, 1, 3, 2, b"first"),
+    (1, 2, 0, 5, 4, b"aaaaa"),
+    (2, 3, 1, 3, 2, b"bbbbb"),
+    (3, 4, 0, 5, 4, b"ccccc"),
+];
+
+#[test]
+fn takes_the_first_fits(rt: HostRuntime) -> Result<(), Fail> {
+    for (times, generation, slot, catalogue, object, bytes) in PLACES {
+        let mut disk = replaced(rt.alloc(), times)?.close();
+        let found = (
+            sector(&mut disk, u32::from(slot)),
+            sector(&mut disk, object),
+        );
+        let superblock = Super {
+            layout: 1,
+            sectors: 64,
+            generation,
+            catalogue,
+            bytes: 28,
+        };
+        let written = superblock::encode(&superblock);
+        assert_eq!(rt; found, (Ok(written), Ok(padded(bytes))), "after {times}");
+        assert_eq!(rt; decode(&written, slot), Some(superblock));
+    }
+    Ok(())
+}
+
+// The catalogue of object 1 of five bytes in sector 2, with an empty root.
+const CATALOGUE: [u8; 28] = [
+    0x43, 0x41, 0x54, 0x31, 1, 0, 0, 0, 0, 0, 0, 0, 1, 0, 0, 0, 2, 0, 0, 0, 5, 0, 0, 0, 0, 0, 0, 0,
+];
+
+#[test]
+fn spells_the_catalogue(rt: HostRuntime) -> Result<(), Fail> {
+    let mut disk = replaced(rt.alloc(), 0)?.close();
+    assert_eq!(rt; sector(&mut disk, 3), Ok(padded(&CATALOGUE)));
+    assert_eq!(rt; sector(&mut disk, 0), Ok([0; 512]));
+    Ok(())
+}
+
+#[test]
+fn tells_what_it_holds(rt: HostRuntime) -> Result<(), Fail> {
+    let mut store = replaced(rt.alloc(), 2)?;
+    let told = (
+        store.objects(),
+        store.size(1),
+        store.size(2),
+        store.layout(),
+    );
+    assert_eq!(rt; told, (1, Some(5), None, 1));
+    let bytes = store.get(rt.alloc(), 1)?;
+    assert_eq!(rt;
+        (store.root().len(), bytes),
+        (0, Some(Vec::from_slice(rt.alloc(), b"bbbbb")?))
+    );
+    Ok(())
+}
+
+// A place, a number of bytes, and whether an object of 1,025 bytes has them, with the sectors that are read.
+const RANGES: [(u64, usize, bool, u64); 7] = [
+    (511, 2, true, 2),
+    (512, 2, true, 1),
+    (1024, 1, true, 1),
+    (1024, 2, false, 0),
+    (1025, 0, true, 0),
+    (1026, 0, false, 0),
+    (18_446_744_073_709_551_615, 1, false, 0),
+];
+
+#[test]
+fn reads_the_sectors_of_a_range(rt: HostRuntime) -> Result<(), Fail> {
+    let mut object = [7u8; 1025];
+    object[511] = 1;
+    object[1024] = 2;
+    let mut store = made(rt.alloc(), 64, 3, &object)?;
+    for (at, len, within, sectors) in RANGES {
+        let before = store.device().reads();
+        let mut to = [0u8; 2];
+        let answer = store.read_at(3, at, &mut to[..len.min(2)]);
+        let told = (answer, store.device().reads().saturating_sub(before));
+        assert_eq!(rt; told, (Ok(within), sectors), "{len} at {at}");
+    }
+    Ok(())
+}
+
+// Two bytes of a text, where it has them.
+fn part<S: Source>(source: &mut S, id: u32, at: u64) -> Result<Option<[u8; 2]>, Fault> {
+    let Some(total) = source.total(id) else {
+        return Ok(None);
+    };
+    if at > total || total - at < 2 {
+        return Ok(None);
+    }
+    let mut to = [0; 2];
+    source.read_part(id, at, &mut to)?;
+    Ok(Some(to))
+}
+
+#[test]
+fn is_a_source_of_its_objects(rt: HostRuntime) -> Result<(), Fail> {
+    let mut store = replaced(rt.alloc(), 0)?;
+    let cases = [
+        (1, 0, Some(*b"fi")),
+        (1, 3, Some(*b"st")),
+        (1, 4, None),
+        (2, 0, None),
+    ];
+    for (id, at, bytes) in cases {
+        assert_eq!(rt; part(&mut store, id, at), Ok(bytes), "{id} at {at}");
+    }
+    Ok(())
+}

@@ -1,0 +1,132 @@
+// A replacement that stops after each of its calls.
+use crate::steps::{five, made, opened, put};
+use cube_model::Fault;
+use object_store::Store;
+use sector_device::{Fuse, MemDisk};
+use std::alloc::Global;
+use std::test::Fail;
+
+// The calls of `open` on a store of one object: a sync, two slots, and one sector of the catalogue.
+const OPENING: u64 = 4;
+
+// The answer of a replacement that is stopped after so many calls, and the disk then.
+fn stopped(
+    alloc: Global,
+    calls: u64,
+    reaches: bool,
+) -> Result<(Result<(), Fault>, MemDisk), Fault> {
+    let disk = made(alloc, 64, 1, b"first")?.close();
+    let fuse = Fuse::new(
+        disk,
+        OPENING.saturating_add(calls).saturating_add(1),
+        true,
+        reaches,
+    );
+    let mut store = opened(alloc, fuse)?;
+    let answer = put(alloc, &mut store, 1, b"other");
+    Ok((answer, store.close().close()))
+}
+
+// What a stop leaves of object 1.
+fn left(alloc: Global, disk: MemDisk, picks: &[u32]) -> Result<Option<[u8; 5]>, Fault> {
+    five(&mut opened(alloc, disk.crash(picks))?)
+}
+
+const OLD: Option<[u8; 5]> = Some(*b"first");
+
+const NEW: Option<[u8; 5]> = Some(*b"other");
+
+// How many calls are made, the picks, and what is found then. After two, two sectors have two candidates each; after
+// four, the superblock's alone has.
+const STOPS: [(u64, &[u32], Option<[u8; 5]>); 20] = [
+    (0, &[], OLD),
+    (0, &[1, 1], OLD),
+    (1, &[0], OLD),
+    (1, &[1], OLD),
+    (2, &[0, 0], OLD),
+    (2, &[0, 1], OLD),
+    (2, &[1, 0], OLD),
+    (2, &[1, 1], OLD),
+    (3, &[0, 0], OLD),
+    (3, &[1, 1], OLD),
+    (3, &[0, 1], OLD),
+    (3, &[1, 0], OLD),
+    (4, &[0], OLD),
+    (4, &[1], NEW),
+    (4, &[0, 1], OLD),
+    (4, &[1, 0], NEW),
+    (5, &[0, 0], NEW),
+    (5, &[1, 1], NEW),
+    (5, &[0, 1], NEW),
+    (5, &[1, 0], NEW),
+];
+
+#[test]
+fn leaves_the_old_or_the_new_object(rt: HostRuntime) -> Result<(), Fail> {
+    for (calls, picks, object) in STOPS {
+        let (answer, disk) = stopped(rt.alloc(), calls, false)?;
+        let done = if calls < 5 {
+            Err(Fault::Device)
+        } else {
+            Ok(())
+        };
+        assert_eq!(rt; answer, done, "after {calls}");
+        assert_eq!(rt;
+            left(rt.alloc(), disk, picks),
+            Ok(object),
+            "after {calls} at {picks:?}"
+        );
+    }
+    Ok(())
+}
+
+// A write that fails may have reached the disk: the superblock's is then one of two candidates.
+#[test]
+fn leaves_either_where_a_failing_write_reaches(rt: HostRuntime) -> Result<(), Fail> {
+    let stops = [(0, OLD), (1, OLD), (2, OLD), (3, NEW)];
+    for (calls, object) in stops {
+        let (answer, disk) = stopped(rt.alloc(), calls, true)?;
+        assert_eq!(rt; answer, Err(Fault::Device), "after {calls}");
+        assert_eq!(rt;
+            left(rt.alloc(), disk, &[1, 1, 1]),
+            Ok(object),
+            "after {calls}"
+        );
+    }
+    Ok(())
+}
+
+// A store whose last sync failed.
+fn unsynced(alloc: Global) -> Result<Store<Fuse<MemDisk>>, Fault> {
+    let disk = made(alloc, 64, 1, b"first")?.close();
+    let mut store = opened(alloc, Fuse::new(disk, OPENING + 5, false, false))?;
+    match put(alloc, &mut store, 1, b"other") {
+        Err(Fault::Device) => Ok(store),
+        _ => Err(Fault::BadLayout),
+    }
+}
+
+#[test]
+fn answers_failed_after_a_failed_sync(rt: HostRuntime) -> Result<(), Fail> {
+    let mut store = unsynced(rt.alloc())?;
+    let mut to = [0; 1];
+    assert_eq!(rt; store.read_at(1, 0, &mut to), Err(Fault::Failed));
+    assert_eq!(rt;
+        (
+            put(rt.alloc(), &mut store, 1, b"third"),
+            store.get(rt.alloc(), 1)
+        ),
+        (Err(Fault::Failed), Err(Fault::Failed))
+    );
+    Ok(())
+}
+
+#[test]
+fn opens_what_was_not_synced_and_syncs_it(rt: HostRuntime) -> Result<(), Fail> {
+    let device = unsynced(rt.alloc())?.close();
+    let mut store = opened(rt.alloc(), device)?;
+    assert_eq!(rt; five(&mut store), Ok(NEW));
+    let disk = store.close().close();
+    assert_eq!(rt; left(rt.alloc(), disk, &[0]), Ok(NEW));
+    Ok(())
+}

@@ -1,0 +1,233 @@
+//! Fact rows and the lines that spell them.
+use crate::joined::{FRONT, LONGEST_TEXT, ROW, ZEROS, joined};
+use crate::outcomes::{has_rows, rows_in};
+use batch_loader::{Lines, read_batch};
+use cube_model::{Fault, LineOrder, RowText};
+use sample_star::{FACTS, FIRST_FACT, Fact, TABLES, in_sevens, line_order, line_orders, whole};
+use std::alloc::Global;
+use std::test::Fail;
+
+/// A text in parts, and its rows.
+#[derive(Clone, Copy, Debug)]
+struct Spelled {
+    parts: &'static [&'static [u8]],
+    rows: &'static [Fact<'static>],
+}
+
+const EIGHT_DIGITS: Fact<'static> = Fact {
+    orderkey: 12_345_678,
+    custkey: 99_999_999,
+    partkey: 10_000_000,
+    suppkey: 87_654_321,
+    extendedprice: 123_456_789,
+    revenue: 1_234_567,
+    supplycost: 100_200,
+    ..FIRST_FACT
+};
+
+const GREATEST: Fact<'static> = Fact {
+    orderkey: 9_223_372_036_854_775_807,
+    linenumber: 4_294_967_295,
+    orderdate: 4_294_967_295,
+    quantity: 255,
+    ordtotalprice: 9_223_372_036_854_775_807,
+    tax: 255,
+    ..FIRST_FACT
+};
+
+const SHORTEST: Fact<'static> = Fact {
+    orderkey: 0,
+    linenumber: 1,
+    custkey: 2,
+    partkey: 3,
+    suppkey: 4,
+    orderdate: 5,
+    orderpriority: "",
+    shippriority: "",
+    quantity: 6,
+    extendedprice: 7,
+    ordtotalprice: 8,
+    discount: 9,
+    revenue: 10,
+    supplycost: 11,
+    tax: 12,
+    commitdate: "",
+    shipmode: "",
+};
+
+static SPELLED: [Spelled; 13] = [
+    Spelled {
+        parts: &[],
+        rows: &[],
+    },
+    Spelled {
+        parts: &[ROW, b"|\n"],
+        rows: &[FIRST_FACT],
+    },
+    Spelled {
+        parts: &[ROW, b"\n"],
+        rows: &[FIRST_FACT],
+    },
+    Spelled {
+        parts: &[ROW, b"|\r\n"],
+        rows: &[FIRST_FACT],
+    },
+    Spelled {
+        parts: &[ROW, b"\r\n"],
+        rows: &[FIRST_FACT],
+    },
+    Spelled {
+        parts: &[ROW, b"|"],
+        rows: &[FIRST_FACT],
+    },
+    Spelled {
+        parts: &[ROW],
+        rows: &[FIRST_FACT],
+    },
+    Spelled {
+        parts: &[FRONT, b"\n"],
+        rows: &[Fact {
+            shipmode: "",
+            ..FIRST_FACT
+        }],
+    },
+    Spelled {
+        parts: &[FRONT, b"SHIP \r|\n"],
+        rows: &[Fact {
+            shipmode: "SHIP \r",
+            ..FIRST_FACT
+        }],
+    },
+    Spelled {
+        parts: &[
+            b"1|1|1|1|1|19930105|1-URGENT|0|",
+            ZEROS,
+            b"5|1000|1000|2|980|600|0|19930201|AIR|\n",
+        ],
+        rows: &[Fact {
+            quantity: 5,
+            ..FIRST_FACT
+        }],
+    },
+    Spelled {
+        parts: &[
+            b"12345678|1|99999999|10000000|87654321|19930105|1-URGENT|0|17|123456789|1000|2|1234567|100200|00000000|19930201|AIR|\n",
+        ],
+        rows: &[EIGHT_DIGITS],
+    },
+    Spelled {
+        parts: &[
+            b"9223372036854775807|4294967295|1|1|1|4294967295|1-URGENT|0|255|1000|9223372036854775807|2|980|600|255|19930201|AIR|\n",
+        ],
+        rows: &[GREATEST],
+    },
+    Spelled {
+        parts: &[b"0|1|2|3|4|5|||6|7|8|9|10|11|12||\n"],
+        rows: &[SHORTEST],
+    },
+];
+
+/// Whether the parts spell the rows.
+fn is_spelled(alloc: Global, case: &Spelled) -> Result<bool, Fault> {
+    let text = joined(alloc, case.parts)?;
+    let want = line_orders(alloc, case.rows)?;
+    has_rows(alloc, text.as_slice(), want.as_slice())
+}
+
+#[test]
+fn lines_spell_rows(rt: HostRuntime) -> Result<(), Fail> {
+    for case in &SPELLED {
+        assert!(rt; is_spelled(rt.alloc(), case)?, "{case:?}");
+    }
+    Ok(())
+}
+
+#[test]
+fn the_sample_text_is_read(rt: HostRuntime) -> Result<(), Fail> {
+    let want = line_orders(rt.alloc(), &FACTS)?;
+    assert!(rt; has_rows(rt.alloc(), TABLES.lineorder, want.as_slice())?);
+    Ok(())
+}
+
+/// The first sample row with another priority.
+fn with_priority(alloc: Global, priority: &[u8]) -> Result<LineOrder, Fault> {
+    let mut row = line_order(alloc, &FIRST_FACT)?;
+    row.orderpriority = RowText::from_slice(alloc, priority)?;
+    Ok(row)
+}
+
+/// Whether a row with a priority of some bytes is read from its line.
+fn is_moved(alloc: Global, priority: &[u8]) -> Result<bool, Fault> {
+    let row = with_priority(alloc, priority)?;
+    let text = joined(
+        alloc,
+        &[
+            b"1|1|1|1|1|19930105|",
+            priority,
+            b"|0|17|1000|1000|2|980|600|0|19930201|AIR|\n",
+        ],
+    )?;
+    has_rows(alloc, text.as_slice(), &[row])
+}
+
+#[test]
+fn fields_stand_anywhere_in_a_line(rt: HostRuntime) -> Result<(), Fail> {
+    for count in 0..=LONGEST_TEXT.len() {
+        assert!(rt;
+            is_moved(rt.alloc(), &LONGEST_TEXT[..count])?,
+            "{count} bytes"
+        );
+    }
+    Ok(())
+}
+
+#[test]
+fn batches_follow_each_other(rt: HostRuntime) -> Result<(), Fail> {
+    let mut lines = Lines::new(rt.alloc(), in_sevens(TABLES.lineorder))?;
+    let want = line_orders(rt.alloc(), &FACTS)?;
+    for (most, batch) in [
+        (2, &want[..2]),
+        (0, &want[..0]),
+        (2, &want[2..]),
+        (2, &want[3..]),
+    ] {
+        let rows = read_batch(rt.alloc(), &mut lines, most)?;
+        assert!(rt;
+            rows.as_slice() == batch && lines.fault() == None,
+            "{most} rows"
+        );
+    }
+    assert_eq!(rt; lines.number(), 3);
+    Ok(())
+}
+
+#[test]
+fn a_refused_text_stays_refused(rt: HostRuntime) -> Result<(), Fail> {
+    let text = joined(rt.alloc(), &[ROW, b"\n1|\n", ROW])?;
+    let mut lines = Lines::new(rt.alloc(), whole(text.as_slice()))?;
+    let fault = Fault::FieldCount { line: 2 };
+    for most in [2, 0, 9] {
+        assert_eq!(rt;
+            read_batch(rt.alloc(), &mut lines, most),
+            Err(fault),
+            "{most} rows"
+        );
+    }
+    assert_eq!(rt; (lines.fault(), lines.number()), (Some(fault), 2));
+    Ok(())
+}
+
+#[test]
+fn rows_before_a_refused_line_are_taken_alone(rt: HostRuntime) -> Result<(), Fail> {
+    let text = joined(rt.alloc(), &[ROW, b"\n1|\n"])?;
+    let mut lines = Lines::new(rt.alloc(), whole(text.as_slice()))?;
+    assert_eq!(rt;
+        read_batch(rt.alloc(), &mut lines, 1).map(|rows| rows.len()),
+        Ok(1)
+    );
+    assert_eq!(rt;
+        rows_in(rt.alloc(), whole(text.as_slice())),
+        Err(Fault::FieldCount { line: 2 })
+    );
+    Ok(())
+}

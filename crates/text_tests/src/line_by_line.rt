@@ -1,0 +1,57 @@
+//! Lines and fields by themselves.
+use batch_loader::{Lines, fields};
+use cube_model::Fault;
+use sample_star::{byte_by_byte, in_sevens};
+use std::test::Fail;
+
+const TEXT: &[u8] = b"a|b\r\n\nc";
+
+static LINES: [Option<&[u8]>; 5] = [Some(b"a|b\r"), Some(b""), Some(b"c"), None, None];
+
+#[test]
+fn lines_are_given_in_order(rt: HostRuntime) -> Result<(), Fail> {
+    let mut lines = Lines::new(rt.alloc(), byte_by_byte(TEXT))?;
+    for want in &LINES {
+        assert_eq!(rt; lines.next()?, *want);
+    }
+    assert_eq!(rt; (lines.number(), lines.fault()), (3, None));
+    Ok(())
+}
+
+static READ_ONCE: [Result<Option<&[u8]>, Fault>; 4] = [
+    Ok(Some(b"a|b\r")),
+    Ok(Some(b"")),
+    Err(Fault::Input),
+    Err(Fault::Input),
+];
+
+#[test]
+fn a_failed_read_ends_all(rt: HostRuntime) -> Result<(), Fail> {
+    let mut lines = Lines::new(rt.alloc(), in_sevens(TEXT).failing_at(2))?;
+    for want in &READ_ONCE {
+        assert_eq!(rt; lines.next(), *want);
+    }
+    assert_eq!(rt; lines.fault(), Some(Fault::Input));
+    Ok(())
+}
+
+/// Lines, and the two fields that they spell.
+static SPELLED: [(&[u8], Option<(&[u8], &[u8])>); 8] = [
+    (b"a|b", Some((b"a", b"b"))),
+    (b"a|b|", Some((b"a", b"b"))),
+    (b"a|b\r", Some((b"a", b"b"))),
+    (b"a|b|\r", Some((b"a", b"b"))),
+    (b"|", Some((b"", b""))),
+    (b"a", None),
+    (b"a|b|c", None),
+    (b"a|b||", None),
+];
+
+#[test]
+fn fields_stand_between_bars(rt: HostRuntime) -> Result<(), Fail> {
+    for (line, want) in &SPELLED {
+        let found = fields::<2>(line, 4).map(|found| (found.get(0), found.get(1)));
+        assert_eq!(rt; found, want.ok_or(Fault::FieldCount { line: 4 }));
+    }
+    Ok(())
+}
