@@ -9,14 +9,24 @@ pub(crate) fn failure() -> Error {
     Error::from(ErrorKind::Other)
 }
 
-/// A file in which each byte is the number of its sector modulo 251. It gives at most so many bytes in a call, fails
-/// a call that begins in a bad sector, stops before one that does not, and counts its reads. It forgets what is
-/// written.
+/// A file in which each byte is the number of its sector modulo 251, but for the sector that was written last, whose
+/// bytes are all the first of what was written. It gives at most so many bytes in a call, fails a call that begins in
+/// a bad sector, stops before one that does not, and counts its reads.
 #[derive(Drop)]
 pub(crate) struct Numbered<'a> {
     pub(crate) piece: usize,
     pub(crate) bad: u64,
     pub(crate) reads: &'a Cell<u64>,
+    pub(crate) written: Cell<Option<(u64, u8)>>,
+}
+
+impl Numbered<'_> {
+    fn byte_of(&self, sector: u64) -> u8 {
+        match self.written.get() {
+            Some((written, byte)) if written == sector => byte,
+            _ => (sector % 251) as u8,
+        }
+    }
 }
 
 impl FileExt for Numbered<'_> {
@@ -28,7 +38,7 @@ impl FileExt for Numbered<'_> {
             if place / 512 == self.bad || read == self.piece {
                 break;
             }
-            *byte = (place / 512 % 251) as u8;
+            *byte = self.byte_of(place / 512);
             place = place.wrapping_add(1);
             read = read.wrapping_add(1);
         }
@@ -38,7 +48,10 @@ impl FileExt for Numbered<'_> {
         Ok(read.min(buf.len()))
     }
 
-    fn write_at(&self, buf: &[u8], _offset: u64) -> io::Result<usize> {
+    fn write_at(&self, buf: &[u8], offset: u64) -> io::Result<usize> {
+        if let Some(byte) = buf.first() {
+            self.written.set(Some((offset / 512, *byte)));
+        }
         Ok(buf.len())
     }
 }

@@ -13,7 +13,12 @@ const NONE: u64 = 4_294_967_295;
 
 // A device of 1,000 sectors.
 fn disk<'a>(rt: &HostRuntime, piece: usize, bad: u64, reads: &'a Cell<u64>) -> Disk<'a> {
-    let file = Numbered { piece, bad, reads };
+    let file = Numbered {
+        piece,
+        bad,
+        reads,
+        written: Cell::new(None),
+    };
     FileDisk::over(rt.alloc(), Host::new(file), 1000)
 }
 

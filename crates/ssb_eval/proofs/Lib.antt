@@ -1,5 +1,4 @@
 pub mod Batches
-pub mod Checks
 pub mod Endings
 pub mod ShortRows
 pub mod Tables

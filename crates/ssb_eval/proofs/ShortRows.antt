@@ -1,15 +1,14 @@
 -- The rows of dimension tables have short texts: a longer one is a fault of its line.
-use Rattle.std.proofs.Common.{◌≡◌, ◌<◌, ◌≤◌, ◌+◌, ◌∙◌, zero, suc, sym, ap, refl, subst, arith, cond, ℕ, Bool, true, false, nat_lt, List, [], ◌∷◌, length, get_or, slice_get, Option, Some, None, Result, Ok, Err}
+use Rattle.std.proofs.Common.{◌≡◌, ◌≤◌, ◌+◌, ◌∙◌, zero, suc, sym, ap, refl, subst, arith, cond, ℕ, Bool, true, false, nat_lt, List, [], ◌∷◌, length, get_or, slice_get, Option, Some, None, Result, Ok, Err}
 use Rattle.std.specs.List.{AllByRecursion}
 use Rattle.batch_loader.specs.declared.columns.Column.{Column}
-use Rattle.batch_loader.specs.declared.columns.Column.TheVariants.{Number, Text, Skipped}
+use Rattle.batch_loader.specs.declared.columns.Column.TheVariants.{Text}
 use Rattle.batch_loader.specs.Columns.{field_fault, fields_fault, unless, row_of_fields, row_of}
 use Rattle.batch_loader.specs.Fields.{fields_of}
-use Rattle.batch_loader.specs.Lines.{lines_of}
 use Rattle.batch_loader.specs.Rows.{row_before, rows_of, next_number}
 use Rattle.batch_loader.specs.Tables.{customer_columns, customer_of_fields, customer_row, supplier_columns, supplier_of_fields, supplier_row, part_columns, part_of_fields, part_row, date_columns, date_of_fields, date_row}
 use Rattle.cube_model.specs.declared.fault.Fault.{Fault}
-use Rattle.cube_model.specs.declared.fault.Fault.TheVariants.{FieldTooLong, FieldCount}
+use Rattle.cube_model.specs.declared.fault.Fault.TheVariants.{FieldTooLong}
 use Rattle.cube_model.specs.declared.fault.Place.TheVariants.{Line}
 use Rattle.cube_model.specs.declared.rows.CustomerRow.{CustomerRow}
 use Rattle.cube_model.specs.declared.rows.SupplierRow.{SupplierRow}

@@ -1,5 +1,5 @@
 -- A batch that is taken, and one that is refused.
-use Rattle.std.proofs.Common.{◌≡◌, ℕ, ◌+◌, ◌-◌, ◌<◌, ◌≤◌, Bool, true, false, List, [], ◌∷◌, ◌++◌, length, Option, Some, None, Result, Ok, Err, refl, sym, ap, subst, ◌∙◌, arith, ◌⊎◌, inl, inr, IfOk, IfErr, OnOk}
+use Rattle.std.proofs.Common.{◌≡◌, ℕ, ◌+◌, ◌-◌, ◌<◌, ◌≤◌, Bool, List, [], ◌∷◌, ◌++◌, length, Some, None, Result, Ok, Err, refl, sym, ap, subst, ◌∙◌, arith, inl, inr, IfErr, OnOk}
 use Rattle.std.proofs.lemmas.List.{length_push}
 use Rattle.batch_loader.specs.Reading.{TakesBatch, RefusesBatch}
 use Rattle.batch_loader.specs.Tables.{lineorder_row}
@@ -11,12 +11,14 @@ use Rattle.cube_model.specs.declared.query.Query.{Query}
 use Rattle.cube_model.specs.declared.rows.DimRows.{DimRows}
 use Rattle.cube_model.specs.declared.rows.LineOrder.{LineOrder}
 use Rattle.cube_model.specs.Admission.{refusal}
+use Rattle.cube_model.specs.Limits.{most_batch_rows}
 use Rattle.cube_query.specs.Groups.{FoldState, Takes}
-use Rattle.ssb_eval.specs.Accepted.{Accepted}
-use Rattle.ssb_eval.specs.Admission.{StandsBehind}
+use Rattle.batch_admission.specs.Accepted.{Accepted}
+use Rattle.batch_admission.specs.Accepted.{StandsBehind}
 use Rattle.ssb_eval.specs.Evaluation.{Gives, answer_of}
-use Rattle.ssb_eval.specs.Taken.{AreTaken, LeavesFacts, TakesBatchIn, TakesNextBatch, IsNextBatch, IsRefusedBatch}
-use Rattle.ssb_eval.proofs.Batches.{passes, taken_more, leaves_on, gives-unread, gives-refused}
+use Rattle.ssb_eval.specs.Taken.{AreTaken, LeavesFacts, TakesBatchIn, TakesNextBatch, IsNextBatch}
+use Rattle.batch_admission.proofs.CallerLemmas.{passes}
+use Rattle.ssb_eval.proofs.Batches.{taken_more, gives-unread, gives-refused}
 
 -- what was taken, by the fold's own query, and back
 pub AreTaken-own : (dimensions : DimRows) (query : Query) (accepted : Accepted) (fold : FoldState) (batches : List (List LineOrder)) → AreTaken dimensions query accepted fold batches → AreTaken dimensions fold.query accepted fold batches
@@ -50,21 +52,21 @@ TakesBatchIn-added dimensions query batches rows accepted next fold more number 
 
 -- a batch could not be read
 pub TakesNextBatch-unread : (dimensions : DimRows) (query : Query) (batches : List (List LineOrder)) (old new : Unread) (accepted : Accepted) (fold : FoldState) (fault : Fault) (result : Result Bool Fault)
-    → RefusesBatch lineorder_row 65536 old fault → (other : Fault) × (result ≡ Err other) × (other ≡ fault) → TakesNextBatch dimensions query batches old new accepted fold result
+    → RefusesBatch lineorder_row most_batch_rows old fault → (other : Fault) × (result ≡ Err other) × (other ≡ fault) → TakesNextBatch dimensions query batches old new accepted fold result
 TakesNextBatch-unread dimensions query batches old new accepted fold fault result (inl memory) is = rw (is.1, is.2) (inl memory)
 TakesNextBatch-unread dimensions query batches old new accepted fold fault result (inr (inl input)) is = rw (is.1, is.2) (inr (inl input))
 TakesNextBatch-unread dimensions query batches old new accepted fold fault result (inr (inr first)) is = rw (is.1, is.2) (inr (inr (inl first)))
 
 -- or was read, and is refused
 pub TakesNextBatch-refused : (dimensions : DimRows) (query : Query) (batches : List (List LineOrder)) (old new : Unread) (accepted : Accepted) (fold : FoldState) (rows : List LineOrder) (fault : Fault) (result : Result Bool Fault)
-    → 1 ≤ length rows → TakesBatch lineorder_row 65536 old new rows → TakesBatchIn dimensions query batches rows accepted fold (Err fault) → (other : Fault) × (result ≡ Err other) × (other ≡ fault)
+    → 1 ≤ length rows → TakesBatch lineorder_row most_batch_rows old new rows → TakesBatchIn dimensions query batches rows accepted fold (Err fault) → (other : Fault) × (result ≡ Err other) × (other ≡ fault)
     → TakesNextBatch dimensions query batches old new accepted fold result
 TakesNextBatch-refused dimensions query batches old new accepted fold rows fault result some read (inl memory) is = rw (is.1, is.2) (inl memory)
 TakesNextBatch-refused dimensions query batches old new accepted fold rows fault result some read (inr refused) is =
     rw (is.1, is.2) (inr (inr (inr (rows, record { some = some; read = read; refused = refused }))))
 
 -- no row was left
-pub no_rows : (old new : Unread) (rows : List LineOrder) → length rows ≡ 0 → TakesBatch lineorder_row 65536 old new rows → TakesBatch lineorder_row 65536 old new []
+pub no_rows : (old new : Unread) (rows : List LineOrder) → length rows ≡ 0 → TakesBatch lineorder_row most_batch_rows old new rows → TakesBatch lineorder_row most_batch_rows old new []
 no_rows old new [] none read = read
 no_rows old new (row ∷ rows) none read = absurd (omega arith)
 

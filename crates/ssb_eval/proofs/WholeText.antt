@@ -8,8 +8,9 @@ use Rattle.cube_model.specs.declared.fault.Fault.{Fault}
 use Rattle.cube_model.specs.declared.rows.DimRows.{DimRows}
 use Rattle.cube_model.specs.declared.rows.LineOrder.{LineOrder}
 use Rattle.cube_model.specs.Admission.{all_rows, refusal}
+use Rattle.cube_model.specs.Limits.{most_batch_rows}
 use Rattle.ssb_eval.specs.Evaluation.{and_then, unless, parts_in, facts_behind, facts_of, table_rows}
-use Rattle.ssb_eval.proofs.Checks.{all_rows-last}
+use Rattle.batch_admission.proofs.CallerLemmas.{all_rows-last}
 
 -- a row stands in front of others
 record IsBefore {Row : Type 0} (first : Result Row Fault) (others : Result (List Row) Fault) (rows : List Row) : Type 0 where
@@ -93,5 +94,5 @@ behind dimensions batches number (suc steps) size (line ∷ lines) rows some eno
 -- where no batch is refused, their rows are those of the whole text
 pub facts-rows : (dimensions : DimRows) (text : List ℕ) (rows : List LineOrder) → facts_of dimensions text ≡ Ok rows → table_rows lineorder_row text ≡ Ok rows
 facts-rows dimensions text rows e =
-    let all = behind dimensions [] 1 (length (lines_of text)) 65536 (lines_of text) rows (omega arith) (omega arith) e in
+    let all = behind dimensions [] 1 (length (lines_of text)) most_batch_rows (lines_of text) rows (omega arith) (omega arith) e in
     all.more_are ∙ ap Ok (sym all.rows_are)

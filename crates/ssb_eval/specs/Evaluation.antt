@@ -11,6 +11,7 @@ use Rattle.cube_model.specs.declared.query.Query.{Query}
 use Rattle.cube_model.specs.declared.rows.DimRows.{DimRows}
 use Rattle.cube_model.specs.declared.rows.LineOrder.{LineOrder}
 use Rattle.cube_model.specs.Admission.{all_rows, refusal}
+use Rattle.cube_model.specs.Limits.{most_batch_rows}
 use Rattle.cube_model.specs.Answers.{answer}
 use Rattle.cube_model.specs.Validity.{invalid_cause}
 use Rattle.ssb_reports.specs.Report.{report_of}
@@ -72,7 +73,7 @@ facts_behind dimensions batches number (lines ∷ others) =
 
 -- the fact rows of a text, in batches of 65,536 lines
 abbrev pub facts_of : DimRows → List ℕ → Result (List LineOrder) Fault
-facts_of dimensions text = facts_behind dimensions [] 1 (parts_of 65536 (lines_of text))
+facts_of dimensions text = facts_behind dimensions [] 1 (parts_of most_batch_rows (lines_of text))
 
 -- where no batch of a text is refused, their rows put end to end are the rows of all its lines
 abbrev pub FactsAreRows : Type 0

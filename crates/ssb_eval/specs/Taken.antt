@@ -1,7 +1,7 @@
 -- What stands between two batches of an evaluation. Our own.
 use Rattle.std.specs.Prelude.{◌≡◌, ◌⊎◌, ℕ, ◌+◌, ◌*◌, ◌≤◌, Bool, true, false, None, Some, Option, List, [], ◌∷◌, ◌++◌, length, Result, Ok, Err}
 use Rattle.batch_loader.specs.Lines.{lines_of}
-use Rattle.batch_loader.specs.Reading.{TakesBatch, TakesRows, IsFirstFault}
+use Rattle.batch_loader.specs.Reading.{TakesBatch, IsFirstFault}
 use Rattle.batch_loader.specs.Rows.{next_number}
 use Rattle.batch_loader.specs.Tables.{lineorder_row}
 use Rattle.batch_loader.specs.Unread.{Unread}
@@ -11,9 +11,10 @@ use Rattle.cube_model.specs.declared.query.Query.{Query}
 use Rattle.cube_model.specs.declared.rows.DimRows.{DimRows}
 use Rattle.cube_model.specs.declared.rows.LineOrder.{LineOrder}
 use Rattle.cube_model.specs.Admission.{all_rows, refusal, HaveKnownKeys}
+use Rattle.cube_model.specs.Limits.{most_batch_rows}
 use Rattle.cube_query.specs.Groups.{FoldState, StandsFor}
-use Rattle.ssb_eval.specs.Accepted.{Accepted}
-use Rattle.ssb_eval.specs.Admission.{StandsBehind}
+use Rattle.batch_admission.specs.Accepted.{Accepted}
+use Rattle.batch_admission.specs.Accepted.{StandsBehind}
 use Rattle.ssb_eval.specs.Evaluation.{facts_of, facts_behind, parts_of}
 
 -- batches were accepted, and their rows were folded
@@ -22,13 +23,13 @@ pub record AreTaken (dimensions : DimRows) (query : Query) (accepted : Accepted)
   pub dimensions_are : fold.dimensions ≡ dimensions
   pub query_is : fold.query ≡ query
   pub folded : StandsFor fold (all_rows batches)
-  pub few : length (all_rows batches) ≤ 65536 * length batches
+  pub few : length (all_rows batches) ≤ most_batch_rows * length batches
   pub known : HaveKnownKeys dimensions (all_rows batches)
 
 -- what is left of a text decides the rest
 abbrev pub LeavesFacts : DimRows → List ℕ → List (List LineOrder) → ℕ → Option (List ℕ) → Type 0
 LeavesFacts dimensions text batches number None = ⊥
-LeavesFacts dimensions text batches number (Some left) = facts_of dimensions text ≡ facts_behind dimensions batches (next_number number) (parts_of 65536 (lines_of left))
+LeavesFacts dimensions text batches number (Some left) = facts_of dimensions text ≡ facts_behind dimensions batches (next_number number) (parts_of most_batch_rows (lines_of left))
 
 -- some batches were taken, and others may follow
 abbrev pub CanGoOn : DimRows → Accepted → FoldState → Type 0
@@ -43,20 +44,20 @@ TakesBatchIn dimensions query batches rows accepted fold (Err fault) = (fault �
 -- the next batch of a text, with a row or more, was read, accepted and folded
 pub record IsNextBatch (dimensions : DimRows) (query : Query) (batches : List (List LineOrder)) (old new : Unread) (accepted : Accepted) (fold : FoldState) (rows : List LineOrder) : Type 0 where
   pub some : 1 ≤ length rows
-  pub read : TakesBatch lineorder_row 65536 old new rows
+  pub read : TakesBatch lineorder_row most_batch_rows old new rows
   pub passes : refusal dimensions batches (length batches + 1) rows ≡ None
   pub taken : AreTaken dimensions query accepted fold (batches ++ rows ∷ [])
 
 -- the next batch of a text, with a row or more, was read and is refused
 pub record IsRefusedBatch (dimensions : DimRows) (batches : List (List LineOrder)) (old new : Unread) (fault : Fault) (rows : List LineOrder) : Type 0 where
   pub some : 1 ≤ length rows
-  pub read : TakesBatch lineorder_row 65536 old new rows
+  pub read : TakesBatch lineorder_row most_batch_rows old new rows
   pub refused : refusal dimensions batches (length batches + 1) rows ≡ Some fault
 
 -- The next batch was taken, or no row was left. Or memory was refused, a read failed, one of its lines is refused, or it is refused itself
 abbrev pub TakesNextBatch : DimRows → Query → List (List LineOrder) → Unread → Unread → Accepted → FoldState → Result Bool Fault → Type 0
 TakesNextBatch dimensions query batches old new accepted fold (Ok true) = (rows : List LineOrder) × IsNextBatch dimensions query batches old new accepted fold rows
 TakesNextBatch dimensions query batches old new accepted fold (Ok false) =
-    TakesBatch lineorder_row 65536 old new [] × AreTaken dimensions query accepted fold batches
+    TakesBatch lineorder_row most_batch_rows old new [] × AreTaken dimensions query accepted fold batches
 TakesNextBatch dimensions query batches old new accepted fold (Err fault) =
-    (fault ≡ Memory) ⊎ ((fault ≡ Input) ⊎ (IsFirstFault lineorder_row 65536 old.number old.left fault ⊎ ((rows : List LineOrder) × IsRefusedBatch dimensions batches old new fault rows)))
+    (fault ≡ Memory) ⊎ ((fault ≡ Input) ⊎ (IsFirstFault lineorder_row most_batch_rows old.number old.left fault ⊎ ((rows : List LineOrder) × IsRefusedBatch dimensions batches old new fault rows)))

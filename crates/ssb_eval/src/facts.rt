@@ -6,15 +6,14 @@ ghost use Rattle.cube_query.specs.Groups.{Begins};
 ghost use Rattle.ssb_eval.specs.Evaluation.{Gives, answer_of};
 ghost use Rattle.ssb_eval.specs.Taken.{AreTaken, CanGoOn, TakesNextBatch, TakesBatchIn};
 
-use crate::admission::Admission;
+use batch_admission::Admission;
 use batch_loader::{Lines, read_batch};
+use cube_model::limits::MOST_BATCH_ROWS;
 use cube_model::{Answer, Fault, LineOrder, Query};
 use cube_query::Fold;
 use dimensions::Dims;
 use std::alloc::Global;
 use std::io::Read;
-
-const BATCH_ROWS: usize = 65536;
 
 /// Reads the fact rows batch by batch, checks each batch, and folds it. Memory does not grow with the rows.
 pub fn answer_facts<R: Read + Drop>(
@@ -65,7 +64,7 @@ fn take_batch<R: Read>(
     ensures { (batches : List (List LineOrder)) → AreTaken dims.now fold.old.query admission.old fold.old batches
         → TakesNextBatch dims.now fold.old.query batches lines.old lines.new admission.new fold.new result }
 {
-    let rows = read_batch(alloc, lines, BATCH_ROWS)?;
+    let rows = read_batch(alloc, lines, MOST_BATCH_ROWS)?;
     if rows.is_empty() {
         return Ok(false);
     }

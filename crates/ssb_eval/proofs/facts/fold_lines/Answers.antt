@@ -1,4 +1,4 @@
-use Rattle.std.proofs.Common.{◌∷◌, ◌++◌, [], refl, sym}
+use Rattle.std.proofs.Common.{◌∷◌, ◌++◌, [], refl}
 use Rattle.std.proofs.lemmas.Result.{err_from_is_err_and}
 use Rattle.ssb_eval.proofs.Batches.{leaves_on, gives-answer}
 use Rattle.ssb_eval.proofs.Taking.{AreTaken-own, AreTaken-of, gives-stopped, count_more}

@@ -1,7 +1,7 @@
-use Rattle.std.proofs.Common.{◌≡◌, ◌+◌, ◌∙◌, ap, sym, length, List}
+use Rattle.std.proofs.Common.{◌+◌, ◌∙◌, ap, sym}
 use Rattle.std.proofs.lemmas.Result.{err_from_is_err_and}
-use Rattle.cube_model.specs.declared.rows.LineOrder.{LineOrder}
-use Rattle.ssb_eval.proofs.Batches.{can_take, passes}
+use Rattle.batch_admission.proofs.CallerLemmas.{passes}
+use Rattle.ssb_eval.proofs.Batches.{can_take}
 use Rattle.ssb_eval.proofs.Taking.{TakesBatchIn-refused, TakesBatchIn-added}
 use Rattle.ssb_eval.proofs.facts.take_rows.Goals as goal
 

@@ -1,0 +1,3 @@
+pub mod AcceptedLaws
+pub mod CallerLemmas
+pub mod FoundLaws

@@ -1,0 +1,34 @@
+-- What the check of a batch keeps of the batches before it. Our own.
+use Rattle.std.specs.Prelude.{◌≡◌, ℕ, ◌+◌, nat_le, nat_lt, List, [], ◌∷◌, ◌++◌, length, Option, MatchOption}
+use Rattle.cube_model.specs.declared.fault.Fault.{Fault}
+use Rattle.cube_model.specs.declared.fault.Fault.TheVariants.{Repeated, Gap, TooManyBatches}
+use Rattle.cube_model.specs.declared.rows.DimRows.{DimRows}
+use Rattle.cube_model.specs.declared.rows.LineOrder.{LineOrder}
+use Rattle.cube_model.specs.Admission.{all_rows, refusal}
+use Rattle.cube_model.specs.Causes.{first_cause, cause_if}
+use Rattle.cube_model.specs.Limits.{most_batches}
+use Rattle.batch_admission.specs.declared.totals.Totals.{Totals}
+use Rattle.batch_admission.specs.Totals.{totals_of}
+
+-- the number of accepted batches, and the totals of their rows
+pub record Accepted : Type 0 where
+  pub count : ℕ
+  pub totals : Totals
+
+-- it stands behind accepted batches: it has their number, and the totals of their rows
+pub record StandsBehind (accepted : Accepted) (batches : List (List LineOrder)) : Type 0 where
+  pub count : accepted.count ≡ length batches
+  pub totals : accepted.totals ≡ totals_of (all_rows batches)
+
+-- the first cause to refuse a batch by its number alone, behind so many batches
+abbrev pub number_cause : ℕ → ℕ → Option Fault
+number_cause count number = first_cause (
+    cause_if (nat_le number count) Repeated
+    ∷ cause_if (nat_lt (count + 1) number) Gap
+    ∷ cause_if (nat_le most_batches count) TooManyBatches ∷ [])
+
+-- a batch was taken in behind accepted ones exactly if it is not refused there; the first cause is the answer
+pub record Admits (dimensions : DimRows) (old new : Accepted) (number : ℕ) (rows : List LineOrder) (answer : Option Fault)
+    (batches : List (List LineOrder)) : Type 0 where
+  pub cause : answer ≡ refusal dimensions batches number rows
+  pub taken : MatchOption answer (StandsBehind new (batches ++ rows ∷ [])) (λ fault. new ≡ old)

@@ -1,0 +1,5 @@
+use Rattle.lattice.proofs.Serving.{serves_below}
+use Rattle.lattice.proofs.laws.serving_goes_down.Goals as goal
+
+pub returns : goal.returns
+returns c = serves_below
