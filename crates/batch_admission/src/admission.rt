@@ -103,6 +103,7 @@ impl Admission {
     pub fn findings(&self) -> Findings
         ensures found { (dimensions : DimRows) → result ≡ found_in dimensions self.now.totals [] }
         ensures clean { cause_of result ≡ None }
+        ensures few { self.now.count ≤ most_batches }
     {
         Findings::none(self.totals)
     }

@@ -6,6 +6,7 @@ pub mod Digits
 pub mod Parts
 pub mod Spelling
 pub mod Splitting
+pub mod TakingPieces
 pub mod TakingRows
 pub mod Pieces
 pub mod Windows

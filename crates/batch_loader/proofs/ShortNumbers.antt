@@ -1,9 +1,9 @@
 -- Numbers of at most eight digits, by the bytes of a number.
 use Rattle.std.proofs.Common.{◌≡◌, ◌∙◌, sym, ap, subst, refl, ℕ, ◌+◌, ◌-◌, ◌*◌, ◌/◌, ◌%◌, ◌^◌, ◌<◌, ◌≤◌, Bool, true, false, cond, List, [], ◌∷◌, ◌++◌, length, map, get_or, take, drop, slice_range, arith, Some, None, w64}
-use Rattle.std.specs.Prelude.{◌==◌, ◌&&◌, nat_le, nat_lt, suc, zero, Option, replicate, slice_index}
+use Rattle.std.specs.Prelude.{◌&&◌, nat_le, nat_lt, suc, zero, replicate, slice_index}
 use Rattle.std.specs.Int.{bit_at, trailing_ones}
 use Rattle.std.specs.List.{list_all}
-use Rattle.std.specs.Simd.Lanes.{Each1, number_l, mask_l, chunk}
+use Rattle.std.specs.Simd.Lanes.{number_l, mask_l, chunk}
 use Rattle.std.proofs.lemmas.Bool.Decides.{nat_tests}
 use Rattle.std.proofs.lemmas.Nat.Bits.{bit_at-trailing_ones}
 use Rattle.std.proofs.lemmas.Simd.{map-map, mask_l-lt, length-chunk}

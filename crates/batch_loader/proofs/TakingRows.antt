@@ -69,7 +69,7 @@ in_front-next row max number (Some text) more less from (Some rest) (Some left) 
   before.1 ∙ ap (λ n. drop n (lines_of rest)) is ∙ ap (drop (suc less)) taken,
 )
 
-number_after-next : (count number : ℕ) → next_number (number_after count number) ≡ number_after count (next_number number)
+pub number_after-next : (count number : ℕ) → next_number (number_after count number) ≡ number_after count (next_number number)
 number_after-next zero number = refl
 number_after-next (suc count) number = number_after-next count (next_number number)
 
@@ -125,7 +125,7 @@ drop_nothing : (n : ℕ) → drop n (lines_of []) ≡ []
 drop_nothing zero = refl
 drop_nothing (suc n) = refl
 
-in_front-end : {Row : Type 0} (row : ℕ → List ℕ → Result Row Fault) (max number : ℕ) (old : Option (List ℕ)) (more from : ℕ) (now new : Option (List ℕ)) (rows : List Row)
+pub in_front-end : {Row : Type 0} (row : ℕ → List ℕ → Result Row Fault) (max number : ℕ) (old : Option (List ℕ)) (more from : ℕ) (now new : Option (List ℕ)) (rows : List Row)
     → StaysAtEnd now new → AreInFront row max number old more from now rows → TakesRows row max number old new rows
 in_front-end row max number None more from now new rows at_end before = tt
 in_front-end row max number (Some text) more from None new rows at_end before = absurd before

@@ -4,6 +4,7 @@ use Rattle.cube_model.specs.declared.fault.Fault.{Fault}
 use Rattle.cube_model.specs.declared.fault.Fault.TheVariants.{FieldCount, BadNumber, FieldTooLong}
 use Rattle.cube_model.specs.declared.fault.Place.TheVariants.{Line}
 use Rattle.cube_model.specs.Causes.{first_cause, cause_if}
+use Rattle.cube_model.specs.Limits.{longest_line, longest_text}
 use Rattle.batch_loader.specs.declared.columns.Column.{Column}
 use Rattle.batch_loader.specs.declared.columns.Column.TheVariants.{Number, Text, Skipped}
 use Rattle.batch_loader.specs.Fields.{fields_of}
@@ -12,7 +13,7 @@ use Rattle.batch_loader.specs.Numbers.{spells_number, value_of}
 -- why a field is refused, in a line and at a field number: a number column wants a number up to its limit, a kept text has at most 255 bytes
 abbrev pub field_fault : ℕ → ℕ → Column → List ℕ → Option Fault
 field_fault line field (Number limit) text = cause_if (not (spells_number limit text)) (BadNumber line field)
-field_fault line field Text text = cause_if (nat_lt 255 (length text)) (FieldTooLong (Line line) field)
+field_fault line field Text text = cause_if (nat_lt longest_text (length text)) (FieldTooLong (Line line) field)
 field_fault line field Skipped text = None
 
 -- the first field that is refused, from left to right. Field numbers count on from one
@@ -34,7 +35,7 @@ row_of_fields columns row line (Some fields) = unless (fields_fault line 1 colum
 -- the row of a line with a number, or its first fault: a line above 8,192 bytes (field 0), the number of fields, then the fields
 abbrev pub row_of : {Row : Type 0} → List Column → (List (List ℕ) → Row) → ℕ → List ℕ → Result Row Fault
 row_of columns row number line =
-    cond (nat_lt 8192 (length line)) (Err (FieldTooLong (Line number) 0)) (row_of_fields columns row number (fields_of (length columns) line))
+    cond (nat_lt longest_line (length line)) (Err (FieldTooLong (Line number) 0)) (row_of_fields columns row number (fields_of (length columns) line))
 
 -- the number that a field spells, by its place from 0
 abbrev pub number_in : List (List ℕ) → ℕ → ℕ

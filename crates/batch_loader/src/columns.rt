@@ -5,10 +5,8 @@ ghost use Rattle.batch_loader.specs.LineFields.{texts_of};
 ghost use Rattle.batch_loader.specs.Parsing.{AreNumbers, FitsColumn};
 
 use crate::line_fields::LineFields;
+use cube_model::limits::LONGEST_TEXT;
 use cube_model::{Fault, Place};
-
-/// The most bytes of a text that is kept.
-pub const TEXT_LIMIT: usize = 255;
 
 /// The greatest key.
 pub const KEY_LIMIT: u64 = 4_294_967_295;
@@ -97,7 +95,7 @@ fn read_field<const N: usize>(
             None => Err(Fault::BadNumber { line, field }),
         },
         Column::Text => {
-            if fields.get(place).len() > TEXT_LIMIT {
+            if fields.get(place).len() > LONGEST_TEXT {
                 let place = Place::Line(line);
                 return Err(Fault::FieldTooLong { place, field });
             }

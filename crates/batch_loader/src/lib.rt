@@ -14,4 +14,6 @@ mod window;
 pub use laws::{fields_are_spelled, lines_are_spelled};
 pub use line_fields::{LineFields, fields};
 pub use lines::Lines;
-pub use tables::{read_batch, read_customers, read_dates, read_parts, read_suppliers};
+pub use tables::{
+    read_batch, read_batch_into, read_customers, read_dates, read_parts, read_suppliers,
+};

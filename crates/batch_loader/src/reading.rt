@@ -6,10 +6,11 @@ ghost use Rattle.batch_loader.specs.Reading.{TakesLine, StaysAtEnd, IsLongLine};
 ghost use Rattle.batch_loader.specs.declared.reading.LineFault.TheVariants.{Long};
 
 use crate::window::{Window, take_part};
+use cube_model::limits::LONGEST_LINE;
 use std::io::Read;
 
 /// The most bytes of a line, its LF not counted.
-pub const LINE_LIMIT: usize = 8192;
+pub const LINE_LIMIT: usize = LONGEST_LINE;
 
 /// Why no line was read.
 #[derive(Clone, Copy, Debug, PartialEq, Eq)]

@@ -67,7 +67,24 @@ pub fn read_batch<R: Read>(
     ensures taken { IfOk result (TakesBatch lineorder_row max lines.old lines.new) }
     ensures refused { lines.old.fault ≡ None → IfErr result (RefusesBatch lineorder_row max lines.old) }
 {
-    read_rows(alloc, lines, max)
+    read_rows(alloc, lines, max, Items::new(alloc))
+}
+
+/// The same in the memory of fact rows that are no longer needed.
+pub fn read_batch_into<R: Read>(
+    alloc: Global,
+    lines: &mut Lines<R>,
+    max: usize,
+    done: Items<LineOrder>,
+) -> Result<Items<LineOrder>, Fault>
+    ensures again { IfSome lines.old.fault (λ fault. result ≡ Err fault) }
+    ensures held { IfErr result (λ fault. lines.new.fault ≡ Some fault) }
+    ensures taken { IfOk result (TakesBatch lineorder_row max lines.old lines.new) }
+    ensures refused { lines.old.fault ≡ None → IfErr result (RefusesBatch lineorder_row max lines.old) }
+{
+    let mut room = done.into_vec();
+    room.clear();
+    read_rows(alloc, lines, max, Items::from_vec(room))
 }
 
 // The rows of all lines that are left.
@@ -80,7 +97,7 @@ fn read_all<T: TableRow + Drop, R: Read>(
     ensures taken { IfOk result (TakesTable (row_of T.columns T.of_fields) lines.old lines.new) }
     ensures refused { lines.old.fault ≡ None → IfErr result (RefusesTable (row_of T.columns T.of_fields) lines.old) }
 {
-    let rows = read_rows(alloc, lines, usize::MAX)?;
+    let rows = read_rows(alloc, lines, usize::MAX, Items::new(alloc))?;
     if rows.len() == usize::MAX {
         // So many rows fill any memory, and it is not known whether lines are left.
         return Err(lines.refuse(Fault::Memory));
@@ -88,12 +105,14 @@ fn read_all<T: TableRow + Drop, R: Read>(
     Ok(rows)
 }
 
-// The rows of the next lines, at most `max`.
+// The rows of the next lines, at most `max`, in a list that is still empty.
 fn read_rows<T: TableRow + Drop, R: Read>(
     alloc: Global,
     lines: &mut Lines<R>,
     max: usize,
+    empty: Items<T>,
 ) -> Result<Items<T>, Fault>
+    requires { length empty ≡ 0 }
     ensures again { IfSome lines.old.fault (λ fault. result ≡ Err fault) }
     ensures held { IfErr result (λ fault. lines.new.fault ≡ Some fault) }
     ensures taken { IfOk result (TakesBatch (row_of T.columns T.of_fields) max lines.old lines.new) }
@@ -102,7 +121,7 @@ fn read_rows<T: TableRow + Drop, R: Read>(
     if let Some(fault) = lines.fault() {
         return Err(fault);
     }
-    let mut rows = Items::new(alloc);
+    let mut rows = empty;
     for _ in 0..max {
         if !push_row(alloc, lines, &mut rows)? {
             return Ok(rows);

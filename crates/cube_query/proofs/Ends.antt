@@ -15,8 +15,8 @@ use Rattle.cube_model.specs.declared.rows.LineOrder.{LineOrder}
 use Rattle.group_plan.specs.Numbers.{key_at}
 use Rattle.cube_query.specs.Coarser.{rows_from, AreTalliedFrom}
 use Rattle.cube_query.specs.Columns.{tallies_at}
-use Rattle.cube_query.specs.Groups.{finest, groups_of}
-use Rattle.cube_query.specs.FoldInvariant.{rows_at, AreTallied}
+use Rattle.cube_query.specs.Groups.{finest, groups_of, rows_at}
+use Rattle.cube_query.specs.FoldInvariant.{AreTallied}
 use Rattle.cube_query.specs.Tallies.{tallies_of}
 use Rattle.cube_query.specs.declared.tally.Tally.{Tally}
 use Rattle.cube_query.proofs.Stages.{finest_sets}

@@ -1,25 +1,34 @@
--- What holds of each fold: as it begins, with more slots, and with more rows.
-use Rattle.std.proofs.Common.{◌≡◌, ◌∙◌, sym, refl, ℕ, ◌≤◌, List, [], ◌∷◌, ◌++◌, length, Some, None, arith}
+-- What a fold keeps, and what it stands for: as it begins, with more slots, and with more rows.
+use Rattle.std.proofs.Common.{◌≡◌, ◌∙◌, sym, ap, refl, subst, ℕ, zero, suc, ◌<◌, ◌≤◌, ◌⊎◌, inl, inr, true, false, List, [], ◌∷◌, ◌++◌, map, length, get_or, Some, None, arith}
 use Rattle.std.specs.Prelude.{Option}
-use Rattle.std.specs.List.{AllByRecursion}
+use Rattle.std.specs.List.{AllByRecursion, range_with_len}
+use Rattle.std.proofs.lemmas.List.FromFn.{get_or-map-range_with_len}
+use Rattle.std.specs.Ordering.{eq_by_cmp}
 use Rattle.std.specs.declared.alloc.Global.{Global}
 use Rattle.std.specs.declared.vec.Vec.{Vec}
+use Rattle.std.proofs.lemmas.Bool.{cases_lt}
+use Rattle.cube_model.specs.Keys.{key_cmp}
+use Rattle.cube_model.specs.Proper.{IsProper}
 use Rattle.cube_model.specs.declared.answer.Member.{Member}
+use Rattle.cube_model.specs.declared.attr.Attr.{Attr}
+use Rattle.cube_model.specs.declared.measure.Agg.{Agg}
 use Rattle.cube_model.specs.declared.query.Query.{Query}
 use Rattle.cube_model.specs.declared.rows.DimRows.{DimRows}
 use Rattle.cube_model.specs.declared.rows.LineOrder.{LineOrder}
-use Rattle.cube_model.specs.Proper.{IsProper}
-use Rattle.cube_query.specs.Columns.{tallies_at, seen_groups}
-use Rattle.cube_query.specs.Groups.{groups_of, finest}
+use Rattle.cube_query.specs.Columns.{is_seen, tallies_at}
+use Rattle.cube_query.specs.FoldInvariant.{AreGroupSlots, HaveRoom, CountIn, AreTallied, IsFold, IsKept, all_tallies, tallies_in, tallies_or_none}
+use Rattle.cube_query.specs.Groups.{FoldState, IsFoldOver, StandsFor, finest, rows_at}
 use Rattle.cube_query.specs.Limits.{AreFoldable}
-use Rattle.group_plan.specs.Numbers.{group_count, key_at, KeysRise}
-use Rattle.cube_query.specs.Slots.{entries_of, AreSlots, Cover, Grow}
-use Rattle.cube_query.specs.FoldInvariant.{AreGroupSlots, HaveRoom, CountIn, AreTallied, IsFold}
+use Rattle.cube_query.specs.Slots.{entries_of, slot_of, AreSlots, Cover, Grow}
 use Rattle.cube_query.specs.Tallies.{tallies_of}
 use Rattle.cube_query.specs.declared.slots.Slots.{Slots}
 use Rattle.cube_query.specs.declared.tally.Tally.{Tally}
-use Rattle.cube_query.proofs.Seen.{seen_are}
-use Rattle.cube_query.proofs.Steps.{AreTallied-alike, AreTallied-grow, AreTallied-count, HaveRoom-foldable}
+use Rattle.group_plan.specs.Numbers.{group_count, key_at}
+use Rattle.group_plan.specs.Plans.{IsPlanOver, count_of, query_of}
+use Rattle.group_plan.specs.declared.plan.Plan.{Plan}
+use Rattle.cube_query.proofs.Marking.{key_eq-same, key_eq-true, keys_apart}
+use Rattle.cube_query.proofs.Seen.{some_seen}
+use Rattle.cube_query.proofs.Steps.{AreTallied-grow, AreTallied-count, HaveRoom-foldable}
 
 -- group_slots say nothing of the kind of a query
 AreGroupSlots-finest : (dimensions : DimRows) (query : Query) (entries : List (ℕ × ℕ)) (rows : List LineOrder) (group_slots : List (Option ℕ)) → AreGroupSlots dimensions query entries rows group_slots → AreGroupSlots dimensions (finest query) entries rows group_slots
@@ -29,89 +38,178 @@ AreGroupSlots-finest dimensions query entries (row ∷ rows) [] are = absurd are
 AreGroupSlots-finest dimensions query entries (row ∷ rows) (None ∷ group_slots) are = (are.0, AreGroupSlots-finest dimensions query entries rows group_slots are.1)
 AreGroupSlots-finest dimensions query entries (row ∷ rows) (Some slot ∷ group_slots) are = (are.0, AreGroupSlots-finest dimensions query entries rows group_slots are.1)
 
-module _ (dimensions : DimRows) (query : Query) where
-  -- the groups that a fold shows
-  abbrev shown : Slots → List (Vec Tally Global) → List (List Member × List Tally)
-  shown slots columns = seen_groups (key_at dimensions query.columns) (tallies_at columns) (entries_of slots)
+-- tallies over no row are over no row alone
+no_rows : (aggs : List Agg) (rows : List LineOrder) → 1 ≤ length aggs → tallies_of aggs [] ≡ tallies_of aggs rows → rows ≡ []
+no_rows [] rows some same = absurd (omega (arith, some))
+no_rows (agg ∷ aggs) [] some same = refl
+no_rows (agg ∷ aggs) (row ∷ rows) some same =
+    let seen : false ≡ true = ap is_seen same ∙ some_seen (agg ∷ aggs) row rows in
+    absurd (cc seen)
+
+-- whether a key is that of a number below a bound
+which_number : (dimensions : DimRows) (columns : List Attr) (key : List Member) (bound : ℕ)
+    → ((number : ℕ) × (number < bound) × (key_at dimensions columns number ≡ key)) ⊎ ((number : ℕ) → number < bound → key_at dimensions columns number ≡ key → ⊥)
+which_number dimensions columns key zero = inr (λ number h same. absurd (omega (arith, h)))
+which_number dimensions columns key (suc bound) =
+    elim (which_number dimensions columns key bound) [
+      | inl found ↦ inl (found.0, omega (arith, found.1), found.2)
+      | inr absent ↦
+          (elim (eq_by_cmp key_cmp (key_at dimensions columns bound) key) as (λ b. eq_by_cmp key_cmp (key_at dimensions columns bound) key ≡ b → ((number : ℕ) × (number < suc bound) × (key_at dimensions columns number ≡ key)) ⊎ ((number : ℕ) → number < suc bound → key_at dimensions columns number ≡ key → ⊥)) [
+            | true ↦ λ equal. inl (bound, omega arith, key_eq-true (key_at dimensions columns bound) key equal)
+            | false ↦ λ unequal. inr (λ number h same. elim (cases_lt number bound) [
+              | inl below ↦ absent number below same
+              | inr above ↦
+                  let here : number ≡ bound = omega (arith, h, above) in
+                  let equal : eq_by_cmp key_cmp (key_at dimensions columns bound) key ≡ true = ap (eq_by_cmp key_cmp (key_at dimensions columns bound)) (sym same ∙ ap (key_at dimensions columns) here) ∙ key_eq-same (key_at dimensions columns bound) in
+                  cc (equal, unequal)
+            ])
+          ]) refl
+    ]
+
+-- what a fold shows of what it keeps
+abbrev pub shown : Plan → Slots → List (Vec Tally Global) → FoldState
+shown plan slots columns = record { query = query_of plan; plan = plan; tallies = all_tallies plan slots columns }
+
+module _ (dimensions : DimRows) (plan : Plan) (over : IsPlanOver dimensions plan) where
+  -- what it shows at a number
+  shown_at : (slots : Slots) (columns : List (Vec Tally Global)) (number : ℕ) → number < group_count dimensions (query_of plan).columns
+      → get_or (all_tallies plan slots columns) number [] ≡ tallies_in (query_of plan) slots columns number
+  shown_at slots columns number h =
+      get_or-map-range_with_len (tallies_in (query_of plan) slots columns) 0 (count_of plan) number number [] (omega (arith, h, over.counted)) (omega arith)
+
+  -- ---- bounds of the plan are those of the dimensions
+  module _ (slots : Slots) (columns : List (Vec Tally Global)) (kept : IsKept plan slots columns) where
+    pub kept_numbers : AreSlots (group_count dimensions (query_of plan).columns) (entries_of slots)
+    kept_numbers = subst (λ n. AreSlots n (entries_of slots)) over.counted kept.numbers
+
+    pub kept_cover : Cover (group_count dimensions (query_of plan).columns) slots
+    kept_cover = subst (λ n. Cover n slots) over.counted kept.cover
+
+    -- ---- rows that it stands for
+    pub tallied_for : (rows : List LineOrder) → StandsFor dimensions (shown plan slots columns) rows → AreTallied dimensions (finest (query_of plan)) (entries_of slots) columns rows
+    tallied_for rows stands =
+        let query = query_of plan in
+        let aggs = query.aggregates in
+        let entries = entries_of slots in
+        let bound = group_count dimensions query.columns in
+        record {
+          each = λ number slot found.
+              let below = kept_numbers.below number slot found in
+              sym (shown_at slots columns number below ∙ ap (tallies_or_none query columns) found) ∙ stands.each number below;
+          others = λ key absent. elim (which_number dimensions query.columns key bound) [
+            | inl found ↦
+                (elim (slot_of entries found.0) as (λ o. slot_of entries found.0 ≡ o → rows_at dimensions (finest query) key rows ≡ []) [
+                  | None ↦ λ e.
+                      let same : tallies_of aggs [] ≡ tallies_of aggs (rows_at dimensions (finest query) (key_at dimensions query.columns found.0) rows) =
+                      sym (shown_at slots columns found.0 found.1 ∙ ap (tallies_or_none query columns) e) ∙ stands.each found.0 found.1 in
+                      ap (λ k. rows_at dimensions (finest query) k rows) (sym found.2)
+                      ∙ no_rows aggs (rows_at dimensions (finest query) (key_at dimensions query.columns found.0) rows) kept.proper.some_aggregate same
+                  | Some slot ↦ λ e. absurd (absent found.0 slot e found.2)
+                ]) refl
+            | inr none ↦ stands.others key none
+          ];
+          fresh = kept.fresh;
+        }
+
+  pub stands_for : (slots : Slots) (columns : List (Vec Tally Global)) (rows : List LineOrder) → AreSlots (group_count dimensions (query_of plan).columns) (entries_of slots)
+      → AreTallied dimensions (finest (query_of plan)) (entries_of slots) columns rows → StandsFor dimensions (shown plan slots columns) rows
+  stands_for slots columns rows numbers tallied =
+      let query = query_of plan in
+      let aggs = query.aggregates in
+      let entries = entries_of slots in
+      let key_of = key_at dimensions query.columns in
+      record {
+        over = over;
+        each = λ number h. shown_at slots columns number h ∙
+            (elim (slot_of entries number) as (λ o. slot_of entries number ≡ o → tallies_or_none query columns o ≡ tallies_of aggs (rows_at dimensions (finest query) (key_of number) rows)) [
+              | None ↦ λ e.
+                  let none : rows_at dimensions (finest query) (key_of number) rows ≡ [] = tallied.others (key_of number) (λ other slot taken one.
+                  let is : other ≡ number = keys_apart dimensions query.columns over.rising other number (numbers.below other slot taken) h one in
+                  let there : slot_of entries number ≡ Some slot = ap (slot_of entries) (sym is) ∙ taken in
+                  cc (there, e)) in
+                  ap (tallies_of aggs) (sym none)
+              | Some slot ↦ λ e. tallied.each number slot e
+            ]) refl;
+        others = λ key none. tallied.others key (λ number slot found same. none number (numbers.below number slot found) same);
+      }
 
   -- ---- as it begins
-  pub IsFold-begin : (slots : Slots) (columns : List (Vec Tally Global)) → IsProper query → KeysRise dimensions query.columns → AreSlots (group_count dimensions query.columns) (entries_of slots) → Cover (group_count dimensions query.columns) slots
-      → ((slot : ℕ) → tallies_at columns slot ≡ tallies_of query.aggregates []) → IsFold dimensions query slots columns
-  IsFold-begin slots columns proper rising numbers cover none = record {
-    proper = proper;
-    rising = rising;
-    numbers = numbers;
-    cover = cover;
-    tallied = (
-      [],
-      (
-        record { few = omega arith; known = refl; in_range = λ measure. omega arith },
-        record {
-          each = λ number slot found. none slot;
-          others = λ key absent. refl;
-          fresh = λ slot h. none slot;
-        },
-      ),
-    );
-  }
-
-  -- the fold of no row has no group
-  pub begin_shown : (slots : Slots) (columns : List (Vec Tally Global)) → IsFold dimensions query slots columns → ((slot : ℕ) → tallies_at columns slot ≡ tallies_of query.aggregates []) → shown slots columns ≡ groups_of dimensions (finest query) []
-  begin_shown slots columns is none = seen_are dimensions (finest query) (entries_of slots) columns [] is.proper.some_aggregate is.rising is.numbers (record {
+  pub begun : (slots : Slots) (columns : List (Vec Tally Global)) → AreSlots (group_count dimensions (query_of plan).columns) (entries_of slots) → ((slot : ℕ) → tallies_at columns slot ≡ tallies_of (query_of plan).aggregates [])
+      → StandsFor dimensions (shown plan slots columns) []
+  begun slots columns numbers none = stands_for slots columns [] numbers (record {
     each = λ number slot found. none slot;
     others = λ key absent. refl;
     fresh = λ slot h. none slot;
   })
 
-  -- ---- rows that it stands for
-  pub tallied_for : (slots : Slots) (columns : List (Vec Tally Global)) (rows : List LineOrder) → IsFold dimensions query slots columns → shown slots columns ≡ groups_of dimensions (finest query) rows → AreTallied dimensions (finest query) (entries_of slots) columns rows
-  tallied_for slots columns rows is stands =
-      AreTallied-alike dimensions (finest query) (entries_of slots) columns is.tallied.0 rows
-      (sym (seen_are dimensions (finest query) (entries_of slots) columns is.tallied.0 is.proper.some_aggregate is.rising is.numbers is.tallied.1.1) ∙ stands)
-      is.tallied.1.1
+  -- ---- over its dimensions
+  pub fold_over : (slots : Slots) (columns : List (Vec Tally Global)) → IsKept plan slots columns → IsFoldOver dimensions (shown plan slots columns) → IsFold dimensions (query_of plan) slots columns
+  fold_over slots columns kept is = record {
+    proper = kept.proper;
+    rising = over.rising;
+    numbers = kept_numbers slots columns kept;
+    cover = kept_cover slots columns kept;
+    tallied = (is.0, (is.1.1, tallied_for slots columns kept is.0 is.1.0));
+  }
 
   -- ---- with more slots
-  module _ (old : Slots) (columns : List (Vec Tally Global)) (is : IsFold dimensions query old columns) (new : Slots) (longer : List (Vec Tally Global)) (cover : Cover (group_count dimensions query.columns) new)
-      (grow : Grow (group_count dimensions query.columns) (entries_of old) (entries_of new)) (same : (slot : ℕ) → tallies_at longer slot ≡ tallies_at columns slot) where
-    pub tallied_ready : (rows : List LineOrder) → AreTallied dimensions (finest query) (entries_of old) columns rows → AreTallied dimensions (finest query) (entries_of new) longer rows
-    tallied_ready rows tallied = AreTallied-grow dimensions (finest query) (entries_of old) (entries_of new) columns longer rows is.rising is.numbers grow same tallied
-
-    pub IsFold-ready : IsFold dimensions query new longer
-    IsFold-ready = record {
-      proper = is.proper;
-      rising = is.rising;
-      numbers = grow.slots;
-      cover = cover;
-      tallied = (is.tallied.0, (is.tallied.1.0, tallied_ready is.tallied.0 is.tallied.1.1));
+  module _ (old : Slots) (columns : List (Vec Tally Global)) (kept : IsKept plan old columns) (new : Slots) (longer : List (Vec Tally Global)) (cover : Cover (group_count dimensions (query_of plan).columns) new)
+      (grow : Grow (group_count dimensions (query_of plan).columns) (entries_of old) (entries_of new)) (same : (slot : ℕ) → tallies_at longer slot ≡ tallies_at columns slot) where
+    pub kept_ready : IsKept plan new longer
+    kept_ready = record {
+      proper = kept.proper;
+      numbers = subst (λ n. AreSlots n (entries_of new)) (sym over.counted) grow.slots;
+      cover = subst (λ n. Cover n new) (sym over.counted) cover;
+      fresh = λ slot h. same slot ∙ kept.fresh slot (omega (arith, h, grow.longer));
     }
 
-    -- it shows the same groups
-    pub shown_ready : shown new longer ≡ shown old columns
-    shown_ready =
-        seen_are dimensions (finest query) (entries_of new) longer is.tallied.0 is.proper.some_aggregate is.rising grow.slots (tallied_ready is.tallied.0 is.tallied.1.1)
-        ∙ sym (seen_are dimensions (finest query) (entries_of old) columns is.tallied.0 is.proper.some_aggregate is.rising is.numbers is.tallied.1.1)
+    -- it has the same tallies at each number
+    same_at : (number : ℕ) → tallies_in (query_of plan) new longer number ≡ tallies_in (query_of plan) old columns number
+    same_at number =
+        let query = query_of plan in
+        let tallies = tallies_or_none query columns in
+        (elim (slot_of (entries_of new) number) as (λ o. slot_of (entries_of new) number ≡ o → tallies_or_none query longer o ≡ tallies (slot_of (entries_of old) number)) [
+          | None ↦ λ e.
+              (elim (slot_of (entries_of old) number) as (λ o. slot_of (entries_of old) number ≡ o → tallies_of query.aggregates [] ≡ tallies o) [
+                | None ↦ λ before. refl
+                | Some slot ↦ λ before. (let kept_slot = grow.keep number slot before in absurd (cc (kept_slot, e)))
+              ]) refl
+          | Some slot ↦ λ e. same slot ∙ elim (grow.fresh number slot e) [
+            | inl before ↦ sym (ap tallies before)
+            | inr added ↦ kept.fresh slot added.1 ∙ sym (ap tallies added.0)
+          ]
+        ]) refl
+
+    pub shown_ready : shown plan new longer ≡ shown plan old columns
+    shown_ready = λ i. record { query = query_of plan; plan = plan; tallies = map (λ number. same_at number i) (range_with_len 0 (count_of plan)) }
+
+    tallied_ready : (rows : List LineOrder) → AreTallied dimensions (finest (query_of plan)) (entries_of old) columns rows → AreTallied dimensions (finest (query_of plan)) (entries_of new) longer rows
+    tallied_ready rows tallied =
+        AreTallied-grow dimensions (finest (query_of plan)) (entries_of old) (entries_of new) columns longer rows over.rising (kept_numbers old columns kept) grow same tallied
 
     -- ---- and with more rows
-    module _ (rows : List LineOrder) (group_slots : List (Option ℕ)) (group_slots_are : AreGroupSlots dimensions query (entries_of new) rows group_slots) where
-      pub HaveRoom-ready : (so_far : List LineOrder) → shown old columns ≡ groups_of dimensions (finest query) so_far → AreFoldable dimensions (so_far ++ rows) → AllByRecursion (λ column. length (entries_of new) ≤ length column.items) longer
-          → HaveRoom query.aggregates longer rows group_slots
+    module _ (rows : List LineOrder) (group_slots : List (Option ℕ)) (group_slots_are : AreGroupSlots dimensions (query_of plan) (entries_of new) rows group_slots) where
+      pub HaveRoom-ready : (so_far : List LineOrder) → StandsFor dimensions (shown plan old columns) so_far → AreFoldable dimensions (so_far ++ rows) → AllByRecursion (λ column. length (entries_of new) ≤ length column.items) longer
+          → HaveRoom (query_of plan).aggregates longer rows group_slots
       HaveRoom-ready so_far stands foldable long =
-          HaveRoom-foldable dimensions (finest query) (entries_of new) longer so_far rows group_slots refl is.rising grow.slots (AreGroupSlots-finest dimensions query (entries_of new) rows group_slots group_slots_are) long foldable (tallied_ready so_far (tallied_for old columns so_far is stands))
+          HaveRoom-foldable dimensions (finest (query_of plan)) (entries_of new) longer so_far rows group_slots refl over.rising grow.slots
+          (AreGroupSlots-finest dimensions (query_of plan) (entries_of new) rows group_slots group_slots_are) long foldable
+          (tallied_ready so_far (tallied_for old columns kept so_far stands))
 
-      module _ (counted : List (Vec Tally Global)) (count : CountIn query.aggregates rows group_slots longer counted) where
-        tallied_count : (so_far : List LineOrder) → AreTallied dimensions (finest query) (entries_of old) columns so_far → AreTallied dimensions (finest query) (entries_of new) counted (so_far ++ rows)
-        tallied_count so_far tallied =
-            AreTallied-count dimensions (finest query) (entries_of new) longer counted so_far rows group_slots refl is.rising grow.slots (AreGroupSlots-finest dimensions query (entries_of new) rows group_slots group_slots_are) count (tallied_ready so_far tallied)
+      module _ (counted : List (Vec Tally Global)) (count : CountIn (query_of plan).aggregates rows group_slots longer counted) where
+        tallied_count : (so_far : List LineOrder) → StandsFor dimensions (shown plan old columns) so_far → AreTallied dimensions (finest (query_of plan)) (entries_of new) counted (so_far ++ rows)
+        tallied_count so_far stands =
+            AreTallied-count dimensions (finest (query_of plan)) (entries_of new) longer counted so_far rows group_slots refl over.rising grow.slots
+            (AreGroupSlots-finest dimensions (query_of plan) (entries_of new) rows group_slots group_slots_are) count
+            (tallied_ready so_far (tallied_for old columns kept so_far stands))
 
-        pub IsFold-count : (so_far : List LineOrder) → shown old columns ≡ groups_of dimensions (finest query) so_far → AreFoldable dimensions (so_far ++ rows) → IsFold dimensions query new counted
-        IsFold-count so_far stands foldable = record {
-          proper = is.proper;
-          rising = is.rising;
-          numbers = grow.slots;
-          cover = cover;
-          tallied = (so_far ++ rows, (foldable, tallied_count so_far (tallied_for old columns so_far is stands)));
+        pub kept_count : (so_far : List LineOrder) → StandsFor dimensions (shown plan old columns) so_far → IsKept plan new counted
+        kept_count so_far stands = record {
+          proper = kept.proper;
+          numbers = kept_ready.numbers;
+          cover = kept_ready.cover;
+          fresh = (tallied_count so_far stands).fresh;
         }
 
-        pub shown_count : (so_far : List LineOrder) → shown old columns ≡ groups_of dimensions (finest query) so_far → shown new counted ≡ groups_of dimensions (finest query) (so_far ++ rows)
-        shown_count so_far stands =
-            seen_are dimensions (finest query) (entries_of new) counted (so_far ++ rows) is.proper.some_aggregate is.rising grow.slots (tallied_count so_far (tallied_for old columns so_far is stands))
+        pub stands_count : (so_far : List LineOrder) → StandsFor dimensions (shown plan old columns) so_far → StandsFor dimensions (shown plan new counted) (so_far ++ rows)
+        stands_count so_far stands = stands_for new counted (so_far ++ rows) grow.slots (tallied_count so_far stands)

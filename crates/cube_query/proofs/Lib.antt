@@ -4,7 +4,9 @@ pub mod Folds
 pub mod Known
 pub mod Lengths
 pub mod Answered
+pub mod Lists
 pub mod Loops
+pub mod Numbering
 pub mod Marking
 pub mod OneRow
 pub mod Placing

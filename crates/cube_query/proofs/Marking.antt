@@ -18,7 +18,8 @@ use Rattle.cube_model.specs.Order.{key_cmp_total, key_cmp-IsAntisymmetric}
 use Rattle.cube_query.specs.Columns.{slotted}
 use Rattle.group_plan.specs.Numbers.{group_count, key_at, KeysRise}
 use Rattle.cube_query.specs.Slots.{slot_of, AreSlots}
-use Rattle.cube_query.specs.FoldInvariant.{rows_at, IsGroupSlot, AreGroupSlots}
+use Rattle.cube_query.specs.Groups.{rows_at}
+use Rattle.cube_query.specs.FoldInvariant.{IsGroupSlot, AreGroupSlots}
 use Rattle.cube_query.proofs.OneRow.{plain_key, rows_at-skip, rows_at-take}
 
 -- ---- keys

@@ -12,7 +12,7 @@ use Rattle.cube_model.specs.declared.rows.LineOrder.{LineOrder}
 use Rattle.cube_model.specs.declared.rows.DimRows.{DimRows}
 use Rattle.cube_model.specs.Keys.{key_cmp, key_under, keys_of, grouping_sets}
 use Rattle.cube_model.specs.Selection.{selected, is_selected}
-use Rattle.cube_query.specs.FoldInvariant.{rows_at}
+use Rattle.cube_query.specs.Groups.{rows_at}
 use Rattle.cube_query.specs.Tallies.{tally_of, tally_with}
 
 pub tally_of-push : (x : ℤ) (xs : List ℤ) (y : ℤ) → tally_of ((x ∷ xs) ++ y ∷ []) ≡ tally_with (tally_of (x ∷ xs)) y

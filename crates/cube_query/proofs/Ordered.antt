@@ -25,31 +25,8 @@ use Rattle.group_plan.specs.Columns.{attr_at}
 use Rattle.group_plan.specs.Numbers.{key_at, member_at, KeysRise}
 use Rattle.group_plan.proofs.Numbers.{member_rises}
 use Rattle.cube_query.specs.Ranks.{Rank, rank_cmp, IsRank}
+use Rattle.cube_query.proofs.Lists.{ascending_from, get_or-map, IsAscending-map, length_same, map-twice, numbers_apart}
 use Rattle.cube_query.proofs.Placing.{below_less}
-
--- ---- lists in order
-each_from : {X : Type 0} (P : X → Type 0) (xs : List X) → ((j : ℕ) (d : X) → j < length xs → P (get_or xs j d)) → AllByRecursion P xs
-each_from P [] each = tt
-each_from P (x ∷ xs) each = (each 0 x (omega arith), each_from P xs (λ j d h. each (suc j) d (omega (arith, h))))
-
-ascending_from : {X : Type 0} (R : X → X → Ordering) (xs : List X) → AllPairs (λ x y. R x y ≡ Less) xs → IsAscending R xs
-ascending_from R [] pairs = tt
-ascending_from R (x ∷ xs) pairs = (
-  each_from (λ y. R x y ≡ Less) xs (λ j d h. pairs 0 (suc j) d (omega arith) (omega (arith, h))),
-  ascending_from R xs (λ i j d below h. pairs (suc i) (suc j) d (omega (arith, below)) (omega (arith, h))),
-)
-
-each-map : {X Y : Type 0} (P : Y → Type 0) (f : X → Y) (xs : List X) → AllByRecursion (λ x. P (f x)) xs → AllByRecursion P (map f xs)
-each-map P f [] all = tt
-each-map P f (x ∷ xs) all = (all.0, each-map P f xs all.1)
-
-IsAscending-map : {X Y : Type 0} (R : Y → Y → Ordering) (f : X → Y) (xs : List X) → IsAscending (λ x y. R (f x) (f y)) xs → IsAscending R (map f xs)
-IsAscending-map R f [] sorted = tt
-IsAscending-map R f (x ∷ xs) sorted = (each-map (λ y. R (f x) y ≡ Less) f xs sorted.0, IsAscending-map R f xs sorted.1)
-
-map-twice : {X Y Z : Type 0} (g : Y → Z) (f : X → Y) (xs : List X) → map g (map f xs) ≡ map (λ x. g (f x)) xs
-map-twice g f [] = refl
-map-twice g f (x ∷ xs) = ap (λ rest. g (f x) ∷ rest) (map-twice g f xs)
 
 -- ---- ranks
 rank_cmp_total : IsTotalOrder rank_cmp
@@ -111,28 +88,6 @@ module _ (dimensions : DimRows) (columns : List Attr) (rising : KeysRise dimensi
               ]
             ]) turned
       ]
-
-  numbers_apart : (xs : List ℕ) → IsDistinct (eq_by_cmp nat_cmp) xs → AllPairs (λ x y. x ≢ y) xs
-  unfolding IsDistinct
-  numbers_apart [] apart i j d below h = absurd (omega (arith, h))
-  numbers_apart (x ∷ xs) apart zero zero d below h = absurd (omega (arith, below))
-  numbers_apart (x ∷ xs) apart (suc i) zero d below h = absurd (omega (arith, below))
-  numbers_apart (x ∷ xs) apart zero (suc j) d below h = differ xs j apart.0 (omega (arith, h))
-    where
-      differ : (ys : List ℕ) (k : ℕ) → AllByRecursion (λ y. eq_by_cmp nat_cmp x y ≡ false) ys → k < length ys → x ≢ get_or ys k d
-      differ [] k all lt = absurd (omega (arith, lt))
-      differ (y ∷ ys) zero all lt = λ same. (let equal : eq_by_cmp nat_cmp x y ≡ true = ap (eq_by_cmp nat_cmp x) (sym same) ∙ (eq_by_cmp_equiv nat_cmp_total).refl x in absurd (cc (equal, all.0)))
-      differ (y ∷ ys) (suc k) all lt = differ ys k all.1 (omega (arith, lt))
-  numbers_apart (x ∷ xs) apart (suc i) (suc j) d below h = numbers_apart xs apart.1 i j d (omega (arith, below)) (omega (arith, h))
-
-  get_or-map : {X Y : Type 0} (f : X → Y) (xs : List X) (i : ℕ) (d : X) → i < length xs → get_or (map f xs) i (f d) ≡ f (get_or xs i d)
-  get_or-map f [] i d h = absurd (omega (arith, h))
-  get_or-map f (x ∷ xs) zero d h = refl
-  get_or-map f (x ∷ xs) (suc i) d h = get_or-map f xs i d (omega (arith, h))
-
-  length_same : {X Y : Type 0} (f : X → Y) (xs : List X) → length (map f xs) ≡ length xs
-  length_same f [] = refl
-  length_same f (x ∷ xs) = ap suc (length_same f xs)
 
   pub sorted_lines : (ranks : List Rank) → All (IsRank dimensions columns order line) ranks → IsSorted rank_cmp ranks → IsDistinct (eq_by_cmp nat_cmp) (map (λ r. r.2.0) ranks)
       → IsAscending (line_cmp order) (map line (map (λ r. r.2) ranks))

@@ -14,7 +14,7 @@ use Rattle.cube_model.specs.Admission.{AreInRange}
 use Rattle.cube_model.specs.Selection.{is_selected}
 use Rattle.cube_query.specs.Columns.{IsCountable}
 use Rattle.cube_query.specs.Limits.{AreFoldable}
-use Rattle.cube_query.specs.FoldInvariant.{rows_at}
+use Rattle.cube_query.specs.Groups.{rows_at}
 use Rattle.cube_query.specs.Tallies.{number_of}
 use Rattle.cube_query.proofs.Sums.{sum_by-filter, length-filter-le, sum_by-zero}
 

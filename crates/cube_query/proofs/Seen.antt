@@ -22,10 +22,10 @@ use Rattle.cube_model.specs.declared.rows.DimRows.{DimRows}
 use Rattle.cube_model.specs.declared.rows.LineOrder.{LineOrder}
 use Rattle.cube_model.specs.Keys.{key_cmp}
 use Rattle.cube_query.specs.Columns.{tallies_at, is_seen, seen_groups, line_with}
-use Rattle.cube_query.specs.Groups.{groups_of}
+use Rattle.cube_query.specs.Groups.{groups_of, rows_at}
 use Rattle.group_plan.specs.Numbers.{group_count, key_at, KeysRise}
 use Rattle.cube_query.specs.Slots.{slot_of, AreSlots}
-use Rattle.cube_query.specs.FoldInvariant.{rows_at, AreTallied}
+use Rattle.cube_query.specs.FoldInvariant.{AreTallied}
 use Rattle.cube_query.specs.Tallies.{number_of, tallies_of, tallies_if_any}
 use Rattle.cube_query.specs.declared.tally.Tally.{Tally}
 use Rattle.cube_query.proofs.Answered.{groups_are}

@@ -1,4 +1,4 @@
--- How a fold goes on: from rows to others with the same groups, to more slots, and to more rows.
+-- How a fold goes on: to more slots, and to more rows.
 use Rattle.std.proofs.Common.{◌≡◌, ◌∙◌, sym, ap, refl, subst, ℕ, ◌<◌, ◌≤◌, List, [], ◌∷◌, ◌++◌, length, Some, None, arith, inl, inr}
 use Rattle.std.specs.Prelude.{Option}
 use Rattle.std.specs.BTreeMap.{is_at}
@@ -14,41 +14,17 @@ use Rattle.cube_model.specs.declared.rows.DimRows.{DimRows}
 use Rattle.cube_model.specs.declared.rows.LineOrder.{LineOrder}
 use Rattle.cube_model.specs.Keys.{key_cmp}
 use Rattle.cube_query.specs.Columns.{tallies_at, IsCountable}
-use Rattle.cube_query.specs.Groups.{groups_of}
+use Rattle.cube_query.specs.Groups.{groups_of, rows_at}
 use Rattle.cube_query.specs.Limits.{AreFoldable}
 use Rattle.group_plan.specs.Numbers.{group_count, key_at, KeysRise}
 use Rattle.cube_query.specs.Slots.{slot_of, AreSlots, Grow}
-use Rattle.cube_query.specs.FoldInvariant.{rows_at, AreGroupSlots, HaveRoom, CountIn, AreTallied}
+use Rattle.cube_query.specs.FoldInvariant.{AreGroupSlots, HaveRoom, CountIn, AreTallied}
 use Rattle.cube_query.specs.Tallies.{tallies_of, tallies_if_any}
 use Rattle.cube_query.specs.declared.tally.Tally.{Tally}
 use Rattle.cube_query.proofs.Answered.{groups_have}
 use Rattle.cube_query.proofs.Marking.{keys_apart, slotted-none, rows_at-none, rows_at-slotted, AreGroupSlots-at}
 use Rattle.cube_query.proofs.OneRow.{rows_at-append}
 use Rattle.cube_query.proofs.Ranges.{IsCountable-at}
-
--- ---- rows with the same groups
-tallies_alike : (aggs : List Agg) (rows others : List LineOrder) → tallies_if_any aggs rows ≡ tallies_if_any aggs others → tallies_of aggs rows ≡ tallies_of aggs others
-tallies_alike aggs [] [] same = refl
-tallies_alike aggs [] (other ∷ others) same = absurd (cc same)
-tallies_alike aggs (row ∷ rows) [] same = absurd (cc same)
-tallies_alike aggs (row ∷ rows) (other ∷ others) same = cc same
-
-none_alike : (aggs : List Agg) (rows : List LineOrder) → tallies_if_any aggs rows ≡ None → rows ≡ []
-none_alike aggs [] none = refl
-none_alike aggs (row ∷ rows) none = absurd (cc none)
-
-pub AreTallied-alike : (dimensions : DimRows) (query : Query) (entries : List (ℕ × ℕ)) (columns : List (Vec Tally Global)) (rows others : List LineOrder) → groups_of dimensions query rows ≡ groups_of dimensions query others
-    → AreTallied dimensions query entries columns rows → AreTallied dimensions query entries columns others
-AreTallied-alike dimensions query entries columns rows others same tallied =
-    let aggs = query.aggregates in
-    let alike = λ (key : List Member). (let one : tallies_if_any aggs (rows_at dimensions query key rows) ≡ tallies_if_any aggs (rows_at dimensions query key others) =
-    sym (groups_have dimensions query rows key) ∙ ap (lookup (is_at (key_cmp key))) same ∙ groups_have dimensions query others key in one) in
-    record {
-      each = λ number slot found. tallied.each number slot found
-          ∙ tallies_alike aggs (rows_at dimensions query (key_at dimensions query.columns number) rows) (rows_at dimensions query (key_at dimensions query.columns number) others) (alike (key_at dimensions query.columns number));
-      others = λ key absent. none_alike aggs (rows_at dimensions query key others) (sym (alike key) ∙ ap (tallies_if_any aggs) (tallied.others key absent));
-      fresh = tallied.fresh;
-    }
 
 -- ---- more slots
 pub AreTallied-grow : (dimensions : DimRows) (query : Query) (old new : List (ℕ × ℕ)) (columns longer : List (Vec Tally Global)) (rows : List LineOrder) → KeysRise dimensions query.columns

@@ -1,6 +1,6 @@
 -- How the slots and the columns of a fold stand to the fact rows that were counted in. Our own.
-use Rattle.std.specs.Prelude.{◌≡◌, ℕ, ◌≤◌, ◌<◌, false, Option, Some, None, List, [], ◌∷◌, ◌++◌, length, slice_get}
-use Rattle.std.specs.List.{AllByRecursion}
+use Rattle.std.specs.Prelude.{◌≡◌, ℕ, ◌≤◌, ◌<◌, false, Option, Some, None, List, [], ◌∷◌, ◌++◌, length, map, slice_get}
+use Rattle.std.specs.List.{AllByRecursion, range_with_len}
 use Rattle.std.specs.declared.alloc.Global.{Global}
 use Rattle.std.specs.declared.vec.Vec.{Vec}
 use Rattle.cube_model.specs.declared.answer.Member.{Member}
@@ -8,21 +8,18 @@ use Rattle.cube_model.specs.declared.measure.Agg.{Agg}
 use Rattle.cube_model.specs.declared.query.Query.{Query}
 use Rattle.cube_model.specs.declared.rows.DimRows.{DimRows}
 use Rattle.cube_model.specs.declared.rows.LineOrder.{LineOrder}
-use Rattle.cube_model.specs.Answers.{rows_of_key}
 use Rattle.cube_model.specs.Proper.{IsProper}
-use Rattle.cube_model.specs.Selection.{selected, is_selected}
+use Rattle.cube_model.specs.Selection.{is_selected}
 use Rattle.cube_query.specs.Columns.{tallies_at, slotted, IsCountable}
-use Rattle.cube_query.specs.Groups.{finest}
+use Rattle.cube_query.specs.Groups.{finest, rows_at}
 use Rattle.cube_query.specs.Limits.{AreFoldable}
 use Rattle.group_plan.specs.Numbers.{group_count, key_at, KeysRise, IsNumber}
+use Rattle.group_plan.specs.Plans.{count_of, query_of}
+use Rattle.group_plan.specs.declared.plan.Plan.{Plan}
 use Rattle.cube_query.specs.Slots.{slot_of, entries_of, AreSlots, Cover}
 use Rattle.cube_query.specs.Tallies.{tallies_of}
 use Rattle.cube_query.specs.declared.slots.Slots.{Slots}
 use Rattle.cube_query.specs.declared.tally.Tally.{Tally}
-
--- the selected rows of a key
-abbrev pub rows_at : DimRows → Query → List Member → List LineOrder → List LineOrder
-rows_at dimensions query key rows = rows_of_key dimensions query key (selected dimensions query.conditions rows)
 
 -- the slot of a fact row's group, and none where the row is not selected
 abbrev pub IsGroupSlot : DimRows → Query → List (ℕ × ℕ) → LineOrder → Option ℕ → Type 0
@@ -64,7 +61,27 @@ pub record AreTallied (dimensions : DimRows) (query : Query) (entries : List (�
       → rows_at dimensions query key rows ≡ []
   pub fresh : (slot : ℕ) → length entries ≤ slot → tallies_at columns slot ≡ tallies_of query.aggregates []
 
--- what holds of each fold
+-- the tallies at a slot: those of no row where there is none
+abbrev pub tallies_or_none : Query → List (Vec Tally Global) → Option ℕ → List Tally
+tallies_or_none query columns None = tallies_of query.aggregates []
+tallies_or_none query columns (Some slot) = tallies_at columns slot
+
+-- the tallies at the number of a group
+abbrev pub tallies_in : Query → Slots → List (Vec Tally Global) → ℕ → List Tally
+tallies_in query slots columns number = tallies_or_none query columns (slot_of (entries_of slots) number)
+
+-- the tallies at the number of each group
+abbrev pub all_tallies : Plan → Slots → List (Vec Tally Global) → List (List Tally)
+all_tallies plan slots columns = map (tallies_in (query_of plan) slots columns) (range_with_len 0 (count_of plan))
+
+-- what a fold keeps, over any dimensions: slots for numbers below the plan's count, and no row behind the last slot
+pub record IsKept (plan : Plan) (slots : Slots) (columns : List (Vec Tally Global)) : Type 0 where
+  pub proper : IsProper (query_of plan)
+  pub numbers : AreSlots (count_of plan) (entries_of slots)
+  pub cover : Cover (count_of plan) slots
+  pub fresh : (slot : ℕ) → length (entries_of slots) ≤ slot → tallies_at columns slot ≡ tallies_of (query_of plan).aggregates []
+
+-- what holds of each fold over its dimensions
 pub record IsFold (dimensions : DimRows) (query : Query) (slots : Slots) (columns : List
     (Vec Tally Global)) : Type 0 where
   pub proper : IsProper query

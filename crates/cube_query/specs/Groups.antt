@@ -1,5 +1,5 @@
--- What a fold has in hand: the groups of the fact rows so far. Our own.
-use Rattle.std.specs.Prelude.{◌≡◌, None, List, [], ◌++◌, map}
+-- What a fold has in hand: tallies by the numbers of groups. Our own.
+use Rattle.std.specs.Prelude.{◌≡◌, ℕ, ◌<◌, None, List, [], ◌++◌, map, slice_index_or}
 use Rattle.cube_model.specs.declared.answer.Member.{Member}
 use Rattle.cube_model.specs.declared.query.Kind.TheVariants.{Plain}
 use Rattle.cube_model.specs.declared.query.Query.{Query}
@@ -10,6 +10,9 @@ use Rattle.cube_model.specs.Selection.{selected}
 use Rattle.cube_query.specs.declared.tally.Tally.{Tally}
 use Rattle.cube_query.specs.Limits.{AreFoldable}
 use Rattle.cube_query.specs.Tallies.{tallies_of}
+use Rattle.group_plan.specs.Numbers.{group_count, key_at}
+use Rattle.group_plan.specs.Plans.{IsPlanOver}
+use Rattle.group_plan.specs.declared.plan.Plan.{Plan}
 
 -- the groups of fact rows: each key that a selected row has, ascending, with the tallies over the rows of that key
 abbrev pub groups_of : DimRows → Query → List LineOrder → List (List Member × List Tally)
@@ -22,29 +25,42 @@ groups_of dimensions query rows =
 abbrev pub finest : Query → Query
 finest query = record { kind = Plain; columns = query.columns; conditions = query.conditions; aggregates = query.aggregates; order = None }
 
--- a fold: its dimensions, its query, and the groups so far, by all columns
-pub record FoldState : Type 0 where
-  pub dimensions : DimRows
-  pub query : Query
-  pub groups : List (List Member × List Tally)
+-- the selected rows of a key
+abbrev pub rows_at : DimRows → Query → List Member → List LineOrder → List LineOrder
+rows_at dimensions query key rows = rows_of_key dimensions query key (selected dimensions query.conditions rows)
 
--- the groups are those of some fact rows
-abbrev pub StandsFor : FoldState → List LineOrder → Type 0
-StandsFor state rows = state.groups ≡ groups_of state.dimensions (finest state.query) rows
+-- a fold: its query, its plan, and the tallies at the number of each group by all columns, those of no row among them
+pub record FoldState : Type 0 where
+  pub query : Query
+  pub plan : Plan
+  pub tallies : List (List Tally)
+
+-- A fold stands for fact rows over dimensions: its plan is over these, at the number of each group it has the tallies over
+-- the selected rows of that group's key, and no selected row has another key.
+pub record StandsFor (dimensions : DimRows) (fold : FoldState) (rows : List LineOrder) : Type 0 where
+  pub over : IsPlanOver dimensions fold.plan
+  pub each : (number : ℕ) → number < group_count dimensions fold.query.columns
+      → slice_index_or fold.tallies number []
+      ≡ tallies_of fold.query.aggregates (rows_at dimensions (finest fold.query) (key_at dimensions fold.query.columns number) rows)
+  pub others : (key : List Member)
+      → ((number : ℕ) → number < group_count dimensions fold.query.columns → key_at dimensions fold.query.columns number ≡ key → ⊥)
+      → rows_at dimensions (finest fold.query) key rows ≡ []
 
 -- a fold that begins: it stands for no fact row
 pub record Begins (dimensions : DimRows) (query : Query) (fold : FoldState) : Type 0 where
-  pub dimensions_are : fold.dimensions ≡ dimensions
   pub query_is : fold.query ≡ query
-  pub stands : StandsFor fold []
+  pub stands : StandsFor dimensions fold []
+
+-- a fold over the dimensions of its beginning: it stands for fact rows that may be folded
+abbrev pub IsFoldOver : DimRows → FoldState → Type 0
+IsFoldOver dimensions fold = (rows : List LineOrder) × (StandsFor dimensions fold rows × AreFoldable dimensions rows)
 
 -- the fold stands for fact rows behind which others may be added
-abbrev pub CanTake : FoldState → List LineOrder → Type 0
-CanTake state rows = (so_far : List LineOrder)
-    × (StandsFor state so_far × AreFoldable state.dimensions (so_far ++ rows))
+abbrev pub CanTake : DimRows → FoldState → List LineOrder → Type 0
+CanTake dimensions fold rows = (so_far : List LineOrder)
+    × (StandsFor dimensions fold so_far × AreFoldable dimensions (so_far ++ rows))
 
 -- the fold stands for the fact rows that it stood for, with others behind them
-pub record Takes (old : FoldState) (rows : List LineOrder) (new : FoldState) : Type 0 where
-  pub dimensions : new.dimensions ≡ old.dimensions
+pub record Takes (dimensions : DimRows) (old : FoldState) (rows : List LineOrder) (new : FoldState) : Type 0 where
   pub query : new.query ≡ old.query
-  pub stands : (so_far : List LineOrder) → StandsFor old so_far → StandsFor new (so_far ++ rows)
+  pub stands : (so_far : List LineOrder) → StandsFor dimensions old so_far → StandsFor dimensions new (so_far ++ rows)

@@ -2,6 +2,7 @@ pub mod Coarser
 pub mod Columns
 pub mod Groups
 pub mod Limits
+pub mod Numbered
 pub mod Ranks
 pub mod Slots
 pub mod FoldInvariant

@@ -12,11 +12,11 @@ use crate::columns::{is_seen, lengthen_all, merge_in_all};
 use crate::slots::Slots;
 use crate::tally::Tally;
 use cube_model::Kind;
-use group_plan::Plan;
+use group_plan::PlanOver;
 use std::alloc::{AllocError, Global};
 
 // Whether the group with a number leads to one with ALL in a column: of a rollup those with ALL in all columns behind it.
-fn leads(plan: &Plan, kind: Kind, column: usize, number: u128) -> bool
+fn leads(plan: &PlanOver, kind: Kind, column: usize, number: u128) -> bool
     requires column { column < length plan.now.query.columns }
     requires few { length plan.now.query.columns ≤ 6 }
     requires below { number < group_count plan.now.dimensions plan.now.query.columns }
@@ -32,7 +32,7 @@ fn leads(plan: &Plan, kind: Kind, column: usize, number: u128) -> bool
 // The groups that have rows and lead to ones with ALL in a column.
 fn sources_of(
     alloc: Global,
-    plan: &Plan,
+    plan: &PlanOver,
     kind: Kind,
     column: usize,
     columns: &[Vec<Tally>],
@@ -57,7 +57,7 @@ fn sources_of(
 
 // The slot of the group with ALL in a column and all else as a source. Where it has none it is given one.
 fn target_of(
-    plan: &Plan,
+    plan: &PlanOver,
     column: usize,
     slots: &mut Slots,
     source: (u128, u32),
@@ -83,7 +83,7 @@ fn target_of(
 // The slots of the groups with ALL in a column. Those that have none are given one.
 fn targets_of(
     alloc: Global,
-    plan: &Plan,
+    plan: &PlanOver,
     column: usize,
     slots: &mut Slots,
     sources: &[(u128, u32)],
@@ -128,7 +128,7 @@ fn merge(columns: &mut Vec<Vec<Tally>>, sources: &[(u128, u32)], targets: &[u32]
 // Adds the groups with ALL in a column to those that there are from the next column on.
 fn coarsen(
     alloc: Global,
-    plan: &Plan,
+    plan: &PlanOver,
     kind: Kind,
     column: usize,
     slots: &mut Slots,
@@ -160,7 +160,7 @@ fn coarsen(
 /// Adds all groups of the query's kind to those by all columns, of which there are so many.
 pub fn coarsen_all(
     alloc: Global,
-    plan: &Plan,
+    plan: &PlanOver,
     kind: Kind,
     count: usize,
     slots: &mut Slots,

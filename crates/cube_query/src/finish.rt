@@ -2,11 +2,9 @@
 ghost use Rattle.std.specs.Prelude.{◌≡◌, List, IfOk};
 ghost use Rattle.cube_model.specs.Answers.{answer};
 ghost use Rattle.cube_model.specs.declared.rows.LineOrder.{LineOrder};
-ghost use Rattle.cube_query.specs.Columns.{seen_groups, tallies_at};
-ghost use Rattle.cube_query.specs.Groups.{finest, groups_of};
+ghost use Rattle.cube_query.specs.Groups.{finest};
 ghost use Rattle.cube_query.specs.Slots.{entries_of};
-ghost use Rattle.cube_query.specs.FoldInvariant.{IsFold};
-ghost use Rattle.group_plan.specs.Numbers.{key_at};
+ghost use Rattle.cube_query.specs.FoldInvariant.{AreTallied, IsFold};
 
 use crate::coarser::coarsen_all;
 use crate::columns::copy_columns;
@@ -14,13 +12,13 @@ use crate::lines::lines_of;
 use crate::slots::Slots;
 use crate::tally::Tally;
 use cube_model::{Items, Kind, Line, Query};
-use group_plan::Plan;
+use group_plan::PlanOver;
 use std::alloc::{AllocError, Global};
 
 // The lines of a rollup or a cube. What the fold has stays as it is.
 fn coarser_lines(
     alloc: Global,
-    plan: &Plan,
+    plan: &PlanOver,
     query: &Query,
     columns: &[Vec<Tally>],
     slots: &Slots,
@@ -28,8 +26,7 @@ fn coarser_lines(
     requires query { query.now ≡ plan.now.query }
     requires fold { IsFold plan.now.dimensions plan.now.query slots.now columns.now }
     ensures { IfOk result (λ lines. (rows : List LineOrder)
-        → seen_groups (key_at plan.now.dimensions plan.now.query.columns) (tallies_at columns.now) (entries_of slots.now)
-        ≡ groups_of plan.now.dimensions (finest plan.now.query) rows
+        → AreTallied plan.now.dimensions (finest plan.now.query) (entries_of slots.now) columns.now rows
         → lines ≡ (answer plan.now.query plan.now.dimensions rows).lines) }
 {
     let mut slots = slots.copy()?;
@@ -42,7 +39,7 @@ fn coarser_lines(
 /// The lines of the answer over the rows of the groups by all columns.
 pub fn answer_lines(
     alloc: Global,
-    plan: &Plan,
+    plan: &PlanOver,
     query: &Query,
     columns: &[Vec<Tally>],
     slots: &Slots,
@@ -50,8 +47,7 @@ pub fn answer_lines(
     requires query { query.now ≡ plan.now.query }
     requires fold { IsFold plan.now.dimensions plan.now.query slots.now columns.now }
     ensures { IfOk result (λ lines. (rows : List LineOrder)
-        → seen_groups (key_at plan.now.dimensions plan.now.query.columns) (tallies_at columns.now) (entries_of slots.now)
-        ≡ groups_of plan.now.dimensions (finest plan.now.query) rows
+        → AreTallied plan.now.dimensions (finest plan.now.query) (entries_of slots.now) columns.now rows
         → lines ≡ (answer plan.now.query plan.now.dimensions rows).lines) }
 {
     match query.kind {

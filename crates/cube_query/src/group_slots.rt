@@ -7,11 +7,15 @@ ghost use Rattle.cube_query.specs.FoldInvariant.{IsGroupSlot, AreGroupSlots};
 
 use crate::slots::Slots;
 use cube_model::LineOrder;
-use group_plan::Plan;
+use group_plan::PlanOver;
 use std::alloc::{AllocError, Global};
 
 // The slot of a fact row's group, if the row is selected.
-fn group_slot_of(plan: &Plan, slots: &mut Slots, row: &LineOrder) -> Result<Option<u32>, AllocError>
+fn group_slot_of(
+    plan: &PlanOver,
+    slots: &mut Slots,
+    row: &LineOrder,
+) -> Result<Option<u32>, AllocError>
     requires known { IsKnown plan.now.dimensions row.now }
     requires cover { Cover (group_count plan.now.dimensions plan.now.query.columns) slots.old }
     ensures group_slot { IfOk result (λ group_slot.
@@ -35,7 +39,7 @@ fn group_slot_of(plan: &Plan, slots: &mut Slots, row: &LineOrder) -> Result<Opti
 /// The slot of each fact row's group, where the row is selected. Numbers that have none are given one.
 pub fn group_slots_of(
     alloc: Global,
-    plan: &Plan,
+    plan: &PlanOver,
     slots: &mut Slots,
     rows: &[LineOrder],
 ) -> Result<Vec<Option<u32>>, AllocError>

@@ -1,19 +1,20 @@
 //! The answer to a query over fact rows.
 #![tactic(auto)]
 
+mod answer;
 mod coarser;
 mod columns;
 mod finish;
 mod fraction;
 mod group_slots;
 mod lines;
+mod numbers;
 mod order;
+mod running;
 mod slots;
-mod state;
 mod tally;
-mod whole;
 
+pub use answer::fold;
 pub use fraction::fraction_of;
-pub use state::Fold;
+pub use running::Fold;
 pub use tally::Tally;
-pub use whole::fold;

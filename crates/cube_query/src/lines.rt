@@ -14,13 +14,13 @@ use crate::order::in_order;
 use crate::slots::Slots;
 use crate::tally::Tally;
 use cube_model::{Agg, Items, Line, Query, answer_is_the_one};
-use group_plan::Plan;
+use group_plan::PlanOver;
 use std::alloc::{AllocError, Global};
 
 // The line of a group, by its number and its slot.
 fn line_of(
     alloc: Global,
-    plan: &Plan,
+    plan: &PlanOver,
     aggregates: &[Agg],
     columns: &[Vec<Tally>],
     group: (u128, u32),
@@ -40,7 +40,7 @@ fn line_of(
 // The lines of groups, in their order.
 fn lines_among(
     alloc: Global,
-    plan: &Plan,
+    plan: &PlanOver,
     aggregates: &[Agg],
     columns: &[Vec<Tally>],
     groups: &[(u128, u32)],
@@ -77,10 +77,22 @@ fn seen_among(
     Ok(groups)
 }
 
+// The groups that have rows, in the order of their numbers. Those that have none go before any line is made.
+fn seen_groups_of(
+    alloc: Global,
+    columns: &[Vec<Tally>],
+    slots: &Slots,
+) -> Result<Vec<(u128, u32)>, AllocError>
+    ensures { IfOk result (λ groups. groups.items ≡ seen_entries (tallies_at columns.now) (entries_of slots.now)) }
+{
+    let entries = slots.entries(alloc)?;
+    seen_among(alloc, columns, entries.as_slice())
+}
+
 /// The lines of the groups that have rows, in the order that the query asks for.
 pub fn lines_of(
     alloc: Global,
-    plan: &Plan,
+    plan: &PlanOver,
     query: &Query,
     columns: &[Vec<Tally>],
     slots: &Slots,
@@ -95,8 +107,7 @@ pub fn lines_of(
         → lines ≡ (answer plan.now.query plan.now.dimensions rows).lines) }
 {
     let aggregates = query.aggregates.as_slice();
-    let entries = slots.entries(alloc)?;
-    let groups = seen_among(alloc, columns, entries.as_slice())?;
+    let groups = seen_groups_of(alloc, columns, slots)?;
     match query.order {
         None => lines_among(alloc, plan, aggregates, columns, groups.as_slice()),
         Some(order) => {

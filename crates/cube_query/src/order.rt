@@ -14,7 +14,7 @@ ghost use Rattle.group_plan.specs.Numbers.{group_count, key_at};
 use crate::columns::tally_at;
 use crate::tally::Tally;
 use cube_model::{Agg, Order};
-use group_plan::Plan;
+use group_plan::PlanOver;
 use std::alloc::{AllocError, Global};
 use std::cmp::Reverse;
 
@@ -25,7 +25,7 @@ type Ranked = (u128, Reverse<i64>, (u128, u32));
 // The groups, each with what it is sorted by.
 fn ranked(
     alloc: Global,
-    plan: &Plan,
+    plan: &PlanOver,
     aggregates: &[Agg],
     columns: &[Vec<Tally>],
     order: Order,
@@ -65,7 +65,7 @@ fn unranked(alloc: Global, ranked: &[Ranked]) -> Result<Vec<(u128, u32)>, AllocE
 /// Groups in the order that a query asks for. It compares numbers alone.
 pub fn in_order(
     alloc: Global,
-    plan: &Plan,
+    plan: &PlanOver,
     aggregates: &[Agg],
     columns: &[Vec<Tally>],
     order: Order,

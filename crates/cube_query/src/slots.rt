@@ -2,8 +2,8 @@
 ghost use Rattle.std.specs.Prelude.{◌≡◌, ℕ, ◌<◌, ◌^◌, length, IfOk, OnErr};
 ghost use Rattle.cube_query.specs.Slots.{entries_of, numbers_from, AreSlots, CanPlace, Cover, Places};
 
+use crate::numbers::Numbers;
 use std::alloc::{AllocError, Global};
-use std::collections::BTreeMap;
 
 /// Up to how many numbers each has its slot from the start.
 const MOST_FROM_THE_START: u128 = 65_536;
@@ -13,8 +13,8 @@ const MOST_FROM_THE_START: u128 = 65_536;
 pub enum Slots {
     /// Each number below the count, from the start, in the slot with that number.
     Direct(u32),
-    /// The numbers that were seen, in slots in the order of their first sight.
-    Mapped(BTreeMap<u128, u32>),
+    /// The numbers that were seen: the place of each in the order of their first sight is its slot.
+    Seen(Numbers),
 }
 
 impl Slots {
@@ -26,7 +26,7 @@ impl Slots {
         if bound <= MOST_FROM_THE_START {
             Slots::Direct(bound as u32)
         } else {
-            Slots::Mapped(BTreeMap::new(alloc))
+            Slots::Seen(Numbers::new(alloc))
         }
     }
 
@@ -36,7 +36,7 @@ impl Slots {
     {
         match self {
             Slots::Direct(count) => *count as usize,
-            Slots::Mapped(slots) => slots.len(),
+            Slots::Seen(numbers) => numbers.len(),
         }
     }
 
@@ -52,7 +52,7 @@ impl Slots {
                 prove!(number < u128::from(*count));
                 Ok(number as u32)
             }
-            Slots::Mapped(slots) => place_in(slots, number),
+            Slots::Seen(numbers) => numbers.place(number),
         }
     }
 
@@ -63,7 +63,7 @@ impl Slots {
     {
         match self {
             Slots::Direct(count) => Ok(Slots::Direct(*count)),
-            Slots::Mapped(slots) => Ok(Slots::Mapped(slots.clone()?)),
+            Slots::Seen(numbers) => Ok(Slots::Seen(numbers.copy()?)),
         }
     }
 
@@ -73,27 +73,8 @@ impl Slots {
     {
         match self {
             Slots::Direct(count) => direct_entries(alloc, *count),
-            Slots::Mapped(slots) => mapped_entries(alloc, slots),
+            Slots::Seen(numbers) => numbers.entries(alloc),
         }
-    }
-}
-
-// The slot of a number among those that were given.
-fn place_in(slots: &mut BTreeMap<u128, u32>, number: u128) -> Result<u32, AllocError>
-    ensures ok { IfOk result (λ slot. Places slots.old.entries number slot slots.new.entries) }
-    ensures err { OnErr result (slots.new.entries ≡ slots.old.entries) }
-{
-    if let Some(slot) = slots.get(&number) {
-        return Ok(*slot);
-    }
-    let next = slots.len();
-    if next >= u32::MAX as usize {
-        return Err(AllocError);
-    }
-    let slot = next as u32;
-    match slots.insert(number, slot) {
-        Ok(_) => Ok(slot),
-        Err(_) => Err(AllocError),
     }
 }
 
@@ -104,20 +85,6 @@ fn direct_entries(alloc: Global, count: u32) -> Result<Vec<(u128, u32)>, AllocEr
     let mut entries = Vec::with_capacity(alloc, count as usize)?;
     for number in 0..count {
         entries.push((u128::from(number), number))?;
-    }
-    Ok(entries)
-}
-
-// The entries of a map.
-fn mapped_entries(
-    alloc: Global,
-    slots: &BTreeMap<u128, u32>,
-) -> Result<Vec<(u128, u32)>, AllocError>
-    ensures { IfOk result (λ entries. entries.items ≡ slots.now.entries) }
-{
-    let mut entries = Vec::with_capacity(alloc, slots.len())?;
-    for (number, slot) in slots {
-        entries.push((*number, *slot))?;
     }
     Ok(entries)
 }

@@ -1,1 +1,4 @@
 pub mod Dictionary
+pub mod Spelling
+pub mod Columns
+pub mod Reading

@@ -1,12 +1,16 @@
 //! The texts that were seen, and their codes.
-ghost use Rattle.std.specs.Prelude.{◌≡◌, ◌<◌, ◌≤◌, ◌^◌, [], length, slice_get, Some, IfOk, IfSome, IfErr, OnErr};
+ghost use Rattle.std.specs.Prelude.{◌≡◌, ◌⊎◌, ◌<◌, ◌≤◌, ◌^◌, ◌++◌, [], length, slice_get, Some, IfOk, IfSome, IfErr, IsOkUnless, OnErr, OnOk};
 ghost use Rattle.std.specs.Option.{option_map};
 ghost use Rattle.dictionary.specs.Dictionary.{code_of, Adds};
+ghost use Rattle.dictionary.specs.Spelling.{AreShort, BeginsWithNone, ReadsTexts, texts_spelling};
 
+use crate::reading::read_texts;
+use crate::writing::push_texts;
 use cube_model::Fault;
 use indexmap::IndexSet;
 use std::alloc::Global;
 use std::marker::Model;
+use wire::{Cursor, push_u32};
 
 /// Texts in the order of their first use, each once, as many as a limit allows.
 ///
@@ -89,5 +93,37 @@ impl Dictionary {
         let text = Vec::from_slice(alloc, text)?;
         self.texts.insert(text)?;
         Ok(Some(next as u32))
+    }
+
+    /// Adds the texts to bytes, as they stand on disk: their number in four bytes, then each with its length in one byte
+    /// before it. No text may have more than 255 bytes.
+    ///
+    /// It can only fail for want of memory, and the bytes may then have a part of them.
+    pub fn push_to(&self, out: &mut Vec<u8>) -> Result<(), Fault>
+        requires short { AreShort self.now.texts }
+        ensures ok { OnOk result (out.new.items ≡ out.old.items ++ texts_spelling self.now.texts) }
+        ensures memory { IsOkUnless result Fault.Memory }
+    {
+        push_u32(out, self.texts.len() as u32)?;
+        push_texts(out, self.texts.as_slice())
+    }
+
+    /// Takes the texts of a dictionary, as they stand on disk, from the front of bytes: at most as many as the limit, and
+    /// all different.
+    ///
+    /// `BadLayout` exactly where the bytes begin with no such texts. The cursor then stands anywhere.
+    pub fn read(alloc: Global, cursor: &mut Cursor<'_>, limit: u32) -> Result<Dictionary, Fault>
+        ensures ok { IfOk result (λ found. ReadsTexts limit cursor.old cursor.new found.texts) }
+        ensures limit { IfOk result (λ found. found.limit ≡ limit) }
+        ensures refused { IfErr result (λ fault. (fault ≡ Fault.Memory) ⊎ ((fault ≡ Fault.BadLayout)
+            × BeginsWithNone limit cursor.old)) }
+    {
+        let count = cursor.u32()?;
+        if count > limit {
+            return Err(Fault::BadLayout);
+        }
+        let mut found = Dictionary::new(alloc, limit);
+        read_texts(alloc, cursor, &mut found, count)?;
+        Ok(found)
     }
 }

@@ -1,6 +1,10 @@
-//! Texts with codes: the code of a text is the place where it was first seen.
+//! Texts with codes: the code of a text is the place where it was first seen. And how they stand on disk.
 #![tactic(auto)]
 
+mod codes;
 mod dictionary;
+mod reading;
+mod writing;
 
+pub use codes::are_codes;
 pub use dictionary::Dictionary;

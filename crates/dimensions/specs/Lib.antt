@@ -1,6 +1,8 @@
+pub mod Coded
 pub mod Columns
 pub mod Entries
 pub mod KeyMaps
+pub mod Made
 pub mod Ranked
 pub mod Shapes
 pub mod ShortTexts

@@ -15,7 +15,7 @@ use Rattle.cube_model.specs.Validity.{HaveShortTexts, IsValid, dimension_cause}
 use Rattle.dimensions.specs.declared.table.Table.{Table}
 use Rattle.dimensions.specs.declared.dimension.Dimension.{Dimension}
 use Rattle.dimensions.specs.TextRows.{TextRow, row_of_customer, row_of_supplier, row_of_part, row_of_date}
-use Rattle.dimensions.specs.Shapes.{text_rules}
+use Rattle.dimensions.specs.Shapes.{lowers_of, text_rules}
 use Rattle.dimensions.specs.Tables.{column_at, IsTable}
 
 -- a dimension is that of some rows: its table is, and there is a rank for each text of each column
@@ -55,6 +55,16 @@ text_up table column row = slice_index_or (column_at table column).texts.texts (
 abbrev pub each_row : {Row : Type 0} → (ℕ → Row) → ℕ → List Row
 each_row row zero = []
 each_row row (suc count) = row 0 ∷ each_row (λ index. row (suc index)) count
+
+-- a row of a table as texts by column, and all of them
+abbrev pub table_row : Axis → Table → ℕ → TextRow
+table_row axis table row = record {
+  key = slice_index_or table.keys row 0;
+  texts = each_row (λ column. text_up table column row) (length (lowers_of axis));
+}
+
+abbrev pub table_rows : Axis → Table → List TextRow
+table_rows axis table = each_row (table_row axis table) (length table.keys)
 
 abbrev pub shown_customer : Table → ℕ → CustomerRow
 shown_customer table row = record { key = slice_index_or table.keys row 0; city = text_up table 0 row; nation = text_up table 1 row; region = text_up table 2 row }

@@ -1,11 +1,12 @@
 -- A table of columns by codes, and what adding a row to it comes to.
-use Rattle.std.specs.Prelude.{◌≡◌, ℕ, ◌<◌, ◌⊎◌, Bool, Option, Some, None, Result, MatchResult, List, [], ◌∷◌, ◌++◌, map, length, slice_index_or}
+use Rattle.std.specs.Prelude.{◌≡◌, ℕ, suc, ◌<◌, ◌⊎◌, Bool, Option, Some, None, Result, MatchResult, List, [], ◌∷◌, ◌++◌, map, length, slice_index_or}
 use Rattle.std.specs.Option.{option_map}
 use Rattle.cube_model.specs.declared.attr.Axis.{Axis}
 use Rattle.cube_model.specs.declared.fault.Fault.{Fault}
 use Rattle.cube_model.specs.declared.fault.Fault.TheVariants.{Memory}
 use Rattle.cube_model.specs.Limits.{most_members}
 use Rattle.cube_model.specs.Validity.{row_cause, dimension_cause}
+use Rattle.dimensions.specs.declared.coded.CodedColumn.{CodedColumn}
 use Rattle.dimensions.specs.declared.column.Column.{Column}
 use Rattle.dimensions.specs.declared.table.Table.{Table}
 use Rattle.dimensions.specs.TextRows.{TextRow, text_in, column_of}
@@ -18,6 +19,11 @@ no_column = record { lower = None; texts = record { texts = []; limit = most_mem
 
 abbrev pub column_at : Table → ℕ → Column
 column_at table column = slice_index_or table.columns.items column no_column
+
+-- the columns of a table from those by codes, the first of which has a number
+abbrev pub columns_from : Axis → ℕ → List CodedColumn → List Column
+columns_from axis i [] = []
+columns_from axis i (coded ∷ others) = record { lower = lower_of axis i; texts = coded.texts; codes = coded.codes } ∷ columns_from axis (suc i) others
 
 -- the texts of the lower column of a column
 abbrev pub lower_texts : Axis → ℕ → List TextRow → Option (List (List ℕ))

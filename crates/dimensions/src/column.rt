@@ -2,6 +2,7 @@
 ghost use Rattle.std.specs.Prelude.{◌≡◌, ◌<◌, [], length, MatchOption, slice_index_or, IfOk, IfErr};
 ghost use Rattle.cube_model.specs.Limits.{most_members};
 
+use crate::coded::CodedColumn;
 use cube_model::Fault;
 use cube_model::limits::MOST_MEMBERS;
 use dictionary::Dictionary;
@@ -41,6 +42,20 @@ impl Column {
             lower,
             texts: Dictionary::new(alloc, MOST_MEMBERS as u32),
             codes: Hierarchy::new(alloc),
+        }
+    }
+
+    /// A column by codes, above the rows or above a lower column.
+    pub fn of_coded(lower: Option<usize>, coded: CodedColumn) -> Column
+        ensures lower { result.lower ≡ lower }
+        ensures texts { result.texts ≡ coded.texts }
+        ensures codes { result.codes ≡ coded.codes }
+    {
+        let CodedColumn { texts, codes } = coded;
+        Column {
+            lower,
+            texts,
+            codes: Hierarchy::of(codes.into_vec()),
         }
     }
 
@@ -91,6 +106,13 @@ impl Column {
             self.texts.add(alloc, text)?;
         }
         self.codes.link(place, code)
+    }
+
+    /// The code at each place.
+    pub fn codes(&self) -> &[u16]
+        ensures { result.now ≡ self.now.codes }
+    {
+        self.codes.uppers()
     }
 
     /// The code at a place.

@@ -1,11 +1,13 @@
 //! A dimension: its rows, and the ranks of its members.
-ghost use Rattle.std.specs.Prelude.{◌≡◌, ◌<◌, ◌==◌, List, [], length, map, vec_len, slice_index_or};
+ghost use Rattle.std.specs.Prelude.{◌≡◌, ◌<◌, ◌^◌, ◌==◌, List, [], length, map, vec_len, slice_index_or};
 ghost use Rattle.std.specs.List.{position_or_len};
 ghost use Rattle.cube_model.specs.declared.attr.Axis.{Axis};
 ghost use Rattle.dimensions.specs.TextRows.{TextRow, column_of};
 ghost use Rattle.dimensions.specs.Shapes.{lowers_of};
 ghost use Rattle.dimensions.specs.Ranked.{IsRankAt};
 
+use crate::coded::CodedRows;
+use crate::column::Column;
 use crate::ranks::Ranks;
 use crate::row::TableRow;
 use crate::table::Table;
@@ -27,6 +29,8 @@ impl Drop for Dimension {
 
 impl Dimension {
     ghost use Rattle.dimensions.specs.Tables.{column_at};
+    ghost use Rattle.dimensions.specs.Coded.{HaveTexts};
+    ghost use Rattle.dimensions.specs.Made.{MakesDimension};
     ghost use Rattle.dimensions.specs.Shown.{IsDimension, IsSomeDimension, BuildsDimension};
 
     /// The dimension of some rows, or the first cause to refuse them: first for too many rows, and then row by row.
@@ -37,6 +41,33 @@ impl Dimension {
         let table = Table::build(alloc, axis, rows)?;
         let ranks = table.ranks(alloc)?;
         Ok(Dimension { table, ranks })
+    }
+
+    /// The dimension of rows by codes, or `BadLayout` where they are those of no rows that keep the rules. It can also
+    /// fail for want of memory.
+    pub fn of_coded(alloc: Global, axis: Axis, coded: CodedRows) -> Result<Dimension, Fault>
+        requires { HaveTexts coded.columns }
+        ensures { MakesDimension axis coded result }
+    {
+        let table = Table::of_coded(alloc, axis, coded)?;
+        let ranks = table.ranks(alloc)?;
+        Ok(Dimension { table, ranks })
+    }
+
+    /// The key of each row.
+    pub fn keys(&self) -> &[u32]
+        ensures keys { result.now ≡ self.now.table.keys }
+        ensures few { length result.now < 2 ^ 32 }
+    {
+        self.table.keys()
+    }
+
+    /// A column.
+    pub fn column(&self, column: usize) -> &Column
+        requires { column < vec_len self.now.table.columns }
+        ensures { result.now ≡ column_at self.now.table column }
+    {
+        self.table.column(column)
     }
 
     /// How many rows there are.

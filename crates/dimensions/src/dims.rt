@@ -1,15 +1,24 @@
 //! The four dimensions.
-ghost use Rattle.std.specs.Prelude.{◌≡◌, ◌<◌, ◌≤◌, ◌⊎◌, Some, IfOk, OnOk, IfErr, [], length, slice_index_or};
+ghost use Rattle.std.specs.Prelude.{◌≡◌, ◌<◌, ◌^◌, ◌≤◌, ◌⊎◌, Some, IfOk, OnOk, IfErr, [], length, map, slice_index_or};
 ghost use Rattle.std.specs.Option.{option_map};
 ghost use Rattle.cube_model.specs.Attributes.{attribute_at, axis_of};
+ghost use Rattle.cube_model.specs.Limits.{most_members};
 ghost use Rattle.cube_model.specs.Places.{row_index_of, row_count_of, text_at, attr_members};
 ghost use Rattle.cube_model.specs.Validity.{HaveShortTexts, IsValid, invalid_cause, members_of};
+ghost use Rattle.dictionary.specs.Columns.{codes_of};
+ghost use Rattle.dictionary.specs.Dictionary.{firsts};
+ghost use Rattle.dictionary.specs.Spelling.{AreShort};
+ghost use Rattle.dimensions.specs.Shapes.{lowers_of};
+ghost use Rattle.dimensions.specs.Coded.{texts_at_places};
+ghost use Rattle.dimensions.specs.Made.{AreCodedDims, HaveAllTexts, StandForNoRows};
 ghost use Rattle.dimensions.specs.Shown.{IsDimension, rows_on};
 
+use crate::coded::CodedDims;
 use crate::dimension::Dimension;
 use crate::ranks::Ranks;
 use crate::shape::column_of_attr;
-use cube_model::{Attr, Axis, DimRows, Fault};
+use cube_model::{Attr, Axis, DimRows, Fault, valid_rows_keep_the_rules};
+use dictionary::Dictionary;
 use std::alloc::Global;
 use std::marker::Model;
 
@@ -60,7 +69,7 @@ impl Dims {
         let suppliers = Dimension::build(alloc, Axis::Supplier, rows.suppliers.as_slice())?;
         let parts = Dimension::build(alloc, Axis::Part, rows.parts.as_slice())?;
         let dates = Dimension::build(alloc, Axis::Date, rows.dates.as_slice())?;
-        let days = Ranks::of_days(alloc, rows.dates.as_slice())?;
+        let days = Ranks::of_days(alloc, dates.keys())?;
         Ok(Dims {
             customers,
             suppliers,
@@ -68,6 +77,62 @@ impl Dims {
             dates,
             days,
         })
+    }
+
+    /// The dimensions of rows by codes, or `BadLayout` where they are those of no valid rows with short texts. It can
+    /// also fail for want of memory.
+    pub fn of_coded(alloc: Global, coded: CodedDims) -> Result<Dims, Fault>
+        requires { HaveAllTexts coded }
+        ensures ok { IfOk result (λ dims. AreCodedDims dims coded) }
+        ensures valid { IfOk result IsValid }
+        ensures short { IfOk result HaveShortTexts }
+        ensures err { IfErr result (λ fault. (fault ≡ Fault.Memory) ⊎ ((fault ≡ Fault.BadLayout) × StandForNoRows coded)) }
+    {
+        valid_rows_keep_the_rules();
+        let CodedDims {
+            customers,
+            suppliers,
+            parts,
+            dates,
+        } = coded;
+        let customers = Dimension::of_coded(alloc, Axis::Customer, customers)?;
+        let suppliers = Dimension::of_coded(alloc, Axis::Supplier, suppliers)?;
+        let parts = Dimension::of_coded(alloc, Axis::Part, parts)?;
+        let dates = Dimension::of_coded(alloc, Axis::Date, dates)?;
+        let days = Ranks::of_days(alloc, dates.keys())?;
+        Ok(Dims {
+            customers,
+            suppliers,
+            parts,
+            dates,
+            days,
+        })
+    }
+
+    /// The key of each row of a dimension.
+    pub fn keys(&self, axis: Axis) -> &[u32]
+        ensures keys { result.now ≡ map (λ row. row.key) (rows_on self.now axis) }
+        ensures few { length result.now < 2 ^ 32 }
+    {
+        self.dimension(axis).keys()
+    }
+
+    /// The texts of a column of a dimension, each at its code: in the order of their first use by the column's places.
+    pub fn texts(&self, axis: Axis, column: usize) -> &Dictionary
+        requires { column < length (lowers_of axis) }
+        ensures texts { result.now.texts ≡ firsts (texts_at_places axis column (rows_on self.now axis)) }
+        ensures short { AreShort result.now.texts }
+    {
+        self.dimension(axis).column(column).texts()
+    }
+
+    /// The code of the text at each place of a column of a dimension: in each row, or beside each text of the lower
+    /// column.
+    pub fn codes(&self, axis: Axis, column: usize) -> &[u16]
+        requires { column < length (lowers_of axis) }
+        ensures { result.now ≡ codes_of (texts_at_places axis column (rows_on self.now axis)) }
+    {
+        self.dimension(axis).column(column).codes()
     }
 
     /// How many rows a dimension has.
@@ -104,7 +169,7 @@ impl Dims {
     /// The number of members of an attribute.
     pub fn members(&self, attr: Attr) -> usize
         ensures count { result ≡ length (attr_members self.now attr) }
-        ensures few { result ≤ 65535 }
+        ensures few { result ≤ most_members }
     {
         self.ranks(attr).count()
     }

@@ -1,6 +1,8 @@
 //! Keys and their row indexes.
-ghost use Rattle.std.specs.Prelude.{◌≡◌, ◌<◌, ◌==◌, ◌++◌, ◌∷◌, [], length, OnOk, IfErr};
+ghost use Rattle.std.specs.Prelude.{◌≡◌, ◌<◌, ◌^◌, ◌==◌, ◌++◌, ◌∷◌, ◌≤◌, [], length, MatchOption, IfOk, OnOk, IfErr};
 ghost use Rattle.std.specs.List.{position_or_len};
+ghost use Rattle.cube_model.specs.Limits.{most_dimension_rows};
+ghost use Rattle.dimensions.specs.Coded.{AreDistinct};
 
 use crate::key_map::KeyMap;
 use cube_model::Fault;
@@ -34,6 +36,30 @@ impl KeyIndex {
             keys: Vec::new(alloc),
             map: KeyMap::new(alloc),
         }
+    }
+
+    /// The keys of a list, if none stands there twice. It can only fail for want of memory.
+    pub fn of(alloc: Global, keys: Vec<u32>) -> Result<Option<KeyIndex>, Fault>
+        requires few { length keys.items ≤ most_dimension_rows }
+        ensures ok { IfOk result (λ found. MatchOption found (¬ AreDistinct keys.items) (λ index. (index ≡ keys.items) × AreDistinct keys.items)) }
+        ensures memory { IfErr result (λ fault. fault ≡ Fault.Memory) }
+    {
+        let map = KeyMap::of(alloc, keys.as_slice())?;
+        for row in 0..keys.len() {
+            let first = map.row_index(keys[row]).unwrap_or(u32::MAX);
+            if first != row as u32 {
+                return Ok(None);
+            }
+        }
+        Ok(Some(KeyIndex { keys, map }))
+    }
+
+    /// The keys.
+    pub fn keys(&self) -> &[u32]
+        ensures keys { result.now ≡ self.now }
+        ensures few { length result.now < 2 ^ 32 }
+    {
+        self.keys.as_slice()
     }
 
     /// How many keys there are.

@@ -1,6 +1,7 @@
 //! From keys to row indexes.
 ghost use Rattle.std.specs.Prelude.{◌≡◌, ◌==◌, ◌<◌, ◌≤◌, ◌+◌, ◌^◌, ℕ, Some, None, nat_eq, position, length, vec_len, slice_index, slice_set, if◌then◌else◌, IfOk, OnOk, OnErr, IfSome};
 ghost use Rattle.std.specs.List.{AllWithin};
+ghost use Rattle.cube_model.specs.Limits.{most_dimension_rows};
 ghost use Rattle.dimensions.specs.Entries.{entry_row};
 
 use std::alloc::{AllocError, Global};
@@ -68,6 +69,23 @@ impl KeyMap {
         Ok(())
     }
 
+    /// The row indexes of the keys of a list, each that of its first row. It can only fail for want of memory.
+    pub fn of(alloc: Global, keys: &[u32]) -> Result<KeyMap, AllocError>
+        requires few { length keys.now ≤ most_dimension_rows }
+        ensures { IfOk result (λ map. (key : ℕ) → row_index_in map key ≡ position (λ other. other == key) keys.now) }
+    {
+        if let Some(map) = KeyMap::dense(alloc, keys)? {
+            return Ok(map);
+        }
+        let mut map = KeyMap::new(alloc);
+        for row in 0..keys.len() {
+            if map.row_index(keys[row]).is_none() {
+                map.put(keys[row], row as u32)?;
+            }
+        }
+        Ok(map)
+    }
+
     /// Reads all keys of a list direct from now on, if they lie close together. It can only fail for want of
     /// memory, and then changes nothing.
     pub fn densify(&mut self, alloc: Global, keys: &[u32]) -> Result<(), AllocError>
@@ -75,20 +93,30 @@ impl KeyMap {
         requires few { length keys.now < 2 ^ 32 }
         ensures { (key : ℕ) → row_index_in self.new key ≡ position (λ other. other == key) keys.now }
     {
+        if let Some(map) = KeyMap::dense(alloc, keys)? {
+            *self = map;
+        }
+        Ok(())
+    }
+
+    // Direct entries for the keys of a list, if they lie close together.
+    fn dense(alloc: Global, keys: &[u32]) -> Result<Option<KeyMap>, AllocError>
+        requires { length keys.now < 2 ^ 32 }
+        ensures { IfOk result (λ found. IfSome found (λ map. (key : ℕ) → row_index_in map key ≡ position (λ other. other == key) keys.now)) }
+    {
         let Some((first, last)) = span(keys) else {
-            return Ok(());
+            return Ok(None);
         };
         let width = (last - first) as usize;
         if width >= 4 * keys.len() + WIDTH_SPARED {
-            return Ok(());
+            return Ok(None);
         }
         let direct = direct_of(alloc, keys, first, width + 1)?;
-        *self = KeyMap {
+        Ok(Some(KeyMap {
             first,
             direct,
             hashed: HashMap::new(alloc),
-        };
-        Ok(())
+        }))
     }
 }
 

@@ -1,6 +1,7 @@
 //! The four dimensions: their members, and the attributes of their rows.
 #![tactic(auto)]
 
+mod coded;
 mod column;
 mod dimension;
 mod dims;
@@ -13,5 +14,7 @@ mod shape;
 mod short;
 mod table;
 
+pub use coded::{CodedColumn, CodedDims, CodedRows};
 pub use dims::Dims;
+pub use shape::{column_count, lower_column};
 pub use short::have_short_texts;

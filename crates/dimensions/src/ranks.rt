@@ -11,7 +11,7 @@ ghost use Rattle.cube_model.specs.Validity.{members_of};
 ghost use Rattle.dimensions.specs.Ranked.{AreCodes, texts_of_ranks};
 
 use crate::members::copied_texts;
-use cube_model::{DateRow, Fault, Items, Text};
+use cube_model::{Fault, Items, Text};
 use dictionary::Dictionary;
 use itoa::Buffer;
 use std::alloc::{AllocError, Global};
@@ -48,12 +48,12 @@ impl Ranks {
     }
 
     /// The ranks of the keys of some days, in decimal without leading zeros. It can only fail for want of memory.
-    pub fn of_days(alloc: Global, days: &[DateRow]) -> Result<Ranks, Fault>
-        requires { length days.now ≤ most_members }
-        ensures ok { IfOk result (λ ranks. ranks ≡ map (λ day. decimal day.key) days.now) }
+    pub fn of_days(alloc: Global, keys: &[u32]) -> Result<Ranks, Fault>
+        requires { length keys.now ≤ most_members }
+        ensures ok { IfOk result (λ ranks. ranks ≡ map decimal keys.now) }
         ensures memory { IfErr result (λ fault. fault ≡ Fault.Memory) }
     {
-        let texts = day_texts(alloc, days)?;
+        let texts = day_texts(alloc, keys)?;
         Ranks::of(alloc, texts.as_slice())
     }
 
@@ -143,13 +143,13 @@ fn rank_among(members: &[Text], text: &Text) -> u16
 }
 
 // The keys of some days in decimal.
-fn day_texts(alloc: Global, days: &[DateRow]) -> Result<Vec<Text>, AllocError>
-    ensures { IfOk result (λ texts. texts.items ≡ map (λ day. decimal day.key) days.now) }
+fn day_texts(alloc: Global, keys: &[u32]) -> Result<Vec<Text>, AllocError>
+    ensures { IfOk result (λ texts. texts.items ≡ map decimal keys.now) }
 {
-    let mut texts = Vec::with_capacity(alloc, days.len())?;
-    for day in days {
+    let mut texts = Vec::with_capacity(alloc, keys.len())?;
+    for key in keys {
         let mut buffer = Buffer::new();
-        let text = Vec::from_slice(alloc, buffer.format(day.key).as_bytes())?;
+        let text = Vec::from_slice(alloc, buffer.format(*key).as_bytes())?;
         texts.push(Items::from_vec(text))?;
     }
     Ok(texts)

@@ -1,5 +1,5 @@
 //! A dimension's rows by codes.
-ghost use Rattle.std.specs.Prelude.{◌≡◌, ◌≤◌, ◌<◌, ◌==◌, ℕ, List, true, false, [], length, codes, vec_len, slice_index_or, IfOk, IfErr, IfSome, map};
+ghost use Rattle.std.specs.Prelude.{◌≡◌, ◌≤◌, ◌<◌, ◌^◌, ◌==◌, ℕ, List, true, false, [], length, codes, vec_len, slice_index_or, IfOk, IfErr, IfSome, map};
 ghost use Rattle.std.specs.Bool.{OnTrue, OnFalse};
 ghost use Rattle.std.specs.List.{position_or_len};
 ghost use Rattle.std.specs.Str.{bytes_eq};
@@ -7,8 +7,9 @@ ghost use Rattle.cube_model.specs.Limits.{most_dimension_rows, most_members};
 ghost use Rattle.cube_model.specs.declared.attr.Axis.{Axis};
 ghost use Rattle.dimensions.specs.TextRows.{TextRow, text_in, column_of};
 ghost use Rattle.dimensions.specs.Shapes.{lowers_of};
-ghost use Rattle.dimensions.specs.Tables.{place_for};
+ghost use Rattle.dimensions.specs.Tables.{columns_from, place_for};
 
+use crate::coded::{CodedColumn, CodedRows};
 use crate::column::Column;
 use crate::key_index::KeyIndex;
 use crate::members::is_all;
@@ -37,6 +38,8 @@ impl Drop for Table {
 impl Table {
     ghost use Rattle.dimensions.specs.Columns.{code_at};
     ghost use Rattle.dimensions.specs.Tables.{column_at, IsTable, IsSomeTable, Numbers, HasNoRoom, EntersAt, AddsRow, BuildsTable};
+    ghost use Rattle.dimensions.specs.Made.{MakesTable};
+    ghost use Rattle.dimensions.specs.Coded.{HaveTexts};
     ghost use Rattle.dimensions.specs.declared.column.Column.{Column};
 
     /// The table of some rows of a dimension, or the first cause to refuse them: first for too many rows, and then row
@@ -54,6 +57,23 @@ impl Table {
         }
         table.keys.densify(alloc)?;
         Ok(table)
+    }
+
+    /// The table of rows by codes, or `BadLayout` where they are those of no rows that keep the rules. It can also
+    /// fail for want of memory.
+    pub fn of_coded(alloc: Global, axis: Axis, coded: CodedRows) -> Result<Table, Fault>
+        requires { HaveTexts coded.columns }
+        ensures { MakesTable axis coded result }
+    {
+        if !coded.has_proper_columns(axis) {
+            return Err(Fault::BadLayout);
+        }
+        let CodedRows { keys, columns } = coded;
+        let Some(keys) = KeyIndex::of(alloc, keys.into_vec())? else {
+            return Err(Fault::BadLayout);
+        };
+        let columns = columns_of(alloc, axis, columns.into_vec())?;
+        Ok(Table { keys, columns })
     }
 
     // A table with no row.
@@ -149,6 +169,22 @@ impl Table {
         self.keys.len()
     }
 
+    /// The key of each row.
+    pub fn keys(&self) -> &[u32]
+        ensures keys { result.now ≡ self.now.keys }
+        ensures few { length result.now < 2 ^ 32 }
+    {
+        self.keys.keys()
+    }
+
+    /// A column.
+    pub fn column(&self, column: usize) -> &Column
+        requires { column < vec_len self.now.columns }
+        ensures { result.now ≡ column_at self.now column }
+    {
+        &self.columns[column]
+    }
+
     /// The row index of a key, or the number of rows where no row has it.
     pub fn row_index(&self, key: u32) -> usize
         ensures { result ≡ position_or_len (λ other. other == key) self.now.keys }
@@ -183,6 +219,19 @@ impl Table {
         }
         Ok(ranks)
     }
+}
+
+// The columns of a table, from those by codes. It can only fail for want of memory.
+fn columns_of(alloc: Global, axis: Axis, coded: Vec<CodedColumn>) -> Result<Vec<Column>, Fault>
+    ensures ok { IfOk result (λ columns. columns.items ≡ columns_from axis 0 coded.items) }
+    ensures memory { IfErr result (λ fault. fault ≡ Fault.Memory) }
+{
+    let mut columns = Vec::with_capacity(alloc, coded.len())?;
+    for column in coded {
+        let lower = lower_column(axis, columns.len());
+        columns.push(Column::of_coded(lower, column))?;
+    }
+    Ok(columns)
 }
 
 // Whether one of a row's texts is the one that stands for all members.

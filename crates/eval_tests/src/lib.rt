@@ -8,6 +8,8 @@ mod failures;
 #[cfg(test)]
 mod given;
 #[cfg(test)]
+mod long_texts;
+#[cfg(test)]
 mod ranges;
 #[cfg(test)]
 mod refusals;

@@ -52,6 +52,6 @@ abbrev pub IsKnown : DimRows → LineOrder → Type 0
 IsKnown dimensions row = (axis : Axis) → row_index_of dimensions axis (key_on axis row) < row_count_of dimensions axis
 
 -- a query and the dimensions over which it is asked
-pub record PlanState : Type 0 where
+pub record Asked : Type 0 where
   pub dimensions : DimRows
   pub query : Query

@@ -9,9 +9,11 @@ use Rattle.cube_model.specs.declared.query.Query.{Query}
 use Rattle.cube_model.specs.declared.rows.DimRows.{DimRows}
 use Rattle.cube_model.specs.declared.rows.LineOrder.{LineOrder}
 use Rattle.cube_model.specs.Places.{row_count_of}
-use Rattle.group_plan.specs.Numbers.{group_count}
+use Rattle.group_plan.specs.Columns.{AreColumns}
+use Rattle.group_plan.specs.Numbers.{group_count, KeysRise}
 use Rattle.group_plan.specs.Parts.{given_at, holds_in}
 use Rattle.group_plan.specs.declared.bounds.Bounds.{Bounds}
+use Rattle.group_plan.specs.declared.plan.Plan.{Plan}
 use Rattle.group_plan.specs.declared.side.Side.{Side}
 use Rattle.group_plan.specs.declared.side.Side.TheVariants.{Unused, Narrow, Wide}
 
@@ -52,13 +54,24 @@ abbrev pub AreBounds : List Cond → Bounds → Type 0
 AreBounds conditions bounds = (row : LineOrder) → row.quantity < 256 → row.discount < 256
     → is_within bounds row ≡ list_all (holds_in row) conditions
 
--- a plan of a query with at most six columns
-pub record IsPlan (dimensions : DimRows) (query : Query) (bounds : Bounds) (customer supplier part date : Side) (count : ℕ) : Type 0 where
-  pub few : length query.columns ≤ 6
-  pub within : AreBounds query.conditions bounds
-  pub customers : IsSide dimensions query Customer customer
-  pub suppliers : IsSide dimensions query Supplier supplier
-  pub parts : IsSide dimensions query Part part
-  pub dates : IsSide dimensions query Date date
-  pub counted : count ≡ group_count dimensions query.columns
-  pub fits : count < 2 ^ 128
+-- the query of a plan
+abbrev pub query_of : Plan → Query
+query_of plan = plan.query
+
+-- how many groups a plan numbers
+abbrev pub count_of : Plan → ℕ
+count_of plan = plan.count
+
+-- A plan over the dimensions that it was made for: its tables say what its query does at each of their rows, and keys rise
+-- with numbers. Who hands dimensions to a plan hands it these.
+pub record IsPlanOver (dimensions : DimRows) (plan : Plan) : Type 0 where
+  pub few : length plan.query.columns ≤ 6
+  pub within : AreBounds plan.query.conditions plan.bounds
+  pub customers : IsSide dimensions plan.query Customer plan.customers
+  pub suppliers : IsSide dimensions plan.query Supplier plan.suppliers
+  pub parts : IsSide dimensions plan.query Part plan.parts
+  pub dates : IsSide dimensions plan.query Date plan.dates
+  pub columns : AreColumns dimensions plan.query.columns (length plan.query.columns) plan.columns.items
+  pub rising : KeysRise dimensions plan.query.columns
+  pub counted : plan.count ≡ group_count dimensions plan.query.columns
+  pub fits : plan.count < 2 ^ 128

@@ -3,9 +3,12 @@
 
 mod bounds;
 mod column;
+mod copies;
 mod digits;
+mod over;
 mod places;
 mod plan;
 mod side;
 
+pub use over::PlanOver;
 pub use plan::Plan;

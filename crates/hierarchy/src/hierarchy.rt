@@ -32,6 +32,20 @@ impl Hierarchy {
         }
     }
 
+    /// The hierarchy with these upper members, the first for the code 0.
+    pub fn of(uppers: Vec<u16>) -> Hierarchy
+        ensures { result ≡ uppers.items }
+    {
+        Hierarchy { uppers }
+    }
+
+    /// The upper members, the first for the code 0.
+    pub fn uppers(&self) -> &[u16]
+        ensures { result.now ≡ self.now }
+    {
+        self.uppers.as_slice()
+    }
+
     /// How many members have an upper member.
     pub fn len(&self) -> usize
         ensures { result ≡ length self.now }

@@ -1,3 +1,4 @@
+pub mod Hierarchy
 pub mod Order
 pub mod Places
 pub mod Serving

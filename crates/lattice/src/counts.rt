@@ -42,7 +42,11 @@ impl Counts {
     pub fn view_count(&self) -> u16
         ensures { result ≡ length (lattice_of self.now) }
     {
-        if self.ship_modes.is_some() { 512 } else { 256 }
+        if self.ship_modes.is_some() {
+            VIEWS_OF_FIVE_AXES
+        } else {
+            VIEWS_OF_FOUR_AXES
+        }
     }
 
     /// The view of a number in the lattice of these counts, if it has one.
@@ -60,9 +64,10 @@ impl Counts {
     fn modes(&self, grouped: bool) -> u32
         ensures { result ≡ modes_of self.now.ship_modes grouped }
     {
-        match self.ship_modes {
-            Some(count) => { if grouped { count } else { 1 } }
-            None => 1,
+        match (self.ship_modes, grouped) {
+            (Some(count), true) => count,
+            (Some(_), false) => 1,
+            (None, _) => 1,
         }
     }
 }

@@ -9,7 +9,9 @@ mod query;
 mod view;
 
 pub use counts::{Counts, LevelCounts};
-pub use laws::{answering_is_a_partial_order, indexes_name_views, serving_goes_down};
+pub use laws::{
+    answering_is_a_partial_order, indexes_name_views, levels_determine, serving_goes_down,
+};
 pub use level::Level;
 pub use name::ViewName;
 pub use view::View;

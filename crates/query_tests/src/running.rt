@@ -11,21 +11,30 @@ use dimensions::{Dims, have_short_texts};
 use sample_star::{Asked, dim_rows, line_orders, query};
 use std::alloc::Global;
 
-// The answer by a fold to which the rows come one by one, with calls of no row between them.
+// Dimensions beside a fold that runs over them. The fold borrows nothing, so that both can be owned and moved.
+#[derive(Drop)]
+struct Session {
+    dims: Dims,
+    fold: Fold,
+}
+
+// The answer by a fold to which the rows come one by one, with calls of no row between them. The dimensions move while it
+// runs.
 fn answer_row_by_row(
     alloc: Global,
-    dims: &Dims,
+    dims: Dims,
     rows: &[LineOrder],
     query: &Query,
 ) -> Result<Answer, Fault>
-    requires { AreFoldable dims.now rows.now }
+    requires { AreFoldable dims rows.now }
 {
-    let mut state = Fold::new(alloc, dims, query)?;
+    let fold = Fold::new(alloc, &dims, query)?;
+    let mut session = Session { dims, fold };
     for i in 0..rows.len() {
-        state.add_rows(&[])?;
-        state.add_rows(&rows[i..i + 1])?;
+        session.fold.add_rows(&session.dims, &[])?;
+        session.fold.add_rows(&session.dims, &rows[i..i + 1])?;
     }
-    state.finish()
+    session.fold.finish(&session.dims)
 }
 
 /// The answer that the fold, in one call and row by row, and the plain program agree on; none where they do not, or where
@@ -45,7 +54,7 @@ pub fn agreed_answer(
     }
     let answer = fold(alloc, &dims, rows, query)?;
     let is_agreed = answer == plain_answer(alloc, dimensions, rows, query)?
-        && answer == answer_row_by_row(alloc, &dims, rows, query)?;
+        && answer == answer_row_by_row(alloc, dims, rows, query)?;
     Ok(if is_agreed { Some(answer) } else { None })
 }
 

@@ -14,12 +14,12 @@ use Rattle.cube_model.specs.declared.rows.DimRows.{DimRows}
 use Rattle.cube_model.specs.declared.rows.LineOrder.{LineOrder}
 use Rattle.cube_model.specs.Admission.{all_rows, refusal}
 use Rattle.cube_model.specs.Limits.{most_batch_rows}
-use Rattle.cube_query.specs.Groups.{FoldState, StandsFor, CanTake, Takes}
-use Rattle.batch_admission.specs.Accepted.{Accepted}
-use Rattle.batch_admission.specs.Accepted.{StandsBehind}
+use Rattle.cube_query.specs.Groups.{FoldState, StandsFor}
+use Rattle.batch_admission.specs.Accepted.{Accepted, StandsBehind}
+use Rattle.batch_admission.specs.Found.{Found, cause_of}
 use Rattle.ssb_eval.specs.Evaluation.{and_then, unless, parts_in, parts_of, facts_behind, facts_of, answer_of, Gives}
-use Rattle.ssb_eval.specs.Taken.{AreTaken, LeavesFacts}
-use Rattle.batch_admission.proofs.CallerLemmas.{Passes, all_rows-last, in_range, known_both}
+use Rattle.ssb_eval.specs.Taken.{AreTaken, IsBegun, LeavesFacts}
+use Rattle.batch_admission.proofs.CallerLemmas.{all_rows-last, in_range, known_both, passes, passes-found}
 
 -- parts of a list
 
@@ -75,34 +75,27 @@ facts-more dimensions batches number (line ∷ lines) rows some e =
     ap (facts_behind dimensions batches number) (parts_of-first most_batch_rows line lines (omega arith))
     ∙ ap (λ read. and_then read (λ rows. unless (refusal dimensions batches (length batches + 1) rows) (facts_behind dimensions (batches ++ rows ∷ []) (number_after (length rows) number) (parts_of most_batch_rows (drop most_batch_rows (line ∷ lines)))))) e
 
--- it may be folded
-pub can_take : (dimensions : DimRows) (query : Query) (accepted : Accepted) (fold : FoldState) (batches : List (List LineOrder)) (rows : List LineOrder) → AreTaken dimensions query accepted fold batches → Passes dimensions batches rows → CanTake fold rows
-can_take dimensions query accepted fold batches rows taken pass =
-    let longer : length (all_rows batches ++ rows) ≡ length (all_rows batches) + length rows = length-append (all_rows batches) rows in (
-      all_rows batches,
-      (
-        taken.folded,
-        rw taken.dimensions_are (record {
-          few = omega (arith, taken.few, pass.few, pass.batches_left);
-          known = known_both dimensions 1 1 1 (all_rows batches) rows taken.known pass.known;
-          in_range = in_range (all_rows batches ++ rows) pass.sums;
-        }),
-      ),
-    )
-
--- and then it is among those that were taken
-pub taken_more : (dimensions : DimRows) (query : Query) (accepted next : Accepted) (fold more : FoldState) (batches : List (List LineOrder)) (rows : List LineOrder) → AreTaken dimensions query accepted fold batches → Passes dimensions batches rows → StandsBehind next (batches ++ rows ∷ []) → Takes fold rows more → AreTaken dimensions query next more (batches ++ rows ∷ [])
-taken_more dimensions query accepted next fold more batches rows taken pass stands takes =
+-- a batch in which nothing was found is among those that were taken, once it is accepted
+pub taken_more : (dimensions : DimRows) (query : Query) (accepted next : Accepted) (fold more : FoldState) (batches : List (List LineOrder)) (rows : List LineOrder) (found : Found)
+    → AreTaken dimensions query accepted fold batches → refusal dimensions batches (length batches + 1) rows ≡ None → StandsBehind next (batches ++ rows ∷ [])
+    → IsBegun dimensions query (all_rows batches) rows found more → AreTaken dimensions query next more (batches ++ rows ∷ [])
+taken_more dimensions query accepted next fold more batches rows found taken passed stands begun =
+    let pass = passes dimensions batches (length batches + 1) rows passed in
+    let nothing = passes-found dimensions batches (length batches + 1) rows passed in
     let joined : all_rows (batches ++ rows ∷ []) ≡ all_rows batches ++ rows = all_rows-last batches rows in
     let longer : length (all_rows batches ++ rows) ≡ length (all_rows batches) + length rows = length-append (all_rows batches) rows in
     let one_more : length (batches ++ rows ∷ []) ≡ length batches + 1 = length_push batches rows in
+    let clean : cause_of found ≡ None = ap cause_of begun.found_is ∙ nothing in
     record {
       stands = stands;
-      dimensions_are = takes.dimensions ∙ taken.dimensions_are;
-      query_is = takes.query ∙ taken.query_is;
-      folded = rw joined (takes.stands (all_rows batches) taken.folded);
+      query_is = begun.query_is;
+      folded = rw joined (begun.folded clean);
       few = rw (joined, longer, one_more) (omega (arith, taken.few, pass.few));
-      known = rw joined (known_both dimensions 1 1 1 (all_rows batches) rows taken.known pass.known);
+      foldable = rw joined (record {
+        few = omega (arith, longer, taken.few, pass.few, pass.batches_left);
+        known = known_both dimensions 1 1 1 (all_rows batches) rows taken.foldable.known pass.known;
+        in_range = in_range (all_rows batches ++ rows) pass.sums;
+      });
     }
 
 -- what is left once a batch was accepted
@@ -145,7 +138,7 @@ gives-refused query dimensions text batches number place (Some left) (Some rest)
     rw (stop.1, stop.2) (inr (inr (ap (λ facts. and_then facts (λ rows. Ok (answer query dimensions rows))) found)))
 
 -- and the end of the text
-pub gives-answer : (query : Query) (dimensions : DimRows) (text : List ℕ) (accepted : Accepted) (fold : FoldState) (batches : List (List LineOrder)) (number : ℕ) (left rest : Option (List ℕ)) (rows : List LineOrder) (result : Result Answer Fault) → AreTaken dimensions query accepted fold batches → LeavesFacts dimensions text batches number left → TakesRows lineorder_row most_batch_rows number left rest rows → length rows ≡ 0 → IfOk result (λ found. (rows : List LineOrder) → StandsFor fold rows → found ≡ answer fold.query fold.dimensions rows) → IfErr result (λ fault. fault ≡ Memory) → Gives (answer_of query dimensions text) result
+pub gives-answer : (query : Query) (dimensions : DimRows) (text : List ℕ) (accepted : Accepted) (fold : FoldState) (batches : List (List LineOrder)) (number : ℕ) (left rest : Option (List ℕ)) (rows : List LineOrder) (result : Result Answer Fault) → AreTaken dimensions query accepted fold batches → LeavesFacts dimensions text batches number left → TakesRows lineorder_row most_batch_rows number left rest rows → length rows ≡ 0 → IfOk result (λ found. (rows : List LineOrder) → StandsFor dimensions fold rows → found ≡ answer fold.query dimensions rows) → IfErr result (λ fault. fault ≡ Memory) → Gives (answer_of query dimensions text) result
 gives-answer query dimensions text accepted fold batches number left rest rows (Err fault) taken before takes none answers only = inl only
 gives-answer query dimensions text accepted fold batches number None rest rows (Ok found) taken before takes none answers only = absurd before
 gives-answer query dimensions text accepted fold batches number (Some left) None rows (Ok found) taken before takes none answers only = absurd takes
@@ -153,5 +146,5 @@ gives-answer query dimensions text accepted fold batches number (Some left) (Som
 gives-answer query dimensions text accepted fold batches number (Some left) (Some rest) [] (Ok found) taken before takes none answers only =
     let facts : facts_of dimensions text ≡ Ok (all_rows batches) = before ∙ facts-end dimensions batches (next_number number) (lines_of left) takes.0 in
     let found_is : found ≡ answer query dimensions (all_rows batches) =
-    answers (all_rows batches) taken.folded ∙ ap (λ q. answer q fold.dimensions (all_rows batches)) taken.query_is ∙ ap (λ d. answer query d (all_rows batches)) taken.dimensions_are in
+    answers (all_rows batches) taken.folded ∙ ap (λ q. answer q dimensions (all_rows batches)) taken.query_is in
     ap (λ facts. and_then facts (λ rows. Ok (answer query dimensions rows))) facts ∙ ap Ok (sym found_is)

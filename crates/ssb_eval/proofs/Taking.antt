@@ -1,54 +1,35 @@
 -- A batch that is taken, and one that is refused.
-use Rattle.std.proofs.Common.{◌≡◌, ℕ, ◌+◌, ◌-◌, ◌<◌, ◌≤◌, Bool, List, [], ◌∷◌, ◌++◌, length, Some, None, Result, Ok, Err, refl, sym, ap, subst, ◌∙◌, arith, inl, inr, IfErr, OnOk}
+use Rattle.std.proofs.Common.{◌≡◌, ℕ, ◌+◌, ◌-◌, ◌<◌, ◌≤◌, Bool, List, [], ◌∷◌, length, Some, Result, Err, refl, sym, ap, subst, ◌∙◌, arith, inl, inr}
 use Rattle.std.proofs.lemmas.List.{length_push}
 use Rattle.batch_loader.specs.Reading.{TakesBatch, RefusesBatch}
 use Rattle.batch_loader.specs.Tables.{lineorder_row}
 use Rattle.batch_loader.specs.Unread.{Unread}
 use Rattle.cube_model.specs.declared.answer.Answer.{Answer}
 use Rattle.cube_model.specs.declared.fault.Fault.{Fault}
-use Rattle.cube_model.specs.declared.fault.Fault.TheVariants.{Memory}
 use Rattle.cube_model.specs.declared.query.Query.{Query}
 use Rattle.cube_model.specs.declared.rows.DimRows.{DimRows}
 use Rattle.cube_model.specs.declared.rows.LineOrder.{LineOrder}
 use Rattle.cube_model.specs.Admission.{refusal}
 use Rattle.cube_model.specs.Limits.{most_batch_rows}
-use Rattle.cube_query.specs.Groups.{FoldState, Takes}
+use Rattle.cube_query.specs.Groups.{FoldState}
 use Rattle.batch_admission.specs.Accepted.{Accepted}
-use Rattle.batch_admission.specs.Accepted.{StandsBehind}
 use Rattle.ssb_eval.specs.Evaluation.{Gives, answer_of}
-use Rattle.ssb_eval.specs.Taken.{AreTaken, LeavesFacts, TakesBatchIn, TakesNextBatch, IsNextBatch}
+use Rattle.ssb_eval.specs.Taken.{AreTaken, LeavesFacts, TakesNextBatch, IsNextBatch}
 use Rattle.batch_admission.proofs.CallerLemmas.{passes}
-use Rattle.ssb_eval.proofs.Batches.{taken_more, gives-unread, gives-refused}
+use Rattle.ssb_eval.proofs.Batches.{gives-unread, gives-refused}
 
 -- what was taken, by the fold's own query, and back
 pub AreTaken-own : (dimensions : DimRows) (query : Query) (accepted : Accepted) (fold : FoldState) (batches : List (List LineOrder)) → AreTaken dimensions query accepted fold batches → AreTaken dimensions fold.query accepted fold batches
 AreTaken-own dimensions query accepted fold batches taken = record {
   stands = taken.stands;
-  dimensions_are = taken.dimensions_are;
   query_is = refl;
   folded = taken.folded;
   few = taken.few;
-  known = taken.known;
+  foldable = taken.foldable;
 }
 
 pub AreTaken-of : (dimensions : DimRows) (query other : Query) (accepted : Accepted) (fold : FoldState) (batches : List (List LineOrder)) → query ≡ other → AreTaken dimensions query accepted fold batches → AreTaken dimensions other accepted fold batches
 AreTaken-of dimensions query other accepted fold batches same taken = subst (λ q. AreTaken dimensions q accepted fold batches) same taken
-
--- the check refused a batch
-pub TakesBatchIn-refused : (dimensions : DimRows) (query : Query) (batches : List (List LineOrder)) (rows : List LineOrder) (accepted : Accepted) (fold : FoldState) (number : ℕ) (fault : Fault) (result : Result Unit Fault)
-    → number ≡ length batches + 1 → Some fault ≡ refusal dimensions batches number rows → (other : Fault) × (result ≡ Err other) × (other ≡ fault) → TakesBatchIn dimensions query batches rows accepted fold result
-TakesBatchIn-refused dimensions query batches rows accepted fold number fault result place refused is =
-    rw (is.1, is.2) (inr (ap (λ n. refusal dimensions batches n rows) (sym place) ∙ sym refused))
-
--- the check accepted it, and its rows were folded
-pub TakesBatchIn-added : (dimensions : DimRows) (query : Query) (batches : List (List LineOrder)) (rows : List LineOrder) (accepted next : Accepted) (fold more : FoldState) (number : ℕ) (result : Result Unit Fault)
-    → AreTaken dimensions query accepted fold batches → number ≡ length batches + 1 → None ≡ refusal dimensions batches number rows → StandsBehind next (batches ++ rows ∷ [])
-    → OnOk result (Takes fold rows more) → IfErr result (λ fault. fault ≡ Memory) → TakesBatchIn dimensions query batches rows next more result
-TakesBatchIn-added dimensions query batches rows accepted next fold more number (Ok done) taken place passed stands takes only = (
-  ap (λ n. refusal dimensions batches n rows) (sym place) ∙ sym passed,
-  taken_more dimensions query accepted next fold more batches rows taken (passes dimensions batches number rows (sym passed)) stands takes,
-)
-TakesBatchIn-added dimensions query batches rows accepted next fold more number (Err fault) taken place passed stands takes only = inl only
 
 -- a batch could not be read
 pub TakesNextBatch-unread : (dimensions : DimRows) (query : Query) (batches : List (List LineOrder)) (old new : Unread) (accepted : Accepted) (fold : FoldState) (fault : Fault) (result : Result Bool Fault)
@@ -58,12 +39,11 @@ TakesNextBatch-unread dimensions query batches old new accepted fold fault resul
 TakesNextBatch-unread dimensions query batches old new accepted fold fault result (inr (inr first)) is = rw (is.1, is.2) (inr (inr (inl first)))
 
 -- or was read, and is refused
-pub TakesNextBatch-refused : (dimensions : DimRows) (query : Query) (batches : List (List LineOrder)) (old new : Unread) (accepted : Accepted) (fold : FoldState) (rows : List LineOrder) (fault : Fault) (result : Result Bool Fault)
-    → 1 ≤ length rows → TakesBatch lineorder_row most_batch_rows old new rows → TakesBatchIn dimensions query batches rows accepted fold (Err fault) → (other : Fault) × (result ≡ Err other) × (other ≡ fault)
+pub TakesNextBatch-refused : (dimensions : DimRows) (query : Query) (batches : List (List LineOrder)) (old new : Unread) (accepted : Accepted) (fold : FoldState) (rows : List LineOrder) (number : ℕ) (fault : Fault) (result : Result Bool Fault)
+    → 1 ≤ length rows → TakesBatch lineorder_row most_batch_rows old new rows → number ≡ length batches + 1 → Some fault ≡ refusal dimensions batches number rows → (other : Fault) × (result ≡ Err other) × (other ≡ fault)
     → TakesNextBatch dimensions query batches old new accepted fold result
-TakesNextBatch-refused dimensions query batches old new accepted fold rows fault result some read (inl memory) is = rw (is.1, is.2) (inl memory)
-TakesNextBatch-refused dimensions query batches old new accepted fold rows fault result some read (inr refused) is =
-    rw (is.1, is.2) (inr (inr (inr (rows, record { some = some; read = read; refused = refused }))))
+TakesNextBatch-refused dimensions query batches old new accepted fold rows number fault result some read place refused is =
+    rw (is.1, is.2) (inr (inr (inr (rows, record { some = some; read = read; refused = ap (λ n. refusal dimensions batches n rows) (sym place) ∙ sym refused }))))
 
 -- no row was left
 pub no_rows : (old new : Unread) (rows : List LineOrder) → length rows ≡ 0 → TakesBatch lineorder_row most_batch_rows old new rows → TakesBatch lineorder_row most_batch_rows old new []

@@ -1,7 +1,7 @@
 -- What stands between two batches of an evaluation. Our own.
 use Rattle.std.specs.Prelude.{◌≡◌, ◌⊎◌, ℕ, ◌+◌, ◌*◌, ◌≤◌, Bool, true, false, None, Some, Option, List, [], ◌∷◌, ◌++◌, length, Result, Ok, Err}
 use Rattle.batch_loader.specs.Lines.{lines_of}
-use Rattle.batch_loader.specs.Reading.{TakesBatch, IsFirstFault}
+use Rattle.batch_loader.specs.Reading.{TakesBatch, RefusesBatch, IsFirstFault}
 use Rattle.batch_loader.specs.Rows.{next_number}
 use Rattle.batch_loader.specs.Tables.{lineorder_row}
 use Rattle.batch_loader.specs.Unread.{Unread}
@@ -11,20 +11,21 @@ use Rattle.cube_model.specs.declared.query.Query.{Query}
 use Rattle.cube_model.specs.declared.rows.DimRows.{DimRows}
 use Rattle.cube_model.specs.declared.rows.LineOrder.{LineOrder}
 use Rattle.cube_model.specs.Admission.{all_rows, refusal, HaveKnownKeys}
-use Rattle.cube_model.specs.Limits.{most_batch_rows}
+use Rattle.cube_model.specs.Limits.{most_batch_rows, most_batches}
 use Rattle.cube_query.specs.Groups.{FoldState, StandsFor}
-use Rattle.batch_admission.specs.Accepted.{Accepted}
-use Rattle.batch_admission.specs.Accepted.{StandsBehind}
+use Rattle.cube_query.specs.Limits.{AreFoldable}
+use Rattle.batch_admission.specs.Accepted.{Accepted, StandsBehind}
+use Rattle.batch_admission.specs.Found.{Found, cause_of, found_in}
+use Rattle.batch_admission.specs.Totals.{totals_of}
 use Rattle.ssb_eval.specs.Evaluation.{facts_of, facts_behind, parts_of}
 
 -- batches were accepted, and their rows were folded
 pub record AreTaken (dimensions : DimRows) (query : Query) (accepted : Accepted) (fold : FoldState) (batches : List (List LineOrder)) : Type 0 where
   pub stands : StandsBehind accepted batches
-  pub dimensions_are : fold.dimensions ≡ dimensions
   pub query_is : fold.query ≡ query
-  pub folded : StandsFor fold (all_rows batches)
+  pub folded : StandsFor dimensions fold (all_rows batches)
   pub few : length (all_rows batches) ≤ most_batch_rows * length batches
-  pub known : HaveKnownKeys dimensions (all_rows batches)
+  pub foldable : AreFoldable dimensions (all_rows batches)
 
 -- what is left of a text decides the rest
 abbrev pub LeavesFacts : DimRows → List ℕ → List (List LineOrder) → ℕ → Option (List ℕ) → Type 0
@@ -35,11 +36,29 @@ LeavesFacts dimensions text batches number (Some left) = facts_of dimensions tex
 abbrev pub CanGoOn : DimRows → Accepted → FoldState → Type 0
 CanGoOn dimensions accepted fold = (batches : List (List LineOrder)) × AreTaken dimensions fold.query accepted fold batches
 
--- a batch at hand was accepted and folded behind others; or memory was refused, or it is refused there
-abbrev pub TakesBatchIn : DimRows → Query → List (List LineOrder) → List LineOrder → Accepted → FoldState → Result Unit Fault → Type 0
-TakesBatchIn dimensions query batches rows accepted fold (Ok done) =
-    (refusal dimensions batches (length batches + 1) rows ≡ None) × AreTaken dimensions query accepted fold (batches ++ rows ∷ [])
-TakesBatchIn dimensions query batches rows accepted fold (Err fault) = (fault ≡ Memory) ⊎ (refusal dimensions batches (length batches + 1) rows ≡ Some fault)
+-- The first rows of a batch were looked at behind those of accepted batches, and folded unless something was found in
+-- them. The totals found are those of all these rows
+pub record IsBegun (dimensions : DimRows) (query : Query) (before earlier : List LineOrder) (found : Found) (fold : FoldState) : Type 0 where
+  pub found_is : found ≡ found_in dimensions (totals_of before) earlier
+  pub query_is : fold.query ≡ query
+  pub folded : cause_of found ≡ None → StandsFor dimensions fold (before ++ earlier)
+  pub few : length before ≤ most_batch_rows * most_batches
+  pub known : HaveKnownKeys dimensions before
+  pub clean : cause_of (found_in dimensions (totals_of before) []) ≡ None
+
+-- some rows of a batch were looked at, and others may follow
+abbrev pub IsUnderWay : DimRows → Found → FoldState → Type 0
+IsUnderWay dimensions found fold = (before : List LineOrder) × ((earlier : List LineOrder) × IsBegun dimensions fold.query before earlier found fold)
+
+-- the rows of the next batch of a text were read, looked at, and folded unless something was found in them
+pub record IsLookedAt (dimensions : DimRows) (query : Query) (before : List LineOrder) (old new : Unread) (found : Found) (fold : FoldState) (rows : List LineOrder) : Type 0 where
+  pub read : TakesBatch lineorder_row most_batch_rows old new rows
+  pub begun : IsBegun dimensions query before rows found fold
+
+-- they were; or memory was refused, a read failed, or one of its lines is refused
+abbrev pub LooksAtNext : DimRows → Query → List LineOrder → Unread → Unread → FoldState → Result Found Fault → Type 0
+LooksAtNext dimensions query before old new fold (Ok found) = (rows : List LineOrder) × IsLookedAt dimensions query before old new found fold rows
+LooksAtNext dimensions query before old new fold (Err fault) = RefusesBatch lineorder_row most_batch_rows old fault
 
 -- the next batch of a text, with a row or more, was read, accepted and folded
 pub record IsNextBatch (dimensions : DimRows) (query : Query) (batches : List (List LineOrder)) (old new : Unread) (accepted : Accepted) (fold : FoldState) (rows : List LineOrder) : Type 0 where

@@ -1,19 +1,27 @@
 //! The answer over the text of the fact table.
-ghost use Rattle.std.specs.Prelude.{◌≡◌, ℕ, List, Some, None};
+ghost use Rattle.std.specs.Prelude.{◌≡◌, ◌+◌, ◌≤◌, ◌++◌, ℕ, List, Some, None, IfOk, IfErr, length};
 ghost use Rattle.cube_model.specs.Proper.{IsProper};
 ghost use Rattle.cube_model.specs.declared.rows.LineOrder.{LineOrder};
+ghost use Rattle.cube_model.specs.Admission.{all_rows};
+ghost use Rattle.cube_model.specs.Limits.{most_batch_rows};
 ghost use Rattle.cube_query.specs.Groups.{Begins};
 ghost use Rattle.ssb_eval.specs.Evaluation.{Gives, answer_of};
-ghost use Rattle.ssb_eval.specs.Taken.{AreTaken, CanGoOn, TakesNextBatch, TakesBatchIn};
+ghost use Rattle.ssb_eval.specs.Taken.{AreTaken, CanGoOn, IsBegun, IsUnderWay, LooksAtNext, TakesNextBatch};
 
-use batch_admission::Admission;
-use batch_loader::{Lines, read_batch};
+use batch_admission::{Admission, Findings};
+use batch_loader::{Lines, read_batch_into};
 use cube_model::limits::MOST_BATCH_ROWS;
-use cube_model::{Answer, Fault, LineOrder, Query};
+use cube_model::{Answer, Fault, Items, LineOrder, Query};
 use cube_query::Fold;
 use dimensions::Dims;
 use std::alloc::Global;
 use std::io::Read;
+
+// The rows that are read, looked at and folded together: few enough to stay in the cache.
+const PIECE_ROWS: usize = 4096;
+
+// The pieces of a whole batch.
+const BATCH_PIECES: usize = MOST_BATCH_ROWS / PIECE_ROWS;
 
 /// Reads the fact rows batch by batch, checks each batch, and folds it. Memory does not grow with the rows.
 pub fn answer_facts<R: Read + Drop>(
@@ -35,7 +43,7 @@ fn fold_lines<R: Read>(
     alloc: Global,
     dims: &Dims,
     lines: &mut Lines<R>,
-    fold: &mut Fold<'_>,
+    fold: &mut Fold,
 ) -> Result<Answer, Fault>
     requires begins { Begins dims.now fold.old.query fold.old }
     requires number { lines.old.number ≡ 0 }
@@ -46,7 +54,7 @@ fn fold_lines<R: Read>(
     loop {
         let more = take_batch(alloc, dims, lines, &mut admission, fold)?;
         if !more {
-            return fold.finish();
+            return fold.finish(dims);
         }
     }
 }
@@ -57,33 +65,65 @@ fn take_batch<R: Read>(
     dims: &Dims,
     lines: &mut Lines<R>,
     admission: &mut Admission,
-    fold: &mut Fold<'_>,
+    fold: &mut Fold,
 ) -> Result<bool, Fault>
     requires goes_on { CanGoOn dims.now admission.old fold.old }
     requires fault { lines.old.fault ≡ None }
     ensures { (batches : List (List LineOrder)) → AreTaken dims.now fold.old.query admission.old fold.old batches
         → TakesNextBatch dims.now fold.old.query batches lines.old lines.new admission.new fold.new result }
 {
-    let rows = read_batch(alloc, lines, MOST_BATCH_ROWS)?;
-    if rows.is_empty() {
+    let found = look_at_batch(alloc, dims, lines, admission, fold)?;
+    if found.row_count() == 0 {
         return Ok(false);
     }
-    take_rows(dims, rows.as_slice(), admission, fold)?;
+    let number = admission.next_number();
+    admission.admit_found(number, &found)?;
     Ok(true)
 }
 
-/// Checks the rows of a batch, and folds them.
-fn take_rows(
+/// Reads the next batch piece by piece, looks at each, and folds it unless something was found. A batch that is then
+/// refused leaves a fold that is good for nothing more.
+fn look_at_batch<R: Read>(
+    alloc: Global,
+    dims: &Dims,
+    lines: &mut Lines<R>,
+    admission: &Admission,
+    fold: &mut Fold,
+) -> Result<Findings, Fault>
+    requires goes_on { CanGoOn dims.now admission.now fold.old }
+    requires fault { lines.old.fault ≡ None }
+    ensures { (batches : List (List LineOrder)) → AreTaken dims.now fold.old.query admission.now fold.old batches
+        → LooksAtNext dims.now fold.old.query (all_rows batches) lines.old lines.new fold.new result }
+{
+    let mut found = admission.findings();
+    let mut rows = Items::new(alloc);
+    for _ in 0..BATCH_PIECES {
+        rows = read_batch_into(alloc, lines, PIECE_ROWS, rows)?;
+        found = look_at_piece(dims, rows.as_slice(), found, fold)?;
+        if rows.len() < PIECE_ROWS {
+            return Ok(found);
+        }
+    }
+    Ok(found)
+}
+
+/// Looks at the next rows of a batch, and folds them unless something was found in the batch.
+fn look_at_piece(
     dims: &Dims,
     rows: &[LineOrder],
-    admission: &mut Admission,
-    fold: &mut Fold<'_>,
-) -> Result<(), Fault>
-    requires { CanGoOn dims.now admission.old fold.old }
-    ensures { (batches : List (List LineOrder)) → AreTaken dims.now fold.old.query admission.old fold.old batches
-        → TakesBatchIn dims.now fold.old.query batches rows.now admission.new fold.new result }
+    found: Findings,
+    fold: &mut Fold,
+) -> Result<Findings, Fault>
+    requires few { found.row_count + length rows.now ≤ most_batch_rows }
+    requires begun { IsUnderWay dims.now found fold.old }
+    ensures ok { (before earlier : List LineOrder) → IsBegun dims.now fold.old.query before earlier found fold.old
+        → IfOk result (λ more. IsBegun dims.now fold.old.query before (earlier ++ rows.now) more fold.new) }
+    ensures only { IfErr result (λ fault. fault ≡ Fault.Memory) }
 {
-    let number = admission.next_number();
-    admission.admit(dims, number, rows)?;
-    fold.add_rows(rows)
+    let more = found.more(dims, rows);
+    if more.cause().is_some() {
+        return Ok(more);
+    }
+    fold.add_rows(dims, rows)?;
+    Ok(more)
 }

@@ -4,6 +4,8 @@
 #[cfg(test)]
 mod dimension_rows;
 #[cfg(test)]
+mod draw;
+#[cfg(test)]
 mod fact_rows;
 #[cfg(test)]
 mod joined;
@@ -12,6 +14,12 @@ mod line_by_line;
 #[cfg(test)]
 mod outcomes;
 #[cfg(test)]
+mod random_text;
+#[cfg(test)]
+mod random_texts;
+#[cfg(test)]
 mod reads;
 #[cfg(test)]
 mod refusals;
+#[cfg(test)]
+mod slow_reader;

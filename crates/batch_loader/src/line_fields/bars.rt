@@ -49,9 +49,22 @@ pub fn next_bar(text: &[u8], from: usize, window: Window) -> (usize, Window)
     (window.first + bit, behind)
 }
 
-/// The first window with a bar from a place on, or the last window.
+/// The first window with a bar from a place on, or the last window. Mostly it is the window at hand.
 #[inline(always)]
 fn with_bar(text: &[u8], from: usize, window: Window) -> Window
+    requires bars { AreBarsBehind text.now from window.first window.bars }
+    ensures bars { AreBarsBehind text.now from result.first result.bars }
+    ensures none { result.bars ≡ 0 → length text.now ≤ result.first + 64 }
+{
+    if window.bars != 0 {
+        return window;
+    }
+    later_window(text, from, window)
+}
+
+/// The same, window by window.
+#[inline(never)]
+fn later_window(text: &[u8], from: usize, window: Window) -> Window
     requires bars { AreBarsBehind text.now from window.first window.bars }
     ensures bars { AreBarsBehind text.now from result.first result.bars }
     ensures none { result.bars ≡ 0 → length text.now ≤ result.first + 64 }

@@ -7,7 +7,6 @@ use Rattle.cube_query.specs.Slots.{entries_of, AreSlots}
 use Rattle.cube_query.specs.FoldInvariant.{AreTallied}
 use Rattle.cube_query.proofs.Columnwise.{tallies-length}
 use Rattle.cube_query.proofs.Ends.{start, all_groups}
-use Rattle.cube_query.proofs.Folds.{tallied_for}
 use Rattle.cube_query.proofs.Seen.{seen_are}
 use Rattle.group_plan.specs.Numbers.{group_count, key_at}
 use Rattle.cube_query.proofs.finish.coarser_lines.Goals as goal
@@ -53,8 +52,7 @@ returns c =
     let new = entries_of c.coarsen_all.new.slots in
     let all = c.coarsen_all.new.columns.items in
     IfOk-weaker c.lines_of.result _ _
-    (λ lines is rows stands.
-    let first : AreTallied d (finest q) entries columns rows = tallied_for d q c.args.slots.now columns rows fold stands in
+    (λ lines is rows first.
     let begun : AreTalliedFrom d q c.len-count.result (entries_of c.in_ok-slots.slots) copy rows =
     subst (λ n. AreTalliedFrom d q n (entries_of c.in_ok-slots.slots) copy rows) (sym count)
     (subst (λ es. AreTalliedFrom d q (length q.columns) es copy rows) (sym same_entries) (start d q entries columns copy rows c.in_ok-columns.ensures first)) in

@@ -22,8 +22,8 @@ lines_among-requires-clause-below c =
     let aggs = query.aggregates in
     let columns = c.args.columns.now in
     let entries = entries_of c.args.slots.now in
-    let seen : c.in_ok-groups.groups.items ≡ seen_entries (tallies_at columns) entries = c.in_ok-groups.ensures ∙ ap (seen_entries (tallies_at columns)) (c.as_slice.ensures.value ∙ c.in_ok-entries.ensures) in
-    subst (All (λ (group : ℕ × ℕ). group.0 < group_count dims query.columns)) (sym (c.as_slice-in-None.ensures.value ∙ seen))
+    let seen : c.in_ok-groups.groups.items ≡ seen_entries (tallies_at columns) entries = c.in_ok-groups.ensures in
+    subst (All (λ (group : ℕ × ℕ). group.0 < group_count dims query.columns)) (sym (c.as_slice.ensures.value ∙ seen))
     (seen_below (group_count dims query.columns) (tallies_at columns) entries c.requires.numbers.sorted c.requires.numbers.below)
 
 pub lines_among-requires-clause-seen : goal.lines_among-requires-clause-seen
@@ -33,8 +33,8 @@ lines_among-requires-clause-seen c =
     let aggs = query.aggregates in
     let columns = c.args.columns.now in
     let entries = entries_of c.args.slots.now in
-    let seen : c.in_ok-groups.groups.items ≡ seen_entries (tallies_at columns) entries = c.in_ok-groups.ensures ∙ ap (seen_entries (tallies_at columns)) (c.as_slice.ensures.value ∙ c.in_ok-entries.ensures) in
-    subst (All (λ (group : ℕ × ℕ). is_seen (tallies_at columns group.1) ≡ true)) (sym (c.as_slice-in-None.ensures.value ∙ seen)) (all_seen (tallies_at columns) entries)
+    let seen : c.in_ok-groups.groups.items ≡ seen_entries (tallies_at columns) entries = c.in_ok-groups.ensures in
+    subst (All (λ (group : ℕ × ℕ). is_seen (tallies_at columns group.1) ≡ true)) (sym (c.as_slice.ensures.value ∙ seen)) (all_seen (tallies_at columns) entries)
 
 pub returns-in-None : goal.returns-in-None
 returns-in-None c =
@@ -43,11 +43,11 @@ returns-in-None c =
     let aggs = query.aggregates in
     let columns = c.args.columns.now in
     let entries = entries_of c.args.slots.now in
-    let seen : c.in_ok-groups.groups.items ≡ seen_entries (tallies_at columns) entries = c.in_ok-groups.ensures ∙ ap (seen_entries (tallies_at columns)) (c.as_slice.ensures.value ∙ c.in_ok-entries.ensures) in
+    let seen : c.in_ok-groups.groups.items ≡ seen_entries (tallies_at columns) entries = c.in_ok-groups.ensures in
     let aggregates : c.as_slice-aggregates.result.now ≡ aggs = c.as_slice-aggregates.ensures ∙ ap (λ q. q.aggregates) c.requires.query in
     IfOk-weaker c.lines_among.result _ _
     (λ lines is rows stands.
-    is ∙ (λ i. map (entry_line (key_at dims query.columns) (aggregates i) columns) ((c.as_slice-in-None.ensures.value ∙ seen) i))
+    is ∙ (λ i. map (entry_line (key_at dims query.columns) (aggregates i) columns) ((c.as_slice.ensures.value ∙ seen) i))
     ∙ seen_lines (key_at dims query.columns) aggs columns entries
     ∙ ap (map (line_with aggs)) stands
     ∙ lines_are dims query rows (ap (λ q. q.order) (sym c.requires.query) ∙ c.in-None.is))
@@ -60,7 +60,7 @@ in_order-requires-clause-aggregate c =
     let aggs = query.aggregates in
     let columns = c.args.columns.now in
     let entries = entries_of c.args.slots.now in
-    let seen : c.in_ok-groups.groups.items ≡ seen_entries (tallies_at columns) entries = c.in_ok-groups.ensures ∙ ap (seen_entries (tallies_at columns)) (c.as_slice.ensures.value ∙ c.in_ok-entries.ensures) in
+    let seen : c.in_ok-groups.groups.items ≡ seen_entries (tallies_at columns) entries = c.in_ok-groups.ensures in
     let aggregates : c.as_slice-aggregates.result.now ≡ aggs = c.as_slice-aggregates.ensures ∙ ap (λ q. q.aggregates) c.requires.query in
     let asked = ap (λ q. q.order) (sym c.requires.query) ∙ c.in-Some.is in
     let fit = fit_order query c.in-Some.order c.requires.proper asked in
@@ -73,7 +73,7 @@ in_order-requires-clause-whole c =
     let aggs = query.aggregates in
     let columns = c.args.columns.now in
     let entries = entries_of c.args.slots.now in
-    let seen : c.in_ok-groups.groups.items ≡ seen_entries (tallies_at columns) entries = c.in_ok-groups.ensures ∙ ap (seen_entries (tallies_at columns)) (c.as_slice.ensures.value ∙ c.in_ok-entries.ensures) in
+    let seen : c.in_ok-groups.groups.items ≡ seen_entries (tallies_at columns) entries = c.in_ok-groups.ensures in
     let aggregates : c.as_slice-aggregates.result.now ≡ aggs = c.as_slice-aggregates.ensures ∙ ap (λ q. q.aggregates) c.requires.query in
     let asked = ap (λ q. q.order) (sym c.requires.query) ∙ c.in-Some.is in
     let fit = fit_order query c.in-Some.order c.requires.proper asked in
@@ -86,7 +86,7 @@ in_order-requires-clause-below c =
     let aggs = query.aggregates in
     let columns = c.args.columns.now in
     let entries = entries_of c.args.slots.now in
-    let seen : c.in_ok-groups.groups.items ≡ seen_entries (tallies_at columns) entries = c.in_ok-groups.ensures ∙ ap (seen_entries (tallies_at columns)) (c.as_slice.ensures.value ∙ c.in_ok-entries.ensures) in
+    let seen : c.in_ok-groups.groups.items ≡ seen_entries (tallies_at columns) entries = c.in_ok-groups.ensures in
     subst (All (λ (group : ℕ × ℕ). group.0 < group_count dims query.columns)) (sym (c.as_slice-in-Some.ensures.value ∙ seen))
     (seen_below (group_count dims query.columns) (tallies_at columns) entries c.requires.numbers.sorted c.requires.numbers.below)
 
@@ -97,7 +97,7 @@ in_order-requires-clause-apart c =
     let aggs = query.aggregates in
     let columns = c.args.columns.now in
     let entries = entries_of c.args.slots.now in
-    let seen : c.in_ok-groups.groups.items ≡ seen_entries (tallies_at columns) entries = c.in_ok-groups.ensures ∙ ap (seen_entries (tallies_at columns)) (c.as_slice.ensures.value ∙ c.in_ok-entries.ensures) in
+    let seen : c.in_ok-groups.groups.items ≡ seen_entries (tallies_at columns) entries = c.in_ok-groups.ensures in
     subst (λ all. IsDistinct (eq_by_cmp nat_cmp) (map (λ (group : ℕ × ℕ). group.0) all)) (sym (c.as_slice-in-Some.ensures.value ∙ seen)) (seen_apart (tallies_at columns) entries c.requires.numbers.sorted)
 
 pub lines_among-requires-in-Some-clause-below : goal.lines_among-requires-in-Some-clause-below
@@ -107,7 +107,7 @@ lines_among-requires-in-Some-clause-below c =
     let aggs = query.aggregates in
     let columns = c.args.columns.now in
     let entries = entries_of c.args.slots.now in
-    let seen : c.in_ok-groups.groups.items ≡ seen_entries (tallies_at columns) entries = c.in_ok-groups.ensures ∙ ap (seen_entries (tallies_at columns)) (c.as_slice.ensures.value ∙ c.in_ok-entries.ensures) in
+    let seen : c.in_ok-groups.groups.items ≡ seen_entries (tallies_at columns) entries = c.in_ok-groups.ensures in
     let same : IsPermutation (seen_entries (tallies_at columns) entries) c.in_ok-sorted-in-Some.sorted.items =
     subst (λ all. IsPermutation all c.in_ok-sorted-in-Some.sorted.items) (c.as_slice-in-Some.ensures.value ∙ seen) c.in_ok-sorted-in-Some.ensures.same in
     subst (All (λ (group : ℕ × ℕ). group.0 < group_count dims query.columns)) (sym c.as_slice-in-Some-2.ensures.value)
@@ -120,7 +120,7 @@ lines_among-requires-in-Some-clause-seen c =
     let aggs = query.aggregates in
     let columns = c.args.columns.now in
     let entries = entries_of c.args.slots.now in
-    let seen : c.in_ok-groups.groups.items ≡ seen_entries (tallies_at columns) entries = c.in_ok-groups.ensures ∙ ap (seen_entries (tallies_at columns)) (c.as_slice.ensures.value ∙ c.in_ok-entries.ensures) in
+    let seen : c.in_ok-groups.groups.items ≡ seen_entries (tallies_at columns) entries = c.in_ok-groups.ensures in
     let same : IsPermutation (seen_entries (tallies_at columns) entries) c.in_ok-sorted-in-Some.sorted.items =
     subst (λ all. IsPermutation all c.in_ok-sorted-in-Some.sorted.items) (c.as_slice-in-Some.ensures.value ∙ seen) c.in_ok-sorted-in-Some.ensures.same in
     subst (All (λ (group : ℕ × ℕ). is_seen (tallies_at columns group.1) ≡ true)) (sym c.as_slice-in-Some-2.ensures.value)
@@ -133,7 +133,7 @@ returns c =
     let aggs = query.aggregates in
     let columns = c.args.columns.now in
     let entries = entries_of c.args.slots.now in
-    let seen : c.in_ok-groups.groups.items ≡ seen_entries (tallies_at columns) entries = c.in_ok-groups.ensures ∙ ap (seen_entries (tallies_at columns)) (c.as_slice.ensures.value ∙ c.in_ok-entries.ensures) in
+    let seen : c.in_ok-groups.groups.items ≡ seen_entries (tallies_at columns) entries = c.in_ok-groups.ensures in
     let aggregates : c.as_slice-aggregates.result.now ≡ aggs = c.as_slice-aggregates.ensures ∙ ap (λ q. q.aggregates) c.requires.query in
     let asked = ap (λ q. q.order) (sym c.requires.query) ∙ c.in-Some.is in
     let same : IsPermutation (seen_entries (tallies_at columns) entries) c.in_ok-sorted-in-Some.sorted.items =

@@ -1,5 +1,6 @@
 use Rattle.std.proofs.Common.{◌∷◌, ◌++◌, [], refl}
 use Rattle.std.proofs.lemmas.Result.{err_from_is_err_and}
+use Rattle.cube_model.specs.Admission.{all_rows}
 use Rattle.ssb_eval.proofs.Batches.{leaves_on, gives-answer}
 use Rattle.ssb_eval.proofs.Taking.{AreTaken-own, AreTaken-of, gives-stopped, count_more}
 use Rattle.ssb_eval.proofs.facts.fold_lines.Goals as goal
@@ -46,3 +47,10 @@ loop-more-preserved g c =
       λ text known.
           leaves_on c.args.dims.now text batches c.loop-more.lines.number c.take_batch.new.lines.number c.loop-more.lines.left c.take_batch.new.lines.left next.0 next.1.some (c.loop-more.invariant.3 text known) next.1.read.taken next.1.read.number next.1.passes,
     )
+
+pub finish-requires : goal.finish-requires
+finish-requires g c =
+    let batches = c.loop-more.invariant.0 in
+    let own = AreTaken-own c.args.dims.now c.args.fold.now.query c.loop-more.admission c.loop-more.fold batches c.loop-more.invariant.1 in
+    let done = rw c.if-not-more.true at (c.in_ok-more.ensures batches own) in
+    (all_rows batches, (done.1.folded, done.1.foldable))

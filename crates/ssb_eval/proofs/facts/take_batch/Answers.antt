@@ -1,26 +1,53 @@
-use Rattle.std.proofs.Common.{◌≡◌, ◌≤◌, length, rules}
+use Rattle.std.proofs.Common.{◌≡◌, ◌+◌, ◌≤◌, ◌∙◌, length, rules, arith, ap, sym, None}
 use Rattle.std.proofs.lemmas.Result.{err_from_is_err_and}
+use Rattle.cube_model.specs.Admission.{all_rows, refusal}
+use Rattle.ssb_eval.proofs.Batches.{taken_more}
+use Rattle.ssb_eval.proofs.Pieces.{AreTaken-none, counted, found-behind}
 use Rattle.ssb_eval.proofs.Taking.{TakesNextBatch-unread, TakesNextBatch-refused, no_rows}
 use Rattle.ssb_eval.proofs.facts.take_batch.Goals as goal
 
-pub returns-in_err-rows : goal.returns-in_err-rows
-returns-in_err-rows g c = λ batches taken.
-    TakesNextBatch-unread c.args.dims.now c.args.fold.now.query batches c.args.lines.now c.read_batch.new.lines c.args.admission.now c.args.fold.now _ _
-    (c.in_err-rows.ensures.refused c.requires.fault) (err_from_is_err_and _ c.from_residual.ensures.1)
+pub returns-in_err-found : goal.returns-in_err-found
+returns-in_err-found g c = λ batches taken.
+    TakesNextBatch-unread c.args.dims.now c.args.fold.now.query batches c.args.lines.now c.look_at_batch.new.lines c.args.admission.now c.look_at_batch.new.fold _ _
+    (c.in_err-found.ensures batches taken) (err_from_is_err_and _ c.from_residual.ensures.1)
 
-pub returns-then-is_empty : goal.returns-then-is_empty
-returns-then-is_empty g c = λ batches taken.
-    let none : length c.in_ok-rows.rows ≡ 0 = search rules in
-    (no_rows c.args.lines.now c.read_batch.new.lines c.in_ok-rows.rows none c.in_ok-rows.ensures.taken, taken)
+pub returns-then-row_count-eq0 : goal.returns-then-row_count-eq0
+returns-then-row_count-eq0 g c = λ batches taken.
+    let looked = c.in_ok-found.ensures batches taken in
+    let none : c.in_ok-found.found.row_count ≡ 0 = search rules in
+    let as_many = counted c.args.dims.now c.args.fold.now.query (all_rows batches) looked.0 c.in_ok-found.found c.look_at_batch.new.fold looked.1.begun in
+    let empty : length looked.0 ≡ 0 = omega (arith, none, as_many) in (
+      no_rows c.args.lines.now c.look_at_batch.new.lines looked.0 empty looked.1.read,
+      AreTaken-none c.args.dims.now c.args.fold.now.query c.args.admission.now c.args.fold.now c.look_at_batch.new.fold batches looked.0 c.in_ok-found.found taken looked.1.begun none,
+    )
 
-pub returns-in_err-take_rows : goal.returns-in_err-take_rows
-returns-in_err-take_rows g c = λ batches taken.
-    let some : 1 ≤ length c.in_ok-rows.rows = search rules in
-    TakesNextBatch-refused c.args.dims.now c.args.fold.now.query batches c.args.lines.now c.read_batch.new.lines c.take_rows.new.admission c.take_rows.new.fold c.in_ok-rows.rows _ _ some
-    c.in_ok-rows.ensures.taken (rw c.as_slice.ensures at (c.in_err-take_rows.ensures batches taken)) (err_from_is_err_and _ c.from_residual-in_err-take_rows.ensures.1)
+pub returns-in_err-admit_found : goal.returns-in_err-admit_found
+returns-in_err-admit_found g c = λ batches taken.
+    let looked = c.in_ok-found.ensures batches taken in
+    let as_many = counted c.args.dims.now c.args.fold.now.query (all_rows batches) looked.0 c.in_ok-found.found c.look_at_batch.new.fold looked.1.begun in
+    let any : 1 ≤ c.in_ok-found.found.row_count = search rules in
+    let some : 1 ≤ length looked.0 = omega (arith, any, as_many) in
+    let place = c.next_number-number.ensures.next ∙ ap (λ n. n + 1) taken.stands.count in
+    let refused = c.in_err-admit_found.ensures c.args.dims.now batches looked.0 taken.stands
+    (found-behind c.args.dims.now c.args.fold.now.query c.args.admission.now batches looked.0 c.in_ok-found.found c.look_at_batch.new.fold taken.stands looked.1.begun) in
+    TakesNextBatch-refused c.args.dims.now c.args.fold.now.query batches c.args.lines.now c.look_at_batch.new.lines c.admit_found.new.self c.look_at_batch.new.fold looked.0 c.next_number-number.result _ _ some
+    looked.1.read place refused.cause (err_from_is_err_and _ c.from_residual-in_err-admit_found.ensures.1)
 
 pub returns : goal.returns
 returns g c = λ batches taken.
-    let some : 1 ≤ length c.in_ok-rows.rows = search rules in
-    let done = rw c.as_slice.ensures at (c.in_ok-take_rows.ensures batches taken) in
-    (c.in_ok-rows.rows, record { some = some; read = c.in_ok-rows.ensures.taken; passes = done.0; taken = done.1 })
+    let looked = c.in_ok-found.ensures batches taken in
+    let as_many = counted c.args.dims.now c.args.fold.now.query (all_rows batches) looked.0 c.in_ok-found.found c.look_at_batch.new.fold looked.1.begun in
+    let any : 1 ≤ c.in_ok-found.found.row_count = search rules in
+    let some : 1 ≤ length looked.0 = omega (arith, any, as_many) in
+    let place = c.next_number-number.ensures.next ∙ ap (λ n. n + 1) taken.stands.count in
+    let accepted = c.in_ok-admit_found.ensures c.args.dims.now batches looked.0 taken.stands
+    (found-behind c.args.dims.now c.args.fold.now.query c.args.admission.now batches looked.0 c.in_ok-found.found c.look_at_batch.new.fold taken.stands looked.1.begun) in
+    let passed : refusal c.args.dims.now batches (length batches + 1) looked.0 ≡ None = ap (λ n. refusal c.args.dims.now batches n looked.0) (sym place) ∙ sym accepted.cause in (
+      looked.0,
+      record {
+        some = some;
+        read = looked.1.read;
+        passes = passed;
+        taken = taken_more c.args.dims.now c.args.fold.now.query c.args.admission.now c.admit_found.new.self c.args.fold.now c.look_at_batch.new.fold batches looked.0 c.in_ok-found.found taken passed accepted.taken looked.1.begun;
+      },
+    )

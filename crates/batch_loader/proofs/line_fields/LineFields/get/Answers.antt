@@ -1,4 +1,4 @@
-use Rattle.std.proofs.Common.{◌≡◌, arith}
+use Rattle.std.proofs.Common.{arith}
 use Rattle.batch_loader.proofs.Parts.{part-at}
 use Rattle.batch_loader.proofs.line_fields.LineFields.get.Goals as goal
 

@@ -1,4 +1,4 @@
-use Rattle.std.proofs.Common.{◌≡◌, ◌∙◌, ap, get_or, slice_range, arith}
+use Rattle.std.proofs.Common.{◌∙◌, ap, get_or, slice_range, arith}
 use Rattle.batch_loader.specs.Numbers.{number_of}
 use Rattle.batch_loader.proofs.Parts.{part-at}
 use Rattle.batch_loader.proofs.line_fields.LineFields.number.Goals as goal

@@ -1,7 +1,11 @@
 use Rattle.std.proofs.Common.{◌∙◌, sym, ap, length}
 use Rattle.cube_query.specs.Slots.{entries_of}
+use Rattle.cube_query.proofs.Numbering.{length-entries}
 use Rattle.cube_query.proofs.Placing.{length-numbers_from}
 use Rattle.cube_query.proofs.slots.Slots.len.Goals as goal
 
 pub returns-in-Direct : goal.returns-in-Direct
 returns-in-Direct c = sym (ap (λ slots. length (entries_of slots)) c.in-Direct.is ∙ length-numbers_from 0 c.in-Direct.count)
+
+pub returns-in-Seen : goal.returns-in-Seen
+returns-in-Seen c = c.len.ensures.count ∙ sym (ap (λ slots. length (entries_of slots)) c.in-Seen.is ∙ length-entries c.in-Seen.numbers c.len.ensures.once)

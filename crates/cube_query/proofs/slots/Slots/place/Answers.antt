@@ -1,5 +1,8 @@
-use Rattle.std.proofs.Common.{◌≡◌, ◌<◌, ap, subst, refl, arith, Some}
-use Rattle.cube_query.specs.Slots.{entries_of, numbers_from, slot_of, CanPlace}
+use Rattle.std.proofs.Common.{◌≡◌, ◌<◌, ap, sym, subst, refl, arith, Some}
+use Rattle.std.proofs.lemmas.Result.{IfOk-weaker}
+use Rattle.cube_query.specs.Numbered.{entries_in}
+use Rattle.cube_query.specs.Slots.{entries_of, numbers_from, slot_of, CanPlace, Places}
+use Rattle.cube_query.proofs.Numbering.{Places-taken}
 use Rattle.cube_query.proofs.Placing.{slot_of-same}
 use Rattle.cube_query.proofs.slots.Slots.place.Goals as goal
 
@@ -11,3 +14,11 @@ returns-in-Direct-clause-ok c =
     let found : slot_of same number ≡ Some number = slot_of-same 0 c.in-Direct.count number (omega arith) (omega (arith, below)) in
     let old : entries_of c.args.self.now ≡ same = ap entries_of c.in-Direct.is in
     rw (old, found) (refl, refl)
+
+pub returns-in-Seen-clause-ok : goal.returns-in-Seen-clause-ok
+returns-in-Seen-clause-ok c =
+    IfOk-weaker c.place.result _ _
+    (λ slot takes.
+    subst (λ slots. Places (entries_of slots) c.args.number slot (entries_in c.place.new.self)) (sym c.in-Seen.is)
+    (Places-taken c.in-Seen.numbers c.args.number slot c.place.new.self c.place.ensures.once c.place.ensures.still takes))
+    c.place.ensures.ok

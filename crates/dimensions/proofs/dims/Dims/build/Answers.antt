@@ -4,6 +4,7 @@ use Rattle.std.proofs.lemmas.Result.{err_from_is_err_and}
 use Rattle.cube_model.specs.declared.attr.Axis.TheVariants.{Customer, Supplier, Part, Date}
 use Rattle.dimensions.specs.TextRows.{row_of_customer, row_of_supplier, row_of_part, row_of_date}
 use Rattle.dimensions.specs.Shown.{BuildsDimension}
+use Rattle.dimensions.proofs.MadeLaws.{days_of}
 use Rattle.dimensions.proofs.ShownLaws.{refused_customers, refused_suppliers, refused_parts, refused_dates, accepted, shown_is, are_dimensions}
 use Rattle.dimensions.proofs.dims.Dims.build.Goals as goal
 
@@ -44,7 +45,7 @@ invariant_of-result c =
     let parts = subst (λ l. BuildsDimension Part (map row_of_part l) (Ok c.in_ok-parts.parts)) c.as_slice-3.ensures c.in_ok-parts.ensures in
     let dates = subst (λ l. BuildsDimension Date (map row_of_date l) (Ok c.in_ok-dates.dates)) c.as_slice-4.ensures c.in_ok-dates.ensures in
     are_dimensions c.args.rows.now c.in_ok-customers.customers c.in_ok-suppliers.suppliers c.in_ok-parts.parts c.in_ok-dates.dates customers.0 suppliers.0 parts.0 dates.0
-    c.in_ok-days.days (c.in_ok-days.ensures.ok ∙ ap (map (λ day. decimal day.key)) c.as_slice-5.ensures) (accepted c.args.rows.now customers.1 suppliers.1 parts.1 dates.1) c.requires.short
+    c.in_ok-days.days (c.in_ok-days.ensures.ok ∙ ap (map decimal) c.keys.ensures.keys ∙ days_of c.args.rows.now.dates c.in_ok-dates.dates.table dates.0.table) (accepted c.args.rows.now customers.1 suppliers.1 parts.1 dates.1) c.requires.short
 
 pub returns-clause-ok : goal.returns-clause-ok
 returns-clause-ok c =

@@ -1,0 +1,129 @@
+//! Batches that are refused, and the first cause.
+use crate::sample::{FIRST_TWO, NOTHING, STRANGER, WORDY, sample_dims};
+use batch_admission::{Admission, Totals};
+use cube_model::{Fault, LineOrder, Measure, Place};
+use sample_star::{FIRST_FACT, Fact, line_order, line_orders};
+use std::alloc::Global;
+use std::test::Fail;
+
+const NEARLY_FULL: Totals = Totals {
+    profit: 9_223_372_036_854_775_427,
+    ..NOTHING
+};
+
+const FULLER: Totals = Totals {
+    profit: 9_223_372_036_854_775_428,
+    ..NOTHING
+};
+
+/// A number and rows behind ten accepted batches with some totals, and what comes of them.
+struct Case {
+    totals: Totals,
+    number: u32,
+    rows: &'static [Fact<'static>],
+    outcome: Result<(), Fault>,
+}
+
+const ACCEPTED: Case = Case {
+    totals: FIRST_TWO,
+    number: 11,
+    rows: &[FIRST_FACT],
+    outcome: Ok(()),
+};
+
+static CASES: [Case; 11] = [
+    ACCEPTED,
+    Case {
+        number: 10,
+        outcome: Err(Fault::Repeated),
+        ..ACCEPTED
+    },
+    Case {
+        number: 0,
+        rows: &[STRANGER],
+        outcome: Err(Fault::Repeated),
+        ..ACCEPTED
+    },
+    Case {
+        number: 12,
+        rows: &[WORDY],
+        outcome: Err(Fault::Gap),
+        ..ACCEPTED
+    },
+    Case {
+        rows: &[STRANGER, FIRST_FACT, WORDY],
+        outcome: Err(Fault::FieldTooLong {
+            place: Place::Row(3),
+            field: 17,
+        }),
+        ..ACCEPTED
+    },
+    Case {
+        rows: &[FIRST_FACT, STRANGER, STRANGER],
+        outcome: Err(Fault::UnknownCustomer { row: 2 }),
+        ..ACCEPTED
+    },
+    Case {
+        rows: &[Fact {
+            orderdate: 19930106,
+            ..FIRST_FACT
+        }],
+        outcome: Err(Fault::UnknownDate { row: 1 }),
+        ..ACCEPTED
+    },
+    Case {
+        totals: NEARLY_FULL,
+        ..ACCEPTED
+    },
+    Case {
+        totals: FULLER,
+        outcome: Err(Fault::SumRange {
+            measure: Measure::Profit,
+        }),
+        ..ACCEPTED
+    },
+    Case {
+        totals: FULLER,
+        rows: &[FIRST_FACT, STRANGER],
+        outcome: Err(Fault::UnknownCustomer { row: 2 }),
+        ..ACCEPTED
+    },
+    Case {
+        rows: &[],
+        ..ACCEPTED
+    },
+];
+
+fn outcome_of(alloc: Global, case: &Case) -> Result<(), Fault> {
+    let dims = sample_dims(alloc)?;
+    let rows = line_orders(alloc, case.rows)?;
+    let mut admission = Admission::resume(10, case.totals);
+    admission.admit(&dims, case.number, rows.as_slice())
+}
+
+#[test]
+fn the_first_cause_is_answered(rt: HostRuntime) {
+    for case in &CASES {
+        assert_eq!(rt; outcome_of(rt.alloc(), case), case.outcome);
+    }
+}
+
+/// So many of the first sample row.
+fn copies(alloc: Global, count: u32) -> Result<Vec<LineOrder>, Fault> {
+    let mut rows = Vec::new(alloc);
+    for _ in 0..count {
+        rows.push(line_order(alloc, &FIRST_FACT)?)?;
+    }
+    Ok(rows)
+}
+
+#[test]
+fn a_batch_has_at_most_65536_rows(rt: HostRuntime) -> Result<(), Fail> {
+    let dims = sample_dims(rt.alloc())?;
+    let mut rows = copies(rt.alloc(), 65_537)?;
+    let refused = Admission::new().admit(&dims, 1, rows.as_slice());
+    rows.pop();
+    let accepted = Admission::new().admit(&dims, 1, rows.as_slice());
+    assert_eq!(rt; (refused, accepted), (Err(Fault::TooManyRows), Ok(())));
+    Ok(())
+}

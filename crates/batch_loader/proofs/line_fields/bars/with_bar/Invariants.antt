@@ -1,9 +1,0 @@
-use Rattle.std.proofs.Common.{◌-◌, length}
-use Rattle.batch_loader.specs.Bars.{AreBarsBehind}
-use Rattle.batch_loader.proofs.line_fields.bars.with_bar.Given as goal
-
-abbrev pub invariant-loop-window : goal.invariant-loop-window
-invariant-loop-window l = AreBarsBehind l.text l.from l.window.first l.window.bars
-
-abbrev pub decreases-loop-window : goal.decreases-loop-window
-decreases-loop-window l = length l.text - l.window.first

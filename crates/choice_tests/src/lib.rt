@@ -1,0 +1,7 @@
+//! Tests of the choice of cuboids.
+#![tactic(auto)]
+
+#[cfg(test)]
+mod bound;
+#[cfg(test)]
+mod chosen;

@@ -1,0 +1,23 @@
+-- For proofs over masks and sums of selected rows.
+use Rattle.std.proofs.Common.{◌≡◌, ℕ, Bool, true, false, List, [], ◌∷◌, map, refl, sym, ap, ◌∙◌, arith, pos}
+use Rattle.std.proofs.lemmas.Int.{ints}
+use Rattle.std.specs.List.{sum}
+use Rattle.std.specs.Simd.Lanes.{sum_l}
+use Rattle.cube_model.specs.Aggregates.{total}
+use Rattle.column_kernels.specs.Masks.{selected}
+use Rattle.column_kernels.proofs.Selecting.{sum_is, total-cons}
+
+-- what is made of each row is selected with the row
+pub selected-map : {A B : Type 0} (f : A → B) (marks : List Bool) (rows : List A) → selected marks (map f rows) ≡ map f (selected marks rows)
+selected-map f [] rows = refl
+selected-map f (m ∷ marks) [] = refl
+selected-map f (true ∷ marks) (row ∷ rows) = ap (λ l. f row ∷ l) (selected-map f marks rows)
+selected-map f (false ∷ marks) (row ∷ rows) = selected-map f marks rows
+
+total_of_l : (numbers : List ℕ) → total (map (λ (n : ℕ). pos n) numbers) ≡ pos (sum_l numbers)
+total_of_l [] = refl
+total_of_l (x ∷ numbers) = total-cons (pos x) (map (λ (n : ℕ). pos n) numbers) ∙ omega (arith, ints, total_of_l numbers)
+
+-- a sum of numbers is their total as whole numbers
+pub total_of_numbers : (numbers : List ℕ) → total (map (λ (n : ℕ). pos n) numbers) ≡ pos (sum numbers)
+total_of_numbers numbers = total_of_l numbers ∙ ap (λ (n : ℕ). pos n) (sym (sum_is numbers))

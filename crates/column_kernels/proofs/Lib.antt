@@ -1,0 +1,8 @@
+mod Bits
+mod Blocks
+pub mod CallerLemmas
+mod Chunks
+mod Halves
+mod MaskBits
+mod Powers
+mod Selecting

@@ -1,0 +1,11 @@
+use Rattle.std.proofs.Common.{List, ℕ, ◌<◌, subst, sym}
+use Rattle.std.specs.Simd.Lanes.{Each1}
+use Rattle.column_kernels.proofs.Halves.{shifted_high, high_small}
+use Rattle.column_kernels.proofs.lanes.high_halves.Goals as goal
+
+pub returns-clause-value : goal.returns-clause-value
+returns-clause-value c = shifted_high c.args.lanes c.requires
+
+pub returns-clause-small : goal.returns-clause-small
+returns-clause-small c =
+    subst (λ (l : List ℕ). Each1 (λ half. half < 4294967296) l) (sym (shifted_high c.args.lanes c.requires)) (high_small c.args.lanes c.fits-lanes.1)

@@ -1,0 +1,85 @@
+//! Columns as they stand in the bytes of a batch, which are added up 32 rows at a time.
+ghost use Rattle.std.specs.Prelude.{◌≡◌, ◌+◌, ◌*◌, ◌^◌, ◌<◌, ◌≤◌, ℕ, List, length, sum, slice_index};
+ghost use Rattle.std.specs.Simd.Lanes.{chunk};
+ghost use Rattle.column_kernels.specs.Masks.{bits_of, selected};
+
+use crate::lanes::{sum_of_bytes, sum_of_numbers, sum_of_products};
+
+/// A number a row.
+pub(crate) trait Column {
+    /// The numbers of the rows.
+    ghost numbers: { Self → List ℕ };
+
+    /// The sum over those of a block's 32 rows whose bit is set in a word.
+    fn block_sum(&self, block: usize, word: u32) -> u128
+        requires within { 32 * block + 32 ≤ length (numbers self.now) }
+        ensures value { result ≡ sum (selected (bits_of 32 word) (chunk (32 * block) 32 (numbers self.now))) }
+        ensures small { result ≤ 2 ^ 97 };
+
+    /// The number of a row.
+    fn number(&self, row: usize) -> u128
+        requires within { row < length (numbers self.now) }
+        ensures value { result ≡ slice_index (numbers self.now) row }
+        ensures small { result ≤ 2 ^ 97 };
+}
+
+/// Bytes.
+#[derive(Clone, Copy)]
+pub(crate) struct Bytes<'a> {
+    pub(crate) column: &'a [u8],
+}
+
+impl<'a> Column for Bytes<'a> {
+    ghost numbers = { λ c. c.column.now };
+
+    fn block_sum(&self, block: usize, word: u32) -> u128 {
+        sum_of_bytes(word, &self.column.as_chunks::<32>().0[block])
+    }
+
+    fn number(&self, row: usize) -> u128 {
+        u128::from(self.column[row])
+    }
+}
+
+/// Numbers of eight bytes, the lowest first.
+#[derive(Clone, Copy)]
+pub(crate) struct Numbers<'a> {
+    pub(crate) column: &'a [[u8; 8]],
+}
+
+impl<'a> Column for Numbers<'a> {
+    ghost use Rattle.column_kernels.specs.Sums.{numbers_of};
+
+    ghost numbers = { λ c. numbers_of c.column.now };
+
+    fn block_sum(&self, block: usize, word: u32) -> u128 {
+        sum_of_numbers(word, &self.column.as_chunks::<32>().0[block])
+    }
+
+    fn number(&self, row: usize) -> u128 {
+        u128::from(u64::from_le_bytes(self.column[row]))
+    }
+}
+
+/// Numbers of eight bytes, each times a byte.
+#[derive(Clone, Copy)]
+pub(crate) struct Products<'a> {
+    pub(crate) column: &'a [[u8; 8]],
+    pub(crate) factors: &'a [u8],
+}
+
+impl<'a> Column for Products<'a> {
+    ghost use Rattle.column_kernels.specs.Sums.{numbers_of, products};
+
+    ghost numbers = { λ c. products (numbers_of c.column.now) c.factors.now };
+
+    fn block_sum(&self, block: usize, word: u32) -> u128 {
+        let numbers = &self.column.as_chunks::<32>().0[block];
+        let factors = &self.factors.as_chunks::<32>().0[block];
+        sum_of_products(word, numbers, factors)
+    }
+
+    fn number(&self, row: usize) -> u128 {
+        u128::from(u64::from_le_bytes(self.column[row])) * u128::from(self.factors[row])
+    }
+}

@@ -1,0 +1,12 @@
+//! Columns of a batch as they stand in its bytes: checks, masks of rows, and sums of the selected rows.
+#![tactic(auto)]
+
+mod block;
+mod checks;
+mod column;
+mod lanes;
+mod mask;
+
+pub use block::block_mask;
+pub use checks::{are_amounts, are_below};
+pub use mask::Mask;

@@ -1,0 +1,4 @@
+pub mod CallerLemmas
+mod Behind
+mod Coded
+mod Short

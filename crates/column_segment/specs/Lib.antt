@@ -1,0 +1,3 @@
+pub mod Columns
+pub mod Segment
+pub mod Coding

@@ -1,0 +1,13 @@
+//! A batch of fact rows as columns, and how it stands on disk.
+#![tactic(auto)]
+
+mod batch;
+mod coding;
+mod columns;
+mod encoding;
+mod laws;
+
+pub use batch::is_batch;
+pub use columns::{AmountColumn, ByteColumn, NumberColumn, TextColumn};
+pub use encoding::encode;
+pub use laws::bytes_are_one_batch;

@@ -1,0 +1,24 @@
+//! The answer to a query over fact rows at hand.
+ghost use Rattle.std.specs.Prelude.{◌≡◌, ◌≢◌, Err, IfOk, IfErr, OnOk};
+ghost use Rattle.cube_model.specs.Answers.{answer};
+ghost use Rattle.cube_model.specs.Proper.{IsProper};
+ghost use Rattle.cube_query.specs.Limits.{AreFoldable};
+
+use crate::running::Fold;
+use cube_model::{Answer, Fault, LineOrder, Query};
+use dimensions::Dims;
+use std::alloc::Global;
+
+/// The answer to a query over fact rows.
+pub fn fold(alloc: Global, dims: &Dims, rows: &[LineOrder], query: &Query) -> Result<Answer, Fault>
+    requires { AreFoldable dims.now rows.now }
+    ensures answer { IfOk result (λ found. found ≡ answer query.now dims.now rows.now) }
+    ensures proper { OnOk result (IsProper query.now) }
+    ensures improper { (IsProper query.now → ⊥) → result ≡ Err Fault.BadQuery }
+    ensures refused { result ≡ Err Fault.BadQuery → IsProper query.now → ⊥ }
+    ensures only { IfErr result (λ fault. fault ≢ Fault.BadQuery → fault ≡ Fault.Memory) }
+{
+    let mut state = Fold::new(alloc, dims, query)?;
+    state.add_rows(dims, rows)?;
+    state.finish(dims)
+}

@@ -1,0 +1,161 @@
+//! A fold over fact rows that come in any number of calls.
+ghost use Rattle.std.specs.Prelude.{◌≡◌, ◌≢◌, ◌≤◌, ℕ, List, length, Err, IfOk, IfErr, OnOk, OnErr};
+ghost use Rattle.std.specs.List.{All, AllByRecursion};
+ghost use Rattle.cube_model.specs.Answers.{answer};
+ghost use Rattle.cube_model.specs.Proper.{IsProper};
+ghost use Rattle.cube_model.specs.declared.rows.LineOrder.{LineOrder};
+ghost use Rattle.cube_query.specs.Columns.{tallies_at};
+ghost use Rattle.cube_query.specs.Groups.{StandsFor, Begins, CanTake, IsFoldOver, Takes};
+ghost use Rattle.group_plan.specs.Numbers.{group_count, IsKnown};
+ghost use Rattle.group_plan.specs.Plans.{IsPlanOver, query_of};
+ghost use Rattle.cube_query.specs.Slots.{entries_of, AreSlots, Cover, Grow};
+ghost use Rattle.cube_query.specs.FoldInvariant.{AreGroupSlots};
+
+use crate::columns::{count_in_all, lengthen_all, no_columns};
+use crate::finish::answer_lines;
+use crate::group_slots::group_slots_of;
+use crate::slots::Slots;
+use crate::tally::Tally;
+use cube_model::{Answer, Fault, LineOrder, Query};
+use dimensions::Dims;
+use group_plan::Plan;
+use std::alloc::{AllocError, Global};
+use std::marker::Model;
+
+/// The groups of a query over the fact rows that were added so far.
+///
+/// What it answers depends on those rows, and not on the calls that they came in. It keeps its own copy of the query and
+/// borrows nothing: each call is handed the dimensions, which are those that it began with.
+///
+/// Memory grows with the groups, and not with the rows: with those that there can be, or where these are more than
+/// 65,536, with those that had a row.
+#[derive(Drop)]
+pub struct Fold {
+    alloc: Global,
+    plan: Plan,
+    slots: Slots,
+    columns: Vec<Vec<Tally>>,
+}
+
+impl Model for Fold {
+    ghost use Rattle.cube_query.specs.Groups.{FoldState};
+    ghost use Rattle.group_plan.specs.Plans.{query_of};
+    ghost use Rattle.cube_query.specs.FoldInvariant.{IsKept, all_tallies};
+
+    ghost Value = { FoldState };
+
+    ghost view = { λ fold. record {
+      query = query_of fold.plan;
+      plan = fold.plan;
+      tallies = all_tallies fold.plan fold.slots fold.columns.items;
+    } };
+
+    ghost invariant = { λ fold. IsKept fold.plan fold.slots fold.columns.items };
+}
+
+impl Fold {
+    /// A fold of a query, with no row yet.
+    pub fn new(alloc: Global, dims: &Dims, query: &Query) -> Result<Self, Fault>
+        ensures ok { IfOk result (Begins dims.now query.now) }
+        ensures proper { OnOk result (IsProper query.now) }
+        ensures improper { (IsProper query.now → ⊥) → result ≡ Err Fault.BadQuery }
+        ensures refused { result ≡ Err Fault.BadQuery → IsProper query.now → ⊥ }
+        ensures only { IfErr result (λ fault. fault ≢ Fault.BadQuery → fault ≡ Fault.Memory) }
+    {
+        query.check()?;
+        match begin(alloc, dims, query) {
+            Ok(fold) => Ok(fold),
+            Err(_) => Err(Fault::Memory),
+        }
+    }
+
+    /// Counts fact rows in. A refusal leaves the fold as it was.
+    ///
+    /// All memory is taken before the first row is counted: some for new groups, and for the time of the call some for
+    /// each row.
+    pub fn add_rows(&mut self, dims: &Dims, rows: &[LineOrder]) -> Result<(), Fault>
+        requires { CanTake dims.now self.old rows.now }
+        ensures ok { OnOk result (Takes dims.now self.old rows.now self.new) }
+        ensures err { OnErr result (self.new ≡ self.old) }
+        ensures only { IfErr result (λ fault. fault ≡ Fault.Memory) }
+    {
+        let columns = &mut self.columns;
+        let slots = &mut self.slots;
+        let group_slots = match ready(self.alloc, dims, &self.plan, slots, columns, rows) {
+            Ok(group_slots) => group_slots,
+            Err(_) => return Err(Fault::Memory),
+        };
+        let aggregates = self.plan.query().aggregates.as_slice();
+        count_in_all(
+            columns.as_mut_slice(),
+            aggregates,
+            rows,
+            group_slots.as_slice(),
+        );
+        Ok(())
+    }
+
+    /// The answer over the fact rows that were added.
+    pub fn finish(&self, dims: &Dims) -> Result<Answer, Fault>
+        requires { IsFoldOver dims.now self.now }
+        ensures answer { IfOk result (λ found. (rows : List LineOrder) → StandsFor dims.now self.now rows
+            → found ≡ answer self.now.query dims.now rows) }
+        ensures only { IfErr result (λ fault. fault ≡ Fault.Memory) }
+    {
+        let plan = self.plan.over(dims);
+        let query = self.plan.query();
+        match answer_lines(
+            self.alloc,
+            &plan,
+            query,
+            self.columns.as_slice(),
+            &self.slots,
+        ) {
+            Ok(lines) => Ok(Answer { lines }),
+            Err(_) => Err(Fault::Memory),
+        }
+    }
+}
+
+// A fold of a proper query, with no row yet.
+fn begin(alloc: Global, dims: &Dims, query: &Query) -> Result<Fold, AllocError>
+    requires { IsProper query.now }
+    ensures { IfOk result (Begins dims.now query.now) }
+{
+    let plan = Plan::new(alloc, dims, query)?;
+    let slots = Slots::new(alloc, plan.group_count());
+    let columns = no_columns(alloc, query.aggregates.as_slice())?;
+    Ok(Fold {
+        alloc,
+        plan,
+        slots,
+        columns,
+    })
+}
+
+// Makes all ready for rows to be counted in: the slots of their groups, and a place for each slot. Nothing is counted yet.
+fn ready(
+    alloc: Global,
+    dims: &Dims,
+    plan: &Plan,
+    slots: &mut Slots,
+    columns: &mut Vec<Vec<Tally>>,
+    rows: &[LineOrder],
+) -> Result<Vec<Option<u32>>, AllocError>
+    requires over { IsPlanOver dims.now plan.now }
+    requires known { All (IsKnown dims.now) rows.now }
+    requires numbers { AreSlots (group_count dims.now (query_of plan.now).columns) (entries_of slots.old) }
+    requires cover { Cover (group_count dims.now (query_of plan.now).columns) slots.old }
+    ensures group_slots { IfOk result (λ group_slots.
+        AreGroupSlots dims.now (query_of plan.now) (entries_of slots.new) rows.now group_slots.items) }
+    ensures long { OnOk result (AllByRecursion (λ column. length (entries_of slots.new) ≤ length column.items)
+        columns.new.items) }
+    ensures same { (slot : ℕ) → tallies_at columns.new.items slot ≡ tallies_at columns.old.items slot }
+    ensures cover { Cover (group_count dims.now (query_of plan.now).columns) slots.new }
+    ensures grow { Grow (group_count dims.now (query_of plan.now).columns) (entries_of slots.old)
+        (entries_of slots.new) }
+{
+    let group_slots = group_slots_of(alloc, &plan.over(dims), slots, rows)?;
+    lengthen_all(columns.as_mut_slice(), slots.len())?;
+    Ok(group_slots)
+}

@@ -1,0 +1,82 @@
+//! Texts and members beside the limits.
+use crate::fixture::{AXES, OBJECTS};
+use cube_model::{Attr, Axis, DimRows, Fault, Items, PartRow, Text};
+use dimension_objects::{decode, encode};
+use dimensions::{Dims, have_short_texts};
+use sample_star::{FIRST_PART, Product, no_rows, part_row};
+use std::alloc::Global;
+use std::test::Fail;
+
+/// A text of one byte so many times.
+fn repeated(alloc: Global, count: usize) -> Result<Text, Fault> {
+    Ok(Items::from_vec(vec![in alloc; b'x'; count]?))
+}
+
+/// A part with a number of two bytes as its brand.
+fn numbered(alloc: Global, key: u32) -> Result<PartRow, Fault> {
+    let mut part = part_row(alloc, &Product { key, ..FIRST_PART })?;
+    part.brand1 = Items::from_vec(Vec::from_slice(alloc, &u32::to_le_bytes(key)[..2])?);
+    Ok(part)
+}
+
+/// Two parts, with brands of 0 and of 255 bytes.
+fn short_and_long(alloc: Global) -> Result<DimRows, Fault> {
+    let mut rows = no_rows(alloc);
+    for (key, count) in [(4294967295, 0), (0, 255)] {
+        let mut part = part_row(alloc, &Product { key, ..FIRST_PART })?;
+        part.brand1 = repeated(alloc, count)?;
+        rows.parts.push(part)?;
+    }
+    Ok(rows)
+}
+
+fn many_brands(alloc: Global, count: u32) -> Result<DimRows, Fault> {
+    let mut rows = no_rows(alloc);
+    for i in 0..count {
+        rows.parts.push(numbered(alloc, 7 * i)?)?;
+    }
+    Ok(rows)
+}
+
+/// The dimensions of rows, by way of their objects.
+fn again(alloc: Global, rows: &DimRows) -> Result<Dims, Fault> {
+    if !have_short_texts(rows) {
+        return Err(Fault::BadQuery);
+    }
+    let dims = Dims::build(alloc, rows)?;
+    let customers = encode(alloc, &dims, AXES[0])?;
+    let suppliers = encode(alloc, &dims, AXES[1])?;
+    let parts = encode(alloc, &dims, AXES[2])?;
+    let dates = encode(alloc, &dims, AXES[3])?;
+    decode(alloc, &customers, &suppliers, &parts, &dates)
+}
+
+#[test]
+fn empty_and_longest_text(rt: HostRuntime) -> Result<(), Fail> {
+    let rows = short_and_long(rt.alloc())?;
+    let dims = again(rt.alloc(), &rows)?;
+    for (key, count) in [(4294967295, 0), (0, 255)] {
+        let text = dims.attribute(Axis::Part, key, Attr::PartBrand1);
+        assert!(rt;
+            text == Some(
+                rows.parts.as_slice()[dims.row_index(Axis::Part, key)]
+                    .brand1
+                    .as_slice()
+            )
+        );
+        assert!(rt; text.is_some_and(|text| text.len() == count));
+    }
+    Ok(())
+}
+
+#[test]
+fn all_members(rt: HostRuntime) -> Result<(), Fail> {
+    let rows = many_brands(rt.alloc(), 65535)?;
+    let dims = again(rt.alloc(), &rows)?;
+    assert!(rt; dims.members(Attr::PartBrand1) == 65535);
+    for row in rows.parts.as_slice() {
+        let text = dims.attribute(Axis::Part, row.key, Attr::PartBrand1);
+        assert!(rt; text == Some(row.brand1.as_slice()), "part {}", row.key);
+    }
+    Ok(())
+}

@@ -1,0 +1,62 @@
+-- Dimensions that are made of rows by codes, and when there are no such rows. Our own.
+use Rattle.std.specs.Prelude.{◌≡◌, ◌⊎◌, Result, MatchResult, List}
+use Rattle.cube_model.specs.declared.attr.Axis.{Axis}
+use Rattle.cube_model.specs.declared.attr.Axis.TheVariants.{Customer, Supplier, Part, Date}
+use Rattle.cube_model.specs.declared.fault.Fault.{Fault}
+use Rattle.cube_model.specs.declared.fault.Fault.TheVariants.{BadLayout, Memory}
+use Rattle.cube_model.specs.declared.rows.DimRows.{DimRows}
+use Rattle.cube_model.specs.Validity.{HaveShortTexts, IsValid}
+use Rattle.dimensions.specs.declared.coded.CodedDims.{CodedDims}
+use Rattle.dimensions.specs.declared.coded.CodedRows.{CodedRows}
+use Rattle.dimensions.specs.declared.dimension.Dimension.{Dimension}
+use Rattle.dimensions.specs.declared.table.Table.{Table}
+use Rattle.dimensions.specs.TextRows.{TextRow}
+use Rattle.dimensions.specs.Coded.{AreCodedRows, AreGoodRows, HaveTexts}
+use Rattle.dimensions.specs.Shown.{IsDimension, rows_on, table_rows}
+use Rattle.dimensions.specs.Tables.{IsTable}
+
+-- no rows that keep the rules are those of the codes
+abbrev pub StandForNone : Axis → CodedRows → Type 0
+StandForNone axis coded = (rows : List TextRow) → AreGoodRows axis rows → ¬ AreCodedRows axis rows coded
+
+-- why rows by codes are refused
+abbrev pub IsRefusal : Axis → CodedRows → Fault → Type 0
+IsRefusal axis coded fault = (fault ≡ Memory) ⊎ ((fault ≡ BadLayout) × StandForNone axis coded)
+
+-- a table is that of rows by codes, which keep the rules
+pub record IsTableOf (axis : Axis) (coded : CodedRows) (table : Table) : Type 0 where
+  pub is : IsTable axis (table_rows axis table) table
+  pub good : AreGoodRows axis (table_rows axis table)
+  pub codes_are : AreCodedRows axis (table_rows axis table) coded
+
+-- a table of rows by codes, or why they are refused
+abbrev pub MakesTable : Axis → CodedRows → Result Table Fault → Type 0
+MakesTable axis coded result = MatchResult result (IsTableOf axis coded) (IsRefusal axis coded)
+
+-- a dimension is that of rows by codes, which keep the rules
+pub record IsDimensionOf (axis : Axis) (coded : CodedRows) (dimension : Dimension) : Type 0 where
+  pub is : IsDimension axis (table_rows axis dimension.table) dimension
+  pub good : AreGoodRows axis (table_rows axis dimension.table)
+  pub codes_are : AreCodedRows axis (table_rows axis dimension.table) coded
+
+-- a dimension of rows by codes, or why they are refused
+abbrev pub MakesDimension : Axis → CodedRows → Result Dimension Fault → Type 0
+MakesDimension axis coded result = MatchResult result (IsDimensionOf axis coded) (IsRefusal axis coded)
+
+-- rows by codes of the four dimensions are those of some rows
+pub record AreCodedDims (rows : DimRows) (coded : CodedDims) : Type 0 where
+  pub customers : AreCodedRows Customer (rows_on rows Customer) coded.customers
+  pub suppliers : AreCodedRows Supplier (rows_on rows Supplier) coded.suppliers
+  pub parts : AreCodedRows Part (rows_on rows Part) coded.parts
+  pub dates : AreCodedRows Date (rows_on rows Date) coded.dates
+
+-- the columns of the four dimensions have texts
+pub record HaveAllTexts (coded : CodedDims) : Type 0 where
+  pub customers : HaveTexts coded.customers.columns
+  pub suppliers : HaveTexts coded.suppliers.columns
+  pub parts : HaveTexts coded.parts.columns
+  pub dates : HaveTexts coded.dates.columns
+
+-- no valid rows with short texts are those of the codes
+abbrev pub StandForNoRows : CodedDims → Type 0
+StandForNoRows coded = (rows : DimRows) → IsValid rows → HaveShortTexts rows → ¬ AreCodedDims rows coded

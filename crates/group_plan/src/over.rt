@@ -1,0 +1,128 @@
+//! A plan with its dimensions.
+ghost use Rattle.std.specs.Prelude.{◌≡◌, ◌<◌, length, slice_index_or, slice_set, IfOk};
+ghost use Rattle.cube_model.specs.declared.answer.Member.TheVariants.{All};
+ghost use Rattle.group_plan.specs.Columns.{attr_at, is_all};
+ghost use Rattle.group_plan.specs.Numbers.{IsKnown, IsNumber, digit_count, group_count, key_at, member_at};
+ghost use Rattle.group_plan.specs.Plans.{IsPlanOver, query_of};
+
+use crate::plan::Plan;
+use cube_model::{Attr, Axis, Items, LineOrder, Member};
+use dimensions::Dims;
+use std::alloc::{AllocError, Global};
+use std::marker::Model;
+
+/// A plan with the dimensions that it was made over: the groups of its query by numbers.
+///
+/// Contracts see the query and the dimensions.
+#[derive(Drop)]
+pub struct PlanOver<'a> {
+    dims: &'a Dims,
+    plan: &'a Plan,
+}
+
+impl<'a> Model for PlanOver<'a> {
+    ghost use Rattle.group_plan.specs.Numbers.{Asked};
+    ghost use Rattle.group_plan.specs.Plans.{IsPlanOver, query_of};
+
+    ghost Value = { Asked };
+
+    ghost view = { λ over. record { dimensions = over.dims.now; query = query_of over.plan.now } };
+
+    ghost invariant = { λ over. IsPlanOver over.dims.now over.plan.now };
+}
+
+impl<'a> PlanOver<'a> {
+    // A plan with its dimensions.
+    pub(crate) fn of(dims: &'a Dims, plan: &'a Plan) -> PlanOver<'a>
+        requires { IsPlanOver dims.now plan.now }
+        ensures { result ≡ record { dimensions = dims.now; query = query_of plan.now } }
+    {
+        PlanOver { dims, plan }
+    }
+
+    /// The number of a fact row's group, if the row is selected.
+    pub fn number(&self, row: &LineOrder) -> Option<u128>
+        requires { IsKnown self.now.dimensions row.now }
+        ensures { IsNumber self.now.dimensions self.now.query row.now result }
+    {
+        if !self.plan.bounds.hold(row) {
+            return None;
+        }
+        let Some(customer) = self
+            .plan
+            .customers
+            .given(self.dims, Axis::Customer, row.custkey)
+        else {
+            return None;
+        };
+        let Some(supplier) = self
+            .plan
+            .suppliers
+            .given(self.dims, Axis::Supplier, row.suppkey)
+        else {
+            return None;
+        };
+        let Some(part) = self.plan.parts.given(self.dims, Axis::Part, row.partkey) else {
+            return None;
+        };
+        let Some(date) = self.plan.dates.given(self.dims, Axis::Date, row.orderdate) else {
+            return None;
+        };
+        Some(customer + (supplier + (part + date)))
+    }
+
+    /// The key of the group with a number.
+    pub fn key(&self, alloc: Global, number: u128) -> Result<Items<Member>, AllocError>
+        requires { number < group_count self.now.dimensions self.now.query.columns }
+        ensures { IfOk result (λ key. key ≡ key_at self.now.dimensions self.now.query.columns number) }
+    {
+        let mut key = Vec::with_capacity(alloc, self.plan.columns.len())?;
+        for i in 0..self.plan.columns.len() {
+            let column = self.plan.columns[i];
+            let member = member_at(alloc, self.dims, column.attr, column.digit(number))?;
+            key.push(member)?;
+        }
+        Ok(Items::from_vec(key))
+    }
+
+    /// The digit of a column in the number of a group. Columns count from 0.
+    pub fn digit(&self, column: usize, number: u128) -> u128
+        requires column { column < length self.now.query.columns }
+        requires below { number < group_count self.now.dimensions self.now.query.columns }
+        ensures member { slice_index_or (key_at self.now.dimensions self.now.query.columns number) column All
+            ≡ member_at self.now.dimensions (attr_at self.now.query.columns column) result }
+        ensures below { result < digit_count self.now.dimensions (attr_at self.now.query.columns column) }
+    {
+        self.plan.columns[column].digit(number)
+    }
+
+    /// Whether the group with a number has ALL in a column. Behind the last column it has.
+    pub fn is_all(&self, column: usize, number: u128) -> bool
+        requires { number < group_count self.now.dimensions self.now.query.columns }
+        ensures { result ≡ is_all (slice_index_or (key_at self.now.dimensions self.now.query.columns number) column All) }
+    {
+        column >= self.plan.columns.len() || self.plan.columns[column].is_all(number)
+    }
+
+    /// The number of the group that has ALL in a column, and all else as the group with a number.
+    pub fn with_all(&self, column: usize, number: u128) -> u128
+        requires column { column < length self.now.query.columns }
+        requires below { number < group_count self.now.dimensions self.now.query.columns }
+        ensures below { result < group_count self.now.dimensions self.now.query.columns }
+        ensures key { key_at self.now.dimensions self.now.query.columns result
+            ≡ slice_set (key_at self.now.dimensions self.now.query.columns number) column All }
+    {
+        self.plan.columns[column].with_all(number)
+    }
+}
+
+// What a digit of a column stands for.
+fn member_at(alloc: Global, dims: &Dims, attr: Attr, digit: u128) -> Result<Member, AllocError>
+    ensures { IfOk result (λ member. member ≡ member_at dims.now attr digit) }
+{
+    if digit >= dims.members(attr) as u128 {
+        return Ok(Member::All);
+    }
+    let text = Vec::from_slice(alloc, dims.member(attr, digit as u16))?;
+    Ok(Member::Text(Items::from_vec(text)))
+}

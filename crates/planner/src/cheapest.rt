@@ -1,0 +1,34 @@
+//! The plan of a query.
+ghost use Rattle.std.specs.Prelude.{◌≤◌, length};
+ghost use Rattle.planner.specs.Plans.{IsPlan};
+
+use crate::cost::{cells_cost, rows_between};
+use crate::price::{Plan, Priced, better};
+use crate::stored::Stored;
+use cube_model::Query;
+
+/// The plan that reads least of those that answer a query over the first `as_of` batches.
+///
+/// A scan reads the fact rows of all these batches. A stored cuboid that serves the query reads its cells, and the fact
+/// rows of the batches behind its mark. At a tie the scan is taken before a cuboid, and a cuboid before those of greater
+/// index. It takes no memory.
+pub fn plan(query: &Query, stored: &[Stored], batch_rows: &[u32], as_of: u32) -> Plan
+    requires { as_of ≤ length batch_rows.now }
+    ensures { IsPlan query.now stored.now batch_rows.now as_of result }
+{
+    let mut best = Priced {
+        plan: Plan::Scan,
+        cost: rows_between(batch_rows, 0, as_of),
+    };
+    for one in stored {
+        if one.serves(query, as_of) {
+            let plan = Plan::Cells {
+                view: one.view,
+                mark: one.mark,
+            };
+            let cost = cells_cost(batch_rows, one, as_of);
+            best = better(best, Priced { plan, cost });
+        }
+    }
+    best.plan
+}

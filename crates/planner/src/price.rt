@@ -1,0 +1,46 @@
+//! Plans, and which of two is to be taken.
+ghost use Rattle.std.specs.Prelude.{◌≡◌, ◌⊎◌};
+ghost use Rattle.planner.specs.Plans.{rank, ComesFirst};
+
+use lattice::View;
+
+/// How a query is answered.
+#[derive(Clone, Copy, Debug, PartialEq, Eq)]
+pub enum Plan {
+    /// From the fact rows of all batches.
+    Scan,
+    /// From the stored cells of a view, which group the batches up to the mark, and the fact rows of the batches behind it.
+    Cells { view: View, mark: u32 },
+}
+
+// A plan, and how many cells and fact rows it reads.
+#[derive(Clone, Copy)]
+pub(crate) struct Priced {
+    pub(crate) plan: Plan,
+    pub(crate) cost: u64,
+}
+
+impl Plan {
+    // Which plan is taken of those of one cost: the scan first, then the cuboids by their numbers.
+    fn rank(self) -> u16
+        ensures { result ≡ rank self }
+    {
+        match self {
+            Plan::Scan => 0,
+            Plan::Cells { view, .. } => view.index() + 1,
+        }
+    }
+}
+
+// The plan of the two that is to be taken.
+pub(crate) fn better(best: Priced, other: Priced) -> Priced
+    ensures one { (result ≡ best) ⊎ (result ≡ other) }
+    ensures before_best { ComesFirst result best }
+    ensures before_other { ComesFirst result other }
+{
+    if other.cost < best.cost || (other.cost == best.cost && other.plan.rank() < best.plan.rank()) {
+        other
+    } else {
+        best
+    }
+}

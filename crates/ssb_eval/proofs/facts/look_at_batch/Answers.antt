@@ -1,0 +1,63 @@
+use Rattle.std.proofs.Common.{◌≡◌, ◌+◌, ◌*◌, ◌≤◌, ◌<◌, [], ◌++◌, length, arith, subst}
+use Rattle.std.proofs.lemmas.Result.{err_from_is_err_and}
+use Rattle.batch_loader.specs.Tables.{lineorder_row}
+use Rattle.batch_loader.proofs.TakingPieces.{IsTaking-piece, RefusesBatch-piece, TakesBatch-last}
+use Rattle.batch_loader.proofs.TakingRows.{IsTaking, IsTaking-start, IsTaking-whole}
+use Rattle.cube_model.specs.Admission.{all_rows}
+use Rattle.cube_model.specs.Limits.{most_batch_rows, most_batches}
+use Rattle.ssb_eval.proofs.Pieces.{IsBegun-start, LooksAtNext-refused, begun_more}
+use Rattle.ssb_eval.proofs.facts.look_at_batch.Goals as goal
+
+pub loop-init : goal.loop-init
+loop-init g c = (
+  [],
+  IsTaking-start lineorder_row most_batch_rows c.args.lines.now c.requires.fault,
+  λ batches taken.
+      let few : length batches ≤ most_batches = omega (arith, c.findings-found.ensures.few, taken.stands.count) in
+      IsBegun-start c.args.dims.now c.args.fold.now.query c.args.admission.now c.args.fold.now batches c.findings-found.result taken few
+      (c.findings-found.ensures.found c.args.dims.now) c.findings-found.ensures.clean,
+)
+
+pub returns-in_err-rows : goal.returns-in_err-rows
+returns-in_err-rows g c = λ batches taken.
+    let within : c.loop.counter * 4096 + 4096 ≤ most_batch_rows = omega (arith, c.loop-test.true) in
+    LooksAtNext-refused c.args.dims.now c.args.fold.now.query (all_rows batches) c.args.lines.now c.read_batch_into.new.lines c.loop.fold _ _
+    (RefusesBatch-piece lineorder_row most_batch_rows 4096 c.args.lines.now c.loop.lines c.loop.invariant.0 (c.loop.counter * 4096) _ within
+    (c.in_err-rows.ensures.refused c.loop.invariant.1.fault) c.loop.invariant.1) (err_from_is_err_and _ c.from_residual.ensures.1)
+
+pub returns-then-len-lt-PIECE_ROWS : goal.returns-then-len-lt-PIECE_ROWS
+returns-then-len-lt-PIECE_ROWS g c = λ batches taken.
+    let within : c.loop.counter * 4096 + 4096 ≤ most_batch_rows = omega (arith, c.loop-test.true) in
+    let short : length c.in_ok-rows.rows < 4096 = omega (arith, c.if-len-lt-PIECE_ROWS.true, c.len.ensures) in (
+      c.loop.invariant.0 ++ c.in_ok-rows.rows,
+      record {
+        read = TakesBatch-last lineorder_row most_batch_rows 4096 c.args.lines.now c.loop.lines c.read_batch_into.new.lines c.loop.invariant.0 c.in_ok-rows.rows (c.loop.counter * 4096) within short
+            c.in_ok-rows.ensures.taken c.loop.invariant.1;
+        begun = begun_more c.args.dims.now c.args.fold.now.query (all_rows batches) c.loop.invariant.0 c.in_ok-rows.rows c.loop.found c.in_ok-found.found c.loop.fold c.look_at_piece.new.fold
+            (c.loop.invariant.2 batches taken) (rw c.as_slice.ensures at c.in_ok-found.ensures.ok);
+      },
+    )
+
+pub loop-preserved : goal.loop-preserved
+loop-preserved g c =
+    let within : c.loop.counter * 4096 + 4096 ≤ most_batch_rows = omega (arith, c.loop-test.true) in
+    let whole : length c.in_ok-rows.rows ≡ 4096 = omega (arith, c.if-len-lt-PIECE_ROWS.false, c.len.ensures, c.in_ok-rows.ensures.taken.few) in
+    let same : c.loop.counter * 4096 + 4096 ≡ (c.loop.counter + 1) * 4096 = omega arith in (
+      c.loop.invariant.0 ++ c.in_ok-rows.rows,
+      subst (λ count. IsTaking lineorder_row most_batch_rows c.args.lines.now c.read_batch_into.new.lines (c.loop.invariant.0 ++ c.in_ok-rows.rows) count) same
+          (IsTaking-piece lineorder_row most_batch_rows 4096 c.args.lines.now c.loop.lines c.read_batch_into.new.lines c.loop.invariant.0 c.in_ok-rows.rows (c.loop.counter * 4096) within whole
+          c.in_ok-rows.ensures.taken c.loop.invariant.1),
+      λ batches taken.
+          begun_more c.args.dims.now c.args.fold.now.query (all_rows batches) c.loop.invariant.0 c.in_ok-rows.rows c.loop.found c.in_ok-found.found c.loop.fold c.look_at_piece.new.fold
+          (c.loop.invariant.2 batches taken) (rw c.as_slice.ensures at c.in_ok-found.ensures.ok),
+    )
+
+pub returns : goal.returns
+returns g c = λ batches taken.
+    let all : c.loop.counter * 4096 ≡ most_batch_rows = omega (arith, c.loop-test.false, c.loop.auto.counter-end) in (
+      c.loop.invariant.0,
+      record {
+        read = IsTaking-whole lineorder_row most_batch_rows c.args.lines.now c.loop.lines c.loop.invariant.0 (c.loop.counter * 4096) all c.loop.invariant.1;
+        begun = c.loop.invariant.2 batches taken;
+      },
+    )

@@ -1,0 +1,9 @@
+mod CostLaws
+mod BenefitLaws
+mod Members
+mod Shrinking
+mod Guarantee
+mod Kept
+mod Greatest
+mod Steps
+mod Existence

@@ -1,0 +1,5 @@
+pub mod Choice
+pub mod Costs
+pub mod Cuboids
+pub mod Example
+pub mod Lawful

@@ -1,0 +1,64 @@
+//! The greedy choice among the views of the warehouse (Harinarayan, Rajaraman and Ullman 1996), and the benefits of
+//! views.
+ghost use Rattle.std.specs.Prelude.{◌≡◌, ◌≤◌, IfOk, IfErr};
+ghost use Rattle.view_choice.specs.Choice.{IsGreedy, benefits};
+ghost use Rattle.view_choice.specs.Cuboids.{cuboids, most_fact_rows};
+ghost use Rattle.view_choice.specs.Lawful.{HasGuarantee};
+
+use crate::costs::{all_costed, benefit_among, first_greatest, lower};
+use cube_model::Fault;
+use lattice::{Counts, View};
+use std::alloc::Global;
+
+/// The greedy list of k views over so many fact rows: each is the view of greatest benefit under those before it, of
+/// those with at most `MOST_STORED_CELLS` cells, the one of least index at a tie. It ends early where no view has a
+/// benefit any more. It has at least `1 - ((k - 1) / k) ^ k` of the benefit of any choice of as many such views.
+pub fn greedy(alloc: Global, rows: u64, counts: &Counts, k: u8) -> Result<Vec<View>, Fault>
+    requires { rows ≤ most_fact_rows }
+    ensures ok { IfOk result (λ chosen. IsGreedy (cuboids rows counts.now) k chosen.items) }
+    ensures guarantee { 1 ≤ k → IfOk result (λ chosen. HasGuarantee (cuboids rows counts.now) k chosen.items) }
+    ensures err { IfErr result (λ fault. fault ≡ Fault.Memory) }
+{
+    choose_best(alloc, rows, counts, k)
+}
+
+// Chooses the best view under those chosen so far, k times or until none has a benefit.
+fn choose_best(alloc: Global, rows: u64, counts: &Counts, k: u8) -> Result<Vec<View>, Fault>
+    requires { rows ≤ most_fact_rows }
+    ensures ok { IfOk result (λ chosen. IsGreedy (cuboids rows counts.now) k chosen.items) }
+    ensures err { IfErr result (λ fault. fault ≡ Fault.Memory) }
+{
+    let mut all = all_costed(alloc, rows, counts)?;
+    let mut chosen = Vec::new(alloc);
+    for _ in 0..k {
+        let Some(place) = first_greatest(all.as_slice()) else {
+            return Ok(chosen);
+        };
+        let best = all[place];
+        chosen.push(best.view)?;
+        lower(all.as_mut_slice(), best.view, best.size);
+    }
+    Ok(chosen)
+}
+
+/// The benefit of each view under those before it: by how much it lowers the costs of the views that it answers, in
+/// all.
+pub fn benefits(
+    alloc: Global,
+    rows: u64,
+    counts: &Counts,
+    views: &[View],
+) -> Result<Vec<u64>, Fault>
+    requires { rows ≤ most_fact_rows }
+    ensures ok { IfOk result (λ found. found.items ≡ benefits (cuboids rows counts.now) views.now) }
+    ensures err { IfErr result (λ fault. fault ≡ Fault.Memory) }
+{
+    let mut all = all_costed(alloc, rows, counts)?;
+    let mut found = Vec::new(alloc);
+    for view in views {
+        let size = view.size(rows, counts);
+        found.push(benefit_among(all.as_slice(), *view, size))?;
+        lower(all.as_mut_slice(), *view, size);
+    }
+    Ok(found)
+}

@@ -1,0 +1,13 @@
+//! Which cuboids to store: the benefit of views, and the greedy choice of them.
+#![tactic(auto)]
+
+mod choice;
+mod costs;
+mod laws;
+
+pub use choice::{benefits, greedy};
+pub use costs::MOST_STORED_CELLS;
+pub use laws::{
+    benefits_add_up, benefits_fall, greedy_guarantee, greedy_members, one_greedy_choice,
+    one_greedy_list, paper_example, some_greedy_list,
+};

@@ -1,0 +1,65 @@
+-- When the parts that were read are a root. Our own.
+use Rattle.std.proofs.Common.{◌≡◌, ℕ, ◌<◌, List, [], ◌∷◌, ◌++◌, length, refl, sym, ap, ◌∙◌, arith, append-nil}
+use Rattle.std.specs.List.{flat_map}
+use Rattle.wire.specs.Spelling.{spelling}
+use Rattle.warehouse_root.specs.declared.cuboid.StoredCuboid.{StoredCuboid}
+use Rattle.warehouse_root.specs.declared.layout.Layout.{Layout}
+use Rattle.warehouse_root.specs.declared.reading.Counts.{Counts}
+use Rattle.warehouse_root.specs.declared.totals.StoredTotals.{StoredTotals}
+use Rattle.warehouse_root.specs.Reading.{AreCountsOf, ReadsCounts, ReadsCuboids, ReadsRows, ReadsTotals, parts_of}
+use Rattle.warehouse_root.specs.Root.{IsProper, IsRootOf, PlainRoot, counts_of, cuboid_of, root_of, totals_of}
+use Rattle.warehouse_root.proofs.CallerLemmas.{RootFits, length-root_of, root_fits, root_of-one}
+use Rattle.warehouse_root.proofs.Fields.{four-one}
+
+module _ (layout : Layout) (bytes : List ℕ) where
+  -- a root has more bytes than its counts
+  pub too_short : length bytes < 16 → (root : PlainRoot) → IsRootOf layout bytes root → ⊥
+  too_short short root is = omega (arith, short, ap length is.is_root.spelled, length-root_of root)
+
+  -- the counts of a root are those that stand at its front
+  pub counts_are_of : (mid : List ℕ) (counts : Counts) → ReadsCounts bytes mid counts → (root : PlainRoot) → IsRootOf layout bytes root → AreCountsOf (length bytes) counts
+  counts_are_of mid counts reads root is =
+      let fits = root_fits root is.is_root.proper in
+      let same = four-one 4 4 4 4 counts.batches counts.target counts.additions counts.cuboids (length root.batches) root.target root.additions (length root.cuboids)
+      mid (totals_of root.totals ++ (flat_map (spelling 4) root.batches ++ flat_map cuboid_of root.cuboids))
+      reads.fit.batches reads.fit.target reads.fit.additions reads.fit.cuboids fits.many fits.target fits.additions fits.cuboids (sym reads.spelled ∙ is.is_root.spelled) in
+      omega (arith, ap length is.is_root.spelled, length-root_of root, same.0, same.3)
+
+  module _ (r0 r1 r2 r3 : List ℕ) (counts : Counts) (totals : StoredTotals) (batches : List ℕ) (cuboids : List StoredCuboid)
+      (reads0 : ReadsCounts bytes r0 counts) (whole : AreCountsOf (length bytes) counts) (reads1 : ReadsTotals r0 r1 totals)
+      (reads2 : ReadsRows counts.batches r1 r2 batches) (reads3 : ReadsCuboids counts.cuboids r2 r3 cuboids) where
+    -- no byte is left
+    none_left : r3 ≡ []
+    none_left =
+        let none : length r3 ≡ 0 = omega (arith, whole, reads0.left, reads1.left, reads2.left, reads3.left) in
+        (elim r3 as (λ (xs : List ℕ). length xs ≡ 0 → xs ≡ []) [ [] ↦ λ e. refl | x ∷ xs ↦ λ e. absurd (omega arith) ]) none
+
+    -- the bytes are those of the parts
+    pub parts_spelled : bytes ≡ root_of (parts_of layout counts totals batches cuboids)
+    parts_spelled =
+        let ends : r2 ≡ flat_map cuboid_of cuboids = reads3.spelled ∙ ap (λ (xs : List ℕ). flat_map cuboid_of cuboids ++ xs) none_left ∙ append-nil (flat_map cuboid_of cuboids) in
+        let rest : r0 ≡ totals_of totals ++ (flat_map (spelling 4) batches ++ flat_map cuboid_of cuboids) =
+        reads1.spelled ∙ ap (λ (xs : List ℕ). totals_of totals ++ xs) (reads2.spelled ∙ ap (λ (xs : List ℕ). flat_map (spelling 4) batches ++ xs) ends) in
+        reads0.spelled ∙ ap (λ (xs : List ℕ). counts_of counts.batches counts.target counts.additions counts.cuboids ++ xs) rest
+        ∙ ap (λ (n : ℕ). counts_of n counts.target counts.additions counts.cuboids ++ (totals_of totals ++ (flat_map (spelling 4) batches ++ flat_map cuboid_of cuboids))) (sym reads2.many)
+        ∙ ap (λ (n : ℕ). counts_of (length batches) counts.target counts.additions n ++ (totals_of totals ++ (flat_map (spelling 4) batches ++ flat_map cuboid_of cuboids))) (sym reads3.many)
+
+    parts_fit : RootFits (parts_of layout counts totals batches cuboids)
+    parts_fit = record {
+      many = omega (arith, reads2.many, reads0.fit.batches);
+      target = reads0.fit.target;
+      additions = reads0.fit.additions;
+      cuboids = omega (arith, reads3.many, reads0.fit.cuboids);
+      totals = reads1.fit;
+      rows = reads2.fit;
+      each = reads3.fit;
+    }
+
+    -- a root of these bytes has these parts
+    pub parts_are : (root : PlainRoot) → IsRootOf layout bytes root → parts_of layout counts totals batches cuboids ≡ root
+    parts_are root is =
+        root_of-one (parts_of layout counts totals batches cuboids) root parts_fit (root_fits root is.is_root.proper) (sym is.of_layout) (sym parts_spelled ∙ is.is_root.spelled)
+
+    -- the parts are a root, where they keep the rules
+    pub is_root_of : IsProper (parts_of layout counts totals batches cuboids) → IsRootOf layout bytes (parts_of layout counts totals batches cuboids)
+    is_root_of proper = record { of_layout = refl; is_root = record { spelled = parts_spelled; proper = proper } }

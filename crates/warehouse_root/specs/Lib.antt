@@ -1,0 +1,6 @@
+pub mod Lawful
+pub mod Layouts
+pub mod Limits
+pub mod Objects
+pub mod Reading
+pub mod Root

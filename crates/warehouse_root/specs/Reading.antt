@@ -1,0 +1,79 @@
+-- What is read from the front of bytes, before any rule is looked at. Our own.
+use Rattle.std.specs.Prelude.{◌≡◌, ℕ, ◌+◌, ◌*◌, ◌^◌, ◌<◌, List, ◌++◌, length, All}
+use Rattle.std.specs.List.{flat_map}
+use Rattle.wire.specs.Spelling.{spelling}
+use Rattle.warehouse_root.specs.declared.cuboid.StoredCuboid.{StoredCuboid}
+use Rattle.warehouse_root.specs.declared.layout.Layout.{Layout}
+use Rattle.warehouse_root.specs.declared.totals.StoredTotals.{StoredTotals}
+use Rattle.warehouse_root.specs.declared.reading.Counts.{Counts}
+use Rattle.warehouse_root.specs.Root.{PlainRoot, counts_of, cuboid_of, totals_of}
+
+-- a root with these counts has so many bytes
+abbrev pub AreCountsOf : ℕ → Counts → Type 0
+AreCountsOf bytes counts = bytes ≡ 64 + 4 * counts.batches + 12 * counts.cuboids
+
+-- what a root says that has these parts
+abbrev pub parts_of : Layout → Counts → StoredTotals → List ℕ → List StoredCuboid → PlainRoot
+parts_of layout counts totals batches cuboids = record {
+  layout = layout;
+  batches = batches;
+  target = counts.target;
+  additions = counts.additions;
+  totals = totals;
+  cuboids = cuboids;
+}
+
+-- each number of the counts fits its field
+pub record CountsFit (counts : Counts) : Type 0 where
+  pub batches : counts.batches < 2 ^ 32
+  pub target : counts.target < 2 ^ 32
+  pub additions : counts.additions < 2 ^ 32
+  pub cuboids : counts.cuboids < 2 ^ 32
+
+-- each total fits its field
+pub record TotalsFit (totals : StoredTotals) : Type 0 where
+  pub quantity : totals.quantity < 2 ^ 64
+  pub extendedprice : totals.extendedprice < 2 ^ 64
+  pub revenue : totals.revenue < 2 ^ 64
+  pub supplycost : totals.supplycost < 2 ^ 64
+  pub discounted : totals.discounted < 2 ^ 64
+  pub profit : totals.profit < 2 ^ 64
+
+-- each number of a cuboid fits its field
+pub record CuboidFits (cuboid : StoredCuboid) : Type 0 where
+  pub view : cuboid.view < 2 ^ 16
+  pub runs : cuboid.runs < 2 ^ 16
+  pub mark : cuboid.mark < 2 ^ 32
+  pub cells : cuboid.cells < 2 ^ 32
+
+-- the counts were read from the front of `old`, and `new` is left
+pub record ReadsCounts (old new : List ℕ) (counts : Counts) : Type 0 where
+  pub fit : CountsFit counts
+  pub spelled : old ≡ counts_of counts.batches counts.target counts.additions counts.cuboids ++ new
+  pub left : length old ≡ 16 + length new
+
+-- the totals were read from the front of `old`, and `new` is left
+pub record ReadsTotals (old new : List ℕ) (totals : StoredTotals) : Type 0 where
+  pub fit : TotalsFit totals
+  pub spelled : old ≡ totals_of totals ++ new
+  pub left : length old ≡ 48 + length new
+
+-- the rows of so many batches were read from the front of `old`, and `new` is left
+pub record ReadsRows (count : ℕ) (old new : List ℕ) (batches : List ℕ) : Type 0 where
+  pub fit : All (λ rows. rows < 2 ^ 32) batches
+  pub many : length batches ≡ count
+  pub spelled : old ≡ flat_map (spelling 4) batches ++ new
+  pub left : length old ≡ 4 * count + length new
+
+-- a cuboid was read from the front of `old`, and `new` is left
+pub record ReadsCuboid (old new : List ℕ) (cuboid : StoredCuboid) : Type 0 where
+  pub fits : CuboidFits cuboid
+  pub spelled : old ≡ cuboid_of cuboid ++ new
+  pub left : length old ≡ 12 + length new
+
+-- so many cuboids were read from the front of `old`, and `new` is left
+pub record ReadsCuboids (count : ℕ) (old new : List ℕ) (cuboids : List StoredCuboid) : Type 0 where
+  pub fit : All CuboidFits cuboids
+  pub many : length cuboids ≡ count
+  pub spelled : old ≡ flat_map cuboid_of cuboids ++ new
+  pub left : length old ≡ 12 * count + length new

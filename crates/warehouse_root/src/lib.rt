@@ -1,0 +1,19 @@
+//! The root of a warehouse: which batches and cuboids are stored, and which objects hold them.
+#![tactic(auto)]
+
+mod cuboid;
+mod decoding;
+mod encoding;
+pub mod laws;
+mod layout;
+pub mod limits;
+mod objects;
+mod reading;
+mod root;
+mod totals;
+
+pub use cuboid::StoredCuboid;
+pub use layout::Layout;
+pub use objects::{run_id, segment_id};
+pub use root::Root;
+pub use totals::StoredTotals;

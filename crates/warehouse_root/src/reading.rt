@@ -1,0 +1,109 @@
+//! Reading the parts of a root from the front of bytes.
+ghost use Rattle.std.specs.Prelude.{◌≡◌, ◌*◌, ◌≤◌, ◌<◌, ◌↔◌, length, IfErr, IfOk, IsErr, IsOkUnless, IsTrue};
+ghost use Rattle.cube_model.specs.declared.fault.Fault.{Fault};
+ghost use Rattle.warehouse_root.specs.Reading.{ReadsCounts, ReadsCuboid, ReadsCuboids, ReadsRows, ReadsTotals};
+
+use crate::cuboid::StoredCuboid;
+use crate::totals::StoredTotals;
+use cube_model::Fault;
+use std::alloc::Global;
+use wire::Cursor;
+
+// The counts at the front of a root.
+#[derive(Clone, Copy)]
+pub(crate) struct Counts {
+    pub(crate) batches: u32,
+    pub(crate) target: u32,
+    pub(crate) additions: u32,
+    pub(crate) cuboids: u32,
+}
+
+impl Counts {
+    ghost use Rattle.warehouse_root.specs.Reading.{AreCountsOf};
+
+    // Whether a root with these counts has so many bytes.
+    pub(crate) fn are_of(&self, bytes: usize) -> bool
+        ensures { IsTrue result ↔ AreCountsOf bytes self.now }
+    {
+        bytes == 64 + 4 * self.batches as usize + 12 * self.cuboids as usize
+    }
+}
+
+// The counts at the front of bytes.
+pub(crate) fn read_counts(cursor: &mut Cursor<'_>) -> Result<Counts, Fault>
+    ensures ok { IfOk result (ReadsCounts cursor.old cursor.new) }
+    ensures short { IsErr result ↔ (length cursor.old < 16) }
+    ensures fault { IsOkUnless result Fault.BadLayout }
+{
+    Ok(Counts {
+        batches: cursor.u32()?,
+        target: cursor.u32()?,
+        additions: cursor.u32()?,
+        cuboids: cursor.u32()?,
+    })
+}
+
+// The totals at the front of bytes.
+pub(crate) fn read_totals(cursor: &mut Cursor<'_>) -> Result<StoredTotals, Fault>
+    ensures ok { IfOk result (ReadsTotals cursor.old cursor.new) }
+    ensures short { IsErr result ↔ (length cursor.old < 48) }
+    ensures fault { IsOkUnless result Fault.BadLayout }
+{
+    Ok(StoredTotals {
+        quantity: cursor.u64()?,
+        extendedprice: cursor.u64()?,
+        revenue: cursor.u64()?,
+        supplycost: cursor.u64()?,
+        discounted: cursor.u64()?,
+        profit: cursor.u64()?,
+    })
+}
+
+// The rows of so many batches at the front of bytes.
+pub(crate) fn read_rows(
+    alloc: Global,
+    cursor: &mut Cursor<'_>,
+    count: usize,
+) -> Result<Vec<u32>, Fault>
+    requires { 4 * count ≤ length cursor.old }
+    ensures ok { IfOk result (λ batches. ReadsRows count cursor.old cursor.new batches.items) }
+    ensures memory { IfErr result (λ fault. fault ≡ Fault.Memory) }
+{
+    let mut batches = Vec::with_capacity(alloc, count)?;
+    for _ in 0..count {
+        let rows = cursor.u32()?;
+        batches.push(rows)?;
+    }
+    Ok(batches)
+}
+
+// So many cuboids at the front of bytes.
+pub(crate) fn read_cuboids(
+    alloc: Global,
+    cursor: &mut Cursor<'_>,
+    count: usize,
+) -> Result<Vec<StoredCuboid>, Fault>
+    requires { 12 * count ≤ length cursor.old }
+    ensures ok { IfOk result (λ cuboids. ReadsCuboids count cursor.old cursor.new cuboids.items) }
+    ensures memory { IfErr result (λ fault. fault ≡ Fault.Memory) }
+{
+    let mut cuboids = Vec::with_capacity(alloc, count)?;
+    for _ in 0..count {
+        let cuboid = read_cuboid(cursor)?;
+        cuboids.push(cuboid)?;
+    }
+    Ok(cuboids)
+}
+
+// The cuboid at the front of bytes.
+fn read_cuboid(cursor: &mut Cursor<'_>) -> Result<StoredCuboid, Fault>
+    ensures ok { IfOk result (ReadsCuboid cursor.old cursor.new) }
+    ensures short { IsErr result ↔ (length cursor.old < 12) }
+{
+    Ok(StoredCuboid {
+        view: cursor.u16()?,
+        runs: cursor.u16()?,
+        mark: cursor.u32()?,
+        cells: cursor.u32()?,
+    })
+}

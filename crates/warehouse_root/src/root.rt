@@ -1,0 +1,211 @@
+//! The root of a warehouse.
+ghost use Rattle.std.specs.Prelude.{◌≡◌, ◌⊎◌, ◌↔◌, ◌≤◌, ◌<◌, List, length, IfErr, IfOk, IsTrue};
+ghost use Rattle.std.specs.List.{Contains};
+ghost use Rattle.cube_model.specs.declared.fault.Fault.{Fault};
+ghost use Rattle.cube_model.specs.Limits.{most_batch_rows, most_batches};
+ghost use Rattle.warehouse_root.specs.Objects.{object_ids};
+ghost use Rattle.warehouse_root.specs.Root.{AreProperTotals, IsProper, IsRoot, IsRootOf, PlainRoot, first_root, with_batch};
+
+use crate::cuboid::StoredCuboid;
+use crate::decoding::keep_rules;
+use crate::encoding::{push_counts, push_cuboids, push_rows, push_totals};
+use crate::layout::Layout;
+use crate::objects::{is_among, is_stored, push_numbers, push_runs, segment_id};
+use crate::reading::{read_counts, read_cuboids, read_rows, read_totals};
+use crate::totals::StoredTotals;
+use cube_model::Fault;
+use std::alloc::Global;
+use std::marker::Model;
+use wire::Cursor;
+
+/// What a warehouse says of its batches and its stored cuboids. It keeps the rules of a root.
+#[derive(Debug, Drop)]
+pub struct Root {
+    layout: Layout,
+    batches: Vec<u32>,
+    target: u32,
+    additions: u32,
+    totals: StoredTotals,
+    cuboids: Vec<StoredCuboid>,
+}
+
+impl Model for Root {
+    ghost use Rattle.warehouse_root.specs.Root.{IsProper, PlainRoot};
+
+    ghost Value = { PlainRoot };
+
+    ghost view = { λ root. record {
+      layout = root.layout;
+      batches = root.batches.items;
+      target = root.target;
+      additions = root.additions;
+      totals = root.totals;
+      cuboids = root.cuboids.items;
+    } };
+
+    ghost invariant = { λ root. IsProper (record {
+      layout = root.layout;
+      batches = root.batches.items;
+      target = root.target;
+      additions = root.additions;
+      totals = root.totals;
+      cuboids = root.cuboids.items;
+    }) };
+}
+
+impl Root {
+    /// The root of a warehouse of no batch.
+    pub fn new(alloc: Global, layout: Layout) -> Root
+        ensures { result ≡ first_root layout }
+    {
+        let totals = StoredTotals {
+            quantity: 0,
+            extendedprice: 0,
+            revenue: 0,
+            supplycost: 0,
+            discounted: 0,
+            profit: 0,
+        };
+        Root {
+            layout,
+            batches: Vec::new(alloc),
+            target: 0,
+            additions: 0,
+            totals,
+            cuboids: Vec::new(alloc),
+        }
+    }
+
+    /// The root with one batch more, of so many rows, and the totals with its rows.
+    pub fn with_batch(&self, alloc: Global, rows: u32, totals: StoredTotals) -> Result<Root, Fault>
+        requires batches { length self.now.batches < most_batches }
+        requires rows { rows ≤ most_batch_rows }
+        requires totals { AreProperTotals totals }
+        ensures ok { IfOk result (λ root. root ≡ with_batch rows totals self.now) }
+        ensures memory { IfErr result (λ fault. fault ≡ Fault.Memory) }
+    {
+        let mut batches = Vec::with_capacity(alloc, self.batches.len() + 1)?;
+        batches.extend_from_slice(&self.batches)?;
+        batches.push(rows)?;
+        let cuboids = Vec::from_slice(alloc, &self.cuboids)?;
+        Ok(Root {
+            layout: self.layout,
+            batches,
+            target: self.target,
+            additions: self.additions,
+            totals,
+            cuboids,
+        })
+    }
+
+    /// The bytes of the root.
+    pub fn encode(&self, alloc: Global) -> Result<Vec<u8>, Fault>
+        ensures ok { IfOk result (λ bytes. IsRoot bytes.items self.now) }
+        ensures memory { IfErr result (λ fault. fault ≡ Fault.Memory) }
+    {
+        let (batches, cuboids) = (self.batches.len(), self.cuboids.len());
+        let mut out = Vec::with_capacity(alloc, 64 + 4 * batches + 12 * cuboids)?;
+        push_counts(
+            &mut out,
+            batches as u32,
+            self.target,
+            self.additions,
+            cuboids as u32,
+        )?;
+        push_totals(&mut out, &self.totals)?;
+        push_rows(&mut out, &self.batches)?;
+        push_cuboids(&mut out, &self.cuboids)?;
+        Ok(out)
+    }
+
+    /// The root of a layout that the bytes spell. `BadLayout` where they spell none that keeps the rules.
+    pub fn decode(alloc: Global, layout: Layout, bytes: &[u8]) -> Result<Root, Fault>
+        ensures ok { IfOk result (IsRootOf layout bytes.now) }
+        ensures refused { IfErr result (λ fault. (fault ≡ Fault.Memory)
+            ⊎ ((fault ≡ Fault.BadLayout) × ((root : PlainRoot) → ¬ IsRootOf layout bytes.now root))) }
+    {
+        let mut cursor = Cursor::new(bytes);
+        let counts = read_counts(&mut cursor)?;
+        if !counts.are_of(bytes.len()) {
+            return Err(Fault::BadLayout);
+        }
+        let totals = read_totals(&mut cursor)?;
+        let batches = read_rows(alloc, &mut cursor, counts.batches as usize)?;
+        let cuboids = read_cuboids(alloc, &mut cursor, counts.cuboids as usize)?;
+        if !keep_rules(layout, &counts, &totals, &batches, &cuboids) {
+            return Err(Fault::BadLayout);
+        }
+        Ok(Root {
+            layout,
+            batches,
+            target: counts.target,
+            additions: counts.additions,
+            totals,
+            cuboids,
+        })
+    }
+
+    /// The layout of the objects.
+    pub fn layout(&self) -> Layout
+        ensures value { result ≡ self.now.layout }
+
+        // Each root keeps the rules.
+        ensures proper { IsProper self.now }
+    {
+        self.layout
+    }
+
+    /// How many rows each batch has, the first batch first.
+    pub fn batches(&self) -> &[u32]
+        ensures { result.now ≡ self.now.batches }
+    {
+        &self.batches
+    }
+
+    /// How many of the first batches each stored cuboid is to hold.
+    pub fn target(&self) -> u32
+        ensures { result ≡ self.now.target }
+    {
+        self.target
+    }
+
+    /// How often rows were added to dimensions.
+    pub fn additions(&self) -> u32
+        ensures { result ≡ self.now.additions }
+    {
+        self.additions
+    }
+
+    /// The sums of absolute values over the rows of all batches.
+    pub fn totals(&self) -> StoredTotals
+        ensures { result ≡ self.now.totals }
+    {
+        self.totals
+    }
+
+    /// The stored cuboids, by ascending view.
+    pub fn cuboids(&self) -> &[StoredCuboid]
+        ensures { result.now ≡ self.now.cuboids }
+    {
+        &self.cuboids
+    }
+
+    /// The ids of the objects that the root asks for, ascending: dimensions, segments, runs of cuboids.
+    pub fn object_ids(&self, alloc: Global) -> Result<Vec<u32>, Fault>
+        ensures ok { IfOk result (λ ids. ids.items ≡ object_ids self.now) }
+        ensures memory { IfErr result (λ fault. fault ≡ Fault.Memory) }
+    {
+        let mut ids = Vec::new(alloc);
+        push_numbers(&mut ids, 1, self.layout.dimensions())?;
+        push_numbers(&mut ids, segment_id(1), self.batches.len() as u32)?;
+        push_runs(&mut ids, &self.cuboids)?;
+        Ok(ids)
+    }
+
+    /// Whether the root asks for an object of that id.
+    pub fn asks_for(&self, id: u32) -> bool
+        ensures { IsTrue result ↔ Contains (object_ids self.now) id }
+    {
+        is_among(1, self.layout.dimensions(), id) || is_stored(&self.batches, &self.cuboids, id)
+    }
+}
