@@ -1,5 +1,5 @@
 //! Each rule of the objects broken in turn.
-use crate::fixture::OBJECTS;
+use crate::fixture::sample;
 use cube_model::Fault;
 use dimension_objects::decode;
 use std::alloc::Global;
@@ -37,22 +37,33 @@ const EDITS: [(usize, usize, &[u8]); 22] = [
     (3, 95, b"\x02\x00"),
 ];
 
-/// The sample objects with an edit of one of them.
+/// Why the sample objects are refused with other bytes for one of them, if they are.
 fn refused(alloc: Global, object: usize, bytes: &[u8]) -> Option<Fault> {
-    let mut objects = OBJECTS;
-    objects[object] = bytes;
-    match decode(alloc, objects[0], objects[1], objects[2], objects[3]) {
+    let customers = if object == 0 { bytes } else { sample(0) };
+    let suppliers = if object == 1 { bytes } else { sample(1) };
+    let parts = if object == 2 { bytes } else { sample(2) };
+    let dates = if object == 3 { bytes } else { sample(3) };
+    match decode(alloc, customers, suppliers, parts, dates) {
         Ok(_) => None,
         Err(fault) => Some(fault),
     }
 }
 
+/// A sample object with other bytes from a place on.
+fn changed(alloc: Global, object: usize, at: usize, bytes: &[u8]) -> Result<Vec<u8>, Fault> {
+    let mut found = Vec::new(alloc);
+    for (i, byte) in sample(object).iter().enumerate() {
+        let new = if i < at { None } else { bytes.get(i - at) };
+        found.push(*new.unwrap_or(byte))?;
+    }
+    Ok(found)
+}
+
 #[test]
 fn bytes_changed(rt: HostRuntime) -> Result<(), Fail> {
     for (object, at, bytes) in EDITS {
-        let mut changed = Vec::from_slice(rt.alloc(), OBJECTS[object])?;
-        changed[at..at + bytes.len()].copy_from_slice(bytes);
-        let found = refused(rt.alloc(), object, &changed);
+        let new = changed(rt.alloc(), object, at, bytes)?;
+        let found = refused(rt.alloc(), object, &new);
         assert!(rt; found == Some(Fault::BadLayout), "object {object} at {at}");
     }
     Ok(())
@@ -61,8 +72,9 @@ fn bytes_changed(rt: HostRuntime) -> Result<(), Fail> {
 #[test]
 fn bytes_missing(rt: HostRuntime) -> Result<(), Fail> {
     for object in 0..4 {
-        for count in 0..OBJECTS[object].len() {
-            let found = refused(rt.alloc(), object, &OBJECTS[object][..count]);
+        let whole = sample(object);
+        for count in 0..whole.len() {
+            let found = refused(rt.alloc(), object, &whole[..count]);
             assert!(rt;
                 found == Some(Fault::BadLayout),
                 "{count} bytes of object {object}"
@@ -75,7 +87,7 @@ fn bytes_missing(rt: HostRuntime) -> Result<(), Fail> {
 #[test]
 fn bytes_behind(rt: HostRuntime) -> Result<(), Fail> {
     for object in 0..4 {
-        let mut longer = Vec::from_slice(rt.alloc(), OBJECTS[object])?;
+        let mut longer = Vec::from_slice(rt.alloc(), sample(object))?;
         longer.push(0)?;
         let found = refused(rt.alloc(), object, &longer);
         assert!(rt; found == Some(Fault::BadLayout), "object {object}");

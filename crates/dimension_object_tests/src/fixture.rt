@@ -1,8 +1,8 @@
 //! The four objects of the sample rows, with each byte by hand.
-use cube_model::Axis;
-
-/// The dimensions in the order of their objects.
-pub const AXES: [Axis; 4] = [Axis::Customer, Axis::Supplier, Axis::Part, Axis::Date];
+use cube_model::{Axis, Fault};
+use dimension_objects::{decode, encode};
+use dimensions::Dims;
+use std::alloc::Global;
 
 /// The customers: 12 bytes of header, cities, nations, regions, nations of cities, regions of nations, keys, cities.
 pub const CUSTOMERS: &[u8] = b"DIM1\x00\x00\x00\x00\x02\x00\x00\x00\
@@ -37,5 +37,21 @@ pub const DATES: &[u8] = b"DIM1\x03\x00\x00\x00\x02\x00\x00\x00\
 \x00\x00\x01\x00\x00\x00\x01\x00\
 \xf9\x1b\x30\x01\x82\xbc\x30\x01\x00\x00\x01\x00\x00\x00\x01\x00";
 
-/// The four objects.
-pub const OBJECTS: [&[u8]; 4] = [CUSTOMERS, SUPPLIERS, PARTS, DATES];
+/// One of the four objects.
+pub fn sample(object: usize) -> &'static [u8] {
+    match object {
+        0 => CUSTOMERS,
+        1 => SUPPLIERS,
+        2 => PARTS,
+        _ => DATES,
+    }
+}
+
+/// The same dimensions, by way of their objects.
+pub fn copied(alloc: Global, dims: &Dims) -> Result<Dims, Fault> {
+    let customers = encode(alloc, dims, Axis::Customer)?;
+    let suppliers = encode(alloc, dims, Axis::Supplier)?;
+    let parts = encode(alloc, dims, Axis::Part)?;
+    let dates = encode(alloc, dims, Axis::Date)?;
+    decode(alloc, &customers, &suppliers, &parts, &dates)
+}

@@ -1,7 +1,6 @@
 //! Texts and members beside the limits.
-use crate::fixture::{AXES, OBJECTS};
+use crate::fixture::copied;
 use cube_model::{Attr, Axis, DimRows, Fault, Items, PartRow, Text};
-use dimension_objects::{decode, encode};
 use dimensions::{Dims, have_short_texts};
 use sample_star::{FIRST_PART, Product, no_rows, part_row};
 use std::alloc::Global;
@@ -33,7 +32,7 @@ fn short_and_long(alloc: Global) -> Result<DimRows, Fault> {
 fn many_brands(alloc: Global, count: u32) -> Result<DimRows, Fault> {
     let mut rows = no_rows(alloc);
     for i in 0..count {
-        rows.parts.push(numbered(alloc, 7 * i)?)?;
+        rows.parts.push(numbered(alloc, i ^ 21845)?)?;
     }
     Ok(rows)
 }
@@ -44,11 +43,7 @@ fn again(alloc: Global, rows: &DimRows) -> Result<Dims, Fault> {
         return Err(Fault::BadQuery);
     }
     let dims = Dims::build(alloc, rows)?;
-    let customers = encode(alloc, &dims, AXES[0])?;
-    let suppliers = encode(alloc, &dims, AXES[1])?;
-    let parts = encode(alloc, &dims, AXES[2])?;
-    let dates = encode(alloc, &dims, AXES[3])?;
-    decode(alloc, &customers, &suppliers, &parts, &dates)
+    copied(alloc, &dims)
 }
 
 #[test]
@@ -56,15 +51,9 @@ fn empty_and_longest_text(rt: HostRuntime) -> Result<(), Fail> {
     let rows = short_and_long(rt.alloc())?;
     let dims = again(rt.alloc(), &rows)?;
     for (key, count) in [(4294967295, 0), (0, 255)] {
+        let wanted = repeated(rt.alloc(), count)?;
         let text = dims.attribute(Axis::Part, key, Attr::PartBrand1);
-        assert!(rt;
-            text == Some(
-                rows.parts.as_slice()[dims.row_index(Axis::Part, key)]
-                    .brand1
-                    .as_slice()
-            )
-        );
-        assert!(rt; text.is_some_and(|text| text.len() == count));
+        assert!(rt; text == Some(wanted.as_slice()), "{count} bytes");
     }
     Ok(())
 }

@@ -1,5 +1,5 @@
 //! Objects of the sample rows, and of no rows.
-use crate::fixture::{AXES, OBJECTS};
+use crate::fixture::{CUSTOMERS, DATES, PARTS, SUPPLIERS, copied};
 use cube_model::{Attr, Axis, Fault};
 use dimension_objects::{decode, encode};
 use dimensions::Dims;
@@ -23,33 +23,29 @@ const ATTRS: [(Axis, u32, Attr, &[u8]); 6] = [
     (Axis::Date, 19930105, Attr::DateWeeknuminyear, b"1"),
 ];
 
-/// The objects of rows.
-fn objects(alloc: Global, dims: &Dims) -> Result<Vec<Vec<u8>>, Fault> {
-    let mut objects = Vec::new(alloc);
-    for axis in AXES {
-        objects.push(encode(alloc, dims, axis)?)?;
-    }
-    Ok(objects)
-}
-
-fn sample(alloc: Global, star: &Star<'_>) -> Result<Dims, Fault> {
+fn built(alloc: Global, star: &Star<'_>) -> Result<Dims, Fault> {
     let rows = dim_rows(alloc, star)?;
     Dims::build(alloc, &rows)
 }
 
 #[test]
 fn bytes_by_hand(rt: HostRuntime) -> Result<(), Fail> {
-    let dims = sample(rt.alloc(), &STAR)?;
-    let found = objects(rt.alloc(), &dims)?;
-    for i in 0..4 {
-        assert!(rt; found[i].as_slice() == OBJECTS[i], "object {i}");
+    let dims = built(rt.alloc(), &STAR)?;
+    for (axis, wanted) in [
+        (Axis::Customer, CUSTOMERS),
+        (Axis::Supplier, SUPPLIERS),
+        (Axis::Part, PARTS),
+        (Axis::Date, DATES),
+    ] {
+        let found = encode(rt.alloc(), &dims, axis)?;
+        assert!(rt; found.as_slice() == wanted);
     }
     Ok(())
 }
 
 #[test]
 fn rows_from_bytes(rt: HostRuntime) -> Result<(), Fail> {
-    let dims = decode(rt.alloc(), OBJECTS[0], OBJECTS[1], OBJECTS[2], OBJECTS[3])?;
+    let dims = decode(rt.alloc(), CUSTOMERS, SUPPLIERS, PARTS, DATES)?;
     for (axis, key, attr, wanted) in ATTRS {
         assert!(rt;
             dims.attribute(axis, key, attr) == Some(wanted),
@@ -62,13 +58,12 @@ fn rows_from_bytes(rt: HostRuntime) -> Result<(), Fail> {
 
 #[test]
 fn no_rows(rt: HostRuntime) -> Result<(), Fail> {
-    let dims = sample(rt.alloc(), &EMPTY)?;
-    let found = objects(rt.alloc(), &dims)?;
-    for i in 0..4 {
-        let wanted = if i == 3 { 28 } else { 24 };
-        assert!(rt; found[i].len() == wanted, "object {i}");
+    let dims = built(rt.alloc(), &EMPTY)?;
+    for (axis, wanted) in [(Axis::Customer, 24), (Axis::Part, 24), (Axis::Date, 28)] {
+        let found = encode(rt.alloc(), &dims, axis)?;
+        assert!(rt; found.len() == wanted);
     }
-    let again = decode(rt.alloc(), &found[0], &found[1], &found[2], &found[3])?;
+    let again = copied(rt.alloc(), &dims)?;
     assert!(rt; again.row_count(Axis::Date) == 0);
     Ok(())
 }
