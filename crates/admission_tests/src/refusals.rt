@@ -1,4 +1,7 @@
 //! Batches that are refused, and the first cause.
+ghost use Rattle.std.specs.Prelude.{◌^◌, IsTrue};
+ghost use Rattle.batch_admission.specs.Totals.{AreBelow};
+
 use crate::sample::{FIRST_TWO, NOTHING, STRANGER, WORDY, sample_dims};
 use batch_admission::{Admission, Totals};
 use cube_model::{Fault, LineOrder, Measure, Place};
@@ -94,7 +97,24 @@ static CASES: [Case; 11] = [
     },
 ];
 
+/// The least total that no accepted batches can have.
+const LIMIT: u64 = 9_223_372_036_854_775_808;
+
+fn are_totals(totals: Totals) -> bool
+    ensures { IsTrue result → AreBelow (2 ^ 63) totals }
+{
+    totals.quantity < LIMIT
+        && totals.extendedprice < LIMIT
+        && totals.revenue < LIMIT
+        && totals.supplycost < LIMIT
+        && totals.discounted < LIMIT
+        && totals.profit < LIMIT
+}
+
 fn outcome_of(alloc: Global, case: &Case) -> Result<(), Fault> {
+    if !are_totals(case.totals) {
+        return Err(Fault::BadLayout);
+    }
     let dims = sample_dims(alloc)?;
     let rows = line_orders(alloc, case.rows)?;
     let mut admission = Admission::resume(10, case.totals);
