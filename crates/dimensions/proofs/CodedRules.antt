@@ -7,17 +7,16 @@ use Rattle.std.proofs.lemmas.List.{ext_get_or, length-map, get_or-map}
 use Rattle.cube_model.specs.declared.attr.Axis.{Axis}
 use Rattle.cube_model.specs.Lawful.{EachPair, KeepsRules}
 use Rattle.cube_model.specs.Limits.{longest_text, most_members}
-use Rattle.cube_model.specs.Validity.{Rules, members_of}
+use Rattle.cube_model.specs.Validity.{members_of}
 use Rattle.dictionary.specs.Dictionary.{firsts}
 use Rattle.dictionary.specs.Columns.{AreCodes}
-use Rattle.dictionary.proofs.CallerLemmas.{list_any_here, place_within, place_le, text_at_place, bytes_eq-refl}
-use Rattle.dimensions.specs.declared.coded.CodedColumn.{CodedColumn}
+use Rattle.dictionary.proofs.CallerLemmas.{list_any_here, place_within, text_at_place, bytes_eq-refl}
 use Rattle.dimensions.specs.declared.coded.CodedRows.{CodedRows}
 use Rattle.dimensions.specs.declared.table.Table.{Table}
 use Rattle.dimensions.specs.TextRows.{TextRow, text_in, column_of}
 use Rattle.dimensions.specs.Shapes.{lowers_of, lower_of, row_limit_of, text_rules, texts_from, links_from}
-use Rattle.dimensions.specs.ShortTexts.{IsShortRow, AreShortRows}
-use Rattle.dimensions.specs.Coded.{text_beside, place_texts, texts_below, texts_at_places, IsCodedColumn, coded_at, AreCodedRows, AreGoodRows, place_total, IsProperColumn, HaveProperColumns, AreDistinct}
+use Rattle.dimensions.specs.ShortTexts.{IsShortRow}
+use Rattle.dimensions.specs.Coded.{text_beside, place_texts, texts_below, texts_at_places, coded_at, AreCodedRows, AreGoodRows, place_total, HaveProperColumns, AreDistinct}
 use Rattle.dimensions.specs.Tables.{column_at}
 use Rattle.dimensions.specs.Shown.{text_up, each_row, table_row, table_rows}
 use Rattle.dimensions.proofs.MemberLaws.{length-members}
@@ -25,7 +24,7 @@ use Rattle.dimensions.proofs.ShapeLaws.{lower_below}
 use Rattle.dimensions.proofs.ShortLaws.{all_at, all_map}
 use Rattle.dimensions.proofs.CodeLaws.{coded}
 use Rattle.dimensions.proofs.CodedTexts.{all_from_get, all_firsts, IsDetermined, firsts_at_places}
-use Rattle.dimensions.proofs.CodedTables.{each_row-length, each_row-get, each_row-map, each_row-of, AreInOrder, IsGood, column_up, column_is, image, image_column, good}
+use Rattle.dimensions.proofs.CodedTables.{each_row-length, each_row-get, each_row-map, each_row-of, AreInOrder, column_up, column_is, image, image_column, good}
 
 -- ---- pairs
 

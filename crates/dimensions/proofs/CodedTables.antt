@@ -1,5 +1,5 @@
 -- A table whose columns have codes in order is that of its rows.
-use Rattle.std.proofs.Common.{◌≡◌, ◌<◌, ◌≤◌, ◌+◌, ◌∙◌, zero, suc, sym, ap, refl, subst, arith, ℕ, List, [], ◌∷◌, map, length, get_or, unwrap_or, Option, Some, None}
+use Rattle.std.proofs.Common.{◌≡◌, ◌<◌, ◌≤◌, ◌∙◌, zero, suc, sym, ap, refl, subst, arith, ℕ, List, [], ◌∷◌, map, length, get_or, unwrap_or, Option, Some, None}
 use Rattle.std.specs.List.{position_or_len}
 use Rattle.std.specs.Option.{option_map}
 use Rattle.std.specs.Str.{bytes_eq}
@@ -11,9 +11,9 @@ use Rattle.dictionary.specs.Dictionary.{EachOnce, firsts}
 use Rattle.dictionary.specs.Columns.{AreCodes, codes_of, text_at}
 use Rattle.dimensions.specs.declared.column.Column.{Column}
 use Rattle.dimensions.specs.declared.table.Table.{Table}
-use Rattle.dimensions.specs.TextRows.{TextRow, text_in, column_of}
+use Rattle.dimensions.specs.TextRows.{text_in, column_of}
 use Rattle.dimensions.specs.Shapes.{lowers_of, lower_of}
-use Rattle.dimensions.specs.Columns.{code_at, place_of, place_count, IsColumn}
+use Rattle.dimensions.specs.Columns.{code_at, IsColumn}
 use Rattle.dimensions.specs.Coded.{place_texts, texts_below, texts_at_places}
 use Rattle.dimensions.specs.Tables.{column_at, lower_texts, IsTable}
 use Rattle.dimensions.specs.Shown.{code_up, text_up, each_row, table_row, table_rows}

@@ -1,11 +1,10 @@
 -- Texts that other texts determine, and the texts at the places of a column.
-use Rattle.std.proofs.Common.{◌≡◌, ◌<◌, ◌≤◌, ◌+◌, ◌∙◌, zero, suc, sym, ap, refl, subst, arith, cond, not, ℕ, Bool, true, false, List, [], ◌∷◌, map, length, get_or, slice_get, Option, Some, None}
+use Rattle.std.proofs.Common.{◌≡◌, ◌<◌, ◌∙◌, zero, suc, sym, ap, refl, arith, cond, not, ℕ, Bool, true, false, List, [], ◌∷◌, map, length, get_or, slice_get, Some}
 use Rattle.std.specs.List.{filter, list_any, position_or_len, AllByRecursion}
 use Rattle.std.specs.Str.{bytes_eq}
-use Rattle.std.proofs.lemmas.List.{ext_get_or, length-map, get_or-map}
+use Rattle.std.proofs.lemmas.List.{get_or-map}
 use Rattle.dictionary.specs.Dictionary.{EachOnce, firsts}
-use Rattle.dictionary.specs.Columns.{codes_of, place_of}
-use Rattle.dictionary.proofs.CallerLemmas.{bytes_eq-same, bytes_eq-refl, list_any_here, list_any-firsts, place_within, text_at_place, place_again, EachOnce-firsts}
+use Rattle.dictionary.proofs.CallerLemmas.{bytes_eq-same, bytes_eq-refl, list_any_here, place_within, text_at_place, place_again}
 use Rattle.dimensions.specs.Coded.{text_beside, place_texts}
 
 -- ---- items by index

@@ -1,10 +1,9 @@
 -- Keys that are all different, and the rows of keys that are read one by one.
-use Rattle.std.proofs.Common.{◌≡◌, ◌≢◌, ◌<◌, ◌≤◌, ◌+◌, ◌∙◌, ◌==◌, zero, suc, sym, ap, refl, subst, arith, cond, not, true≢false, ℕ, Bool, true, false, nat_eq, nat_lt, List, [], ◌∷◌, ◌++◌, length, get_or, take, position, unwrap_or, Option, Some, None, if◌then◌else◌}
-use Rattle.std.specs.List.{AllByRecursion, position_or_len}
-use Rattle.std.proofs.lemmas.Bool.{eqb-true, eqb-false, eq-eqb}
+use Rattle.std.proofs.Common.{◌≡◌, ◌≢◌, ◌<◌, ◌+◌, ◌∙◌, ◌==◌, zero, suc, sym, ap, refl, arith, cond, not, ℕ, Bool, true, false, nat_eq, nat_lt, List, [], ◌∷◌, ◌++◌, length, get_or, take, position, unwrap_or, Option, Some, None, if◌then◌else◌}
+use Rattle.std.specs.List.{position_or_len}
+use Rattle.std.proofs.lemmas.Bool.{eqb-true, eq-eqb}
 use Rattle.std.proofs.lemmas.Grind.{common_steps}
 use Rattle.std.proofs.lemmas.List.{take_more}
-use Rattle.cube_model.specs.Lawful.{EachPair}
 use Rattle.dimensions.specs.Coded.{AreDistinct}
 use Rattle.dimensions.proofs.CodedTexts.{all_from_get}
 use Rattle.dimensions.proofs.KeyMapLaws.{position-push_kept, position-push_new, position-push_same}

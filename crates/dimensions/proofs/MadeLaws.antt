@@ -1,5 +1,5 @@
 -- Tables and dimensions that are made of rows by codes.
-use Rattle.std.proofs.Common.{◌≡◌, ◌≢◌, ◌<◌, ◌≤◌, ◌+◌, ◌∙◌, ◌⊎◌, inl, inr, zero, suc, sym, ap, refl, subst, arith, ℕ, List, [], ◌∷◌, ◌++◌, map, length, get_or, codes, Option, Some, None}
+use Rattle.std.proofs.Common.{◌≡◌, ◌≢◌, ◌<◌, ◌≤◌, ◌+◌, ◌∙◌, ◌⊎◌, inl, inr, zero, suc, sym, ap, refl, subst, arith, ℕ, List, [], ◌∷◌, ◌++◌, map, length, get_or, codes, Some, None}
 use Rattle.std.specs.List.{AllByRecursion}
 use Rattle.std.specs.Fmt.{decimal}
 use Rattle.std.proofs.lemmas.List.{length-map}
@@ -12,7 +12,7 @@ use Rattle.cube_model.specs.declared.rows.DimRows.{DimRows}
 use Rattle.cube_model.specs.declared.rows.DateRow.{DateRow}
 use Rattle.cube_model.specs.Lawful.{EachPair, KeepsRules, KeepAllRules, ValidRowsKeepTheRules}
 use Rattle.cube_model.specs.Limits.{longest_text, most_members}
-use Rattle.cube_model.specs.Validity.{Rules, members_of, HaveShortTexts, IsValid, customer_rules, supplier_rules, part_rules, date_rules}
+use Rattle.cube_model.specs.Validity.{Rules, members_of, HaveShortTexts, IsValid}
 use Rattle.dictionary.specs.Columns.{codes_of}
 use Rattle.dictionary.specs.Dictionary.{firsts}
 use Rattle.dictionary.specs.Spelling.{AreProper, AreShort}
@@ -22,18 +22,18 @@ use Rattle.dimensions.specs.declared.coded.CodedRows.{CodedRows}
 use Rattle.dimensions.specs.declared.column.Column.{Column}
 use Rattle.dimensions.specs.declared.dimension.Dimension.{Dimension}
 use Rattle.dimensions.specs.declared.table.Table.{Table}
-use Rattle.dimensions.specs.TextRows.{TextRow, row_of_customer, row_of_supplier, row_of_part, row_of_date}
+use Rattle.dimensions.specs.TextRows.{row_of_customer, row_of_supplier, row_of_part, row_of_date}
 use Rattle.dimensions.specs.Shapes.{lowers_of, lower_of, text_rules}
-use Rattle.dimensions.specs.ShortTexts.{IsShortRow, AreShortRows}
-use Rattle.dimensions.specs.Coded.{IsCodedColumn, no_coded, coded_at, AreCodedRows, AreGoodRows, HaveTexts, place_total, HaveProperColumns, AreDistinct}
+use Rattle.dimensions.specs.ShortTexts.{IsShortRow}
+use Rattle.dimensions.specs.Coded.{no_coded, coded_at, AreCodedRows, AreGoodRows, HaveTexts, place_total, HaveProperColumns, AreDistinct}
 use Rattle.dimensions.specs.Made.{IsTableOf, IsDimensionOf, IsRefusal, AreCodedDims, StandForNone, StandForNoRows}
 use Rattle.dimensions.specs.Tables.{no_column, column_at, columns_from, IsTable}
-use Rattle.dimensions.specs.Shown.{IsDimension, rows_on, each_row, table_rows, shown_customer, shown_supplier, shown_part, shown_date, shown_rows, AreDimensions}
+use Rattle.dimensions.specs.Shown.{IsDimension, rows_on, table_rows, shown_customer, shown_supplier, shown_part, shown_date, shown_rows, AreDimensions}
 use Rattle.dimensions.proofs.Refusals.{rules_through}
 use Rattle.dimensions.proofs.ShapeLaws.{lower_below}
 use Rattle.dimensions.proofs.ShortLaws.{all_at, all_map, all_unmap}
 use Rattle.dimensions.proofs.CodedRules.{pairs_map, pairs_unmap, good_rows, proper_columns, distinct_keys}
-use Rattle.dimensions.proofs.CodedTables.{each_row-length, each_row-map, each_row-of, places_in, IsInOrder, AreInOrder, placed, placed_firsts, placed_codes, places_are, table_is}
+use Rattle.dimensions.proofs.CodedTables.{each_row-map, places_in, IsInOrder, AreInOrder, placed_firsts, placed_codes, places_are, table_is}
 use Rattle.dimensions.proofs.ShownLaws.{are_dimensions}
 
 -- ---- a table

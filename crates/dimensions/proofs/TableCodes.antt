@@ -1,5 +1,5 @@
 -- The texts and the codes that the columns of a table have, by the rows.
-use Rattle.std.proofs.Common.{◌≡◌, ◌<◌, ◌≤◌, ◌∙◌, zero, suc, sym, ap, refl, subst, arith, ℕ, true, List, [], ◌∷◌, map, length, get_or, All, Option, Some, None}
+use Rattle.std.proofs.Common.{◌≡◌, ◌<◌, ◌≤◌, ◌∙◌, zero, suc, sym, ap, refl, subst, arith, ℕ, true, List, [], ◌∷◌, map, length, get_or, Some, None}
 use Rattle.std.specs.List.{AllByRecursion, list_any, position_or_len}
 use Rattle.std.specs.Option.{option_map}
 use Rattle.std.specs.Str.{bytes_eq}
@@ -14,7 +14,7 @@ use Rattle.dictionary.proofs.CallerLemmas.{bytes_eq-refl, list_any_here, list_an
 use Rattle.dimensions.specs.declared.table.Table.{Table}
 use Rattle.dimensions.specs.TextRows.{TextRow, text_in, column_of}
 use Rattle.dimensions.specs.Shapes.{lowers_of, lower_of}
-use Rattle.dimensions.specs.ShortTexts.{IsShortRow, AreShortRows}
+use Rattle.dimensions.specs.ShortTexts.{AreShortRows}
 use Rattle.dimensions.specs.Columns.{code_at, IsColumn}
 use Rattle.dimensions.specs.Coded.{place_texts, texts_below, texts_at_places}
 use Rattle.dimensions.specs.Tables.{column_at, lower_texts, IsTable}

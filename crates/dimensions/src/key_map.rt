@@ -1,5 +1,5 @@
 //! From keys to row indexes.
-ghost use Rattle.std.specs.Prelude.{◌≡◌, ◌==◌, ◌<◌, ◌≤◌, ◌+◌, ◌^◌, ℕ, Some, None, nat_eq, position, length, vec_len, slice_index, slice_set, if◌then◌else◌, IfOk, OnOk, OnErr, IfSome};
+ghost use Rattle.std.specs.Prelude.{◌≡◌, ◌==◌, ◌<◌, ◌≤◌, ◌+◌, ◌^◌, ℕ, Some, None, false, nat_eq, position, length, vec_len, slice_index, slice_set, if◌then◌else◌, IfOk, OnOk, OnErr, IfSome};
 ghost use Rattle.std.specs.List.{AllWithin};
 ghost use Rattle.cube_model.specs.Limits.{most_dimension_rows};
 ghost use Rattle.dimensions.specs.Entries.{entry_row};
@@ -11,7 +11,7 @@ use std::collections::HashMap;
 const WIDTH_SPARED: usize = 65536;
 
 /// The row indexes of keys: direct entries from a first key on, read at the key, and a map by hash for the keys
-/// elsewhere.
+/// elsewhere. Keys that come one after the other have direct entries from the start.
 ///
 /// An entry is 0 for a key that is not there, and otherwise one more than the key's row index.
 #[derive(Drop)]
@@ -65,6 +65,23 @@ impl KeyMap {
             self.direct[(key - self.first) as usize] = row + 1;
             return Ok(());
         }
+        if self.direct.is_empty() {
+            self.first = key;
+        }
+        self.put_behind(key, row)
+    }
+
+    // Puts a key that has no direct entry: direct where it comes next behind them, else by hash.
+    fn put_behind(&mut self, key: u32, row: u32) -> Result<(), AllocError>
+        requires row { row < 4294967295 }
+        requires elsewhere { covers self.old key ≡ false }
+        ensures ok { OnOk result ((other : ℕ) → row_index_in self.new other ≡ (if nat_eq key other then Some row else row_index_in self.old other)) }
+        ensures err { OnErr result ((other : ℕ) → row_index_in self.new other ≡ row_index_in self.old other) }
+    {
+        if self.first <= key && (key - self.first) as usize == self.direct.len() {
+            self.direct.push(row + 1)?;
+            return Ok(());
+        }
         self.hashed.insert(key, row)?;
         Ok(())
     }
@@ -93,6 +110,9 @@ impl KeyMap {
         requires few { length keys.now < 2 ^ 32 }
         ensures { (key : ℕ) → row_index_in self.new key ≡ position (λ other. other == key) keys.now }
     {
+        if self.hashed.is_empty() {
+            return Ok(()); // each key has a direct entry
+        }
         if let Some(map) = KeyMap::dense(alloc, keys)? {
             *self = map;
         }

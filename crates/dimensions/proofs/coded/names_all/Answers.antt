@@ -1,8 +1,8 @@
-use Rattle.std.proofs.Common.{◌≡◌, ◌≢◌, ◌↔◌, ◌∙◌, sym, refl, true≢false, ℕ, Bool, true, false, List, [], ◌∷◌, codes, is_some, IsTrue, Option, Some, None}
+use Rattle.std.proofs.Common.{◌≡◌, ◌≢◌, ◌↔◌, ◌∙◌, sym, refl, true≢false, ℕ, Bool, false, List, [], ◌∷◌, codes, is_some, IsTrue, Option, Some, None}
 use Rattle.std.specs.List.{AllByRecursion, list_any}
 use Rattle.std.specs.Str.{bytes_eq}
 use Rattle.dictionary.specs.Dictionary.{code_of}
-use Rattle.dictionary.proofs.CallerLemmas.{absent, present, bytes_eq-apart, bytes_eq-refl, bytes_eq-symm, or_both, or_first, or_second}
+use Rattle.dictionary.proofs.CallerLemmas.{absent, present, bytes_eq-apart, bytes_eq-refl, or_both, or_first, or_second}
 use Rattle.dimensions.proofs.coded.names_all.Goals as goal
 
 module _ (text : List ℕ) where

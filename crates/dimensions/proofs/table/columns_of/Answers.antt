@@ -1,5 +1,4 @@
-use Rattle.std.proofs.Common.{◌≡◌, ◌+◌, ◌∙◌, ◌++◌, ◌∷◌, [], sym, ap, arith, length}
-use Rattle.dimensions.specs.declared.column.Column.{Column}
+use Rattle.std.proofs.Common.{◌≡◌, ◌+◌, ◌∙◌, ◌++◌, ◌∷◌, [], ap, arith, length}
 use Rattle.dimensions.specs.Shapes.{lower_of}
 use Rattle.dimensions.proofs.MadeLaws.{columns_from-length, columns_from-push}
 use Rattle.dimensions.proofs.table.columns_of.Goals as goal

@@ -1,9 +1,7 @@
-use Rattle.std.proofs.Common.{◌≡◌, ◌≤◌, ◌∙◌, ap, map, arith, length}
+use Rattle.std.proofs.Common.{◌∙◌, ap, map}
 use Rattle.std.specs.Fmt.{decimal}
 use Rattle.std.proofs.lemmas.Result.{err_from_is_err_and}
-use Rattle.cube_model.specs.declared.attr.Axis.TheVariants.{Date}
-use Rattle.dimensions.specs.Shown.{shown_rows, table_row}
-use Rattle.dimensions.proofs.CodedTables.{each_row-length}
+use Rattle.dimensions.specs.Shown.{shown_rows}
 use Rattle.dimensions.proofs.MadeLaws.{coded_all, dimensions_shown, keep_shown, short_shown, refused_customers, refused_suppliers, refused_parts, refused_dates}
 use Rattle.dimensions.proofs.dims.Dims.of_coded.Goals as goal
 

@@ -1,4 +1,4 @@
-use Rattle.std.proofs.Common.{◌≡◌, ◌<◌, ◌≤◌, ◌+◌, ◌==◌, ◌∙◌, inl, inr, sym, ap, refl, arith, ℕ, List, length, get_or, position, unwrap_or, Some, subst}
+use Rattle.std.proofs.Common.{◌≡◌, ◌<◌, ◌==◌, ◌∙◌, inl, inr, sym, ap, refl, arith, ℕ, List, length, get_or, position, unwrap_or, Some, subst}
 use Rattle.std.proofs.lemmas.Bool.{cases_lt}
 use Rattle.std.proofs.lemmas.List.{get_or_read}
 use Rattle.dimensions.proofs.KeyLaws.{distinct_place, own_first, place_of_some, places_distinct, some_of_place}

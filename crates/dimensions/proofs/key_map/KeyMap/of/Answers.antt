@@ -1,4 +1,4 @@
-use Rattle.std.proofs.Common.{◌≡◌, ◌==◌, ◌∙◌, ℕ, sym, arith, take, position, length, Option, Some, None, is_some, not, ap, true, false, true≢false}
+use Rattle.std.proofs.Common.{◌≡◌, ◌==◌, ◌∙◌, ℕ, sym, arith, take, position, Option, Some, None, is_some, not, ap, true, false, true≢false}
 use Rattle.std.proofs.lemmas.Grind.{common_steps}
 use Rattle.dimensions.specs.KeyMaps.{row_index_in}
 use Rattle.dimensions.proofs.KeyLaws.{new_row, old_row}
