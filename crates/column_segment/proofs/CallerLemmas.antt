@@ -32,7 +32,7 @@ numbers-one n (x ∷ some) (y ∷ others) xs ys many fit also same =
     cons a b as_ bs head tail = rw (head, tail) refl
 
 -- bytes begin with one column of so many texts at most
-texts-one : (column others : List (List ℕ)) (xs ys : List ℕ) → length column ≡ length others → length column ≤ most_batch_rows → AreShort column → AreShort others
+pub texts-one : (column others : List (List ℕ)) (xs ys : List ℕ) → length column ≡ length others → length column ≤ most_batch_rows → AreShort column → AreShort others
     → column_spelling column ++ xs ≡ column_spelling others ++ ys → (column ≡ others) × (xs ≡ ys)
 texts-one column others xs ys many few short also same =
     let c1 : List ℕ = codes_of column in
@@ -97,7 +97,7 @@ columns-one (column ∷ columns) rows others xs ys many wide fit also same =
 abbrev SameTexts : List TextColumn → List LineOrder → List LineOrder → Type 0
 SameTexts columns rows others = AllByRecursion (λ column. map (text_of column) rows ≡ map (text_of column) others) columns
 
-shorts : (rows : List LineOrder) → IsBatch rows → (column : TextColumn) → AreShort (map (text_of column) rows)
+pub shorts : (rows : List LineOrder) → IsBatch rows → (column : TextColumn) → AreShort (map (text_of column) rows)
 shorts rows batch column = All-map (λ (text : List ℕ). length text ≤ longest_text) (text_of column) rows (batch.short column)
 
 text_columns-one : (columns : List TextColumn) (rows others : List LineOrder) (xs ys : List ℕ) → length rows ≡ length others → IsBatch rows → IsBatch others
@@ -195,7 +195,11 @@ rows-one (one ∷ rows) (other ∷ others) many same texts =
 
 -- ---- the whole
 
-header-one : (number count others other : ℕ) (xs ys : List ℕ) → number < 2 ^ 32 → count < 2 ^ 32 → others < 2 ^ 32 → other < 2 ^ 32
+-- the name, the number and how many rows, one behind the other
+pub header-append : (n c : ℕ) (rest : List ℕ) → header_of n c ++ rest ≡ codes "SEG1" ++ (spelling 4 n ++ (spelling 4 c ++ rest))
+header-append n c rest = append_assoc (codes "SEG1") (spelling 4 n ++ spelling 4 c) rest ∙ ap (λ (part : List ℕ). codes "SEG1" ++ part) (append_assoc (spelling 4 n) (spelling 4 c) rest)
+
+pub header-one : (number count others other : ℕ) (xs ys : List ℕ) → number < 2 ^ 32 → count < 2 ^ 32 → others < 2 ^ 32 → other < 2 ^ 32
     → header_of number count ++ xs ≡ header_of others other ++ ys → (number ≡ others) × (count ≡ other) × (xs ≡ ys)
 header-one number count others other xs ys fit1 fit2 fit3 fit4 same =
     let parts : codes "SEG1" ++ (spelling 4 number ++ (spelling 4 count ++ xs)) ≡ codes "SEG1" ++ (spelling 4 others ++ (spelling 4 other ++ ys)) =
@@ -204,9 +208,6 @@ header-one number count others other xs ys fit1 fit2 fit3 fit4 same =
     let first = spelling-one 4 number others (spelling 4 count ++ xs) (spelling 4 other ++ ys) fit1 fit3 left in
     let second = spelling-one 4 count other xs ys fit2 fit4 first.1 in
     (first.0, second.0, second.1)
-  where
-    header-append : (n c : ℕ) (rest : List ℕ) → header_of n c ++ rest ≡ codes "SEG1" ++ (spelling 4 n ++ (spelling 4 c ++ rest))
-    header-append n c rest = append_assoc (codes "SEG1") (spelling 4 n ++ spelling 4 c) rest ∙ ap (λ (part : List ℕ). codes "SEG1" ++ part) (append_assoc (spelling 4 n) (spelling 4 c) rest)
 
 wide : Wide number_columns
 wide = (omega arith, (omega arith, (omega arith, (omega arith, (omega arith, (omega arith, (omega arith, (omega arith, (omega arith, (omega arith, (omega arith, (omega arith, (omega arith, tt)))))))))))))

@@ -1,4 +1,13 @@
 pub mod CallerLemmas
 mod Behind
+mod Chunked
 mod Coded
+mod Header
+mod Parts
+mod Passes
+mod Refused
 mod Short
+mod Tests
+mod Totals
+mod Values
+mod Whole

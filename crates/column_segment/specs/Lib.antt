@@ -1,3 +1,6 @@
-pub mod Columns
-pub mod Segment
+pub mod Batch
 pub mod Coding
+pub mod Columns
+pub mod Decoded
+pub mod Reading
+pub mod Segment

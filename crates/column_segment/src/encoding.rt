@@ -12,7 +12,7 @@ use std::alloc::Global;
 use wire::{push_bytes, push_u8, push_u32, push_u64};
 
 // The first bytes of each segment.
-const NAME: &[u8] = b"SEG1";
+pub(crate) const NAME: &[u8] = b"SEG1";
 
 // How many bytes a row takes at least, and the header with the numbers of texts.
 const ROW_BYTES: usize = 71;

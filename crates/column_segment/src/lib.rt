@@ -6,8 +6,14 @@ mod coding;
 mod columns;
 mod encoding;
 mod laws;
+mod layout;
+mod reading;
+mod rows;
+mod segment;
+mod sums;
 
 pub use batch::is_batch;
 pub use columns::{AmountColumn, ByteColumn, NumberColumn, TextColumn};
 pub use encoding::encode;
 pub use laws::bytes_are_one_batch;
+pub use segment::{Segment, decode};

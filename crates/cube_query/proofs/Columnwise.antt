@@ -57,13 +57,7 @@ module _ (aggs : List Agg) (rows : List LineOrder) (group_slots : List (Option �
       → (agg : Agg) (column : Vec Tally Global) → HasRoom (get_or aggs n agg) (get_or now n column).items rows group_slots
   HasRoom-at old now n same h room below agg column =
       subst (λ (c : Vec Tally Global). HasRoom (get_or aggs n agg) c.items rows group_slots) (sym (below.kept n (omega arith) column))
-      (λ place slot at.
-      let given = room place slot at in (
-        All-at (λ (column : Vec Tally Global). slot < length column.items) old given.0 n (omega (arith, same, h)) column,
-        given.1,
-        tallies-one aggs old slot given.1 given.2 n h agg column,
-        given.3 (get_or aggs n agg),
-      ))
+      (room n h agg column)
 
 module _ (aggs : List Agg) (added : ℕ → List LineOrder) where
   pub AreAddedBelow-set : (old now : List (Vec Tally Global)) (n : ℕ) (column : Vec Tally Global) → length old ≡ length aggs → n < length aggs → AreAddedBelow n aggs added old now

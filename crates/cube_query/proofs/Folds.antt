@@ -26,7 +26,7 @@ use Rattle.cube_query.specs.declared.tally.Tally.{Tally}
 use Rattle.group_plan.specs.Numbers.{group_count, key_at}
 use Rattle.group_plan.specs.Plans.{IsPlanOver, count_of, query_of}
 use Rattle.group_plan.specs.declared.plan.Plan.{Plan}
-use Rattle.cube_query.proofs.Marking.{key_eq-same, key_eq-true, keys_apart}
+use Rattle.cube_query.proofs.Marking.{key_eq-same, key_eq-true, keys_apart, slotted-none}
 use Rattle.cube_query.proofs.Seen.{some_seen}
 use Rattle.cube_query.proofs.Steps.{AreTallied-grow, AreTallied-count, HaveRoom-foldable}
 
@@ -192,7 +192,7 @@ module _ (dimensions : DimRows) (plan : Plan) (over : IsPlanOver dimensions plan
       pub HaveRoom-ready : (so_far : List LineOrder) → StandsFor dimensions (shown plan old columns) so_far → AreFoldable dimensions (so_far ++ rows) → AllByRecursion (λ column. length (entries_of new) ≤ length column.items) longer
           → HaveRoom (query_of plan).aggregates longer rows group_slots
       HaveRoom-ready so_far stands foldable long =
-          HaveRoom-foldable dimensions (finest (query_of plan)) (entries_of new) longer so_far rows group_slots refl over.rising grow.slots
+          HaveRoom-foldable dimensions (finest (query_of plan)) (entries_of new) longer so_far rows group_slots grow.slots
           (AreGroupSlots-finest dimensions (query_of plan) (entries_of new) rows group_slots group_slots_are) long foldable
           (tallied_ready so_far (tallied_for old columns kept so_far stands))
 
@@ -203,12 +203,14 @@ module _ (dimensions : DimRows) (plan : Plan) (over : IsPlanOver dimensions plan
             (AreGroupSlots-finest dimensions (query_of plan) (entries_of new) rows group_slots group_slots_are) count
             (tallied_ready so_far (tallied_for old columns kept so_far stands))
 
-        pub kept_count : (so_far : List LineOrder) → StandsFor dimensions (shown plan old columns) so_far → IsKept plan new counted
-        kept_count so_far stands = record {
+        pub kept_count : IsKept plan new counted
+        kept_count = record {
           proper = kept.proper;
           numbers = kept_ready.numbers;
           cover = kept_ready.cover;
-          fresh = (tallied_count so_far stands).fresh;
+          fresh = λ slot h.
+              count slot [] (kept_ready.fresh slot h)
+              ∙ ap (tallies_of (query_of plan).aggregates) (slotted-none dimensions (query_of plan) (group_count dimensions (query_of plan).columns) (entries_of new) grow.slots rows group_slots group_slots_are slot h);
         }
 
         pub stands_count : (so_far : List LineOrder) → StandsFor dimensions (shown plan old columns) so_far → StandsFor dimensions (shown plan new counted) (so_far ++ rows)

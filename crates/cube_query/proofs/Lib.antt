@@ -11,6 +11,7 @@ pub mod Marking
 pub mod OneRow
 pub mod Placing
 pub mod Ranges
+pub mod Rooms
 pub mod Seen
 pub mod Steps
 pub mod Sums

@@ -5,7 +5,10 @@ use Rattle.std.specs.declared.cmp.Ordering.{Ordering}
 use Rattle.std.specs.declared.cmp.Ordering.TheVariants.{Less}
 use Rattle.std.specs.Ordering.{nat_cmp, eq_by_cmp}
 use Rattle.std.proofs.lemmas.Cmp.{nat_cmp_total, eq_by_cmp_equiv}
+use Rattle.std.proofs.lemmas.List.{get_or_default, length-map}
 use Rattle.cube_model.specs.Ascending.{IsAscending}
+use Rattle.cube_model.specs.declared.rows.LineOrder.{LineOrder}
+use Rattle.group_plan.specs.Rows.{no_row, row_at}
 
 each_from : {X : Type 0} (P : X → Type 0) (xs : List X) → ((j : ℕ) (d : X) → j < length xs → P (get_or xs j d)) → AllByRecursion P xs
 each_from P [] each = tt
@@ -51,3 +54,13 @@ get_or-map f (x ∷ xs) (suc i) d h = get_or-map f xs i d (omega (arith, h))
 pub length_same : {X Y : Type 0} (f : X → Y) (xs : List X) → length (map f xs) ≡ length xs
 length_same f [] = refl
 length_same f (x ∷ xs) = ap suc (length_same f xs)
+
+-- where the numbers of bytes are those of rows, so are they at each place
+pub number_at_place : (f : List ℕ → ℕ) (column : List (List ℕ)) (number : LineOrder → ℕ) (rows : List LineOrder) (place : ℕ) (default : List ℕ)
+    → map f column ≡ map number rows → place < length rows → f (get_or column place default) ≡ number (row_at rows place)
+number_at_place f column number rows place default same h =
+    let many : length column ≡ length rows = sym (length-map column f) ∙ ap length same ∙ length-map rows number in
+    sym (get_or-map f column place default (omega (arith, h, many)))
+    ∙ ap (λ numbers. get_or numbers place (f default)) same
+    ∙ get_or_default (map number rows) place (f default) (number no_row) (omega (arith, h, length-map rows number))
+    ∙ get_or-map number rows place no_row h

@@ -1,6 +1,6 @@
 -- How a fold goes on: to more slots, and to more rows.
-use Rattle.std.proofs.Common.{◌≡◌, ◌∙◌, sym, ap, refl, subst, ℕ, ◌<◌, ◌≤◌, List, [], ◌∷◌, ◌++◌, length, Some, None, arith, inl, inr}
-use Rattle.std.specs.Prelude.{Option}
+use Rattle.std.proofs.Common.{◌≡◌, ◌∙◌, sym, ap, refl, subst, ℕ, ◌<◌, ◌≤◌, List, [], ◌∷◌, ◌++◌, map, get_or, length, length-append, Some, None, arith, inl, inr}
+use Rattle.std.specs.Prelude.{Option, nat_abs}
 use Rattle.std.specs.BTreeMap.{is_at}
 use Rattle.std.specs.List.{AllByRecursion}
 use Rattle.std.specs.Map.{lookup}
@@ -12,19 +12,27 @@ use Rattle.cube_model.specs.declared.query.Query.{Query}
 use Rattle.cube_model.specs.declared.query.Kind.TheVariants.{Plain}
 use Rattle.cube_model.specs.declared.rows.DimRows.{DimRows}
 use Rattle.cube_model.specs.declared.rows.LineOrder.{LineOrder}
-use Rattle.cube_model.specs.Keys.{key_cmp}
-use Rattle.cube_query.specs.Columns.{tallies_at, IsCountable}
+use Rattle.std.specs.List.{filter, list_any}
+use Rattle.std.specs.Ordering.{eq_by_cmp}
+use Rattle.std.proofs.lemmas.List.{length-map}
+use Rattle.std.proofs.lemmas.List.Sums.{sum_by-append, sum_by-cons}
+use Rattle.cube_model.specs.Keys.{key_cmp, keys_of}
+use Rattle.cube_model.specs.Selection.{is_selected}
+use Rattle.cube_query.specs.Columns.{tallies_at, tally_at, can_add, chosen, size_of}
 use Rattle.cube_query.specs.Groups.{groups_of, rows_at}
 use Rattle.cube_query.specs.Limits.{AreFoldable}
 use Rattle.group_plan.specs.Numbers.{group_count, key_at, KeysRise}
 use Rattle.cube_query.specs.Slots.{slot_of, AreSlots, Grow}
 use Rattle.cube_query.specs.FoldInvariant.{AreGroupSlots, HaveRoom, CountIn, AreTallied}
-use Rattle.cube_query.specs.Tallies.{tallies_of, tallies_if_any}
+use Rattle.cube_query.specs.Tallies.{number_of, tally_of, tallies_of, tallies_if_any}
 use Rattle.cube_query.specs.declared.tally.Tally.{Tally}
 use Rattle.cube_query.proofs.Answered.{groups_have}
 use Rattle.cube_query.proofs.Marking.{keys_apart, slotted-none, rows_at-none, rows_at-slotted, AreGroupSlots-at}
 use Rattle.cube_query.proofs.OneRow.{rows_at-append}
-use Rattle.cube_query.proofs.Ranges.{IsCountable-at}
+use Rattle.cube_query.proofs.Columnwise.{All-at, tallies-length, tallies-one}
+use Rattle.cube_query.proofs.Counting.{fits-can_add}
+use Rattle.cube_query.proofs.Ranges.{range_of_agg}
+use Rattle.cube_query.proofs.Sums.{length-filter-le, nat_abs-total, sum_by-filter}
 
 -- ---- more slots
 pub AreTallied-grow : (dimensions : DimRows) (query : Query) (old new : List (ℕ × ℕ)) (columns longer : List (Vec Tally Global)) (rows : List LineOrder) → KeysRise dimensions query.columns
@@ -69,22 +77,42 @@ AreTallied-count dimensions query entries old new so_far rows group_slots plain 
     }
 
 -- ---- room for them
-All-weaker : {X : Type 0} (P Q : X → Type 0) (xs : List X) → ((x : X) → P x → Q x) → AllByRecursion P xs → AllByRecursion Q xs
-All-weaker P Q [] weaker all = tt
-All-weaker P Q (x ∷ xs) weaker all = (weaker x all.0, All-weaker P Q xs weaker all.1)
+size-chosen : (agg : Agg) (rows : List LineOrder) (group_slots : List (Option ℕ)) → size_of agg (chosen rows group_slots) ≤ size_of agg rows
+size-chosen agg [] group_slots = omega arith
+size-chosen agg (row ∷ rows) [] = omega arith
+size-chosen agg (row ∷ rows) (None ∷ group_slots) = omega (arith, size-chosen agg rows group_slots, sum_by-cons (λ row. nat_abs (number_of agg row)) row rows)
+size-chosen agg (row ∷ rows) (Some slot ∷ group_slots) =
+    let size = λ (row : LineOrder). nat_abs (number_of agg row) in
+    omega (arith, size-chosen agg rows group_slots, sum_by-cons size row rows, sum_by-cons size row (chosen rows group_slots))
 
-pub HaveRoom-foldable : (dimensions : DimRows) (query : Query) (entries : List (ℕ × ℕ)) (columns : List (Vec Tally Global)) (so_far rows : List LineOrder) (group_slots : List (Option ℕ)) → query.kind ≡ Plain → KeysRise dimensions query.columns
+-- rows that may be folded have room
+pub HaveRoom-foldable : (dimensions : DimRows) (query : Query) (entries : List (ℕ × ℕ)) (columns : List (Vec Tally Global)) (so_far rows : List LineOrder) (group_slots : List (Option ℕ))
     → AreSlots (group_count dimensions query.columns) entries → AreGroupSlots dimensions query entries rows group_slots → AllByRecursion (λ column. length entries ≤ length column.items) columns
     → AreFoldable dimensions (so_far ++ rows) → AreTallied dimensions query entries columns so_far → HaveRoom query.aggregates columns rows group_slots
-HaveRoom-foldable dimensions query entries columns so_far rows group_slots plain rising slots group_slots_are long foldable tallied = λ place slot at.
-    let found = AreGroupSlots-at dimensions query entries rows group_slots group_slots_are place slot at in
-    let key = key_at dimensions query.columns found.0 in
-    let within = slots.within found.0 slot found.1 in (
-      All-weaker (λ (column : Vec Tally Global). length entries ≤ length column.items) (λ (column : Vec Tally Global). slot < length column.items) columns (λ column h. omega (arith, within, h)) long,
-      rows_at dimensions query key so_far,
-      tallied.each found.0 slot found.1,
-      λ agg. subst (IsCountable agg)
-          (rows_at-append dimensions query key so_far rows
-          ∙ ap (λ more. rows_at dimensions query key so_far ++ more) (rows_at-slotted dimensions query plain rising entries slots found.0 slot found.1 rows group_slots group_slots_are))
-          (IsCountable-at dimensions query key (so_far ++ rows) foldable agg),
-    )
+HaveRoom-foldable dimensions query entries columns so_far rows group_slots slots group_slots_are long foldable tallied k h default column =
+    let aggs = query.aggregates in
+    let agg = get_or aggs k default in
+    let size = λ (row : LineOrder). nat_abs (number_of agg row) in
+    let number = number_of agg in
+    let p = is_selected dimensions query.conditions in
+    let total = range_of_agg (so_far ++ rows) foldable.in_range agg in
+    let both = sum_by-append size so_far rows in
+    let front = size-chosen agg rows group_slots in
+    let count = tallies-length aggs columns (length entries) [] (tallied.fresh (length entries) (omega arith)) in
+    record {
+      small = omega (arith, total, both, front);
+      each = λ place slot at.
+          let found = AreGroupSlots-at dimensions query entries rows group_slots group_slots_are place slot at in
+          let key = key_at dimensions query.columns found.0 in
+          let q = λ (row : LineOrder). list_any (eq_by_cmp key_cmp key) (keys_of dimensions query row) in
+          let own = rows_at dimensions query key so_far in
+          let within = slots.within found.0 slot found.1 in
+          let tally : tally_at (get_or columns k column).items slot ≡ tally_of (map number own) =
+          tallies-one aggs columns slot own (tallied.each found.0 slot found.1) k h default column in (
+            omega (arith, within, All-at (λ (column : Vec Tally Global). length entries ≤ length column.items) columns long k (omega (arith, h, count)) column),
+            ap (λ tally. can_add tally (length rows) (size_of agg (chosen rows group_slots))) tally
+                ∙ fits-can_add (tally_of (map number own)) (length rows) (size_of agg (chosen rows group_slots))
+                (omega (arith, foldable.few, length-append so_far rows, length-map own number, length-filter-le q (filter p so_far), length-filter-le p so_far))
+                (omega (arith, nat_abs-total number own, sum_by-filter size q (filter p so_far), sum_by-filter size p so_far, total, both, front)),
+          );
+    }

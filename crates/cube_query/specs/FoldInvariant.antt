@@ -1,6 +1,6 @@
 -- How the slots and the columns of a fold stand to the fact rows that were counted in. Our own.
-use Rattle.std.specs.Prelude.{◌≡◌, ℕ, ◌≤◌, ◌<◌, false, Option, Some, None, List, [], ◌∷◌, ◌++◌, length, map, slice_get}
-use Rattle.std.specs.List.{AllByRecursion, range_with_len}
+use Rattle.std.specs.Prelude.{◌≡◌, ℕ, ◌≤◌, ◌<◌, false, Option, Some, None, List, [], ◌∷◌, ◌++◌, length, map, slice_index_or}
+use Rattle.std.specs.List.{range_with_len}
 use Rattle.std.specs.declared.alloc.Global.{Global}
 use Rattle.std.specs.declared.vec.Vec.{Vec}
 use Rattle.cube_model.specs.declared.answer.Member.{Member}
@@ -10,7 +10,7 @@ use Rattle.cube_model.specs.declared.rows.DimRows.{DimRows}
 use Rattle.cube_model.specs.declared.rows.LineOrder.{LineOrder}
 use Rattle.cube_model.specs.Proper.{IsProper}
 use Rattle.cube_model.specs.Selection.{is_selected}
-use Rattle.cube_query.specs.Columns.{tallies_at, slotted, IsCountable}
+use Rattle.cube_query.specs.Columns.{tallies_at, slotted, HasRoom}
 use Rattle.cube_query.specs.Groups.{finest, rows_at}
 use Rattle.cube_query.specs.Limits.{AreFoldable}
 use Rattle.group_plan.specs.Numbers.{group_count, key_at, KeysRise, IsNumber}
@@ -35,12 +35,10 @@ AreGroupSlots dimensions query entries (row ∷ rows) [] = ⊥
 AreGroupSlots dimensions query entries (row ∷ rows) (group_slot ∷ group_slots) =
     IsGroupSlot dimensions query entries row group_slot × AreGroupSlots dimensions query entries rows group_slots
 
--- the slot of each row lies in all columns, and the tallies there have room for the rows of that slot
+-- each column has room for the rows
 abbrev pub HaveRoom : List Agg → List (Vec Tally Global) → List LineOrder → List (Option ℕ) → Type 0
-HaveRoom aggs columns rows group_slots = (place slot : ℕ) → slice_get group_slots place ≡ Some (Some slot)
-    → AllByRecursion (λ column. slot < length column.items) columns × (before : List LineOrder)
-    × (tallies_at columns slot ≡ tallies_of aggs before) × ((agg : Agg)
-    → IsCountable agg (before ++ slotted slot rows group_slots))
+HaveRoom aggs columns rows group_slots = (k : ℕ) → k < length aggs → (agg : Agg) (column : Vec Tally Global)
+    → HasRoom (slice_index_or aggs k agg) (slice_index_or columns k column).items rows group_slots
 
 -- the rows are counted in, each at its slot
 abbrev pub CountIn : List Agg → List LineOrder → List (Option ℕ) → List (Vec Tally Global)

@@ -51,6 +51,10 @@ pub record Begins (dimensions : DimRows) (query : Query) (fold : FoldState) : Ty
   pub query_is : fold.query ≡ query
   pub stands : StandsFor dimensions fold []
 
+-- the dimensions are those of a fold's beginning
+abbrev pub IsOver : DimRows → FoldState → Type 0
+IsOver dimensions fold = IsPlanOver dimensions fold.plan
+
 -- a fold over the dimensions of its beginning: it stands for fact rows that may be folded
 abbrev pub IsFoldOver : DimRows → FoldState → Type 0
 IsFoldOver dimensions fold = (rows : List LineOrder) × (StandsFor dimensions fold rows × AreFoldable dimensions rows)

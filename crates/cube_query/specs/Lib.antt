@@ -4,6 +4,8 @@ pub mod Groups
 pub mod Limits
 pub mod Numbered
 pub mod Ranks
+pub mod Room
+pub mod SegmentRows
 pub mod Slots
 pub mod FoldInvariant
 pub mod Tallies

@@ -5,62 +5,86 @@ ghost use Rattle.std.specs.Int.{w64};
 ghost use Rattle.cube_model.specs.declared.measure.Agg.{Agg};
 ghost use Rattle.cube_model.specs.declared.rows.LineOrder.{LineOrder};
 ghost use Rattle.cube_query.specs.Coarser.{gathered, AddsIn, CanMerge, HasMergeRoom, MayMerge, MergesIn};
-ghost use Rattle.cube_query.specs.Columns.{tally_at, tallies_at, is_seen, CountsIn, HasRoom};
+ghost use Rattle.cube_query.specs.Columns.{tally_at, tallies_at, is_seen, CountsIn, HasRoom, IsBounded};
 ghost use Rattle.cube_query.specs.FoldInvariant.{CountIn, HaveRoom};
+ghost use Rattle.group_plan.specs.Rows.{row_at};
 ghost use Rattle.cube_query.specs.Tallies.{merged, number_of, tallies_of, values_of};
 
 use crate::tally::Tally;
-use cube_model::{Agg, Items, LineOrder, Value};
+use cube_model::{Agg, Items, Value};
+use group_plan::FactRows;
 use std::alloc::{AllocError, Global};
 
-// What an aggregate is taken of.
-fn number_of(agg: Agg, row: &LineOrder) -> i64
-    requires { FitsSigned w64 (number_of agg row.now) }
-    ensures { result ≡ number_of agg row.now }
+/// What an aggregate is taken of, at the row at a place.
+pub fn number_at<F: FactRows>(agg: Agg, rows: &F, place: usize) -> i128
+    requires { place < length (F.rows rows.now) }
+    ensures { result ≡ number_of agg (row_at (F.rows rows.now) place) }
 {
     match agg {
         Agg::Count => 0,
         Agg::Sum(measure) | Agg::Min(measure) | Agg::Max(measure) | Agg::Avg(measure) => {
-            row.measure(measure) as i64
+            rows.measure(place, measure)
         }
     }
 }
 
-// Counts a row in at the slot of its group, if it has one.
-fn count_row(column: &mut [Tally], agg: Agg, row: &LineOrder, group_slot: Option<u32>)
-    requires { HasRoom agg column.old (row.now ∷ []) (group_slot ∷ []) }
-    ensures counted { CountsIn agg (row.now ∷ []) (group_slot ∷ []) column.old column.new }
+// The same, where it is small.
+fn small_number_at<F: FactRows>(agg: Agg, rows: &F, place: usize) -> i64
+    requires place { place < length (F.rows rows.now) }
+    requires small { FitsSigned w64 (number_of agg (row_at (F.rows rows.now) place)) }
+    ensures { result ≡ number_of agg (row_at (F.rows rows.now) place) }
+{
+    number_at(agg, rows, place) as i64
+}
+
+// Counts the row at a place in at the slot of its group, if it has one.
+fn count_row<F: FactRows>(
+    column: &mut [Tally],
+    agg: Agg,
+    rows: &F,
+    place: usize,
+    group_slot: Option<u32>,
+)
+    requires place { place < length (F.rows rows.now) }
+    requires room { HasRoom agg column.old (row_at (F.rows rows.now) place ∷ []) (group_slot ∷ []) }
+    ensures counted { CountsIn agg (row_at (F.rows rows.now) place ∷ []) (group_slot ∷ []) column.old column.new }
+    ensures bounded { IsBounded agg (row_at (F.rows rows.now) place ∷ []) (group_slot ∷ []) column.old column.new }
     ensures length { length column.new ≡ length column.old }
 {
     if let Some(slot) = group_slot {
         let tally = column[slot as usize];
-        column[slot as usize] = tally.after(number_of(agg, row));
+        column[slot as usize] = tally.after(small_number_at(agg, rows, place));
     }
 }
 
 /// Counts rows in at the slots of their groups. It takes no memory.
-pub fn count_in(column: &mut [Tally], agg: Agg, rows: &[LineOrder], group_slots: &[Option<u32>])
-    requires group_slots { length group_slots.now ≡ length rows.now }
-    requires room { HasRoom agg column.old rows.now group_slots.now }
-    ensures counted { CountsIn agg rows.now group_slots.now column.old column.new }
+pub fn count_in<F: FactRows>(
+    column: &mut [Tally],
+    agg: Agg,
+    rows: &F,
+    group_slots: &[Option<u32>],
+)
+    requires group_slots { length group_slots.now ≡ length (F.rows rows.now) }
+    requires room { HasRoom agg column.old (F.rows rows.now) group_slots.now }
+    ensures counted { CountsIn agg (F.rows rows.now) group_slots.now column.old column.new }
     ensures length { length column.new ≡ length column.old }
 {
-    for place in 0..rows.len() {
-        count_row(column, agg, &rows[place], group_slots[place]);
+    for place in 0..group_slots.len() {
+        count_row(column, agg, rows, place, group_slots[place]);
     }
 }
 
 /// Counts rows in at the slots of their groups, in all columns. It takes no memory.
-pub fn count_in_all(
+pub fn count_in_all<F: FactRows>(
     columns: &mut [Vec<Tally>],
     aggs: &[Agg],
-    rows: &[LineOrder],
+    rows: &F,
     group_slots: &[Option<u32>],
 )
     requires columns { length columns.old ≡ length aggs.now }
-    requires group_slots { length group_slots.now ≡ length rows.now }
-    requires room { HaveRoom aggs.now columns.old rows.now group_slots.now }
-    ensures { CountIn aggs.now rows.now group_slots.now columns.old columns.new }
+    requires group_slots { length group_slots.now ≡ length (F.rows rows.now) }
+    requires room { HaveRoom aggs.now columns.old (F.rows rows.now) group_slots.now }
+    ensures { CountIn aggs.now (F.rows rows.now) group_slots.now columns.old columns.new }
 {
     for i in 0..aggs.len() {
         let column = &mut columns[i];

@@ -1,25 +1,29 @@
 //! The slots of the groups of fact rows.
-ghost use Rattle.std.specs.Prelude.{◌≡◌, ℕ, List, Some, IfOk};
+ghost use Rattle.std.specs.Prelude.{◌≡◌, ◌≢◌, ◌<◌, ℕ, List, length, Some, Err, IfOk, IfErr};
 ghost use Rattle.std.specs.List.{All};
 ghost use Rattle.group_plan.specs.Numbers.{group_count, IsKnown};
+ghost use Rattle.group_plan.specs.Rows.{row_at};
 ghost use Rattle.cube_query.specs.Slots.{entries_of, slot_of, AreSlots, Cover, Grow};
 ghost use Rattle.cube_query.specs.FoldInvariant.{IsGroupSlot, AreGroupSlots};
 
 use crate::slots::Slots;
-use cube_model::LineOrder;
-use group_plan::PlanOver;
-use std::alloc::{AllocError, Global};
+use cube_model::Fault;
+use group_plan::{FactRows, PlanOver};
+use std::alloc::Global;
 
-// The slot of a fact row's group, if the row is selected.
-fn group_slot_of(
+// The slot of the group of the fact row at a place, if the row is selected.
+fn group_slot_of<F: FactRows>(
     plan: &PlanOver,
     slots: &mut Slots,
-    row: &LineOrder,
-) -> Result<Option<u32>, AllocError>
-    requires known { IsKnown plan.now.dimensions row.now }
+    rows: &F,
+    place: usize,
+) -> Result<Option<u32>, Fault>
+    requires place { place < length (F.rows rows.now) }
     requires cover { Cover (group_count plan.now.dimensions plan.now.query.columns) slots.old }
-    ensures group_slot { IfOk result (λ group_slot.
-        IsGroupSlot plan.now.dimensions plan.now.query (entries_of slots.new) row.now group_slot) }
+    ensures group_slot { IfOk result (λ group_slot. IsGroupSlot plan.now.dimensions plan.now.query
+        (entries_of slots.new) (row_at (F.rows rows.now) place) group_slot) }
+    ensures refused { result ≡ Err Fault.BadLayout → IsKnown plan.now.dimensions (row_at (F.rows rows.now) place) → ⊥ }
+    ensures only { IfErr result (λ fault. fault ≢ Fault.BadLayout → fault ≡ Fault.Memory) }
     ensures cover { Cover (group_count plan.now.dimensions plan.now.query.columns) slots.new }
     ensures keep { (number slot : ℕ) → slot_of (entries_of slots.old) number ≡ Some slot
         → slot_of (entries_of slots.new) number ≡ Some slot }
@@ -27,35 +31,48 @@ fn group_slot_of(
         → Grow (group_count plan.now.dimensions plan.now.query.columns) first (entries_of slots.old)
         → Grow (group_count plan.now.dimensions plan.now.query.columns) first (entries_of slots.new) }
 {
-    match plan.number(row) {
-        Some(number) => match slots.place(number) {
+    match plan.number(rows, place) {
+        Ok(Some(number)) => match slots.place(number) {
             Ok(slot) => Ok(Some(slot)),
-            Err(error) => Err(error),
+            Err(_) => Err(Fault::Memory),
         },
-        None => Ok(None),
+        Ok(None) => Ok(None),
+        Err(_) => Err(Fault::BadLayout),
     }
 }
 
 /// The slot of each fact row's group, where the row is selected. Numbers that have none are given one.
-pub fn group_slots_of(
+///
+/// `BadLayout` says that a row has a key that no dimension row has.
+pub fn group_slots_of<F: FactRows>(
     alloc: Global,
     plan: &PlanOver,
     slots: &mut Slots,
-    rows: &[LineOrder],
-) -> Result<Vec<Option<u32>>, AllocError>
-    requires known { All (IsKnown plan.now.dimensions) rows.now }
+    rows: &F,
+) -> Result<Vec<Option<u32>>, Fault>
     requires numbers { AreSlots (group_count plan.now.dimensions plan.now.query.columns) (entries_of slots.old) }
     requires cover { Cover (group_count plan.now.dimensions plan.now.query.columns) slots.old }
     ensures group_slots { IfOk result (λ group_slots.
-        AreGroupSlots plan.now.dimensions plan.now.query (entries_of slots.new) rows.now group_slots.items) }
+        AreGroupSlots plan.now.dimensions plan.now.query (entries_of slots.new) (F.rows rows.now) group_slots.items) }
+    ensures refused { result ≡ Err Fault.BadLayout → All (IsKnown plan.now.dimensions) (F.rows rows.now) → ⊥ }
+    ensures only { IfErr result (λ fault. fault ≢ Fault.BadLayout → fault ≡ Fault.Memory) }
     ensures cover { Cover (group_count plan.now.dimensions plan.now.query.columns) slots.new }
     ensures grow { Grow (group_count plan.now.dimensions plan.now.query.columns) (entries_of slots.old)
         (entries_of slots.new) }
 {
-    let mut group_slots = Vec::with_capacity(alloc, rows.len())?;
-    for row in rows {
-        let group_slot = group_slot_of(plan, slots, row)?;
-        group_slots.push(group_slot)?;
+    let mut group_slots = match Vec::with_capacity(alloc, rows.count()) {
+        Ok(group_slots) => group_slots,
+        Err(_) => return Err(Fault::Memory),
+    };
+    for place in 0..rows.count() {
+        let group_slot = match group_slot_of(plan, slots, rows, place) {
+            Ok(group_slot) => group_slot,
+            Err(fault) => return Err(fault),
+        };
+        match group_slots.push(group_slot) {
+            Ok(()) => {}
+            Err(_) => return Err(Fault::Memory),
+        }
     }
     Ok(group_slots)
 }

@@ -10,7 +10,9 @@ mod group_slots;
 mod lines;
 mod numbers;
 mod order;
+mod room;
 mod running;
+mod segment_rows;
 mod slots;
 mod tally;
 

@@ -5,7 +5,7 @@ ghost use Rattle.cube_model.specs.Answers.{answer};
 ghost use Rattle.cube_model.specs.Proper.{IsProper};
 ghost use Rattle.cube_model.specs.declared.rows.LineOrder.{LineOrder};
 ghost use Rattle.cube_query.specs.Columns.{tallies_at};
-ghost use Rattle.cube_query.specs.Groups.{StandsFor, Begins, CanTake, IsFoldOver, Takes};
+ghost use Rattle.cube_query.specs.Groups.{StandsFor, Begins, CanTake, IsFoldOver, IsOver, Takes};
 ghost use Rattle.group_plan.specs.Numbers.{group_count, IsKnown};
 ghost use Rattle.group_plan.specs.Plans.{IsPlanOver, query_of};
 ghost use Rattle.cube_query.specs.Slots.{entries_of, AreSlots, Cover, Grow};
@@ -14,11 +14,14 @@ ghost use Rattle.cube_query.specs.FoldInvariant.{AreGroupSlots};
 use crate::columns::{count_in_all, lengthen_all, no_columns};
 use crate::finish::answer_lines;
 use crate::group_slots::group_slots_of;
+use crate::room::have_room;
+use crate::segment_rows::SegmentRows;
 use crate::slots::Slots;
 use crate::tally::Tally;
+use column_segment::Segment;
 use cube_model::{Answer, Fault, LineOrder, Query};
 use dimensions::Dims;
-use group_plan::Plan;
+use group_plan::{FactRows, Plan, RowSlice};
 use std::alloc::{AllocError, Global};
 use std::marker::Model;
 
@@ -79,13 +82,42 @@ impl Fold {
         ensures err { OnErr result (self.new ≡ self.old) }
         ensures only { IfErr result (λ fault. fault ≡ Fault.Memory) }
     {
+        self.add(dims, &RowSlice(rows))
+    }
+
+    /// Counts the rows of a batch in. A refusal leaves the fold as it was.
+    ///
+    /// It asks nothing of the rows: `BadLayout` says that they could not be added by `add_rows`, since a row has a key that
+    /// no dimension row has, or since the sums with them pass their limit. All memory is taken before the first row is
+    /// counted.
+    pub fn add_segment(&mut self, dims: &Dims, segment: &Segment) -> Result<(), Fault>
+        requires { IsOver dims.now self.old }
+        ensures ok { OnOk result (Takes dims.now self.old segment.now.rows self.new) }
+        ensures err { OnErr result (self.new ≡ self.old) }
+        ensures refused { result ≡ Err Fault.BadLayout → CanTake dims.now self.old segment.now.rows → ⊥ }
+        ensures only { IfErr result (λ fault. fault ≢ Fault.BadLayout → fault ≡ Fault.Memory) }
+    {
+        self.add(dims, &SegmentRows::of(segment))
+    }
+
+    // Counts fact rows in, wherever they stand. A refusal leaves the fold as it was.
+    fn add<F: FactRows>(&mut self, dims: &Dims, rows: &F) -> Result<(), Fault>
+        requires { IsOver dims.now self.old }
+        ensures ok { OnOk result (Takes dims.now self.old (F.rows rows.now) self.new) }
+        ensures err { OnErr result (self.new ≡ self.old) }
+        ensures refused { result ≡ Err Fault.BadLayout → CanTake dims.now self.old (F.rows rows.now) → ⊥ }
+        ensures only { IfErr result (λ fault. fault ≢ Fault.BadLayout → fault ≡ Fault.Memory) }
+    {
         let columns = &mut self.columns;
         let slots = &mut self.slots;
         let group_slots = match ready(self.alloc, dims, &self.plan, slots, columns, rows) {
             Ok(group_slots) => group_slots,
-            Err(_) => return Err(Fault::Memory),
+            Err(fault) => return Err(fault),
         };
         let aggregates = self.plan.query().aggregates.as_slice();
+        if !have_room(columns.as_slice(), aggregates, rows, group_slots.as_slice()) {
+            return Err(Fault::BadLayout);
+        }
         count_in_all(
             columns.as_mut_slice(),
             aggregates,
@@ -134,20 +166,21 @@ fn begin(alloc: Global, dims: &Dims, query: &Query) -> Result<Fold, AllocError>
 }
 
 // Makes all ready for rows to be counted in: the slots of their groups, and a place for each slot. Nothing is counted yet.
-fn ready(
+fn ready<F: FactRows>(
     alloc: Global,
     dims: &Dims,
     plan: &Plan,
     slots: &mut Slots,
     columns: &mut Vec<Vec<Tally>>,
-    rows: &[LineOrder],
-) -> Result<Vec<Option<u32>>, AllocError>
+    rows: &F,
+) -> Result<Vec<Option<u32>>, Fault>
     requires over { IsPlanOver dims.now plan.now }
-    requires known { All (IsKnown dims.now) rows.now }
     requires numbers { AreSlots (group_count dims.now (query_of plan.now).columns) (entries_of slots.old) }
     requires cover { Cover (group_count dims.now (query_of plan.now).columns) slots.old }
     ensures group_slots { IfOk result (λ group_slots.
-        AreGroupSlots dims.now (query_of plan.now) (entries_of slots.new) rows.now group_slots.items) }
+        AreGroupSlots dims.now (query_of plan.now) (entries_of slots.new) (F.rows rows.now) group_slots.items) }
+    ensures refused { result ≡ Err Fault.BadLayout → All (IsKnown dims.now) (F.rows rows.now) → ⊥ }
+    ensures only { IfErr result (λ fault. fault ≢ Fault.BadLayout → fault ≡ Fault.Memory) }
     ensures long { OnOk result (AllByRecursion (λ column. length (entries_of slots.new) ≤ length column.items)
         columns.new.items) }
     ensures same { (slot : ℕ) → tallies_at columns.new.items slot ≡ tallies_at columns.old.items slot }
@@ -155,7 +188,12 @@ fn ready(
     ensures grow { Grow (group_count dims.now (query_of plan.now).columns) (entries_of slots.old)
         (entries_of slots.new) }
 {
-    let group_slots = group_slots_of(alloc, &plan.over(dims), slots, rows)?;
-    lengthen_all(columns.as_mut_slice(), slots.len())?;
-    Ok(group_slots)
+    let group_slots = match group_slots_of(alloc, &plan.over(dims), slots, rows) {
+        Ok(group_slots) => group_slots,
+        Err(fault) => return Err(fault),
+    };
+    match lengthen_all(columns.as_mut_slice(), slots.len()) {
+        Ok(()) => Ok(group_slots),
+        Err(_) => Err(Fault::Memory),
+    }
 }

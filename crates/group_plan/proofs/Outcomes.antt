@@ -1,5 +1,5 @@
 -- What becomes of a fact row by the plan's bounds and sides.
-use Rattle.std.proofs.Common.{◌≡◌, ◌∙◌, ap, refl, true≢false, arith, ℕ, ◌+◌, ◌*◌, ◌<◌, ◌≤◌, Bool, true, false, cond, ◌&&◌, ◌||◌, nat_le, min, max, Option, Some, None, List, [], ◌∷◌, map, length}
+use Rattle.std.proofs.Common.{◌≡◌, ◌∙◌, ap, sym, subst, refl, true≢false, arith, ℕ, ◌+◌, ◌*◌, ◌<◌, ◌≤◌, Bool, true, false, cond, ◌&&◌, ◌||◌, nat_le, min, max, Option, Some, None, List, [], ◌∷◌, map, length}
 use Rattle.std.specs.Prelude.{unwrap_or, slice_get, IfSome}
 use Rattle.cube_model.specs.Places.{row_count_of}
 use Rattle.std.specs.List.{list_any, list_all, range_with_len}
@@ -11,13 +11,16 @@ use Rattle.cube_model.specs.declared.attr.Axis.{Axis}
 use Rattle.cube_model.specs.declared.attr.Axis.TheVariants.{Customer, Supplier, Part, Date}
 use Rattle.cube_model.specs.declared.query.Cond.{Cond}
 use Rattle.cube_model.specs.declared.query.Cond.TheVariants.{OneOf, Between, Quantity, Discount}
+use Rattle.std.specs.Result.{IfOk, OnOk}
+use Rattle.std.specs.declared.result.Result.{Result}
+use Rattle.std.specs.declared.result.Result.TheVariants.{Ok, Err}
 use Rattle.cube_model.specs.declared.query.Query.{Query}
 use Rattle.cube_model.specs.declared.rows.DimRows.{DimRows}
 use Rattle.cube_model.specs.declared.rows.LineOrder.{LineOrder}
 use Rattle.cube_model.specs.Attributes.{axis_of}
 use Rattle.group_plan.specs.Numbers.{group_count}
 use Rattle.group_plan.specs.Parts.{is_same, is_on, is_used, holds_at, holds_in, rank_at, part_at, given_at}
-use Rattle.group_plan.specs.Plans.{AreBounds, bounds_with}
+use Rattle.group_plan.specs.Plans.{AreBounds, bounds_with, is_within}
 use Rattle.group_plan.specs.declared.bounds.Bounds.{Bounds}
 use Rattle.cube_model.specs.Selection.{is_selected}
 use Rattle.group_plan.proofs.Split.{all_five, place_on, passes_at, selected_by_places}
@@ -74,6 +77,16 @@ AreBounds-with (Discount low high) conditions bounds are row quantity discount =
     ∙ second_pair (nat_le bounds.least_discount row.discount) (nat_le low row.discount) (nat_le row.discount bounds.greatest_discount) (nat_le row.discount high)
     (nat_le bounds.least_quantity row.quantity) (nat_le row.quantity bounds.greatest_quantity)
     ∙ ap (λ b. (nat_le low row.discount && nat_le row.discount high) && b) (are row quantity discount)
+
+pub within_bounds : (query : Query) (row : LineOrder) (bounds : Bounds) → AreBounds query.conditions bounds → (quantity discount : ℕ) → quantity ≡ row.quantity → discount ≡ row.discount → quantity < 256 → discount < 256
+    → list_all (holds_in row) query.conditions ≡ is_within bounds quantity discount
+within_bounds query row bounds are quantity discount q d small few =
+    sym (are row (subst (λ n. n < 256) q small) (subst (λ n. n < 256) d few)) ∙ (λ i. is_within bounds (sym q i) (sym d i))
+
+-- ---- what is given where the key is known
+pub given_is : {T E : Type 0} (result : Result T E) (K : Type 0) (left right : T) → IfOk result (λ part. part ≡ left) → OnOk result K → (K → left ≡ right) → IfOk result (λ part. part ≡ right)
+given_is (Ok part) K left right is known same = is ∙ same known
+given_is (Err error) K left right is known same = tt
 
 -- ---- what a place gives
 module _ (dimensions : DimRows) (query : Query) (axis : Axis) (place : ℕ) where

@@ -47,9 +47,13 @@ IsNumber dimensions query row (Some number) = (is_selected dimensions query.cond
     × (number < group_count dimensions query.columns)
     × (key_at dimensions query.columns number ≡ key_under dimensions row query.columns (map (λ _. true) query.columns))
 
--- each key of a fact row is that of a row of its dimension
+-- the key of a fact row in a dimension is that of a row there
+abbrev pub IsKnownOn : DimRows → LineOrder → Axis → Type 0
+IsKnownOn dimensions row axis = row_index_of dimensions axis (key_on axis row) < row_count_of dimensions axis
+
+-- each key of a fact row is
 abbrev pub IsKnown : DimRows → LineOrder → Type 0
-IsKnown dimensions row = (axis : Axis) → row_index_of dimensions axis (key_on axis row) < row_count_of dimensions axis
+IsKnown dimensions row = (axis : Axis) → IsKnownOn dimensions row axis
 
 -- a query and the dimensions over which it is asked
 pub record Asked : Type 0 where

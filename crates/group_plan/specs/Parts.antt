@@ -11,8 +11,8 @@ use Rattle.cube_model.specs.declared.query.Cond.TheVariants.{OneOf, Between, Qua
 use Rattle.cube_model.specs.declared.query.Query.{Query}
 use Rattle.cube_model.specs.declared.rows.DimRows.{DimRows}
 use Rattle.cube_model.specs.declared.rows.LineOrder.{LineOrder}
-use Rattle.cube_model.specs.Attributes.{axis_of}
-use Rattle.cube_model.specs.Places.{attr_members, text_at}
+use Rattle.cube_model.specs.Attributes.{axis_of, key_on}
+use Rattle.cube_model.specs.Places.{attr_members, row_index_of, text_at}
 use Rattle.cube_model.specs.Selection.{text_le}
 use Rattle.group_plan.specs.Numbers.{group_count}
 
@@ -55,6 +55,10 @@ part_at dimensions axis place (column ∷ columns) =
 abbrev pub given_at : DimRows → Query → Axis → ℕ → Option ℕ
 given_at dimensions query axis place =
     if list_all (holds_at dimensions axis place) query.conditions then Some (part_at dimensions axis place query.columns) else None
+
+-- what the dimension row with the key of a fact row gives
+abbrev pub given_on : DimRows → Query → LineOrder → Axis → Option ℕ
+given_on dimensions query row axis = given_at dimensions query axis (row_index_of dimensions axis (key_on axis row))
 
 -- a condition is on a dimension
 abbrev pub is_on : Axis → Cond → Bool

@@ -44,15 +44,22 @@ bounds_with bounds (Discount low high) = record {
   greatest_discount = min bounds.greatest_discount high;
 }
 
--- a fact row's numbers lie within bounds
-abbrev pub is_within : Bounds → LineOrder → Bool
-is_within bounds row = nat_le bounds.least_quantity row.quantity && (nat_le row.quantity bounds.greatest_quantity
-    && (nat_le bounds.least_discount row.discount && nat_le row.discount bounds.greatest_discount))
+-- a quantity and a discount lie within bounds
+abbrev pub is_within : Bounds → ℕ → ℕ → Bool
+is_within bounds quantity discount = nat_le bounds.least_quantity quantity && (nat_le quantity bounds.greatest_quantity
+    && (nat_le bounds.least_discount discount && nat_le discount bounds.greatest_discount))
 
 -- bounds say what some conditions say of the numbers of a fact row
 abbrev pub AreBounds : List Cond → Bounds → Type 0
 AreBounds conditions bounds = (row : LineOrder) → row.quantity < 256 → row.discount < 256
-    → is_within bounds row ≡ list_all (holds_in row) conditions
+    → is_within bounds row.quantity row.discount ≡ list_all (holds_in row) conditions
+
+-- what a plan keeps of a dimension
+abbrev pub side_of : Plan → Axis → Side
+side_of plan Customer = plan.customers
+side_of plan Supplier = plan.suppliers
+side_of plan Part = plan.parts
+side_of plan Date = plan.dates
 
 -- the query of a plan
 abbrev pub query_of : Plan → Query
@@ -67,10 +74,7 @@ count_of plan = plan.count
 pub record IsPlanOver (dimensions : DimRows) (plan : Plan) : Type 0 where
   pub few : length plan.query.columns ≤ 6
   pub within : AreBounds plan.query.conditions plan.bounds
-  pub customers : IsSide dimensions plan.query Customer plan.customers
-  pub suppliers : IsSide dimensions plan.query Supplier plan.suppliers
-  pub parts : IsSide dimensions plan.query Part plan.parts
-  pub dates : IsSide dimensions plan.query Date plan.dates
+  pub sides : (axis : Axis) → IsSide dimensions plan.query axis (side_of plan axis)
   pub columns : AreColumns dimensions plan.query.columns (length plan.query.columns) plan.columns.items
   pub rising : KeysRise dimensions plan.query.columns
   pub counted : plan.count ≡ group_count dimensions plan.query.columns

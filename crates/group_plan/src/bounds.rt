@@ -2,7 +2,7 @@
 ghost use Rattle.std.specs.Prelude.{◌≡◌, ◌<◌};
 ghost use Rattle.group_plan.specs.Plans.{AreBounds, bounds_with, is_within};
 
-use cube_model::{Cond, LineOrder};
+use cube_model::Cond;
 
 /// Between which bounds the quantity and the discount of a fact row lie, all included.
 #[derive(Clone, Copy, Debug, PartialEq, Eq)]
@@ -48,14 +48,12 @@ impl Bounds {
         }
     }
 
-    /// Whether the numbers of a fact row lie within the bounds.
-    pub fn hold(&self, row: &LineOrder) -> bool
-        ensures value { result ≡ is_within self.now row.now }
-        ensures quantity { row.now.quantity < 256 }
-        ensures discount { row.now.discount < 256 }
+    /// Whether a quantity and a discount lie within the bounds.
+    pub fn hold(&self, quantity: u8, discount: u8) -> bool
+        ensures value { result ≡ is_within self.now quantity discount }
+        ensures quantity { quantity < 256 }
+        ensures discount { discount < 256 }
     {
-        let quantity = row.quantity;
-        let discount = row.discount;
         self.least_quantity <= quantity
             && quantity <= self.greatest_quantity
             && self.least_discount <= discount

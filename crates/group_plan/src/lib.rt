@@ -8,7 +8,10 @@ mod digits;
 mod over;
 mod places;
 mod plan;
+mod rows;
 mod side;
 
 pub use over::PlanOver;
 pub use plan::Plan;
+pub use rows::{FactRows, RowSlice};
+pub use side::UnknownKey;

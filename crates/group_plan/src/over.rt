@@ -1,12 +1,16 @@
 //! A plan with its dimensions.
-ghost use Rattle.std.specs.Prelude.{◌≡◌, ◌<◌, length, slice_index_or, slice_set, IfOk};
+ghost use Rattle.std.specs.Prelude.{◌≡◌, ◌<◌, length, slice_index_or, slice_set, IfOk, OnOk, OnErr};
 ghost use Rattle.cube_model.specs.declared.answer.Member.TheVariants.{All};
 ghost use Rattle.group_plan.specs.Columns.{attr_at, is_all};
-ghost use Rattle.group_plan.specs.Numbers.{IsKnown, IsNumber, digit_count, group_count, key_at, member_at};
+ghost use Rattle.group_plan.specs.Numbers.{IsKnown, IsKnownOn, IsNumber, digit_count, group_count, key_at, member_at};
+ghost use Rattle.group_plan.specs.Parts.{given_on};
 ghost use Rattle.group_plan.specs.Plans.{IsPlanOver, query_of};
+ghost use Rattle.group_plan.specs.Rows.{row_at};
 
 use crate::plan::Plan;
-use cube_model::{Attr, Axis, Items, LineOrder, Member};
+use crate::rows::FactRows;
+use crate::side::UnknownKey;
+use cube_model::{Attr, Axis, Items, Member};
 use dimensions::Dims;
 use std::alloc::{AllocError, Global};
 use std::marker::Model;
@@ -40,35 +44,55 @@ impl<'a> PlanOver<'a> {
         PlanOver { dims, plan }
     }
 
-    /// The number of a fact row's group, if the row is selected.
-    pub fn number(&self, row: &LineOrder) -> Option<u128>
-        requires { IsKnown self.now.dimensions row.now }
-        ensures { IsNumber self.now.dimensions self.now.query row.now result }
+    /// The number of the group of the fact row at a place, if the row is selected. It refuses a row with a key that no
+    /// dimension row has, but where another number of the row tells that it is not selected it may not look at that key.
+    pub fn number<F: FactRows>(&self, rows: &F, place: usize) -> Result<Option<u128>, UnknownKey>
+        requires { place < length (F.rows rows.now) }
+        ensures ok { IfOk result (IsNumber self.now.dimensions self.now.query (row_at (F.rows rows.now) place)) }
+        ensures unknown { OnErr result (IsKnown self.now.dimensions (row_at (F.rows rows.now) place) → ⊥) }
     {
-        if !self.plan.bounds.hold(row) {
-            return None;
+        let quantity = rows.quantity(place);
+        let discount = rows.discount(place);
+        if !self.plan.bounds.hold(quantity, discount) {
+            return Ok(None);
         }
-        let Some(customer) = self
-            .plan
-            .customers
-            .given(self.dims, Axis::Customer, row.custkey)
-        else {
-            return None;
+        let customer = match self.given(rows, place, Axis::Customer) {
+            Ok(Some(customer)) => customer,
+            Ok(None) => return Ok(None),
+            Err(error) => return Err(error),
         };
-        let Some(supplier) = self
-            .plan
-            .suppliers
-            .given(self.dims, Axis::Supplier, row.suppkey)
-        else {
-            return None;
+        let supplier = match self.given(rows, place, Axis::Supplier) {
+            Ok(Some(supplier)) => supplier,
+            Ok(None) => return Ok(None),
+            Err(error) => return Err(error),
         };
-        let Some(part) = self.plan.parts.given(self.dims, Axis::Part, row.partkey) else {
-            return None;
+        let part = match self.given(rows, place, Axis::Part) {
+            Ok(Some(part)) => part,
+            Ok(None) => return Ok(None),
+            Err(error) => return Err(error),
         };
-        let Some(date) = self.plan.dates.given(self.dims, Axis::Date, row.orderdate) else {
-            return None;
+        let date = match self.given(rows, place, Axis::Date) {
+            Ok(Some(date)) => date,
+            Ok(None) => return Ok(None),
+            Err(error) => return Err(error),
         };
-        Some(customer + (supplier + (part + date)))
+        Ok(Some(customer + (supplier + (part + date))))
+    }
+
+    // What the dimension row with the key of a fact row gives to the number of its group.
+    fn given<F: FactRows>(
+        &self,
+        rows: &F,
+        place: usize,
+        axis: Axis,
+    ) -> Result<Option<u128>, UnknownKey>
+        requires { place < length (F.rows rows.now) }
+        ensures ok { IfOk result (λ part. part ≡ given_on self.now.dimensions self.now.query (row_at (F.rows rows.now) place) axis) }
+        ensures known { OnOk result (IsKnownOn self.now.dimensions (row_at (F.rows rows.now) place) axis) }
+        ensures unknown { OnErr result (IsKnownOn self.now.dimensions (row_at (F.rows rows.now) place) axis → ⊥) }
+    {
+        let key = rows.key(place, axis);
+        self.plan.side(axis).given(self.dims, axis, key)
     }
 
     /// The key of the group with a number.

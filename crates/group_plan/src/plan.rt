@@ -1,7 +1,7 @@
 //! A plan of a query.
 ghost use Rattle.std.specs.Prelude.{◌≡◌, IfOk};
 ghost use Rattle.cube_model.specs.Proper.{IsProper};
-ghost use Rattle.group_plan.specs.Plans.{IsPlanOver, count_of, query_of};
+ghost use Rattle.group_plan.specs.Plans.{IsPlanOver, count_of, query_of, side_of};
 
 use crate::bounds::Bounds;
 use crate::column::Column;
@@ -54,6 +54,18 @@ impl Plan {
         ensures { result.now ≡ query_of self.now }
     {
         &self.query
+    }
+
+    // What the plan keeps of a dimension.
+    pub(crate) fn side(&self, axis: Axis) -> &Side
+        ensures { result.now ≡ side_of self.now axis }
+    {
+        match axis {
+            Axis::Customer => &self.customers,
+            Axis::Supplier => &self.suppliers,
+            Axis::Part => &self.parts,
+            Axis::Date => &self.dates,
+        }
     }
 
     /// How many groups there can be. Numbers of groups are below it.

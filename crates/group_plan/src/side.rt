@@ -1,5 +1,5 @@
 //! What the rows of one dimension give to the number of a group.
-ghost use Rattle.std.specs.Prelude.{◌≡◌, ◌<◌, ◌≤◌, ◌^◌, length, map, IfOk, IfSome};
+ghost use Rattle.std.specs.Prelude.{◌≡◌, ◌<◌, ◌≤◌, ◌^◌, length, map, IfOk, IfSome, OnOk, OnErr};
 ghost use Rattle.std.specs.List.{list_any, range_with_len};
 ghost use Rattle.cube_model.specs.Attributes.{axis_of};
 ghost use Rattle.cube_model.specs.Places.{row_index_of, row_count_of};
@@ -15,6 +15,10 @@ use std::alloc::{AllocError, Global};
 
 /// The most groups whose numbers fit 32 bits.
 const NARROW: u128 = 4_294_967_296;
+
+/// No row of the dimension has the key.
+#[derive(Clone, Copy, Debug, PartialEq, Eq)]
+pub struct UnknownKey;
 
 /// What the rows of a dimension give to the number of a group.
 ///
@@ -52,17 +56,30 @@ impl Side {
         }
     }
 
-    /// What the row with a key gives.
-    pub fn given(&self, dims: &Dims, axis: Axis, key: u32) -> Option<u128>
-        ensures { result ≡ gives self.now (row_index_of dims.now axis key) }
+    /// What the row with a key gives. It refuses a key that no row of the dimension has.
+    pub fn given(&self, dims: &Dims, axis: Axis, key: u32) -> Result<Option<u128>, UnknownKey>
+        ensures ok { IfOk result (λ part. part ≡ gives self.now (row_index_of dims.now axis key)) }
+        ensures known { OnOk result (row_index_of dims.now axis key < row_count_of dims.now axis) }
+        ensures unknown { OnErr result (row_count_of dims.now axis ≤ row_index_of dims.now axis key) }
+    {
+        let place = dims.row_index(axis, key);
+        if place >= dims.row_count(axis) {
+            return Err(UnknownKey);
+        }
+        Ok(self.at(place))
+    }
+
+    // What the row at a place gives.
+    fn at(&self, place: usize) -> Option<u128>
+        ensures { result ≡ gives self.now place }
     {
         match self {
             Side::Unused => Some(0),
-            Side::Narrow(parts) => match parts.get(dims.row_index(axis, key)) {
+            Side::Narrow(parts) => match parts.get(place) {
                 Some(Some(part)) => Some(u128::from(*part)),
                 _ => None,
             },
-            Side::Wide(parts) => match parts.get(dims.row_index(axis, key)) {
+            Side::Wide(parts) => match parts.get(place) {
                 Some(Some(part)) => Some(*part),
                 _ => None,
             },

@@ -163,6 +163,13 @@ impl<D: Sectors> Store<D> {
         self.superblock.layout
     }
 
+    /// How many commits made the content.
+    pub fn generation(&self) -> u64
+        ensures { result ≡ (content_of D.Sectors self.now).generation }
+    {
+        self.superblock.generation
+    }
+
     /// How many objects there are.
     pub fn objects(&self) -> u32
         ensures { result ≡ length (content_of D.Sectors self.now).objects }

@@ -7,7 +7,7 @@ use std::alloc::Global;
 use std::test::Fail;
 
 // The three sample rows as batch 1: 12 bytes of header, 189 of numbers, 84 of texts and codes.
-const SPELLED: [u8; 285] = [
+pub(crate) const SPELLED: [u8; 285] = [
     // the name, the batch's number, three rows
     0x53, 0x45, 0x47, 0x31, 0x01, 0x00, 0x00, 0x00, 0x03, 0x00, 0x00, 0x00,
     // orderkey
@@ -62,13 +62,17 @@ const SPELLED: [u8; 285] = [
 ];
 
 // No rows, as batch 7.
-const EMPTY: [u8; 28] = [
+pub(crate) const EMPTY: [u8; 28] = [
     0x53, 0x45, 0x47, 0x31, 0x07, 0x00, 0x00, 0x00, 0x00, 0x00, 0x00, 0x00, 0x00, 0x00, 0x00, 0x00,
     0x00, 0x00, 0x00, 0x00, 0x00, 0x00, 0x00, 0x00, 0x00, 0x00, 0x00, 0x00,
 ];
 
 // The bytes of rows, if they can be a batch.
-fn spelled(alloc: Global, number: u32, rows: &[LineOrder]) -> Result<Option<Vec<u8>>, Fault> {
+pub(crate) fn spelled(
+    alloc: Global,
+    number: u32,
+    rows: &[LineOrder],
+) -> Result<Option<Vec<u8>>, Fault> {
     if !is_batch(rows) {
         return Ok(None);
     }
@@ -91,7 +95,7 @@ fn spells_no_rows(rt: HostRuntime) -> Result<(), Fail> {
 }
 
 // A row of zeros with a text for its ship mode.
-fn row_with(alloc: Global, shipmode: &[u8]) -> Result<LineOrder, Fault> {
+pub(crate) fn row_with(alloc: Global, shipmode: &[u8]) -> Result<LineOrder, Fault> {
     let orderpriority = RowText::from_slice(alloc, b"")?;
     let shippriority = RowText::from_slice(alloc, b"")?;
     let commitdate = RowText::from_slice(alloc, b"")?;
@@ -118,7 +122,7 @@ fn row_with(alloc: Global, shipmode: &[u8]) -> Result<LineOrder, Fault> {
 }
 
 // As many rows as a batch may have, each with a ship mode of its own: two bytes that spell the row's number.
-fn different_rows(alloc: Global, count: usize) -> Result<Vec<LineOrder>, Fault> {
+pub(crate) fn different_rows(alloc: Global, count: usize) -> Result<Vec<LineOrder>, Fault> {
     let mut rows = Vec::with_capacity(alloc, count)?;
     for i in 0..count {
         rows.push(row_with(alloc, &(i as u64).to_le_bytes()[..2])?)?;

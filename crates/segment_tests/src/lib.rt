@@ -4,4 +4,10 @@
 #[cfg(test)]
 mod batches;
 #[cfg(test)]
+mod decoding;
+#[cfg(test)]
 mod dictionaries;
+#[cfg(test)]
+mod hostile;
+#[cfg(test)]
+mod sums;

@@ -10,14 +10,14 @@ use Rattle.cube_query.proofs.Columnwise.{HasRoom-at, AreAddedBelow-set, AddIn-wh
 use Rattle.cube_query.proofs.columns.count_in_all.Goals as goal
 
 pub count_in-requires-clause-room : goal.count_in-requires-clause-room
-count_in-requires-clause-room c = rw c.as_mut_slice.ensures.value
-    (HasRoom-at c.args.aggs.now c.args.rows.now c.args.group_slots.now c.args.columns.now c.loop-i.columns c.loop-i.i c.requires.columns c.loop-i-test.true c.requires.room c.loop-i.invariant Count c.index-columns-i.result)
+count_in-requires-clause-room g c = rw c.as_mut_slice.ensures.value
+    (HasRoom-at c.args.aggs.now (g.F.FactRows.rows c.args.rows.now) c.args.group_slots.now c.args.columns.now c.loop-i.columns c.loop-i.i c.requires.columns c.loop-i-test.true c.requires.room c.loop-i.invariant Count c.index-columns-i.result)
 
 pub loop-i-preserved : goal.loop-i-preserved
-loop-i-preserved c =
+loop-i-preserved g c =
     let i = c.loop-i.i in
     let aggs = c.args.aggs.now in
-    let rows = c.args.rows.now in
+    let rows = g.F.FactRows.rows c.args.rows.now in
     let group_slots = c.args.group_slots.now in
     let column = slice_index_or c.loop-i.columns i c.index-columns-i.result in
     let new = c.count_in.new.column in
@@ -32,4 +32,4 @@ loop-i-preserved c =
     (subst (λ (old : Vec Tally Global). CountsIn (slice_index_or aggs i Count) rows group_slots old.items new) (get_or_default c.loop-i.columns i c.index-columns-i.result first in_columns) counted)))
 
 pub returns : goal.returns
-returns c = AddIn-whole c.args.aggs.now (λ slot. slotted slot c.args.rows.now c.args.group_slots.now) c.args.columns.now c.loop-i.columns c.loop-i.i c.requires.columns (omega (arith, c.loop-i-test.false)) c.loop-i.invariant
+returns g c = AddIn-whole c.args.aggs.now (λ slot. slotted slot (g.F.FactRows.rows c.args.rows.now) c.args.group_slots.now) c.args.columns.now c.loop-i.columns c.loop-i.i c.requires.columns (omega (arith, c.loop-i-test.false)) c.loop-i.invariant

@@ -1,14 +1,16 @@
-use Rattle.group_plan.specs.Numbers.{group_count}
+use Rattle.std.proofs.Common.{subst}
+use Rattle.group_plan.specs.Numbers.{group_count, IsNumber}
+use Rattle.group_plan.specs.Rows.{row_at}
 use Rattle.cube_query.specs.Slots.{entries_of}
 use Rattle.cube_query.proofs.Placing.{Grow-place}
 use Rattle.cube_query.proofs.group_slots.group_slot_of.Goals as goal
 
 pub returns-in-Ok-clause-cover : goal.returns-in-Ok-clause-cover
-returns-in-Ok-clause-cover c = c.place.ensures.cover (group_count c.args.plan.now.dimensions c.args.plan.now.query.columns) c.requires.cover
+returns-in-Ok-clause-cover g c = c.place.ensures.cover (group_count c.args.plan.now.dimensions c.args.plan.now.query.columns) c.requires.cover
 
-pub returns-in-Err-clause-cover : goal.returns-in-Err-clause-cover
-returns-in-Err-clause-cover c = c.place.ensures.cover (group_count c.args.plan.now.dimensions c.args.plan.now.query.columns) c.requires.cover
+pub returns-in-Err-place-clause-cover : goal.returns-in-Err-place-clause-cover
+returns-in-Err-place-clause-cover g c = c.place.ensures.cover (group_count c.args.plan.now.dimensions c.args.plan.now.query.columns) c.requires.cover
 
 pub returns-in-Ok-clause-grow : goal.returns-in-Ok-clause-grow
-returns-in-Ok-clause-grow c = λ first grown.
-    Grow-place (group_count c.args.plan.now.dimensions c.args.plan.now.query.columns) first (entries_of c.args.slots.now) c.in-Some.number c.in-Ok.slot (entries_of c.place.new.self) c.in-Some.ensures.1 c.in-Ok.ensures.ok grown
+returns-in-Ok-clause-grow g c = λ first grown.
+    Grow-place (group_count c.args.plan.now.dimensions c.args.plan.now.query.columns) first (entries_of c.args.slots.now) c.in-Ok-Some.number c.in-Ok.slot (entries_of c.place.new.self) (subst (IsNumber c.args.plan.now.dimensions c.args.plan.now.query (row_at (g.F.FactRows.rows c.args.rows.now) c.args.place)) c.in-Ok-Some.field-0-is c.in-Ok-Some.ensures.ok).1 c.in-Ok.ensures.ok grown

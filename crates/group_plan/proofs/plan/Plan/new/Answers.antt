@@ -1,4 +1,5 @@
 use Rattle.std.proofs.Common.{◌∙◌, ◌<◌, ◌^◌, sym, ap, subst, length, rules}
+use Rattle.cube_model.specs.declared.attr.Axis.TheVariants.{Customer, Supplier, Part, Date}
 use Rattle.cube_model.specs.declared.query.Query.{Query}
 use Rattle.group_plan.specs.Columns.{AreColumns}
 use Rattle.group_plan.specs.Numbers.{group_count}
@@ -23,10 +24,12 @@ returns-clause-over c =
     })) (sym c.in_ok-copied_query.ensures) (record {
       few = c.requires.few_columns;
       within = subst (λ conditions. AreBounds conditions c.of.result) c.as_slice-2.ensures c.of.ensures;
-      customers = c.in_ok-of.ensures;
-      suppliers = c.in_ok-of-2.ensures;
-      parts = c.in_ok-of-3.ensures;
-      dates = c.in_ok-of-4.ensures;
+      sides = elim [
+        | Customer ↦ c.in_ok-of.ensures
+        | Supplier ↦ c.in_ok-of-2.ensures
+        | Part ↦ c.in_ok-of-3.ensures
+        | Date ↦ c.in_ok-of-4.ensures
+      ];
       columns = subst (λ attrs. AreColumns dims attrs (length attrs) c.in_ok-all.field-0.items) c.as_slice-3.ensures c.in_ok-all.ensures;
       rising = keys_rise dims query.columns;
       counted = c.group_count-count.ensures.count ∙ ap (group_count dims) c.as_slice.ensures;

@@ -1,0 +1,124 @@
+//! Where the columns of a batch stand in its bytes.
+ghost use Rattle.std.specs.Prelude.{◌≡◌, ◌+◌, ◌*◌, ◌≤◌, length};
+ghost use Rattle.std.specs.Simd.{first_chunks};
+ghost use Rattle.cube_model.specs.Limits.{most_batch_rows};
+ghost use Rattle.column_segment.specs.Decoded.{amount_place, byte_place, column_bytes, number_place};
+
+use crate::columns::{AmountColumn, ByteColumn, NumberColumn};
+use dictionary::Dictionary;
+
+/// How many bytes stand before the columns: the name, the batch's number, how many rows.
+pub(crate) const HEADER_BYTES: usize = 12;
+
+/// How many bytes a row takes in the columns of numbers.
+pub(crate) const NUMBER_BYTES: usize = 63;
+
+/// A column of texts: its dictionary, and where its codes begin.
+#[derive(Drop)]
+pub(crate) struct Coded {
+    pub(crate) texts: Dictionary,
+    pub(crate) at: usize,
+}
+
+/// The columns of texts of a batch.
+#[derive(Drop)]
+pub(crate) struct CodedTexts {
+    pub(crate) orderpriority: Coded,
+    pub(crate) shippriority: Coded,
+    pub(crate) commitdate: Coded,
+    pub(crate) shipmode: Coded,
+}
+
+/// What the bytes of a batch were found to be.
+#[derive(Drop)]
+pub(crate) struct Layout {
+    pub(crate) number: u32,
+    pub(crate) rows: usize,
+    pub(crate) texts: CodedTexts,
+}
+
+/// A column of amounts, of bytes that have room for all columns of numbers.
+pub(crate) fn amount_chunks(bytes: &[u8], rows: usize, column: AmountColumn) -> &[[u8; 8]]
+    requires few { rows ≤ most_batch_rows }
+    requires room { 12 + 63 * rows ≤ length bytes.now }
+    ensures value { result.now ≡ first_chunks 8 rows (column_bytes (amount_place column) 8 rows bytes.now) }
+    ensures many { length result.now ≡ rows }
+{
+    part(bytes, rows, amount_place(column), 8)
+        .as_chunks::<8>()
+        .0
+}
+
+/// A column of numbers.
+pub(crate) fn number_chunks(bytes: &[u8], rows: usize, column: NumberColumn) -> &[[u8; 4]]
+    requires few { rows ≤ most_batch_rows }
+    requires room { 12 + 63 * rows ≤ length bytes.now }
+    ensures value { result.now ≡ first_chunks 4 rows (column_bytes (number_place column) 4 rows bytes.now) }
+    ensures many { length result.now ≡ rows }
+{
+    part(bytes, rows, number_place(column), 4)
+        .as_chunks::<4>()
+        .0
+}
+
+/// A column of small numbers.
+pub(crate) fn byte_part(bytes: &[u8], rows: usize, column: ByteColumn) -> &[u8]
+    requires few { rows ≤ most_batch_rows }
+    requires room { 12 + 63 * rows ≤ length bytes.now }
+    ensures value { result.now ≡ column_bytes (byte_place column) 1 rows bytes.now }
+    ensures many { length result.now ≡ rows }
+{
+    part(bytes, rows, byte_place(column), 1)
+}
+
+// The bytes of a column of so many bytes a row, behind those of the columns before it.
+fn part(bytes: &[u8], rows: usize, place: usize, width: usize) -> &[u8]
+    requires few { rows ≤ most_batch_rows }
+    requires within { place + width ≤ 63 }
+    requires room { 12 + 63 * rows ≤ length bytes.now }
+    ensures value { result.now ≡ column_bytes place width rows bytes.now }
+    ensures many { length result.now ≡ width * rows }
+{
+    let columns = bytes.split_at(HEADER_BYTES).1;
+    columns.split_at(place * rows).1.split_at(width * rows).0
+}
+
+// How many bytes of a row stand in the columns before one of amounts.
+fn amount_place(column: AmountColumn) -> usize
+    ensures value { result ≡ amount_place column }
+    ensures within { result + 8 ≤ 63 }
+{
+    match column {
+        AmountColumn::OrderKey => 0,
+        AmountColumn::ExtendedPrice => 29,
+        AmountColumn::OrdTotalPrice => 37,
+        AmountColumn::Revenue => 46,
+        AmountColumn::SupplyCost => 54,
+    }
+}
+
+// The same of a column of numbers.
+fn number_place(column: NumberColumn) -> usize
+    ensures value { result ≡ number_place column }
+    ensures within { result + 4 ≤ 63 }
+{
+    match column {
+        NumberColumn::LineNumber => 8,
+        NumberColumn::CustKey => 12,
+        NumberColumn::PartKey => 16,
+        NumberColumn::SuppKey => 20,
+        NumberColumn::OrderDate => 24,
+    }
+}
+
+// The same of a column of small numbers.
+fn byte_place(column: ByteColumn) -> usize
+    ensures value { result ≡ byte_place column }
+    ensures within { result + 1 ≤ 63 }
+{
+    match column {
+        ByteColumn::Quantity => 28,
+        ByteColumn::Discount => 45,
+        ByteColumn::Tax => 62,
+    }
+}

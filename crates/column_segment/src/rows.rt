@@ -1,0 +1,114 @@
+//! Rows from the bytes of a batch.
+ghost use Rattle.std.specs.Prelude.{◌≡◌, ◌-◌, ◌<◌, ◌≤◌, ◌++◌, [], map, slice_index, slice_index_or, IfErr, IfOk, IsOkUnless, OnOk};
+ghost use Rattle.std.specs.List.{range_with_len};
+ghost use Rattle.cube_model.specs.Limits.{most_batch_rows};
+ghost use Rattle.column_segment.specs.Decoded.{HasCodes, IsReadable, amounts_in, figures_in, numbers_in, row_in, texts_in};
+
+use crate::columns::{AmountColumn, ByteColumn, NumberColumn};
+use crate::layout::{Coded, Layout, amount_chunks, byte_part, number_chunks};
+use cube_model::{Amount, Fault, LineOrder, RowText};
+use std::alloc::Global;
+
+// Adds so many rows to others, from a place on.
+pub(crate) fn push_each(
+    alloc: Global,
+    bytes: &[u8],
+    layout: &Layout,
+    first: usize,
+    count: usize,
+    to: &mut Vec<LineOrder>,
+) -> Result<(), Fault>
+    requires readable { IsReadable bytes.now layout.now }
+    requires within { count ≤ layout.now.rows - first }
+    ensures ok { OnOk result (to.new.items ≡ to.old.items ++ map (row_in bytes.now layout.now) (range_with_len first count)) }
+    ensures memory { IsOkUnless result Fault.Memory }
+{
+    for i in 0..count {
+        let row = row_at(alloc, bytes, layout, first + i)?;
+        to.push(row)?;
+    }
+    Ok(())
+}
+
+// A row.
+fn row_at(alloc: Global, bytes: &[u8], layout: &Layout, row: usize) -> Result<LineOrder, Fault>
+    requires readable { IsReadable bytes.now layout.now }
+    requires within { row < layout.now.rows }
+    ensures ok { IfOk result (λ found. found ≡ row_in bytes.now layout.now row) }
+    ensures memory { IfErr result (λ fault. fault ≡ Fault.Memory) }
+{
+    let rows = layout.rows;
+    let texts = &layout.texts;
+    let orderpriority = text_at(alloc, bytes, rows, &texts.orderpriority, row)?;
+    let shippriority = text_at(alloc, bytes, rows, &texts.shippriority, row)?;
+    let commitdate = text_at(alloc, bytes, rows, &texts.commitdate, row)?;
+    let shipmode = text_at(alloc, bytes, rows, &texts.shipmode, row)?;
+    Ok(LineOrder {
+        orderkey: amount_at(bytes, layout, AmountColumn::OrderKey, row),
+        linenumber: number_at(bytes, layout, NumberColumn::LineNumber, row),
+        custkey: number_at(bytes, layout, NumberColumn::CustKey, row),
+        partkey: number_at(bytes, layout, NumberColumn::PartKey, row),
+        suppkey: number_at(bytes, layout, NumberColumn::SuppKey, row),
+        orderdate: number_at(bytes, layout, NumberColumn::OrderDate, row),
+        orderpriority,
+        shippriority,
+        quantity: byte_at(bytes, layout, ByteColumn::Quantity, row),
+        extendedprice: amount_at(bytes, layout, AmountColumn::ExtendedPrice, row),
+        ordtotalprice: amount_at(bytes, layout, AmountColumn::OrdTotalPrice, row),
+        discount: byte_at(bytes, layout, ByteColumn::Discount, row),
+        revenue: amount_at(bytes, layout, AmountColumn::Revenue, row),
+        supplycost: amount_at(bytes, layout, AmountColumn::SupplyCost, row),
+        tax: byte_at(bytes, layout, ByteColumn::Tax, row),
+        commitdate,
+        shipmode,
+    })
+}
+
+// The amount of a row in a column.
+fn amount_at(bytes: &[u8], layout: &Layout, column: AmountColumn, row: usize) -> Amount
+    requires readable { IsReadable bytes.now layout.now }
+    requires within { row < layout.now.rows }
+    ensures { result ≡ slice_index (amounts_in bytes.now layout.now.rows column) row }
+{
+    Amount::new(u64::from_le_bytes(amount_chunks(bytes, layout.rows, column)[row]))
+}
+
+// The number of a row in a column.
+fn number_at(bytes: &[u8], layout: &Layout, column: NumberColumn, row: usize) -> u32
+    requires readable { IsReadable bytes.now layout.now }
+    requires within { row < layout.now.rows }
+    ensures { result ≡ slice_index (numbers_in bytes.now layout.now.rows column) row }
+{
+    u32::from_le_bytes(number_chunks(bytes, layout.rows, column)[row])
+}
+
+// The small number of a row in a column.
+fn byte_at(bytes: &[u8], layout: &Layout, column: ByteColumn, row: usize) -> u8
+    requires readable { IsReadable bytes.now layout.now }
+    requires within { row < layout.now.rows }
+    ensures { result ≡ slice_index (figures_in bytes.now layout.now.rows column) row }
+{
+    byte_part(bytes, layout.rows, column)[row]
+}
+
+// The text of a row in a column.
+fn text_at(
+    alloc: Global,
+    bytes: &[u8],
+    rows: usize,
+    coded: &Coded,
+    row: usize,
+) -> Result<RowText, Fault>
+    requires few { rows ≤ most_batch_rows }
+    requires codes { HasCodes bytes.now rows coded.now }
+    requires within { row < rows }
+    ensures ok { IfOk result (λ text. text ≡ slice_index_or (texts_in bytes.now rows coded.now) row []) }
+    ensures memory { IfErr result (λ fault. fault ≡ Fault.Memory) }
+{
+    let codes = bytes.split_at(coded.at).1.split_at(2 * rows).0;
+    let code = u16::from_le_bytes(codes.as_chunks::<2>().0[row]);
+    match coded.texts.text(u32::from(code)) {
+        Some(text) => Ok(RowText::from_slice(alloc, text)?),
+        None => unreachable!(),
+    }
+}

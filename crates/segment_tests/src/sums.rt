@@ -1,0 +1,77 @@
+//! Masks of a batch, and sums of what they select.
+
+use crate::batches::{SPELLED, row_with, spelled};
+use crate::decoding::segment_of;
+use column_segment::Segment;
+use cube_model::{Amount, Fault, LineOrder, Measure};
+use std::alloc::Global;
+use std::test::Fail;
+
+#[test]
+fn selects_rows_of_the_sample(rt: HostRuntime) -> Result<(), Fail> {
+    let segment = segment_of(rt.alloc(), &SPELLED)?;
+    let mask = segment.mask(rt.alloc(), (0, 24), (1, 3))?;
+    assert!(rt;
+        mask.get(0) == Some(true) && mask.get(1) == Some(true) && mask.get(2) == Some(false)
+    );
+    assert!(rt; mask.rows() == 3);
+    Ok(())
+}
+
+// The sum of a measure over the rows that ranges of quantities and of discounts select.
+fn sum_of(
+    alloc: Global,
+    segment: &Segment,
+    measure: Measure,
+    quantity: (u8, u8),
+    discount: (u8, u8),
+) -> Result<i128, Fault> {
+    let mask = segment.mask(alloc, quantity, discount)?;
+    Ok(segment.selected_sum(measure, &mask))
+}
+
+// A measure, the greatest quantity and discount, and the sum over the sample's rows up to these.
+const SUMS: [(Measure, u8, u8, i128); 10] = [
+    (Measure::Discounted, 24, 3, 8000),
+    (Measure::Revenue, 24, 3, 2920),
+    (Measure::Quantity, 24, 3, 41),
+    (Measure::ExtendedPrice, 24, 3, 3000),
+    (Measure::SupplyCost, 24, 3, 2600),
+    (Measure::Profit, 24, 3, 320),
+    (Measure::Profit, 255, 255, 715),
+    (Measure::Discounted, 255, 255, 8500),
+    (Measure::Profit, 255, 1, 395),
+    (Measure::Revenue, 16, 255, 0),
+];
+
+#[test]
+fn adds_up_the_sample(rt: HostRuntime) -> Result<(), Fail> {
+    let segment = segment_of(rt.alloc(), &SPELLED)?;
+    for (measure, quantity, discount, sum) in SUMS {
+        assert!(rt; sum_of(rt.alloc(), &segment, measure, (0, quantity), (1, discount))? == sum);
+    }
+    Ok(())
+}
+
+// As many rows as a batch may have, each with the greatest revenue.
+fn dear_rows(alloc: Global) -> Result<Vec<LineOrder>, Fault> {
+    let mut rows = Vec::with_capacity(alloc, 65536)?;
+    for _ in 0..65536 {
+        let mut row = row_with(alloc, b"")?;
+        row.revenue = Amount::new(9223372036854775807);
+        rows.push(row)?;
+    }
+    Ok(rows)
+}
+
+#[test]
+fn adds_up_the_greatest_revenues(rt: HostRuntime) -> Result<(), Fail> {
+    let rows = dear_rows(rt.alloc())?;
+    let bytes = spelled(rt.alloc(), 1, &rows)?.unwrap_or(Vec::new(rt.alloc()));
+    let segment = segment_of(rt.alloc(), &bytes)?;
+    assert!(rt;
+        sum_of(rt.alloc(), &segment, Measure::Revenue, (0, 255), (0, 255))?
+            == 604462909807314587287552
+    );
+    Ok(())
+}

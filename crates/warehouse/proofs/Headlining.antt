@@ -1,0 +1,99 @@
+-- What is found behind a run that was stopped.
+use Rattle.std.proofs.Common.{◌≡◌, ⊎_elim, inl, inr, ◌≤◌, ℕ, zero, suc, Some, None, Option, List, [], ◌∷◌, length, take, slice_get, refl, sym, subst, arith}
+use Rattle.sector_device.specs.declared.device.Sectors.{Ghosts}
+use Rattle.sector_device.specs.Device.{Image, IsImage}
+use Rattle.cube_model.specs.declared.rows.DimRows.{DimRows}
+use Rattle.cube_model.specs.declared.rows.LineOrder.{LineOrder}
+use Rattle.cube_model.specs.Admission.{IsAdmissible}
+use Rattle.object_store.specs.Content.{Content}
+use Rattle.object_store.specs.Shows.{Shows}
+use Rattle.object_store.specs.Frames.{shows_same}
+use Rattle.object_store.specs.Disk.{ShowsSome}
+use Rattle.object_store.specs.Moments.{begins}
+use Rattle.warehouse_objects.specs.Warehouse.{Warehouse, loaded}
+use Rattle.warehouse_objects.specs.Stands.{Stands}
+use Rattle.warehouse_objects.proofs.CallerLemmas.{next_number}
+use Rattle.warehouse.specs.declared.command.Command.{Command}
+use Rattle.warehouse.specs.declared.command.Command.TheVariants.{Submit, Query, Status}
+use Rattle.warehouse.specs.declared.command.Reply.{Reply}
+use Rattle.warehouse.specs.declared.command.Reply.TheVariants.{Done, Answer, Numbers, Refused}
+use Rattle.warehouse.specs.Found.{MayBeFound, MayStand}
+use Rattle.warehouse.specs.Running.{During, FoundIn, acknowledged}
+use Rattle.warehouse.specs.Session.{device_of, disk_of}
+use Rattle.warehouse.specs.Headline.{acknowledged_all, submitted, IsRestarted, StoppedRunIsFound}
+use Rattle.warehouse.proofs.Whole.{whole}
+
+same_rows : (w : Warehouse) (command : Command) (reply : Reply) → (acknowledged w command reply).rows ≡ w.rows
+same_rows w (Submit number batch) Done = refl
+same_rows w (Submit number batch) (Answer found) = refl
+same_rows w (Submit number batch) (Numbers numbers) = refl
+same_rows w (Submit number batch) (Refused fault) = refl
+same_rows w (Query as_of query) reply = refl
+same_rows w Status reply = refl
+
+as_it_is : (w : Warehouse) (last : Option (List LineOrder)) → MayBeFound w.rows w.batches last w
+as_it_is w last = record { of_rows = refl; of_batches = inl refl }
+
+-- in a command
+in_command : (w : Warehouse) (command : Command) (c : Content) → During w command c → MayStand w.rows w.batches (submitted (Some command)) c
+in_command w (Submit number batch) c during =
+    ⊎_elim {C = MayStand w.rows w.batches (Some batch) c}
+    (λ stands. (w, as_it_is w (Some batch), stands))
+    (λ more. (
+      loaded w batch,
+      record {
+        of_rows = refl;
+        of_batches = inr (record {
+          batch = batch;
+          is_last = refl;
+          admissible = subst (λ (n : ℕ). IsAdmissible w.rows w.batches n batch) (next_number w.rows w.batches number batch more.0) more.0;
+          found_is = refl;
+        });
+      },
+      more.1,
+    )) during
+in_command w (Query as_of query) c stands = (w, as_it_is w None, stands)
+in_command w Status c stands = (w, as_it_is w None, stands)
+
+-- stopped after some commands, in the next
+record IsStopped (w : Warehouse) (commands : List Command) (replies : List Reply) (c : Content) : Type 0 where
+  done : ℕ
+  within : done ≤ length commands
+  found : MayStand w.rows (acknowledged_all w (take done commands) (take done replies)).batches (submitted (slice_get commands done)) c
+
+stopped : (w : Warehouse) (commands : List Command) (replies : List Reply) (c : Content) → FoundIn w commands replies c → IsStopped w commands replies c
+stopped w [] replies c stands = record { done = zero; within = omega arith; found = (w, as_it_is w None, stands) }
+stopped w (command ∷ commands) [] c none = absurd none
+stopped w (command ∷ commands) (reply ∷ replies) c found =
+    ⊎_elim {C = IsStopped w (command ∷ commands) (reply ∷ replies) c}
+    (λ here. record { done = zero; within = omega arith; found = in_command w command c here })
+    (λ later. let rest = stopped (acknowledged w command reply) commands replies c later in record {
+      done = suc rest.done;
+      within = omega (arith, rest.within);
+      found = subst (λ (rows : DimRows). MayStand rows (acknowledged_all (acknowledged w command reply) (take rest.done commands) (take rest.done replies)).batches (submitted (slice_get commands rest.done)) c)
+          (same_rows w command reply) rest.found;
+    }) found
+
+-- where an image shows a content, the restarted device shows it
+restarted_shows : {D : Type 0} (g : Ghosts D) (size : ℕ) (image : Image) (device : D) (c : Content) → IsRestarted g size image device → Shows size image c
+    → (other : Image) → IsImage (g.state device) other → Shows (g.state device).size other c
+restarted_shows g size image device c restarted shows other is =
+    subst (λ (n : ℕ). Shows n other c) (sym restarted.same_size)
+    (shows.0, shows.1, shows_same size image other c shows.0 shows.1 shows.2 (λ i _. sym (restarted.one other is i)))
+
+pub stopped_run : {D : Type 0} (g : Ghosts D) → ((d : D) (image : Image) → g.keeps_word d → (g.state d).left_since (g.state d).moment image → IsImage (g.state d) image) → StoppedRunIsFound g
+stopped_run g only old new w commands replies after is ran word image left device restarted =
+    let leaves = whole g old new w after commands replies ran
+    (begins (ShowsSome (λ (c : Content). Stands c w)) (disk_of g old) (λ k i. only (device_of old) i k) is.all) in
+    let shown = (leaves.moments word).each image left in
+    let stop = stopped w commands replies shown.0 shown.2 in record {
+      done = stop.done;
+      within = stop.within;
+      found = stop.found.0;
+      may = stop.found.1;
+      stands = λ k other is_image. (
+        shown.0,
+        restarted_shows g (g.state (device_of old)).size image device shown.0 restarted shown.1 other is_image,
+        (stop.found.0, as_it_is stop.found.0 None, stop.found.2),
+      );
+    }

@@ -1,0 +1,10 @@
+pub mod Refusing
+pub mod Preparing
+pub mod Standing
+pub mod Submitting
+pub mod Making
+pub mod Finding
+pub mod Outcomes
+pub mod Performing
+pub mod Whole
+pub mod Headlining

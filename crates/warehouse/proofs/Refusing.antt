@@ -1,0 +1,72 @@
+-- No cause to refuse a batch speaks of the device.
+use Rattle.std.proofs.Common.{◌≡◌, ℕ, ◌+◌, ◌^◌, Bool, true, false, Option, Some, None, List, [], ◌∷◌, ◌++◌, is_none, nat_le, nat_lt, length, refl, subst, ◌⊎◌, inl, inr}
+use Rattle.cube_model.specs.declared.fault.Fault.{Fault}
+use Rattle.cube_model.specs.declared.fault.Fault.TheVariants.{Device, Repeated, Gap, TooManyBatches, TooManyRows, FieldTooLong, UnknownCustomer, UnknownSupplier, UnknownPart, UnknownDate, SumRange}
+use Rattle.cube_model.specs.declared.fault.Place.TheVariants.{Row}
+use Rattle.cube_model.specs.declared.measure.Measure.{Measure}
+use Rattle.cube_model.specs.declared.measure.Measure.TheVariants.{Quantity, ExtendedPrice, Revenue, SupplyCost, Discounted, Profit}
+use Rattle.cube_model.specs.declared.rows.DimRows.{DimRows}
+use Rattle.cube_model.specs.declared.rows.LineOrder.{LineOrder}
+use Rattle.cube_model.specs.Admission.{all_rows, refusal, is_long, long_field, long_text, unknown_axis, unknown_key, sum_cause, sums_cause, absolute_total}
+use Rattle.cube_model.specs.Attributes.{customer_of, supplier_of, part_of, date_of}
+use Rattle.cube_model.specs.Causes.{first_cause, cause_if}
+use Rattle.cube_model.specs.Limits.{most_batch_rows, most_batches}
+use Rattle.warehouse.specs.Refusing.{is_of_device}
+
+abbrev pub IsApart : Option Fault → Type 0
+IsApart None = Unit {0}
+IsApart (Some fault) = is_of_device fault ≡ false
+
+so_if : (test : Bool) (fault : Fault) → is_of_device fault ≡ false → IsApart (cause_if test fault)
+so_if true fault e = e
+so_if false fault e = tt
+
+then : (cause : Option Fault) (causes : List (Option Fault)) → IsApart cause → IsApart (first_cause causes) → IsApart (first_cause (cause ∷ causes))
+then None causes first rest = rest
+then (Some fault) causes first rest = first
+
+row_texts : (number : ℕ) (row : LineOrder) → IsApart (long_field number row)
+row_texts number row =
+    then _ _ (so_if (is_long row.orderpriority) (FieldTooLong (Row number) 7) refl)
+    (then _ _ (so_if (is_long row.shippriority) (FieldTooLong (Row number) 8) refl)
+    (then _ _ (so_if (is_long row.commitdate) (FieldTooLong (Row number) 16) refl)
+    (then _ _ (so_if (is_long row.shipmode) (FieldTooLong (Row number) 17) refl) tt)))
+
+texts : (number : ℕ) (rows : List LineOrder) → IsApart (long_text number rows)
+texts number [] = tt
+texts number (row ∷ rows) = then (long_field number row) _ (row_texts number row) (then (long_text (number + 1) rows) [] (texts (number + 1) rows) tt)
+
+row_keys : (dimensions : DimRows) (number : ℕ) (row : LineOrder) → IsApart (unknown_axis dimensions number row)
+row_keys dimensions number row =
+    then _ _ (so_if (is_none (customer_of dimensions row.custkey)) (UnknownCustomer number) refl)
+    (then _ _ (so_if (is_none (supplier_of dimensions row.suppkey)) (UnknownSupplier number) refl)
+    (then _ _ (so_if (is_none (part_of dimensions row.partkey)) (UnknownPart number) refl)
+    (then _ _ (so_if (is_none (date_of dimensions row.orderdate)) (UnknownDate number) refl) tt)))
+
+keys : (dimensions : DimRows) (number : ℕ) (rows : List LineOrder) → IsApart (unknown_key dimensions number rows)
+keys dimensions number [] = tt
+keys dimensions number (row ∷ rows) =
+    then (unknown_axis dimensions number row) _ (row_keys dimensions number row) (then (unknown_key dimensions (number + 1) rows) [] (keys dimensions (number + 1) rows) tt)
+
+total : (rows : List LineOrder) (measure : Measure) → IsApart (sum_cause rows measure)
+total rows measure = so_if (nat_le (2 ^ 63) (absolute_total measure rows)) (SumRange measure) refl
+
+totals : (rows : List LineOrder) → IsApart (sums_cause rows)
+totals rows =
+    then _ _ (total rows Quantity) (then _ _ (total rows ExtendedPrice) (then _ _ (total rows Revenue)
+    (then _ _ (total rows SupplyCost) (then _ _ (total rows Discounted) (then _ _ (total rows Profit) tt)))))
+
+refusals : (dimensions : DimRows) (batches : List (List LineOrder)) (number : ℕ) (rows : List LineOrder) → IsApart (refusal dimensions batches number rows)
+refusals dimensions batches number rows =
+    then _ _ (so_if (nat_le number (length batches)) Repeated refl)
+    (then _ _ (so_if (nat_lt (length batches + 1) number) Gap refl)
+    (then _ _ (so_if (nat_le most_batches (length batches)) TooManyBatches refl)
+    (then _ _ (so_if (nat_lt most_batch_rows (length rows)) TooManyRows refl)
+    (then _ _ (texts 1 rows) (then _ _ (keys dimensions 1 rows) (then _ _ (totals (all_rows batches ++ rows)) tt))))))
+
+pub refusal_apart : (dimensions : DimRows) (batches : List (List LineOrder)) (number : ℕ) (rows : List LineOrder) (fault : Fault) → refusal dimensions batches number rows ≡ Some fault → is_of_device fault ≡ false
+refusal_apart dimensions batches number rows fault e = subst IsApart e (refusals dimensions batches number rows)
+
+pub device_or : (fault : Fault) → (fault ≡ Device) ⊎ (fault ≡ Device → ⊥)
+device_or Device = inl refl
+device_or fault = inr (λ e. cc)

@@ -1,0 +1,54 @@
+use Rattle.std.proofs.Common.{◌≡◌, ◌+◌, ◌<◌, true, List, [], ◌∷◌, ◌++◌, take, vec_len, vec_capacity, is_ok, cond, refl, sym, ◌∙◌, ap, subst, add-one, arith}
+use Rattle.std.proofs.lemmas.List.{take_all}
+use Rattle.std.proofs.lemmas.Option.{slice_get_read}
+use Rattle.warehouse.specs.declared.command.Command.{Command}
+use Rattle.warehouse.specs.declared.command.Reply.{Reply}
+use Rattle.warehouse.specs.Running.{Phase, at, Holds, RanAll}
+use Rattle.warehouse.proofs.Whole.{take_next, whole}
+use Rattle.warehouse.proofs.Performing.{runs_on}
+use Rattle.warehouse.proofs.running.run.Goals as goal
+
+pub loop-command-init : goal.loop-command-init
+loop-command-init g c = record {
+  count = c.in-Ok.ensures.len;
+  room = c.in-Ok.ensures.capacity;
+  ran = λ w holds k. (at w, subst (λ (replies : List Reply). RanAll g.D.Sectors c.args.session.now (at w) [] replies c.args.session.now (at w)) (sym c.in-Ok.ensures.items) (refl, refl), holds);
+}
+
+pub loop-command-preserved : goal.loop-command-preserved
+loop-command-preserved g c =
+    let so_far = c.loop-command.invariant in
+    let first = c.args.session.now in
+    let mid = c.loop-command.session in
+    let new = c.perform-reply.new.session in
+    let command = c.command-item.result in
+    let reply = c.perform-reply.result in
+    let room : vec_len c.loop-command.replies < vec_capacity c.loop-command.replies = omega (arith, so_far.count, so_far.room, c.loop-command-test.true) in
+    let good : is_ok c.push.result ≡ true = c.push.ensures.succeeds room in
+    let items : c.push.new.self.items ≡ c.loop-command.replies.items ++ reply ∷ [] =
+    c.push.ensures.items ∙ ap (λ b. cond b (c.loop-command.replies.items ++ reply ∷ []) c.loop-command.replies.items) good in
+    let len : vec_len c.push.new.self ≡ vec_len c.loop-command.replies + 1 =
+    c.push.ensures.len ∙ ap (λ b. cond b (vec_len c.loop-command.replies + 1) (vec_len c.loop-command.replies)) good in
+    let front : take (c.loop-command.command-index + 1) c.args.commands.now ≡ take c.loop-command.command-index c.args.commands.now ++ command ∷ [] =
+    ap (λ i. take i c.args.commands.now) (add-one c.loop-command.command-index)
+    ∙ take_next c.args.commands.now c.loop-command.command-index command (slice_get_read c.args.commands.now _ c.loop-command.command-index command refl c.loop-command-test.true c.command-item.is) in record {
+      count = len ∙ ap (λ n. n + 1) so_far.count;
+      room = omega (arith, so_far.room, c.push.ensures.capacity);
+      ran = λ w holds k.
+          let was = so_far.ran w holds (c.perform-reply.ensures.word k) in
+          subst (λ (replies : List Reply). (after : Phase) × RanAll g.D.Sectors first (at w) (take (c.loop-command.command-index + 1) c.args.commands.now) replies new after × Holds g.D.Sectors new after) (sym items)
+          (subst (λ (commands : List Command). (after : Phase) × RanAll g.D.Sectors first (at w) commands (c.loop-command.replies.items ++ reply ∷ []) new after × Holds g.D.Sectors new after) (sym front)
+          (runs_on g.D.Sectors first mid new (at w) was.0 command reply (take c.loop-command.command-index c.args.commands.now) c.loop-command.replies.items was.2
+          (λ v here. c.perform-reply.ensures.ran v here k) c.perform-reply.ensures.broken was.1));
+    }
+
+pub returns-clause-ran : goal.returns-clause-ran
+returns-clause-ran g c w holds k =
+    subst (λ (commands : List Command). (after : Phase) × RanAll g.D.Sectors c.args.session.now (at w) commands c.loop-command.replies.items c.loop-command.session after × Holds g.D.Sectors c.loop-command.session after)
+    (take_all c.loop-command.command-index c.args.commands.now (omega (arith, c.loop-command-test.false))) (c.loop-command.invariant.ran w holds k)
+
+pub returns-clause-found : goal.returns-clause-found
+returns-clause-found g c w holds k =
+    let all = subst (λ (commands : List Command). (after : Phase) × RanAll g.D.Sectors c.args.session.now (at w) commands c.loop-command.replies.items c.loop-command.session after × Holds g.D.Sectors c.loop-command.session after)
+    (take_all c.loop-command.command-index c.args.commands.now (omega (arith, c.loop-command-test.false))) (c.loop-command.invariant.ran w holds k) in
+    whole g.D.Sectors c.args.session.now c.loop-command.session w all.0 c.args.commands.now c.loop-command.replies.items all.1 (c.is_broken-broken.ensures.leaves w holds)

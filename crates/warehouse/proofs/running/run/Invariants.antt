@@ -1,0 +1,13 @@
+use Rattle.std.proofs.Common.{◌≡◌, ◌≤◌, length, take, vec_len, vec_capacity}
+use Rattle.warehouse_objects.specs.Warehouse.{Warehouse}
+use Rattle.warehouse.specs.Session.{device_of, IsAt}
+use Rattle.warehouse.specs.Running.{Phase, at, Holds, RanAll}
+use Rattle.warehouse.proofs.running.run.Given as goal
+
+abbrev pub invariant-loop-command : goal.invariant-loop-command
+invariant-loop-command g l = record {
+  count : vec_len l.replies ≡ l.command-index;
+  room : length l.commands ≤ vec_capacity l.replies;
+  ran : (w : Warehouse) → IsAt g.D.Sectors l.initial.session w → g.D.Sectors.keeps_word (device_of l.session)
+      → (after : Phase) × RanAll g.D.Sectors l.initial.session (at w) (take l.command-index l.commands) l.replies.items l.session after × Holds g.D.Sectors l.session after;
+}

@@ -1,0 +1,24 @@
+-- What an opening may find.
+use Rattle.std.specs.Prelude.{◌≡◌, ◌⊎◌, ◌+◌, Option, Some, List, [], ◌∷◌, ◌++◌, length}
+use Rattle.cube_model.specs.declared.rows.DimRows.{DimRows}
+use Rattle.cube_model.specs.declared.rows.LineOrder.{LineOrder}
+use Rattle.cube_model.specs.Admission.{IsAdmissible}
+use Rattle.object_store.specs.Content.{Content}
+use Rattle.warehouse_objects.specs.Warehouse.{Warehouse}
+use Rattle.warehouse_objects.specs.Stands.{Stands}
+
+-- a batch behind others was being submitted, and is admissible there
+pub record IsBehind (rows : DimRows) (batches : List (List LineOrder)) (last : Option (List LineOrder)) (found : List (List LineOrder)) : Type 0 where
+  pub batch : List LineOrder
+  pub is_last : last ≡ Some batch
+  pub admissible : IsAdmissible rows batches (length batches + 1) batch
+  pub found_is : found ≡ batches ++ batch ∷ []
+
+-- What a stop may have left: the batches that were acknowledged, or these and the one whose submit was running.
+pub record MayBeFound (rows : DimRows) (batches : List (List LineOrder)) (last : Option (List LineOrder)) (found : Warehouse) : Type 0 where
+  pub of_rows : found.rows ≡ rows
+  pub of_batches : (found.batches ≡ batches) ⊎ IsBehind rows batches last found.batches
+
+-- a content stands for batches that may be found
+abbrev pub MayStand : DimRows → List (List LineOrder) → Option (List LineOrder) → Content → Type 0
+MayStand rows batches last c = (w : Warehouse) × MayBeFound rows batches last w × Stands c w

@@ -1,0 +1,9 @@
+pub mod Refusing
+pub mod Loaded
+pub mod Session
+pub mod Found
+pub mod Prepared
+pub mod Status
+pub mod Beginning
+pub mod Running
+pub mod Headline

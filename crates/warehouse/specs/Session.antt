@@ -1,0 +1,78 @@
+-- What a session shows of itself, and when it stands for a warehouse.
+use Rattle.std.specs.Prelude.{◌≡◌, ◌⊎◌, ℕ, ◌+◌, ◌-◌, ◌^◌, ◌<◌, ◌≤◌, min, Bool, true, false, Some, length, List, []}
+use Rattle.std.proofs.Common.{sym, subst}
+use Rattle.sector_device.specs.declared.device.Sectors.{Ghosts}
+use Rattle.cube_model.specs.declared.fault.Fault.{Fault}
+use Rattle.cube_model.specs.declared.fault.Fault.TheVariants.{Memory, BadQuery, NoSuchPrefix}
+use Rattle.cube_model.specs.declared.query.Query.{Query}
+use Rattle.cube_model.specs.declared.rows.LineOrder.{LineOrder}
+use Rattle.cube_model.specs.Admission.{refusal, IsAdmissible}
+use Rattle.cube_model.specs.Proper.{IsProper}
+use Rattle.warehouse_root.specs.Root as roots
+use Rattle.object_store.specs.Content.{Content}
+use Rattle.object_store.specs.Disk.{Disk, AllShow}
+use Rattle.object_store.specs.Frames.{always_shows}
+use Rattle.object_store.specs.Moments.{all_weaker}
+use Rattle.object_store.specs.Room.{Room}
+use Rattle.object_store.specs.Store as stores
+use Rattle.warehouse_objects.specs.Warehouse.{Warehouse, loaded}
+use Rattle.warehouse_objects.specs.Stands.{Stands, root_of}
+use Rattle.warehouse_objects.specs.Lawful.{batch_put}
+use Rattle.warehouse.specs.declared.session.Session.{Session}
+
+module _ {D : Type 0} where
+  abbrev pub has_failed : {g : Ghosts D} → Session D g → Bool
+  has_failed session = stores.has_failed session.store
+
+  abbrev pub device_of : {g : Ghosts D} → Session D g → D
+  device_of session = stores.device_of session.store
+
+  abbrev pub disk_of : (g : Ghosts D) → Session D g → Disk
+  disk_of g session = stores.disk_of g session.store
+
+  abbrev pub content_of : (g : Ghosts D) → Session D g → Content
+  content_of g session = stores.content_of g session.store
+
+  -- what the first fits of its next commit look at
+  abbrev pub room_of : {g : Ghosts D} → Session D g → Room
+  room_of session = stores.room_of session.store
+
+-- the session has not failed, and stands for a warehouse: every image does
+pub record IsAt {D : Type 0} (g : Ghosts D) (session : Session D g) (w : Warehouse) : Type 0 where
+  pub fine : has_failed session ≡ false
+  pub stands : (disk_of g session).keeps_word → Stands (content_of g session) w
+  pub all : AllShow (disk_of g session) (λ c. Stands c w)
+
+-- the device failed in this call, and the session answers Failed from now on
+pub record Breaks {D : Type 0} (g : Ghosts D) (old new : Session D g) : Type 0 where
+  pub before : has_failed old ≡ false
+  pub failed : has_failed new ≡ true
+  pub failures : (disk_of g new).failures ≡ min ((disk_of g old).failures + 1) (2 ^ 64 - 1)
+
+-- Why a submit is refused where the device has not failed: the first cause of the model, or one of its commit. The commit
+-- puts the segment of the batch, and the root with it.
+abbrev pub SubmitRefuses : {D : Type 0} (g : Ghosts D) → Session D g → Warehouse → ℕ → List LineOrder → Fault → Type 0
+SubmitRefuses g session w number batch fault =
+    (refusal w.rows w.batches number batch ≡ Some fault)
+    ⊎ (IsAdmissible w.rows w.batches number batch
+    × stores.Refuses (content_of g session) (room_of session) (batch_put number batch) [] (roots.root_of (root_of (loaded w batch))) fault)
+
+-- a query that is proper, over batches that are there
+pub record IsAsked (w : Warehouse) (as_of : ℕ) (query : Query) : Type 0 where
+  pub proper : IsProper query
+  pub there : as_of ≤ length w.batches
+
+-- Why a query is refused where the device has not failed: it is not proper; it is, and asks for more batches than there are; or there is no memory.
+abbrev pub QueryRefuses : Warehouse → ℕ → Query → Fault → Type 0
+QueryRefuses w as_of query fault =
+    ((fault ≡ BadQuery) × (IsProper query → ⊥))
+    ⊎ (((fault ≡ NoSuchPrefix) × IsProper query × (length w.batches < as_of))
+    ⊎ ((fault ≡ Memory) × IsAsked w as_of query))
+
+-- a session that has not failed is at what its content stands for
+pub is_at : {D : Type 0} (g : Ghosts D) (session : Session D g) (w : Warehouse) → has_failed session ≡ false → ((disk_of g session).keeps_word → Stands (content_of g session) w) → IsAt g session w
+is_at g session w fine stands = record {
+  fine = fine;
+  stands = stands;
+  all = all_weaker (λ (c : Content). c ≡ content_of g session) (λ (c : Content). Stands c w) (disk_of g session) (λ k c e. subst (λ (x : Content). Stands x w) (sym e) (stands k)) (always_shows g session.store fine);
+}

@@ -1,0 +1,45 @@
+//! What a warehouse is made of, made ready before the first device call.
+ghost use Rattle.std.specs.Prelude.{◌≡◌, IfOk, IfErr};
+ghost use Rattle.cube_model.specs.declared.fault.Fault.TheVariants.{Memory};
+
+use cube_model::{Axis, Fault};
+use dimension_objects::encode;
+use dimensions::Dims;
+use std::alloc::Global;
+use warehouse_root::{Layout, Root};
+
+/// The bytes of the four dimensions, and the root of no batch.
+#[derive(Drop)]
+pub(crate) struct Beginning {
+    pub(crate) customers: Vec<u8>,
+    pub(crate) suppliers: Vec<u8>,
+    pub(crate) parts: Vec<u8>,
+    pub(crate) dates: Vec<u8>,
+    pub(crate) root: Root,
+    pub(crate) root_bytes: Vec<u8>,
+}
+
+impl Beginning {
+    ghost use Rattle.warehouse.specs.Beginning.{IsBeginning};
+
+    /// That of a warehouse with these dimensions.
+    pub(crate) fn of(alloc: Global, dims: &Dims) -> Result<Beginning, Fault>
+        ensures ok { IfOk result (IsBeginning dims.now) }
+        ensures memory { IfErr result (λ fault. fault ≡ Memory) }
+    {
+        let root = Root::new(alloc, Layout::First);
+        let root_bytes = root.encode(alloc)?;
+        let customers = encode(alloc, dims, Axis::Customer)?;
+        let suppliers = encode(alloc, dims, Axis::Supplier)?;
+        let parts = encode(alloc, dims, Axis::Part)?;
+        let dates = encode(alloc, dims, Axis::Date)?;
+        Ok(Beginning {
+            customers,
+            suppliers,
+            parts,
+            dates,
+            root,
+            root_bytes,
+        })
+    }
+}

@@ -1,0 +1,21 @@
+//! A warehouse of batches on a device: what each call answers, and what a stop at any moment of it leaves.
+#![tactic(auto)]
+
+mod beginning;
+mod command;
+mod creation;
+pub mod laws;
+mod opening;
+mod prepared;
+mod querying;
+mod running;
+mod session;
+mod status;
+mod submit;
+
+pub use command::{Command, Reply};
+pub use creation::create;
+pub use opening::open;
+pub use running::run;
+pub use session::Session;
+pub use status::Status;

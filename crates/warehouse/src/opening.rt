@@ -1,0 +1,114 @@
+//! Opening what stands on a device.
+ghost use Rattle.std.specs.Prelude.{◌≡◌, ◌⊎◌, ◌+◌, ◌-◌, ◌^◌, min, true, false, List, Option, IfOk, IfErr, IsErrOf, OnOk};
+ghost use Rattle.cube_model.specs.declared.fault.Fault.TheVariants.{BadLayout, Device, Memory};
+ghost use Rattle.cube_model.specs.declared.rows.DimRows.{DimRows};
+ghost use Rattle.cube_model.specs.declared.rows.LineOrder.{LineOrder};
+ghost use Rattle.object_store.specs.Disk.{disk, AllShow, Leaves};
+ghost use Rattle.object_store.specs.Found.{is_of_layout};
+ghost use Rattle.object_store.specs.Store as stores;
+ghost use Rattle.warehouse_root.specs.declared.layout.Layout.TheVariants.{First};
+ghost use Rattle.warehouse_root.specs.Layouts.{number_of};
+ghost use Rattle.warehouse_root.specs.Root.{IsRootOf};
+ghost use Rattle.warehouse_objects.specs.Warehouse.{Warehouse};
+ghost use Rattle.warehouse_objects.specs.Stands.{Stands};
+ghost use Rattle.warehouse.specs.Found.{MayBeFound, MayStand};
+ghost use Rattle.warehouse.specs.Loaded.{IsLoaded};
+ghost use Rattle.warehouse.specs.Session.{content_of, device_of, disk_of, has_failed, IsAt};
+
+use crate::session::Session;
+use cube_model::Fault;
+use dimensions::Dims;
+use object_store::Store;
+use sector_device::Sectors;
+use std::alloc::Global;
+use warehouse_objects::{has_its_objects, read_dims, read_root};
+use warehouse_root::Root;
+
+/// Finds the warehouse on a device, also one that was not restarted. A refusal hands the device back.
+///
+/// It reads the root and the dimensions, and no batch.
+pub fn open<D: Sectors>(alloc: Global, device: D) -> Result<Session<D>, (Fault, D)>
+    // Where every image at the start stands for batches that may be found, each at any moment stands for such.
+    ensures leaves { IfOk result (λ session. (rows : DimRows) (batches : List (List LineOrder)) (last : Option (List LineOrder)) →
+        AllShow (disk D.Sectors device) (MayStand rows batches last) → Leaves (disk D.Sectors device) (disk_of D.Sectors session) (MayStand rows batches last)) }
+    ensures leaves_err { IfErr result (λ e. (rows : DimRows) (batches : List (List LineOrder)) (last : Option (List LineOrder)) →
+        AllShow (disk D.Sectors device) (MayStand rows batches last) → Leaves (disk D.Sectors device) (disk D.Sectors e.1) (MayStand rows batches last)) }
+
+    // Then it is at one of them, and every image stands for that one.
+    ensures ok { IfOk result (λ session. (rows : DimRows) (batches : List (List LineOrder)) (last : Option (List LineOrder)) →
+        AllShow (disk D.Sectors device) (MayStand rows batches last) → D.keeps_word (device_of session)
+        → (w : Warehouse) × MayBeFound rows batches last w × IsAt D.Sectors session w) }
+
+    // Where every image at the start stands for a warehouse, it never finds none: it refuses for memory or the device.
+    ensures never { IfErr result (λ e. (rows : DimRows) (batches : List (List LineOrder)) (last : Option (List LineOrder)) →
+        AllShow (disk D.Sectors device) (MayStand rows batches last) → D.keeps_word e.1 → (e.0 ≡ Memory) ⊎ (e.0 ≡ Device)) }
+    ensures device { IfErr result (λ e. e.0 ≡ Device → D.failed e.1 ≡ min (D.failed device + 1) (2 ^ 64 - 1)) }
+    ensures causes { IfErr result (λ e. (e.0 ≡ Memory) ⊎ ((e.0 ≡ Device) ⊎ (is_of_layout e.0 ≡ true))) }
+{
+    let store = match Store::open(alloc, device) {
+        Ok(store) => store,
+        Err(e) => return Err(e),
+    };
+    match load(alloc, store) {
+        Ok(session) => Ok(session),
+        Err(e) => Err(e),
+    }
+}
+
+// What a store holds, in memory.
+fn load<D: Sectors>(alloc: Global, mut store: Store<D>) -> Result<Session<D>, (Fault, D)>
+    requires fine { stores.has_failed store ≡ false }
+    ensures fine { IfOk result (λ session. has_failed session ≡ false) }
+    ensures content { IfOk result (λ session. (disk_of D.Sectors session).keeps_word → content_of D.Sectors session ≡ stores.content_of D.Sectors store) }
+    ensures leaves { IfOk result (λ session. Leaves (stores.disk_of D.Sectors store) (disk_of D.Sectors session) (λ c. c ≡ stores.content_of D.Sectors store)) }
+    ensures leaves_err { IfErr result (λ e. Leaves (stores.disk_of D.Sectors store) (disk D.Sectors e.1) (λ c. c ≡ stores.content_of D.Sectors store)) }
+    ensures readable { IfErr result (λ e. e.0 ≡ BadLayout → D.keeps_word e.1 → (w : Warehouse) → Stands (stores.content_of D.Sectors store) w → ⊥) }
+    ensures device { IfErr result (λ e. e.0 ≡ Device → D.failed e.1 ≡ min ((stores.disk_of D.Sectors store).failures + 1) (2 ^ 64 - 1)) }
+    ensures causes { IfErr result (λ e. (e.0 ≡ Memory) ⊎ ((e.0 ≡ Device) ⊎ (e.0 ≡ BadLayout))) }
+{
+    match read(alloc, &mut store) {
+        Ok((dims, root)) => Ok(Session { store, dims, root }),
+        Err(fault) => Err((fault, store.close())),
+    }
+}
+
+// The dimensions and the root of the warehouse for which the content of a store stands.
+fn read<D: Sectors>(alloc: Global, store: &mut Store<D>) -> Result<(Dims, Root), Fault>
+    requires fine { stores.has_failed store.old ≡ false }
+    ensures loaded { IfOk result (λ parts. D.keeps_word (stores.device_of store.new) → IsLoaded (stores.content_of D.Sectors store.old) parts.0 parts.1) }
+    ensures readable { IsErrOf result BadLayout → D.keeps_word (stores.device_of store.new)
+        → (w : Warehouse) → Stands (stores.content_of D.Sectors store.old) w → ⊥ }
+    ensures leaves { Leaves (stores.disk_of D.Sectors store.old) (stores.disk_of D.Sectors store.new) (λ c. c ≡ stores.content_of D.Sectors store.old) }
+    ensures stays { OnOk result (stores.IsStill D.Sectors store.old store.new) }
+    ensures device { IsErrOf result Device → stores.Breaks D.Sectors store.old store.new }
+    ensures causes { IfErr result (λ fault. (fault ≡ Memory) ⊎ ((fault ≡ Device) ⊎ (fault ≡ BadLayout))) }
+{
+    let _broken = store.is_broken();
+    let root = match known_root(alloc, store) {
+        Ok(root) => root,
+        Err(fault) => return Err(fault),
+    };
+    match read_dims(alloc, store) {
+        Ok(dims) => Ok((dims, root)),
+        Err(fault) => Err(fault),
+    }
+}
+
+// The root of a store that has just the objects that it asks for.
+fn known_root<D: Sectors>(alloc: Global, store: &Store<D>) -> Result<Root, Fault>
+    ensures ok { IfOk result (IsRootOf First (stores.content_of D.Sectors store.now).root) }
+    ensures layout { OnOk result ((stores.content_of D.Sectors store.now).layout ≡ number_of First) }
+    ensures readable { IsErrOf result BadLayout → D.keeps_word (stores.device_of store.now)
+        → (w : Warehouse) → Stands (stores.content_of D.Sectors store.now) w → ⊥ }
+    ensures causes { IfErr result (λ fault. (fault ≡ Memory) ⊎ (fault ≡ BadLayout)) }
+{
+    let root = match read_root(alloc, store) {
+        Ok(root) => root,
+        Err(fault) => return Err(fault),
+    };
+    match has_its_objects(alloc, store, &root) {
+        Ok(true) => Ok(root),
+        Ok(false) => Err(Fault::BadLayout),
+        Err(fault) => Err(fault),
+    }
+}

@@ -1,0 +1,169 @@
+//! What a submit puts on the device, made ready before the first device call.
+ghost use Rattle.std.specs.Prelude.{◌≡◌, false, ◌+◌, ◌<◌, ◌≤◌, ◌↔◌, length, IfOk, IfErr, IsTrue};
+ghost use Rattle.cube_model.specs.declared.fault.Fault.TheVariants.{Memory};
+ghost use Rattle.cube_model.specs.Limits.{most_batches};
+ghost use Rattle.batch_admission.specs.Accepted.{StandsBehind};
+ghost use Rattle.column_segment.specs.Segment.{IsBatch};
+ghost use Rattle.warehouse_root.specs.Root.{AreProperTotals, IsProper};
+ghost use Rattle.object_store.specs.Commit.{ArePuts};
+ghost use Rattle.object_store.specs.Content.{Content};
+ghost use Rattle.warehouse_objects.specs.Lawful.{dimension_puts};
+ghost use Rattle.warehouse_objects.specs.Stands.{Stands, root_of, stored};
+ghost use Rattle.warehouse_objects.specs.Warehouse.{Warehouse, AreStorable};
+ghost use Rattle.warehouse.specs.Loaded.{Agrees, IsLoaded};
+ghost use Rattle.warehouse.specs.Refusing.{is_of_device};
+
+use batch_admission::{Admission, Totals};
+use column_segment::{encode, is_batch};
+use cube_model::limits::MOST_BATCHES;
+use cube_model::{Fault, LineOrder};
+use dimensions::Dims;
+use std::alloc::Global;
+use warehouse_objects::laws::{objects_are_storable, rows_are_one};
+use warehouse_objects::{numbers_fit, rows_are_storable};
+use warehouse_root::{Root, StoredTotals};
+
+/// The segment of a further batch, and the root with it.
+#[derive(Drop)]
+pub(crate) struct Prepared {
+    pub(crate) segment: Vec<u8>,
+    pub(crate) root: Root,
+    pub(crate) root_bytes: Vec<u8>,
+}
+
+impl Prepared {
+    ghost use Rattle.warehouse_root.specs.Root.{IsRoot, with_batch};
+    ghost use Rattle.column_segment.specs.Segment.{segment_of};
+    ghost use Rattle.warehouse.specs.Prepared.{IsPrepared, MayFollow, Admitted, Prepares};
+
+    /// Makes a batch ready behind those of a root, or answers the first cause to refuse it, or `Memory`.
+    pub(crate) fn of(
+        alloc: Global,
+        dims: &Dims,
+        root: &Root,
+        number: u32,
+        rows: &[LineOrder],
+    ) -> Result<Prepared, Fault>
+        ensures ready { IfOk result (IsPrepared root.now number rows.now) }
+        ensures model { (w : Warehouse) → w.rows ≡ dims.now → root_of w ≡ root.now → Prepares w number rows.now result }
+        ensures apart { IfErr result (λ fault. is_of_device fault ≡ false) }
+    {
+        match Prepared::admitted(dims, root, number, rows) {
+            Ok(totals) => Prepared::with_totals(alloc, root, number, rows, totals),
+            Err(fault) => Err(fault),
+        }
+    }
+
+    // The segment of a batch, and the root with it and its totals.
+    fn with_totals(
+        alloc: Global,
+        root: &Root,
+        number: u32,
+        rows: &[LineOrder],
+        totals: StoredTotals,
+    ) -> Result<Prepared, Fault>
+        requires follows { MayFollow (length root.now.batches) number rows.now }
+        requires totals { AreProperTotals totals }
+        ensures ready { IfOk result (IsPrepared root.now number rows.now) }
+        ensures root { IfOk result (λ p. p.root ≡ with_batch (length rows.now) totals root.now) }
+        ensures memory { IfErr result (λ fault. fault ≡ Memory) }
+    {
+        numbers_fit(rows);
+        let segment = encode(alloc, number, rows)?;
+        let root = root.with_batch(alloc, rows.len() as u32, totals)?;
+        let root_bytes = root.encode(alloc)?;
+        Ok(Prepared {
+            segment,
+            root,
+            root_bytes,
+        })
+    }
+
+    // The totals with those of a further batch, or the first cause to refuse it.
+    fn admitted(
+        dims: &Dims,
+        root: &Root,
+        number: u32,
+        rows: &[LineOrder],
+    ) -> Result<StoredTotals, Fault>
+        ensures follows { IfOk result (λ totals. MayFollow (length root.now.batches) number rows.now × AreProperTotals totals) }
+        ensures model { (w : Warehouse) → w.rows ≡ dims.now → root_of w ≡ root.now → Admitted w number rows.now result }
+        ensures apart { IfErr result (λ fault. is_of_device fault ≡ false) }
+    {
+        let mut admission = admission_of(root);
+        match admission.admit(dims, number, rows) {
+            Ok(()) => {
+                if !Prepared::may_follow(root.batches(), number, rows) {
+                    return Err(Fault::BadLayout); // nothing that was admitted
+                }
+                Ok(stored_of(admission.totals()))
+            }
+            Err(fault) => Err(cause_of(fault)),
+        }
+    }
+
+    // Whether rows with a number may be put as a segment behind so many batches.
+    fn may_follow(batches: &[u32], number: u32, rows: &[LineOrder]) -> bool
+        ensures { IsTrue result ↔ MayFollow (length batches.now) number rows.now }
+    {
+        number as usize <= MOST_BATCHES && number as usize == batches.len() + 1 && is_batch(rows)
+    }
+}
+
+// The check of a further batch behind those of a root.
+fn admission_of(root: &Root) -> Admission
+    ensures { (w : Warehouse) → root_of w ≡ root.now → StandsBehind result w.batches }
+{
+    let _layout = root.layout();
+    let totals = root.totals();
+    Admission::resume(
+        root.batches().len() as u32,
+        Totals {
+            quantity: totals.quantity,
+            extendedprice: totals.extendedprice,
+            revenue: totals.revenue,
+            supplycost: totals.supplycost,
+            discounted: totals.discounted,
+            profit: totals.profit,
+        },
+    )
+}
+
+// Totals as they are stored.
+fn stored_of(totals: Totals) -> StoredTotals
+    ensures { result ≡ stored totals }
+{
+    StoredTotals {
+        quantity: totals.quantity,
+        extendedprice: totals.extendedprice,
+        revenue: totals.revenue,
+        supplycost: totals.supplycost,
+        discounted: totals.discounted,
+        profit: totals.profit,
+    }
+}
+
+// The cause to refuse a batch. None speaks of the device.
+fn cause_of(fault: Fault) -> Fault
+    ensures cause { is_of_device fault ≡ false → result ≡ fault }
+    ensures apart { is_of_device result ≡ false }
+{
+    match fault {
+        Fault::Device => Fault::BadLayout,
+        Fault::Failed => Fault::BadLayout,
+        cause => cause,
+    }
+}
+
+/// What is kept in memory is what the content stands for. It does nothing.
+pub(crate) fn kept_is_what_stands(dims: &Dims, root: &Root)
+    ensures dims { AreStorable dims.now }
+    ensures puts { ArePuts (dimension_puts dims.now) }
+    ensures root { IsProper root.now }
+    ensures agrees { (c : Content) (w : Warehouse) → IsLoaded c dims.now root.now → Stands c w → Agrees w dims.now root.now }
+{
+    rows_are_one();
+    objects_are_storable();
+    rows_are_storable(dims);
+    let _layout = root.layout();
+}

@@ -1,0 +1,110 @@
+//! The answer to a query over the first batches of a warehouse.
+ghost use Rattle.std.specs.Prelude.{◌≡◌, ◌≢◌, take, ◌⊎◌, ◌<◌, ◌≤◌, ◌↔◌, true, false, Err, length, IfOk, IfErr, IsErrOf, OnOk};
+ghost use Rattle.cube_model.specs.declared.fault.Fault.TheVariants.{BadLayout, Device, Failed, Memory, BadQuery, NoSuchPrefix};
+ghost use Rattle.cube_model.specs.Admission.{all_rows};
+ghost use Rattle.cube_model.specs.Answers.{answer, answer_as_of};
+ghost use Rattle.cube_model.specs.Proper.{IsProper};
+ghost use Rattle.object_store.specs.Disk.{Leaves};
+ghost use Rattle.object_store.specs.Store as stores;
+ghost use Rattle.warehouse_objects.specs.Warehouse.{Warehouse};
+ghost use Rattle.warehouse_objects.specs.Stands.{Stands, root_of};
+ghost use Rattle.warehouse.specs.Session.{has_failed, device_of, disk_of, IsAt, Breaks, IsAsked, QueryRefuses};
+
+use crate::prepared::kept_is_what_stands;
+use crate::session::Session;
+use cube_model::{Answer, Fault, Query};
+use cube_query::Fold;
+use dimensions::Dims;
+use object_store::Store;
+use sector_device::Sectors;
+use std::alloc::Global;
+use warehouse_objects::fold_batches;
+use warehouse_root::Root;
+
+impl<D: Sectors> Session<D> {
+    /// The answer to a query over the first `as_of` batches.
+    ///
+    /// `BadQuery` exactly where the query is not proper, else `NoSuchPrefix` exactly where there are fewer batches. It can
+    /// also fail for want of memory, and where the device fails.
+    pub fn query(&mut self, alloc: Global, as_of: u32, query: &Query) -> Result<Answer, Fault>
+        // The warehouse stays as it is, at each moment.
+        ensures leaves { (w : Warehouse) → IsAt D.Sectors self.old w
+            → Leaves (disk_of D.Sectors self.old) (disk_of D.Sectors self.new) (λ c. Stands c w) }
+        ensures stays { (IsErrOf result Device → ⊥) → (w : Warehouse) → IsAt D.Sectors self.old w → IsAt D.Sectors self.new w }
+
+        // The answer is the definition's.
+        ensures answer { IfOk result (λ found. (w : Warehouse) → IsAt D.Sectors self.old w → D.keeps_word (device_of self.new)
+            → IsAsked w as_of query.now × (found ≡ answer_as_of query.now as_of w.rows w.batches)) }
+
+        // When each error comes.
+        ensures improper { has_failed self.old ≡ false → (IsProper query.now → ⊥) → result ≡ Err BadQuery }
+        ensures beyond { (w : Warehouse) → IsAt D.Sectors self.old w → D.keeps_word (device_of self.new)
+            → IsProper query.now → length w.batches < as_of → result ≡ Err NoSuchPrefix }
+        ensures refused { IfErr result (λ fault. fault ≢ Device → (w : Warehouse) → IsAt D.Sectors self.old w → D.keeps_word (device_of self.new)
+            → QueryRefuses w as_of query.now fault) }
+        ensures failed { IsErrOf result Failed ↔ (has_failed self.old ≡ true) }
+        ensures device { IsErrOf result Device → Breaks D.Sectors self.old self.new }
+        ensures word { D.keeps_word (device_of self.new) → D.keeps_word (device_of self.old) }
+    {
+        if self.store.is_broken() {
+            return Err(Fault::Failed);
+        }
+        kept_is_what_stands(&self.dims, &self.root);
+        if let Err(fault) = check(query, as_of, self.root.batches().len() as u32) {
+            return Err(fault);
+        }
+        match answer_of(alloc, &mut self.store, &self.root, &self.dims, as_of, query) {
+            Ok(answer) => Ok(answer),
+            Err(fault) => Err(fault),
+        }
+    }
+}
+
+// The answer to a proper query over the first batches of a store.
+fn answer_of<D: Sectors>(
+    alloc: Global,
+    store: &mut Store<D>,
+    root: &Root,
+    dims: &Dims,
+    as_of: u32,
+    query: &Query,
+) -> Result<Answer, Fault>
+    requires fine { stores.has_failed store.old ≡ false }
+    requires proper { IsProper query.now }
+    requires few { as_of ≤ length root.now.batches }
+    ensures answer { IfOk result (λ found. D.keeps_word (stores.device_of store.new) → (w : Warehouse) → Stands (stores.content_of D.Sectors store.old) w
+        → found ≡ answer query.now dims.now (all_rows (take as_of w.batches))) }
+    ensures refused { IsErrOf result BadLayout → D.keeps_word (stores.device_of store.new) → (w : Warehouse) → Stands (stores.content_of D.Sectors store.old) w
+        → root.now ≡ root_of w → dims.now ≡ w.rows → ⊥ }
+    ensures leaves { Leaves (stores.disk_of D.Sectors store.old) (stores.disk_of D.Sectors store.new) (λ c. c ≡ stores.content_of D.Sectors store.old) }
+    ensures stays { (IsErrOf result Device → ⊥) → stores.IsStill D.Sectors store.old store.new }
+    ensures device { IsErrOf result Device → stores.Breaks D.Sectors store.old store.new }
+    ensures causes { IfErr result (λ fault. (fault ≡ Memory) ⊎ ((fault ≡ Device) ⊎ (fault ≡ BadLayout))) }
+{
+    let _broken = store.is_broken();
+    let mut fold = match Fold::new(alloc, dims, query) {
+        Ok(fold) => fold,
+        Err(_) => return Err(Fault::Memory), // the query is proper
+    };
+    match fold_batches(alloc, store, root, dims, &mut fold, as_of) {
+        Ok(()) => fold.finish(dims),
+        Err(fault) => Err(fault),
+    }
+}
+
+// Says whether a query may be asked over the first of so many batches.
+fn check(query: &Query, as_of: u32, batches: u32) -> Result<(), Fault>
+    ensures ok { OnOk result (IsProper query.now × (as_of ≤ batches)) }
+    ensures improper { (IsProper query.now → ⊥) → result ≡ Err BadQuery }
+    ensures beyond { IsProper query.now → batches < as_of → result ≡ Err NoSuchPrefix }
+    ensures causes { IfErr result (λ fault. ((fault ≡ BadQuery) × (IsProper query.now → ⊥))
+        ⊎ ((fault ≡ NoSuchPrefix) × IsProper query.now × (batches < as_of))) }
+{
+    if query.check().is_err() {
+        return Err(Fault::BadQuery);
+    }
+    if as_of > batches {
+        return Err(Fault::NoSuchPrefix);
+    }
+    Ok(())
+}

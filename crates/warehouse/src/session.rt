@@ -1,0 +1,52 @@
+//! A session of a warehouse.
+ghost use Rattle.std.specs.Prelude.{◌≡◌, false};
+ghost use Rattle.std.proofs.Props.{props};
+ghost use Rattle.object_store.specs.Disk.{Leaves};
+ghost use Rattle.object_store.specs.Store as stores;
+ghost use Rattle.warehouse_objects.specs.Warehouse.{Warehouse};
+ghost use Rattle.warehouse_objects.specs.Stands.{Stands};
+ghost use Rattle.warehouse.specs.Loaded.{IsLoaded};
+
+use dimensions::Dims;
+use object_store::Store;
+use sector_device::Sectors;
+use warehouse_root::Root;
+
+/// A warehouse on a device, open for calls. It keeps the dimensions and the root in memory, and no batch.
+///
+/// After `Device` it answers `Failed` to every call but `device` and `close`, and calls the device no more. It is to be
+/// opened again.
+#[derive(Drop)]
+pub struct Session<D: Sectors> {
+    pub(crate) store: Store<D>,
+    pub(crate) dims: Dims,
+    pub(crate) root: Root,
+    ghost loaded: { stores.has_failed store ≡ false → D.keeps_word (stores.device_of store) → IsLoaded (stores.content_of D.Sectors store) dims root } by { Prim.hlevel props },
+}
+
+impl<D: Sectors> Session<D> {
+    ghost use Rattle.warehouse.specs.Session.{has_failed, device_of, disk_of, IsAt};
+
+    /// The device.
+    pub fn device(&self) -> &D
+        ensures { result.now ≡ device_of self.now }
+    {
+        self.store.device()
+    }
+
+    /// Gives the device back.
+    pub fn close(self) -> D
+        ensures { result ≡ device_of self }
+    {
+        self.store.close()
+    }
+
+    /// Whether the device failed in an earlier call. Until then each image stands for the warehouse.
+    pub fn is_broken(&self) -> bool
+        ensures broken { result ≡ has_failed self.now }
+        ensures leaves { (w : Warehouse) → IsAt D.Sectors self.now w
+            → Leaves (disk_of D.Sectors self.now) (disk_of D.Sectors self.now) (λ c. Stands c w) }
+    {
+        self.store.is_broken()
+    }
+}

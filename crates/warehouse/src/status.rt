@@ -1,0 +1,61 @@
+//! What a session says of its warehouse.
+ghost use Rattle.std.specs.Prelude.{◌≡◌, ◌≤◌, ◌↔◌, true, length, IfOk, IfErr, IsErrOf};
+ghost use Rattle.std.specs.List.{sum_by};
+ghost use Rattle.cube_model.specs.declared.fault.Fault.TheVariants.{Failed};
+ghost use Rattle.cube_model.specs.Limits.{most_batches};
+ghost use Rattle.warehouse_objects.specs.Warehouse.{Warehouse};
+ghost use Rattle.warehouse.specs.Session.{has_failed, device_of, content_of, IsAt};
+ghost use Rattle.warehouse.specs.Status.{IsStatus};
+
+use crate::prepared::kept_is_what_stands;
+use crate::session::Session;
+use cube_model::Fault;
+use sector_device::Sectors;
+
+/// The numbers of a warehouse.
+#[derive(Clone, Copy, Debug, PartialEq, Eq)]
+pub struct Status {
+    /// How many batches there are.
+    pub batches: u32,
+    /// How many rows they have together.
+    pub rows: u64,
+    /// How many of the first batches each stored cuboid is to hold.
+    pub target: u32,
+    /// How many commits made what stands on the device.
+    pub generation: u64,
+}
+
+impl<D: Sectors> Session<D> {
+    /// The numbers of the warehouse. `Failed` where the device failed in an earlier call, and no other refusal. It takes
+    /// no memory, and makes no device call.
+    pub fn status(&self) -> Result<Status, Fault>
+        ensures ok { IfOk result (λ status. (w : Warehouse) → IsAt D.Sectors self.now w → D.keeps_word (device_of self.now)
+            → IsStatus w (content_of D.Sectors self.now).generation status) }
+        ensures failed { IsErrOf result Failed ↔ (has_failed self.now ≡ true) }
+        ensures only { IfErr result (λ fault. fault ≡ Failed) }
+    {
+        if self.store.is_broken() {
+            return Err(Fault::Failed);
+        }
+        kept_is_what_stands(&self.dims, &self.root);
+        let batches = self.root.batches();
+        Ok(Status {
+            batches: batches.len() as u32,
+            rows: row_total(batches),
+            target: self.root.target(),
+            generation: self.store.generation(),
+        })
+    }
+}
+
+// How many rows batches have together.
+fn row_total(batches: &[u32]) -> u64
+    requires few { length batches.now ≤ most_batches }
+    ensures { result ≡ sum_by (λ rows. rows) batches.now }
+{
+    let mut total = 0;
+    for rows in batches {
+        total += u64::from(*rows);
+    }
+    total
+}

@@ -1,0 +1,68 @@
+//! Adding a batch to a warehouse.
+ghost use Rattle.std.specs.Prelude.{◌≡◌, ◌≢◌, ◌⊎◌, ◌↔◌, true, IfErr, OnOk, IsErrOf};
+ghost use Rattle.cube_model.specs.declared.fault.Fault.TheVariants.{Device, Failed};
+ghost use Rattle.cube_model.specs.Admission.{IsAdmissible};
+ghost use Rattle.object_store.specs.Disk.{Leaves};
+ghost use Rattle.warehouse_objects.specs.Warehouse.{Warehouse, loaded};
+ghost use Rattle.warehouse_objects.specs.Stands.{Stands};
+ghost use Rattle.warehouse.specs.Session.{has_failed, device_of, disk_of, IsAt, Breaks, SubmitRefuses};
+
+use crate::prepared::{Prepared, kept_is_what_stands};
+use crate::session::Session;
+use cube_model::{Fault, LineOrder};
+use sector_device::Sectors;
+use std::alloc::Global;
+use warehouse_root::{Layout, segment_id};
+use wire::limits::MOST_OBJECTS;
+
+impl<D: Sectors> Session<D> {
+    /// Adds a batch, or answers the first cause to refuse it. Batches are numbered from 1.
+    ///
+    /// A batch that is admissible is refused for `Worn`, `Full`, `Memory` or `Device` alone.
+    pub fn submit(&mut self, alloc: Global, number: u32, rows: &[LineOrder]) -> Result<(), Fault>
+        // A stop at any moment leaves the warehouse as it was, or with this batch if it is admissible.
+        ensures leaves { (w : Warehouse) → IsAt D.Sectors self.old w → Leaves (disk_of D.Sectors self.old) (disk_of D.Sectors self.new)
+            (λ c. Stands c w ⊎ (IsAdmissible w.rows w.batches number rows.now × Stands c (loaded w rows.now))) }
+
+        // Then with it.
+        ensures ok { OnOk result ((w : Warehouse) → IsAt D.Sectors self.old w → IsAt D.Sectors self.new (loaded w rows.now)
+            × (D.keeps_word (device_of self.new) → IsAdmissible w.rows w.batches number rows.now)) }
+
+        // After a refusal, unless the device failed, as it was at each moment.
+        ensures refused { IfErr result (λ fault. fault ≢ Device → (w : Warehouse) → IsAt D.Sectors self.old w →
+            IsAt D.Sectors self.new w × Leaves (disk_of D.Sectors self.old) (disk_of D.Sectors self.new) (λ c. Stands c w)) }
+
+        // When each error comes.
+        ensures causes { IfErr result (λ fault. fault ≢ Device → (w : Warehouse) → IsAt D.Sectors self.old w → D.keeps_word (device_of self.new)
+            → SubmitRefuses D.Sectors self.old w number rows.now fault) }
+        ensures failed { IsErrOf result Failed ↔ (has_failed self.old ≡ true) }
+        ensures device { IsErrOf result Device → Breaks D.Sectors self.old self.new }
+        ensures word { D.keeps_word (device_of self.new) → D.keeps_word (device_of self.old) }
+    {
+        if self.store.is_broken() {
+            return Err(Fault::Failed);
+        }
+        kept_is_what_stands(&self.dims, &self.root);
+        let prepared = match Prepared::of(alloc, &self.dims, &self.root, number, rows) {
+            Ok(prepared) => prepared,
+            Err(fault) => return Err(fault),
+        };
+        if self.store.objects() as usize >= MOST_OBJECTS {
+            return Err(Fault::BadLayout); // more than a warehouse has
+        }
+        let puts = [(segment_id(number), prepared.segment.as_slice())];
+        match self.store.commit(
+            alloc,
+            &puts,
+            &[],
+            prepared.root_bytes.as_slice(),
+            Layout::First.number(),
+        ) {
+            Ok(()) => {
+                self.root = prepared.root;
+                Ok(())
+            }
+            Err(fault) => Err(fault),
+        }
+    }
+}

@@ -1,0 +1,11 @@
+pub mod Asked
+pub mod Batches
+pub mod CallerLemmas
+pub mod Contents
+pub mod Dimensions
+pub mod Folded
+pub mod Lengths
+pub mod Numbers
+pub mod OneMoreRead
+pub mod Roots
+pub mod Rows

@@ -1,0 +1,5 @@
+use Rattle.warehouse_objects.proofs.Contents.{one_warehouse}
+use Rattle.warehouse_objects.proofs.laws.content_is_one_warehouse.Goals as goal
+
+pub returns : goal.returns
+returns c = one_warehouse c.valid_rows_keep_the_rules.ensures

@@ -1,0 +1,4 @@
+pub mod Warehouse
+pub mod Stands
+pub mod Lawful
+pub mod Folding

@@ -1,0 +1,35 @@
+//! Laws of the definitions: each function proves the statement that its contract names, and does nothing.
+ghost use Rattle.warehouse_objects.specs.Lawful.{ContentIsOneWarehouse, CreatingStands, LoadingStands, ObjectsAreStorable, RowsAreOne};
+
+use cube_model::valid_rows_keep_the_rules;
+
+/// A content that is made of storable dimension rows and the first root stands for the warehouse of no batch.
+pub fn creating_stands()
+    ensures { CreatingStands }
+{}
+
+/// A commit of an admissible batch, with the root that says so, makes a content that stands for one batch more.
+pub fn loading_stands()
+    ensures { LoadingStands }
+{}
+
+/// The objects of storable dimension rows and of an admissible batch are such as a store takes.
+pub fn objects_are_storable()
+    ensures { ObjectsAreStorable }
+{
+    valid_rows_keep_the_rules();
+}
+
+/// Objects 1 to 4 are the dimensions of one list of rows at most.
+pub fn rows_are_one()
+    ensures { RowsAreOne }
+{
+    valid_rows_keep_the_rules();
+}
+
+/// A content stands for one warehouse at most: one list of dimension rows, and one list of batches.
+pub fn content_is_one_warehouse()
+    ensures { ContentIsOneWarehouse }
+{
+    valid_rows_keep_the_rules();
+}

@@ -1,0 +1,13 @@
+//! What the content of a store stands for, as a warehouse, and reading it.
+#![tactic(auto)]
+
+mod folding;
+pub mod laws;
+mod objects;
+mod reading;
+mod storable;
+
+pub use folding::fold_batches;
+pub use objects::has_its_objects;
+pub use reading::{read_dims, read_root};
+pub use storable::{numbers_fit, rows_are_storable};

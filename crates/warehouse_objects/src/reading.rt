@@ -1,0 +1,131 @@
+//! Reading the root and the dimensions of a warehouse from a store.
+ghost use Rattle.std.specs.Prelude.{◌≡◌, ◌⊎◌, ◌+◌, ◌^◌, ◌<◌, false, Some, None, IfErr, IfOk, IsErrOf, OnOk};
+ghost use Rattle.cube_model.specs.declared.fault.Fault.TheVariants.{BadLayout, Device, Memory};
+ghost use Rattle.cube_model.specs.declared.attr.Axis.TheVariants.{Customer, Supplier, Part, Date};
+ghost use Rattle.cube_model.specs.declared.rows.DimRows.{DimRows};
+ghost use Rattle.object_store.specs.Content.{bytes_of};
+ghost use Rattle.object_store.specs.Disk.{Leaves};
+ghost use Rattle.object_store.specs.Store.{Breaks, IsStill, content_of, device_of, disk_of, has_failed};
+ghost use Rattle.warehouse_root.specs.declared.layout.Layout.TheVariants.{First};
+ghost use Rattle.warehouse_root.specs.Layouts.{number_of};
+ghost use Rattle.warehouse_root.specs.Root.{IsRootOf};
+ghost use Rattle.warehouse_objects.specs.Warehouse.{AreStorable, Warehouse};
+ghost use Rattle.warehouse_objects.specs.Stands.{HasRows, Stands, dimension_of, root_of};
+
+use crate::laws::rows_are_one;
+use cube_model::Fault;
+use dimension_objects::decode;
+use dimensions::Dims;
+use object_store::Store;
+use sector_device::Sectors;
+use std::alloc::Global;
+use warehouse_root::{Layout, Root};
+
+/// The root of the warehouse for which the content of a store stands. `BadLayout` where it stands for none, as far as
+/// the root and the layout show it.
+pub fn read_root<D: Sectors>(alloc: Global, store: &Store<D>) -> Result<Root, Fault>
+    ensures ok { IfOk result (IsRootOf First (content_of D.Sectors store.now).root) }
+    ensures layout { OnOk result ((content_of D.Sectors store.now).layout ≡ number_of First) }
+    ensures found { IfOk result (λ root. (w : Warehouse) → Stands (content_of D.Sectors store.now) w → root ≡ root_of w) }
+    ensures refused { IfErr result (λ fault. (fault ≡ Memory)
+        ⊎ ((fault ≡ BadLayout) × ((w : Warehouse) → ¬ Stands (content_of D.Sectors store.now) w))) }
+{
+    if store.layout() != Layout::First.number() {
+        return Err(Fault::BadLayout);
+    }
+    Root::decode(alloc, Layout::First, store.root())
+}
+
+/// The dimensions of the warehouse for which the content of a store stands. `BadLayout` where it stands for none, as
+/// far as objects 1 to 4 show it.
+pub fn read_dims<D: Sectors>(alloc: Global, store: &mut Store<D>) -> Result<Dims, Fault>
+    requires fine { has_failed store.old ≡ false }
+    ensures ok { IfOk result (λ dims. D.keeps_word (device_of store.new) → HasRows (content_of D.Sectors store.old) dims) }
+    ensures storable { IfOk result AreStorable }
+    ensures found { IfOk result (λ dims. D.keeps_word (device_of store.new)
+        → (w : Warehouse) → Stands (content_of D.Sectors store.old) w → dims ≡ w.rows) }
+    ensures refused { IsErrOf result BadLayout → D.keeps_word (device_of store.new)
+        → (w : Warehouse) → ¬ Stands (content_of D.Sectors store.old) w }
+
+    // The content stays, at each moment.
+    ensures leaves { Leaves (disk_of D.Sectors store.old) (disk_of D.Sectors store.new) (λ c. c ≡ content_of D.Sectors store.old) }
+    ensures stays { (IsErrOf result Device → ⊥) → IsStill D.Sectors store.old store.new }
+    ensures device { IsErrOf result Device → Breaks D.Sectors store.old store.new }
+    ensures causes { IfErr result (λ fault. (fault ≡ Memory) ⊎ ((fault ≡ Device) ⊎ (fault ≡ BadLayout))) }
+{
+    rows_are_one();
+    match read_two(alloc, store, 1) {
+        Ok((customers, suppliers)) => match read_two(alloc, store, 3) {
+            Ok((parts, dates)) => decoded(alloc, &customers, &suppliers, &parts, &dates),
+            Err(fault) => Err(fault),
+        },
+        Err(fault) => Err(fault),
+    }
+}
+
+// Objects with the ids from one on.
+fn read_two<D: Sectors>(
+    alloc: Global,
+    store: &mut Store<D>,
+    first: u32,
+) -> Result<(Vec<u8>, Vec<u8>), Fault>
+    requires fine { has_failed store.old ≡ false }
+    requires fits { first + 1 < 2 ^ 32 }
+    ensures found { IfOk result (λ two. D.keeps_word (device_of store.new)
+        → (bytes_of (content_of D.Sectors store.old) first ≡ Some two.0.items) × (bytes_of (content_of D.Sectors store.old) (first + 1) ≡ Some two.1.items)) }
+    ensures missing { IsErrOf result BadLayout → D.keeps_word (device_of store.new)
+        → (bytes_of (content_of D.Sectors store.old) first ≡ None) ⊎ (bytes_of (content_of D.Sectors store.old) (first + 1) ≡ None) }
+    ensures leaves { Leaves (disk_of D.Sectors store.old) (disk_of D.Sectors store.new) (λ c. c ≡ content_of D.Sectors store.old) }
+    ensures stays { (IsErrOf result Device → ⊥) → IsStill D.Sectors store.old store.new }
+    ensures device { IsErrOf result Device → Breaks D.Sectors store.old store.new }
+    ensures causes { IfErr result (λ fault. (fault ≡ Memory) ⊎ ((fault ≡ Device) ⊎ (fault ≡ BadLayout))) }
+{
+    match read_object(alloc, store, first) {
+        Ok(one) => match read_object(alloc, store, first + 1) {
+            Ok(other) => Ok((one, other)),
+            Err(fault) => Err(fault),
+        },
+        Err(fault) => Err(fault),
+    }
+}
+
+/// The bytes of an object. `BadLayout` where there is none of that id.
+pub(crate) fn read_object<D: Sectors>(
+    alloc: Global,
+    store: &mut Store<D>,
+    id: u32,
+) -> Result<Vec<u8>, Fault>
+    requires fine { has_failed store.old ≡ false }
+    ensures found { IfOk result (λ bytes. D.keeps_word (device_of store.new)
+        → bytes_of (content_of D.Sectors store.old) id ≡ Some bytes.items) }
+    ensures missing { IsErrOf result BadLayout → D.keeps_word (device_of store.new)
+        → bytes_of (content_of D.Sectors store.old) id ≡ None }
+    ensures leaves { Leaves (disk_of D.Sectors store.old) (disk_of D.Sectors store.new) (λ c. c ≡ content_of D.Sectors store.old) }
+    ensures stays { (IsErrOf result Device → ⊥) → IsStill D.Sectors store.old store.new }
+    ensures device { IsErrOf result Device → Breaks D.Sectors store.old store.new }
+    ensures causes { IfErr result (λ fault. (fault ≡ Memory) ⊎ ((fault ≡ Device) ⊎ (fault ≡ BadLayout))) }
+{
+    match store.get(alloc, id) {
+        Ok(Some(bytes)) => Ok(bytes),
+        Ok(None) => Err(Fault::BadLayout),
+        Err(fault) => Err(fault),
+    }
+}
+
+// The dimensions of four objects.
+fn decoded(
+    alloc: Global,
+    customers: &[u8],
+    suppliers: &[u8],
+    parts: &[u8],
+    dates: &[u8],
+) -> Result<Dims, Fault>
+    ensures ok { IfOk result (λ dims. (customers.now ≡ dimension_of dims Customer) × (suppliers.now ≡ dimension_of dims Supplier)
+        × (parts.now ≡ dimension_of dims Part) × (dates.now ≡ dimension_of dims Date)) }
+    ensures storable { IfOk result AreStorable }
+    ensures refused { IfErr result (λ fault. (fault ≡ Memory) ⊎ ((fault ≡ BadLayout) × ((rows : DimRows) → AreStorable rows
+        → customers.now ≡ dimension_of rows Customer → suppliers.now ≡ dimension_of rows Supplier
+        → parts.now ≡ dimension_of rows Part → dates.now ≡ dimension_of rows Date → ⊥))) }
+{
+    decode(alloc, customers, suppliers, parts, dates)
+}
