@@ -7,7 +7,9 @@ mod Parts
 mod Passes
 mod Refused
 mod Short
+mod Sourced
 mod Tests
+mod Together
 mod Totals
 mod Values
 mod Whole

@@ -1,5 +1,5 @@
 -- How a batch of fact rows stands on disk: whole columns, one after the other. Our layout.
-use Rattle.std.specs.Prelude.{◌≡◌, ℕ, ◌<◌, ◌≤◌, ◌^◌, List, ◌++◌, length, codes, map, All}
+use Rattle.std.specs.Prelude.{◌≡◌, Option, Some, ℕ, ◌<◌, ◌≤◌, ◌^◌, List, ◌++◌, length, codes, map, All}
 use Rattle.std.specs.List.{AllByRecursion, flat_map}
 use Rattle.cube_model.specs.Limits.{longest_text, most_batch_rows}
 use Rattle.cube_model.specs.declared.rows.LineOrder.{LineOrder}
@@ -48,3 +48,7 @@ pub record IsSegment (bytes : List ℕ) (number : ℕ) (rows : List LineOrder) :
   pub number_fits : number < 2 ^ 32
   pub batch : IsBatch rows
   pub fits : FitColumns rows
+
+-- there is no text, or it is that of no batch
+abbrev pub HoldsNoBatch : Option (List ℕ) → Type 0
+HoldsNoBatch text = (bytes : List ℕ) (number : ℕ) (rows : List LineOrder) → text ≡ Some bytes → IsSegment bytes number rows → ⊥

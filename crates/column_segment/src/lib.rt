@@ -10,6 +10,7 @@ mod layout;
 mod reading;
 mod rows;
 mod segment;
+mod sources;
 mod sums;
 
 pub use batch::is_batch;
@@ -17,3 +18,4 @@ pub use columns::{AmountColumn, ByteColumn, NumberColumn, TextColumn};
 pub use encoding::encode;
 pub use laws::bytes_are_one_batch;
 pub use segment::{Segment, decode};
+pub use sources::decode_from;

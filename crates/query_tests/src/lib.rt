@@ -22,6 +22,8 @@ mod printing;
 #[cfg(test)]
 mod queries;
 #[cfg(test)]
+mod refusals;
+#[cfg(test)]
 mod running;
 #[cfg(test)]
 mod selection;

@@ -1,10 +1,11 @@
-//! Answers by the plain program, and by the fold in one call and in several.
+//! Answers by the plain program, and by the fold in one call, in several, and over the columns of a batch.
 ghost use Rattle.cube_query.specs.Limits.{AreFoldable};
 
 use super::checks::are_foldable;
 use super::examples::Example;
 use super::plain::plain_answer;
 use super::printing::printed;
+use column_segment::{Segment, decode, encode, is_batch};
 use cube_model::{Answer, DimRows, Fault, LineOrder, Query};
 use cube_query::{Fold, fold};
 use dimensions::{Dims, have_short_texts};
@@ -37,8 +38,40 @@ fn answer_row_by_row(
     session.fold.finish(&session.dims)
 }
 
-/// The answer that the fold, in one call and row by row, and the plain program agree on; none where they do not, or where
-/// the rows may not be folded.
+// The answer by a fold over the columns of a batch; none where its rows may not be folded.
+fn answer_over(
+    alloc: Global,
+    dims: &Dims,
+    segment: &Segment,
+    query: &Query,
+) -> Result<Option<Answer>, Fault> {
+    let mut rows = Vec::new(alloc);
+    segment.push_rows(alloc, 0, segment.len(), &mut rows)?;
+    if !are_foldable(dims, rows.as_slice()) {
+        return Ok(None);
+    }
+    let mut fold = Fold::new(alloc, dims, query)?;
+    fold.add_segment(dims, segment)?;
+    Ok(Some(fold.finish(dims)?))
+}
+
+// The answer over rows that are spelled as a batch and read back; none where they are no batch.
+fn answer_by_segment(
+    alloc: Global,
+    dims: &Dims,
+    rows: &[LineOrder],
+    query: &Query,
+) -> Result<Option<Answer>, Fault> {
+    if !is_batch(rows) {
+        return Ok(None);
+    }
+    let bytes = encode(alloc, 1, rows)?;
+    let segment = decode(alloc, bytes)?;
+    answer_over(alloc, dims, &segment, query)
+}
+
+/// The answer that the fold, in one call, row by row and over the columns of a batch, and the plain program agree on; none
+/// where they do not, or where the rows may not be folded.
 pub fn agreed_answer(
     alloc: Global,
     dimensions: &DimRows,
@@ -53,7 +86,11 @@ pub fn agreed_answer(
         return Ok(None);
     }
     let answer = fold(alloc, &dims, rows, query)?;
-    let is_agreed = answer == plain_answer(alloc, dimensions, rows, query)?
+    let Some(by_segment) = answer_by_segment(alloc, &dims, rows, query)? else {
+        return Ok(None);
+    };
+    let is_agreed = answer == by_segment
+        && answer == plain_answer(alloc, dimensions, rows, query)?
         && answer == answer_row_by_row(alloc, dims, rows, query)?;
     Ok(if is_agreed { Some(answer) } else { None })
 }

@@ -5,6 +5,7 @@ use super::examples::{
     AVERAGED, COARSER, Example, IMPROPER, ORDERED, OVER_SAMPLE, PLAIN, SIX_COLUMNS,
 };
 use super::queries::Reach;
+use super::refusals::{REFUSED, TAKEN, outcome_of as outcome_of_adding};
 use super::running::{answer_of, is_as_worked};
 use cube_model::Fault;
 use std::alloc::Global;
@@ -53,6 +54,22 @@ fn improper_queries_are_refused(rt: HostRuntime) {
     for asked in &IMPROPER {
         let answer = answer_of(rt.alloc(), &OVER_SAMPLE, asked);
         assert_eq!(rt; answer, Err(Fault::BadQuery), "{asked:?}");
+    }
+}
+
+#[test]
+fn batches_that_may_not_be_folded_are_refused(rt: HostRuntime) {
+    for facts in &REFUSED {
+        let outcome = outcome_of_adding(rt.alloc(), facts);
+        assert_eq!(rt; outcome, Err(Fault::BadLayout), "{facts:?}");
+    }
+}
+
+#[test]
+fn sums_may_reach_their_limit(rt: HostRuntime) {
+    for facts in &TAKEN {
+        let outcome = outcome_of_adding(rt.alloc(), facts);
+        assert_eq!(rt; outcome, Ok(()), "{facts:?}");
     }
 }
 

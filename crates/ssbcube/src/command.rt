@@ -6,34 +6,48 @@ const ABOUT: &str = "Answers Star Schema Benchmark queries over the text tables 
 
 const EVAL_ABOUT: &str = "Reads five table files and writes the report of one query.";
 
+const EVAL_USAGE: &str = "ssbcube eval --customer FILE --supplier FILE --part FILE --date FILE
+                    --lineorder FILE [OPTIONS] [CONDITION]...";
+
 const EVAL_HELP: &str = "A query is --query Q, or --agg with --set, --by and conditions.
 
-Q is a query of the Star Schema Benchmark: 1.1 1.2 1.3, 2.1 2.2 2.3, 3.1 3.2 3.3 3.4,
-4.1 4.2 or 4.3. Those of the third flight are in order by year and falling revenue.
+Q, a query of the benchmark:
+  1.1 1.2 1.3  2.1 2.2 2.3  3.1 3.2 3.3 3.4  4.1 4.2 4.3
+  Those of the third flight are in order by year and descending revenue.
 
-Sets: plain groups by all columns, rollup by each beginning of them, and cube by each
-choice of them. ALL stands in a column by which a line is not grouped.
+Sets:
+  plain   groups by all columns
+  rollup  by each beginning of the columns, the whole last
+  cube    by each choice of the columns
+  ALL stands in a column by which a line is not grouped.
 
-Aggregates: count, and sum:M, min:M, max:M or avg:M of a measure M, which is quantity,
-extendedprice, revenue, supplycost, discounted or profit. An average is a fraction in
-lowest terms, such as 1475/2.
+Aggregates, with a measure M:
+  count sum:M min:M max:M avg:M
+  An average is a fraction in lowest terms, such as 1475/2.
 
-Attributes: c_city, c_nation, c_region, s_city, s_nation, s_region, p_brand1,
-p_category, p_mfgr, d_datekey, d_yearmonthnum, d_year, d_yearmonth, d_weeknuminyear.
+Measures:
+  quantity extendedprice revenue supplycost
+  discounted (extendedprice times discount) profit (revenue less supplycost)
 
-Conditions: ATTRIBUTE=TEXT|TEXT.. for one of some texts, ATTRIBUTE:LOW|HIGH for a
-range by bytes with both ends, quantity:LOW|HIGH and discount:LOW|HIGH for numbers
-of 0 to 255. Quote a condition, since | is a character of the shell.
+Attributes, for --by and for conditions:
+  c_city c_nation c_region    s_city s_nation s_region
+  p_brand1 p_category p_mfgr  d_datekey d_yearmonthnum d_year
+  d_yearmonth d_weeknuminyear
 
-Examples, with the five tables as in 'ssbcube eval --customer customer.tbl
---supplier supplier.tbl --part part.tbl --date date.tbl --lineorder lineorder.tbl':
-  ssbcube eval .. --query 3.1
-  ssbcube eval .. --by d_year,p_brand1 --agg sum:revenue 'p_category=MFGR#12'
-  ssbcube eval .. --set cube --by c_region,d_year --agg count,sum:revenue,avg:revenue
-  ssbcube eval .. --set rollup --by d_year,d_yearmonthnum --agg sum:revenue
+Conditions, which all have to hold. Quote them, since | is of the shell:
+  ATTRIBUTE=TEXT|TEXT  one of some texts
+  ATTRIBUTE:LOW|HIGH   a range by bytes, with both ends
+  quantity:LOW|HIGH    numbers of 0 to 255, and so with discount
 
-The report goes to standard output. A refusal is one line on standard error, such as
-'fault 9 FieldCount line 1', and the status is then 1.";
+Examples, each behind the words of the five tables:
+  --query 3.1
+  --by d_year,p_brand1 --agg sum:revenue 'p_category=MFGR#12'
+  --set cube --by c_region,d_year --agg count,avg:revenue
+  --set rollup --by d_year,d_yearmonthnum --agg sum:revenue
+
+The report goes to standard output. A refusal goes to standard error with
+status 1: a line such as 'fault 9 FieldCount line 1', and behind it a line in
+plain words where more is known.";
 
 /// The option and the help of each table.
 const TABLES: [(&str, &str); 5] = [
@@ -50,7 +64,7 @@ const QUERY_WORDS: [(&str, &str, &str); 4] = [
     (
         "set",
         "SET",
-        "Which groupings: plain, rollup or cube; plain where none is given",
+        "Groupings: plain, rollup or cube; plain if left out",
     ),
     ("by", "A,A", "Group columns, such as d_year,p_brand1"),
     ("agg", "G,G", "Aggregates, such as count,sum:revenue"),
@@ -69,6 +83,7 @@ pub fn command<'a>(alloc: Global) -> Result<Command<'a>, AllocError> {
 fn eval<'a>(alloc: Global) -> Result<Command<'a>, AllocError> {
     let mut eval = Command::new(alloc, "eval")
         .about(EVAL_ABOUT)
+        .override_usage(EVAL_USAGE)
         .after_help(EVAL_HELP);
     for (name, help) in TABLES {
         eval = eval.arg(option(alloc, name, "FILE", help).required(true))?;

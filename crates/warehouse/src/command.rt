@@ -14,7 +14,7 @@ pub enum Command {
 }
 
 /// The reply to a command.
-#[derive(Drop)]
+#[derive(Debug, PartialEq, Drop)]
 pub enum Reply {
     /// The batch was added.
     Done,

@@ -1,0 +1,7 @@
+//! Tests of the runs of cells.
+#![tactic(auto)]
+
+#[cfg(test)]
+mod runs;
+#[cfg(test)]
+mod sample;

@@ -1,0 +1,7 @@
+pub mod CallerLemmas
+mod Ascending
+mod Climbing
+mod Decoded
+mod Fields
+mod Underway
+mod Behind

@@ -1,0 +1,13 @@
+use Rattle.std.proofs.Common.{◌≡◌, ◌+◌, ◌*◌, ◌++◌, length, All}
+use Rattle.std.specs.List.{flat_map}
+use Rattle.cuboid_cells.specs.Reading.{IsReadable}
+use Rattle.cuboid_cells.specs.Spelled.{cell_bytes, cell_of}
+use Rattle.cuboid_cells.proofs.reading.read_cells.Given as goal
+
+abbrev pub invariant-loop : goal.invariant-loop
+invariant-loop l = record {
+  many : length l.cells.items ≡ l.counter;
+  readable : All (IsReadable l.ship_modes) l.cells.items;
+  spelled : l.initial.cursor ≡ flat_map (cell_of l.ship_modes) l.cells.items ++ l.cursor;
+  left : length l.initial.cursor ≡ cell_bytes l.ship_modes * l.counter + length l.cursor;
+}

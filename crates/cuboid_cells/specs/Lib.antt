@@ -1,0 +1,7 @@
+pub mod Cells
+pub mod Lawful
+pub mod Limits
+pub mod Merges
+pub mod Reading
+pub mod Spelled
+pub mod Steps

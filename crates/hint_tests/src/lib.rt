@@ -1,0 +1,13 @@
+//! Tests of what is said behind a refusal.
+#![tactic(auto)]
+
+#[cfg(test)]
+mod long_texts;
+#[cfg(test)]
+mod names;
+#[cfg(test)]
+mod tables;
+#[cfg(test)]
+mod texts;
+#[cfg(test)]
+mod words;

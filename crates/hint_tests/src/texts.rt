@@ -1,0 +1,74 @@
+//! The sample tables with one replaced, and what is said of them.
+use cube_model::Fault;
+use query_words::read_query;
+use sample_star::{Pieces, TABLES, whole};
+use ssb_eval::eval_texts;
+use std::alloc::Global;
+use table_hints::{Table, TableFiles, table_hint};
+
+/// The sample tables, with one of them replaced.
+#[derive(Clone, Copy)]
+pub struct Texts<'a> {
+    pub table: Table,
+    pub text: &'a [u8],
+}
+
+impl<'a> Texts<'a> {
+    fn of(&self, table: Table) -> &'a [u8] {
+        if table == self.table {
+            return self.text;
+        }
+        match table {
+            Table::Customer => TABLES.customer,
+            Table::Supplier => TABLES.supplier,
+            Table::Part => TABLES.part,
+            Table::Date => TABLES.date,
+            Table::Lineorder => TABLES.lineorder,
+        }
+    }
+}
+
+impl<'a> TableFiles for Texts<'a> {
+    type Reader = Pieces<'a>;
+
+    fn path(&self, table: Table) -> &str {
+        match table {
+            Table::Customer => "customer.tbl",
+            Table::Supplier => "supplier.tbl",
+            Table::Part => "part.tbl",
+            Table::Date => "date.tbl",
+            Table::Lineorder => "lineorder.tbl",
+        }
+    }
+
+    fn open(&self, table: Table) -> Option<Pieces<'a>> {
+        Some(whole(self.of(table)))
+    }
+}
+
+// The first query of the benchmark over the tables.
+fn evaluated(alloc: Global, texts: &Texts<'_>) -> Result<(), Fault> {
+    let query = read_query(alloc, Some("1.1"), None, None, None, &[])?;
+    let mut out = Vec::new(alloc);
+    eval_texts(
+        alloc,
+        whole(texts.of(Table::Customer)),
+        whole(texts.of(Table::Supplier)),
+        whole(texts.of(Table::Part)),
+        whole(texts.of(Table::Date)),
+        whole(texts.of(Table::Lineorder)),
+        &query,
+        &mut out,
+    )
+}
+
+/// The lines of a refusal: the fault, and behind it what is known of it.
+pub fn said(alloc: Global, texts: &Texts<'_>) -> Result<String, Fault> {
+    let Err(fault) = evaluated(alloc, texts) else {
+        return Ok(format!(in alloc; "no refusal")?);
+    };
+    match table_hint(alloc, texts, fault)? {
+        None => Ok(format!(in alloc; "{fault}")?),
+        Some(hint) => Ok(format!(in alloc; "{fault}\n{hint}")?),
+    }
+}

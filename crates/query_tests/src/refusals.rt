@@ -1,0 +1,69 @@
+//! Batches that a fold refuses, and some that it takes.
+
+use column_segment::{decode, encode, is_batch};
+use cube_model::{Agg, Fault, Measure};
+use cube_query::Fold;
+use dimensions::{Dims, have_short_texts};
+use sample_star::{Asked, EVERY_ROW, FIRST_FACT, Fact, STAR, dim_rows, line_orders, query};
+use std::alloc::Global;
+
+/// The sums of prices and of discounts.
+const SUMS: Asked<'static> = Asked {
+    aggregates: &[
+        Agg::Sum(Measure::ExtendedPrice),
+        Agg::Sum(Measure::Discounted),
+    ],
+    ..EVERY_ROW
+};
+
+/// A row with half of the least sum that passes the limit.
+const LARGE: Fact<'static> = Fact {
+    extendedprice: 4_611_686_018_427_387_904,
+    discount: 0,
+    ..FIRST_FACT
+};
+
+/// Rows with a key that no dimension row has, or whose sums pass their limit.
+pub static REFUSED: [&[Fact<'static>]; 3] = [
+    &[Fact {
+        custkey: 9,
+        ..FIRST_FACT
+    }],
+    &[LARGE, LARGE],
+    &[Fact {
+        discount: 2,
+        ..LARGE
+    }],
+];
+
+/// Rows whose sums reach the greatest that there may be, or stay below it.
+pub static TAKEN: [&[Fact<'static>]; 2] = [
+    &[
+        LARGE,
+        Fact {
+            extendedprice: 4_611_686_018_427_387_903,
+            ..LARGE
+        },
+    ],
+    &[],
+];
+
+/// What a fold over the sample dimensions says to a batch of fact rows.
+pub fn outcome_of(alloc: Global, facts: &[Fact<'_>]) -> Result<(), Fault> {
+    let dimensions = dim_rows(alloc, &STAR)?;
+    if !have_short_texts(&dimensions) {
+        return Err(Fault::BadQuery);
+    }
+    let dims = Dims::build(alloc, &dimensions)?;
+    add_to_new(alloc, &dims, facts)
+}
+
+fn add_to_new(alloc: Global, dims: &Dims, facts: &[Fact<'_>]) -> Result<(), Fault> {
+    let rows = line_orders(alloc, facts)?;
+    if !is_batch(rows.as_slice()) {
+        return Err(Fault::TooManyRows);
+    }
+    let segment = decode(alloc, encode(alloc, 1, rows.as_slice())?)?;
+    let mut fold = Fold::new(alloc, dims, &query(alloc, &SUMS)?)?;
+    fold.add_segment(dims, &segment)
+}

@@ -1,0 +1,83 @@
+//! A submit whose last sync fails, and a failure of each device call in turn.
+use crate::answers::{finding, found, report};
+use crate::calls::{Restart, answers_with_failure, is_allowed, may_be_found};
+use crate::sample::{loaded, opened, submit};
+use crate::stops::{OPENING, SUBMIT};
+use cube_model::Fault;
+use sample_star::FACTS;
+use sector_device::{Fuse, MemDisk, Sectors};
+use ssb_reports::QNumber;
+use std::alloc::Global;
+use std::test::Fail;
+use warehouse::Session;
+
+/// A session whose submit of a second batch met a failure of its last sync. With `all` each later call fails too.
+pub(crate) fn unsynced(alloc: Global, all: bool) -> Result<Session<Fuse<MemDisk>>, Fault> {
+    let disk = loaded(alloc, 1)?.close();
+    let mut session = opened(alloc, Fuse::new(disk, OPENING + SUBMIT, all, false))?;
+    match submit(alloc, &mut session, 2, &FACTS) {
+        Err(Fault::Device) => Ok(session),
+        _ => Err(Fault::BadLayout),
+    }
+}
+
+#[test]
+fn each_later_call_is_failed(rt: HostRuntime) -> Result<(), Fail> {
+    let mut session = unsynced(rt.alloc(), false)?;
+    let second = submit(rt.alloc(), &mut session, 2, &FACTS);
+    let third = submit(rt.alloc(), &mut session, 3, &FACTS);
+    let answer = report(rt.alloc(), &mut session, 1, QNumber::Q11);
+    assert_eq!(rt;
+        (second, third, answer, session.status(), session.is_broken()),
+        (
+            Err(Fault::Failed),
+            Err(Fault::Failed),
+            Err(Fault::Failed),
+            Err(Fault::Failed),
+            true
+        )
+    );
+    assert_eq!(rt;
+        (session.device().failures(), session.close().failures()),
+        (1, 1)
+    );
+    Ok(())
+}
+
+#[test]
+fn an_opening_finds_what_was_not_synced_and_syncs_it(rt: HostRuntime) -> Result<(), Fail> {
+    let session = opened(rt.alloc(), unsynced(rt.alloc(), false)?.close())?;
+    let told = (session.is_broken(), session.status()?.batches);
+    let disk = session.close().close();
+    assert_eq!(rt; told, (false, 2));
+    assert_eq!(rt; found(rt.alloc(), disk.crash(&[0])), finding(rt.alloc(), 2));
+    Ok(())
+}
+
+#[test]
+fn an_opening_whose_sync_fails_answers_device(rt: HostRuntime) -> Result<(), Fail> {
+    let device = unsynced(rt.alloc(), true)?.close();
+    assert_eq!(rt; found(rt.alloc(), device), Err(Fault::Device));
+    Ok(())
+}
+
+/// The calls of a creation, three submits and a query over three batches: 11, 15 and 3, and one more that is not made.
+const CALLS: u64 = 30;
+
+#[test]
+fn a_failing_call_leaves_what_may_be_found(rt: HostRuntime) -> Result<(), Fail> {
+    for n in 1..=CALLS {
+        for reaches in [false, true] {
+            for restart in [Restart::Not, Restart::Oldest, Restart::Newest] {
+                let (answers, disk) = answers_with_failure(rt.alloc(), n, reaches)?;
+                let found = found(rt.alloc(), restart.of(disk));
+                assert!(rt; is_allowed(&answers.used), "call {n}: {answers:?}");
+                assert!(rt;
+                    may_be_found(rt.alloc(), &answers, &found),
+                    "call {n}: {answers:?}, {found:?}"
+                );
+            }
+        }
+    }
+    Ok(())
+}

@@ -1,0 +1,143 @@
+//! Commands in a run, and the replies to them.
+use crate::answers::{Lines, answer};
+use crate::failures::unsynced;
+use crate::sample::{loaded, opened, status};
+use cube_model::{Answer, Fault, Items};
+use sample_star::{Asked, DISCOUNTED, EVERY_ROW, FACTS, FIRST_FACT, Fact, line_orders, query};
+use sector_device::{Fuse, MemDisk};
+use std::alloc::Global;
+use std::test::Fail;
+use warehouse::{Command, Reply, Session, Status, run};
+
+/// A command, as constants can hold it.
+enum Told {
+    Submit(u32, &'static [Fact<'static>]),
+    Query(u32, Asked<'static>),
+    Status,
+}
+
+/// A reply. An answer is that over so many equal batches of which one has these lines, and a status that of so many
+/// batches and rows.
+enum Said {
+    Done,
+    Answer(Lines, u32),
+    Status(u32, u64),
+    Refused(Fault),
+}
+
+/// The first sample row, of a customer that there is not.
+const STRANGER: Fact<'static> = Fact {
+    custkey: 3,
+    ..FIRST_FACT
+};
+
+const NO_AGGREGATE: Asked<'static> = Asked {
+    aggregates: &[],
+    ..EVERY_ROW
+};
+
+/// Commands to a warehouse of one batch of the three sample rows, and the replies.
+static RUN: [(Told, Said); 12] = [
+    (Told::Status, Said::Status(1, 3)),
+    (Told::Submit(1, &FACTS), Said::Refused(Fault::Repeated)),
+    (Told::Submit(3, &FACTS), Said::Refused(Fault::Gap)),
+    (
+        Told::Submit(2, &[STRANGER]),
+        Said::Refused(Fault::UnknownCustomer { row: 1 }),
+    ),
+    (
+        Told::Query(2, DISCOUNTED),
+        Said::Refused(Fault::NoSuchPrefix),
+    ),
+    (Told::Submit(2, &FACTS), Said::Done),
+    (Told::Query(0, DISCOUNTED), Said::Answer(&[], 0)),
+    (Told::Query(1, DISCOUNTED), Said::Answer(&[(&[], 2000)], 1)),
+    (Told::Query(2, DISCOUNTED), Said::Answer(&[(&[], 2000)], 2)),
+    (Told::Query(3, NO_AGGREGATE), Said::Refused(Fault::BadQuery)),
+    (Told::Submit(3, &[]), Said::Done),
+    (Told::Status, Said::Status(3, 6)),
+];
+
+fn command(alloc: Global, told: &Told) -> Result<Command, Fault> {
+    match told {
+        Told::Submit(number, facts) => Ok(Command::Submit(
+            *number,
+            Items::from_vec(line_orders(alloc, facts)?),
+        )),
+        Told::Query(as_of, asked) => Ok(Command::Query(*as_of, query(alloc, asked)?)),
+        Told::Status => Ok(Command::Status),
+    }
+}
+
+/// A reply that can be compared and printed.
+#[derive(Debug, PartialEq, Drop)]
+enum Heard {
+    Done,
+    Answer(Answer),
+    Numbers(Status),
+    Refused(Fault),
+}
+
+fn as_heard(reply: Reply) -> Heard {
+    match reply {
+        Reply::Done => Heard::Done,
+        Reply::Answer(answer) => Heard::Answer(answer),
+        Reply::Numbers(numbers) => Heard::Numbers(numbers),
+        Reply::Refused(fault) => Heard::Refused(fault),
+    }
+}
+
+/// What a session replies to the commands of the run.
+fn replies(alloc: Global, session: &mut Session<Fuse<MemDisk>>) -> Result<Vec<Heard>, Fault> {
+    let mut commands = Vec::new(alloc);
+    for (told, _) in &RUN {
+        commands.push(command(alloc, told)?)?;
+    }
+    let mut replies = Vec::new(alloc);
+    for reply in run(alloc, session, commands.as_slice())? {
+        replies.push(as_heard(reply))?;
+    }
+    Ok(replies)
+}
+
+fn reply(alloc: Global, said: &Said) -> Result<Heard, Fault> {
+    match said {
+        Said::Done => Ok(Heard::Done),
+        Said::Answer(lines, batches) => Ok(Heard::Answer(answer(alloc, lines, *batches)?)),
+        Said::Status(batches, rows) => Ok(Heard::Numbers(status(*batches, *rows))),
+        Said::Refused(fault) => Ok(Heard::Refused(*fault)),
+    }
+}
+
+/// The replies that are wanted.
+fn wanted(alloc: Global) -> Result<Vec<Heard>, Fault> {
+    let mut replies = Vec::new(alloc);
+    for (_, said) in &RUN {
+        replies.push(reply(alloc, said)?)?;
+    }
+    Ok(replies)
+}
+
+#[test]
+fn the_replies_are_as_worked_by_hand(rt: HostRuntime) -> Result<(), Fail> {
+    let disk = loaded(rt.alloc(), 1)?.close();
+    let mut session = opened(rt.alloc(), Fuse::new(disk, 0, false, false))?;
+    assert_eq!(rt; replies(rt.alloc(), &mut session), wanted(rt.alloc()));
+    Ok(())
+}
+
+/// As many refusals as there are commands in the run.
+fn all_failed(alloc: Global) -> Result<Vec<Heard>, Fault> {
+    let mut replies = Vec::new(alloc);
+    for _ in &RUN {
+        replies.push(Heard::Refused(Fault::Failed))?;
+    }
+    Ok(replies)
+}
+
+#[test]
+fn after_a_failure_each_reply_is_failed(rt: HostRuntime) -> Result<(), Fail> {
+    let mut session = unsynced(rt.alloc(), false)?;
+    assert_eq!(rt; replies(rt.alloc(), &mut session), all_failed(rt.alloc()));
+    Ok(())
+}

@@ -1,0 +1,60 @@
+//! Sessions over the sample star.
+use cube_model::Fault;
+use dimensions::Dims;
+use sample_star::{FACTS, Fact, STAR, dim_rows, line_orders};
+use sector_device::{MemDisk, Sectors};
+use std::alloc::Global;
+use warehouse::{Session, Status, create, open};
+
+/// The dimensions of the sample star.
+pub(crate) fn sample_dims(alloc: Global) -> Result<Dims, Fault> {
+    let rows = dim_rows(alloc, &STAR)?;
+    Dims::build(alloc, &rows)
+}
+
+/// A warehouse without batches on a device.
+pub(crate) fn created<D: Sectors + Drop>(alloc: Global, device: D) -> Result<Session<D>, Fault> {
+    let dims = sample_dims(alloc)?;
+    match create(alloc, device, dims) {
+        Ok(session) => Ok(session),
+        Err((fault, _)) => Err(fault),
+    }
+}
+
+/// The warehouse that stands on a device.
+pub(crate) fn opened<D: Sectors + Drop>(alloc: Global, device: D) -> Result<Session<D>, Fault> {
+    match open(alloc, device) {
+        Ok(session) => Ok(session),
+        Err((fault, _)) => Err(fault),
+    }
+}
+
+/// Submits fact rows.
+pub(crate) fn submit<D: Sectors>(
+    alloc: Global,
+    session: &mut Session<D>,
+    number: u32,
+    facts: &[Fact<'_>],
+) -> Result<(), Fault> {
+    let rows = line_orders(alloc, facts)?;
+    session.submit(alloc, number, rows.as_slice())
+}
+
+/// A warehouse on a memory disk of 64 sectors, with so many batches of the three sample rows.
+pub(crate) fn loaded(alloc: Global, batches: u32) -> Result<Session<MemDisk>, Fault> {
+    let mut session = created(alloc, MemDisk::new(alloc, 64)?)?;
+    for number in 1..=batches {
+        submit(alloc, &mut session, number, &FACTS)?;
+    }
+    Ok(session)
+}
+
+/// The status of a warehouse of so many batches with so many rows together, which took a commit for each.
+pub(crate) fn status(batches: u32, rows: u64) -> Status {
+    Status {
+        batches,
+        rows,
+        target: 0,
+        generation: u64::from(batches) + 1,
+    }
+}

@@ -1,0 +1,68 @@
+//! The files that the options name.
+use clap::ArgMatches;
+use cube_model::Fault;
+use std::alloc::Global;
+use std::fs::{self, OpenFile};
+use std::io::Read;
+use std::rt::Files;
+use table_hints::{Table, TableFiles};
+
+/// The words of a command, and the system whose files they name.
+#[derive(Drop)]
+pub struct GivenFiles<'r, 'g, 'w, R> {
+    pub rt: &'r R,
+    pub given: &'g ArgMatches<'w>,
+}
+
+impl<R: Files> TableFiles for GivenFiles<'_, '_, '_, R> {
+    type Reader = R::File;
+
+    fn path(&self, table: Table) -> &str {
+        let name = table.name();
+        match self.given.get_str(name) {
+            Some(path) => path,
+            None => "",
+        }
+    }
+
+    // Only a regular file is the same when it is read again.
+    fn open(&self, table: Table) -> Option<R::File> {
+        let path = self.path(table);
+        let file = fs::open(self.rt, path).ok()?;
+        if file.metadata().ok()?.is_file() {
+            Some(file)
+        } else {
+            None
+        }
+    }
+}
+
+impl<R: Files> GivenFiles<'_, '_, '_, R> {
+    /// The first file that cannot be opened or read, and what the system says.
+    pub fn unreadable(&self, alloc: Global) -> Result<Option<String>, Fault> {
+        for table in Table::ALL {
+            let path = self.path(table);
+            if let Some(error) = first_error(self.rt, path) {
+                return Ok(Some(format!(in alloc; "{path}: {error}")?));
+            }
+        }
+        Ok(None)
+    }
+}
+
+// Why a file cannot be opened, or its first byte not be read. What is neither a file nor a folder is only opened.
+fn first_error<R: Files>(rt: &R, path: &str) -> Option<std::io::Error> {
+    let mut file = match fs::open(rt, path) {
+        Ok(file) => file,
+        Err(error) => return Some(error),
+    };
+    let kind = match file.metadata() {
+        Ok(metadata) => metadata,
+        Err(error) => return Some(error),
+    };
+    if !kind.is_file() && !kind.is_dir() {
+        return None;
+    }
+    let mut byte = [0u8; 1];
+    file.read(&mut byte).err()
+}

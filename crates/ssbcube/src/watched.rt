@@ -1,0 +1,44 @@
+//! A writer that keeps why a write failed.
+use std::io::{self, Write};
+
+/// A writer, and the last failure of a write to it.
+#[derive(Drop)]
+pub struct Watched<W> {
+    writer: W,
+    failure: Option<io::Error>,
+}
+
+impl<W> Watched<W> {
+    /// The writer, which has not failed yet.
+    pub fn new(writer: W) -> Watched<W> {
+        Watched {
+            writer,
+            failure: None,
+        }
+    }
+
+    /// Why a write failed, if one did.
+    pub fn failure(&self) -> Option<io::Error> {
+        self.failure
+    }
+}
+
+impl<W: Write> Write for Watched<W> {
+    ghost contents = { λ watched. W.contents watched.writer };
+
+    fn write(&mut self, buf: &[u8]) -> io::Result<usize> {
+        let done = self.writer.write(buf);
+        if let Err(error) = &done {
+            self.failure = Some(*error);
+        }
+        done
+    }
+
+    fn flush(&mut self) -> io::Result<()> {
+        let done = self.writer.flush();
+        if let Err(error) = &done {
+            self.failure = Some(*error);
+        }
+        done
+    }
+}

@@ -1,0 +1,173 @@
+//! A dimension row that breaks a rule of its table.
+use crate::facts::keys;
+use crate::files::{Table, TableFiles};
+use crate::lines::{field, line_of};
+use crate::quoted::Quoted;
+use batch_loader::Lines;
+use cube_model::{Axis, Fault};
+use std::alloc::Global;
+use std::io::Read;
+
+/// Two levels of a dimension: the fields of the lower and the upper member, with their names.
+#[derive(Clone, Copy)]
+struct Step {
+    lower: u8,
+    upper: u8,
+    lower_name: &'static str,
+    upper_name: &'static str,
+}
+
+static PLACES: [Step; 2] = [
+    Step {
+        lower: 4,
+        upper: 5,
+        lower_name: "city",
+        upper_name: "nation",
+    },
+    Step {
+        lower: 5,
+        upper: 6,
+        lower_name: "nation",
+        upper_name: "region",
+    },
+];
+
+static PRODUCTS: [Step; 2] = [
+    Step {
+        lower: 5,
+        upper: 4,
+        lower_name: "brand1",
+        upper_name: "category",
+    },
+    Step {
+        lower: 4,
+        upper: 3,
+        lower_name: "category",
+        upper_name: "mfgr",
+    },
+];
+
+static DAYS: [Step; 2] = [
+    Step {
+        lower: 6,
+        upper: 5,
+        lower_name: "yearmonthnum",
+        upper_name: "year",
+    },
+    Step {
+        lower: 6,
+        upper: 7,
+        lower_name: "yearmonthnum",
+        upper_name: "yearmonth",
+    },
+];
+
+fn steps(axis: Axis) -> &'static [Step; 2] {
+    match axis {
+        Axis::Customer | Axis::Supplier => &PLACES,
+        Axis::Part => &PRODUCTS,
+        Axis::Date => &DAYS,
+    }
+}
+
+/// Where the key of a row stood before.
+pub fn key_hint<T: TableFiles>(
+    alloc: Global,
+    files: &T,
+    axis: Axis,
+    row: u32,
+) -> Result<Option<String>, Fault> {
+    let table = Table::of(axis);
+    let Some(keys) = keys(alloc, files, table)? else {
+        return Ok(None);
+    };
+    let Some(key) = keys.get((row as usize).saturating_sub(1)) else {
+        return Ok(None);
+    };
+    let Some(first) = keys.iter().position(|other| other == key) else {
+        return Ok(None);
+    };
+    let path = files.path(table);
+    let said = format!(in alloc;
+        "{path} line {row}: {axis} {key} stands in line {} already",
+        first.saturating_add(1)
+    )?;
+    Ok(Some(said))
+}
+
+/// Which member of a row has another upper member in an earlier row, and both.
+pub fn upper_hint<T: TableFiles>(
+    alloc: Global,
+    files: &T,
+    axis: Axis,
+    row: u32,
+) -> Result<Option<String>, Fault> {
+    let table = Table::of(axis);
+    let Some(line) = line_of(alloc, files, table, u64::from(row))? else {
+        return Ok(None);
+    };
+    for step in steps(axis) {
+        let Some(reader) = files.open(table) else {
+            return Ok(None);
+        };
+        let mut lines = Lines::new(alloc, reader)?;
+        if let Some((at, other)) = earlier_upper(alloc, &mut lines, line.as_slice(), step, row)? {
+            let path = files.path(table);
+            return broken(
+                alloc,
+                path,
+                step,
+                line.as_slice(),
+                row,
+                at,
+                other.as_slice(),
+            );
+        }
+    }
+    Ok(None)
+}
+
+// The first earlier line that has the same lower member under another upper one, and that one.
+fn earlier_upper<R: Read>(
+    alloc: Global,
+    lines: &mut Lines<R>,
+    line: &[u8],
+    step: &Step,
+    row: u32,
+) -> Result<Option<(u64, Vec<u8>)>, Fault> {
+    for at in 1..u64::from(row) {
+        let Some(earlier) = lines.next()? else {
+            return Ok(None);
+        };
+        let upper = field(earlier, step.upper);
+        if field(earlier, step.lower) == field(line, step.lower)
+            && upper != field(line, step.upper)
+        {
+            return Ok(Some((at, Vec::from_slice(alloc, upper)?)));
+        }
+    }
+    Ok(None)
+}
+
+fn broken(
+    alloc: Global,
+    path: &str,
+    step: &Step,
+    line: &[u8],
+    row: u32,
+    at: u64,
+    other: &[u8],
+) -> Result<Option<String>, Fault> {
+    let lower = Quoted(field(line, step.lower));
+    let upper = Quoted(field(line, step.upper));
+    let other = Quoted(other);
+    let Step {
+        lower_name,
+        upper_name,
+        ..
+    } = *step;
+    let said = format!(in alloc;
+        "{path} line {row}: {lower_name} {lower} has {upper_name} {upper}, and {other} in line {at}"
+    )?;
+    Ok(Some(said))
+}

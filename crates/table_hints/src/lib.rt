@@ -1,0 +1,14 @@
+//! What stands behind a refusal of the five tables: which file, which line of it, and which text or key.
+#![tactic(auto)]
+
+mod columns;
+mod dimension_lines;
+mod facts;
+mod files;
+mod lines;
+mod quoted;
+mod refusals;
+mod text_lines;
+
+pub use files::{Table, TableFiles};
+pub use refusals::table_hint;

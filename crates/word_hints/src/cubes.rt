@@ -1,0 +1,190 @@
+//! The words of a query of one's own.
+use crate::known::Known;
+use crate::said::{Counted, WordHint};
+use crate::words::{QueryWords, unknown};
+use cube_model::limits::{MOST_AGGREGATES, MOST_COLUMNS, MOST_CONDITIONS, MOST_LISTED_TEXTS};
+use std::alloc::{AllocError, Global};
+
+/// What is wrong with the words of a query that has aggregates: the set, then the columns, conditions and aggregates, and
+/// then the limits of their numbers.
+pub fn cube_hint<'a>(
+    alloc: Global,
+    words: &QueryWords<'a>,
+    agg: &'a str,
+) -> Result<Option<WordHint<'a>>, AllocError> {
+    let found = set_hint(alloc, words.set)?;
+    if found.is_some() {
+        return Ok(found);
+    }
+    let found = columns_hint(alloc, words.by)?;
+    if found.is_some() {
+        return Ok(found);
+    }
+    let found = conditions_hint(alloc, words.conditions)?;
+    if found.is_some() {
+        return Ok(found);
+    }
+    let found = aggregates_hint(alloc, agg)?;
+    if found.is_some() {
+        return Ok(found);
+    }
+    Ok(limit_hint(words, agg))
+}
+
+fn set_hint(alloc: Global, set: Option<&str>) -> Result<Option<WordHint<'_>>, AllocError> {
+    match set {
+        None => Ok(None),
+        Some(word) => unknown(alloc, word, Known::Set),
+    }
+}
+
+fn columns_hint(alloc: Global, by: Option<&str>) -> Result<Option<WordHint<'_>>, AllocError> {
+    let Some(by) = by else {
+        return Ok(None);
+    };
+    for word in by.split(',') {
+        let found = unknown(alloc, word, Known::Attribute)?;
+        if found.is_some() {
+            return Ok(found);
+        }
+    }
+    Ok(None)
+}
+
+fn aggregates_hint(alloc: Global, agg: &str) -> Result<Option<WordHint<'_>>, AllocError> {
+    for word in agg.split(',') {
+        let found = aggregate_hint(alloc, word)?;
+        if found.is_some() {
+            return Ok(found);
+        }
+    }
+    Ok(None)
+}
+
+fn aggregate_hint(alloc: Global, word: &str) -> Result<Option<WordHint<'_>>, AllocError> {
+    let Some((taken, measure)) = word.split_once(':') else {
+        if word == "count" {
+            return Ok(None);
+        }
+        return Ok(Some(bare_hint(alloc, word)?));
+    };
+    let found = unknown(alloc, taken, Known::Aggregate)?;
+    if found.is_some() {
+        return Ok(found);
+    }
+    unknown(alloc, measure, Known::Measure)
+}
+
+// What is wrong with a word without a colon that is not count.
+fn bare_hint(alloc: Global, word: &str) -> Result<WordHint<'_>, AllocError> {
+    if let Some((taken, rest)) = word.split_once('(') {
+        if let Some(measure) = rest.strip_suffix(')') {
+            return Ok(WordHint::AsInHeader {
+                word,
+                taken,
+                measure,
+            });
+        }
+    }
+    let found = unknown(alloc, word, Known::Aggregate)?;
+    Ok(found.unwrap_or(WordHint::NoMeasure { word }))
+}
+
+fn conditions_hint<'a>(
+    alloc: Global,
+    conditions: &[&'a str],
+) -> Result<Option<WordHint<'a>>, AllocError> {
+    for word in conditions {
+        let found = condition_hint(alloc, word)?;
+        if found.is_some() {
+            return Ok(found);
+        }
+    }
+    Ok(None)
+}
+
+// The name stands before the first sign of either kind.
+fn condition_hint(alloc: Global, word: &str) -> Result<Option<WordHint<'_>>, AllocError> {
+    let Some((name, members)) = word.split_once(|sign| sign == '=' || sign == ':') else {
+        return Ok(Some(WordHint::NoSign { word }));
+    };
+    let found = unknown(alloc, name, Known::Ranged)?;
+    if found.is_some() {
+        return Ok(found);
+    }
+    let is_counted = name == "quantity" || name == "discount";
+    if word.as_bytes().get(name.len()) == Some(&b'=') {
+        return Ok(if is_counted {
+            Some(WordHint::NoList { name })
+        } else {
+            list_hint(members)
+        });
+    }
+    Ok(range_hint(word, members, is_counted))
+}
+
+fn list_hint(members: &str) -> Option<WordHint<'_>> {
+    let count = members.split('|').count();
+    too_many(Counted::Texts, count, MOST_LISTED_TEXTS)
+}
+
+fn range_hint<'a>(word: &'a str, members: &'a str, is_counted: bool) -> Option<WordHint<'a>> {
+    let Some((low, high)) = members.split_once('|') else {
+        return Some(WordHint::NotTwoEnds { word });
+    };
+    if high.contains('|') {
+        return Some(WordHint::NotTwoEnds { word });
+    }
+    if !is_counted {
+        return None;
+    }
+    if !is_small_number(low) {
+        return Some(WordHint::NoNumber { word: low });
+    }
+    if !is_small_number(high) {
+        return Some(WordHint::NoNumber { word: high });
+    }
+    None
+}
+
+fn is_small_number(text: &str) -> bool {
+    !text.starts_with('+') && text.parse::<u8>().is_ok()
+}
+
+// What a query whose words can be read has too many of, or twice.
+fn limit_hint<'a>(words: &QueryWords<'a>, agg: &str) -> Option<WordHint<'a>> {
+    let aggregates = agg.split(',').count();
+    if aggregates > MOST_AGGREGATES {
+        return too_many(Counted::Aggregates, aggregates, MOST_AGGREGATES);
+    }
+    if words.conditions.len() > MOST_CONDITIONS {
+        return too_many(Counted::Conditions, words.conditions.len(), MOST_CONDITIONS);
+    }
+    let by = words.by?;
+    let columns = by.split(',').count();
+    if columns > MOST_COLUMNS {
+        return too_many(Counted::Columns, columns, MOST_COLUMNS);
+    }
+    repeated_column(by)
+}
+
+fn too_many<'a>(counted: Counted, count: usize, most: usize) -> Option<WordHint<'a>> {
+    if count <= most {
+        return None;
+    }
+    Some(WordHint::TooMany {
+        counted,
+        count,
+        most,
+    })
+}
+
+// The first column that stood before.
+fn repeated_column(by: &str) -> Option<WordHint<'_>> {
+    for (place, word) in by.split(',').enumerate() {
+        if by.split(',').position(|other| other == word) != Some(place) {
+            return Some(WordHint::Twice { word });
+        }
+    }
+    None
+}

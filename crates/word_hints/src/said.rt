@@ -1,0 +1,133 @@
+//! What is wrong with a word, and how it is said.
+use crate::known::Known;
+use std::fmt;
+
+/// What a query has too many of.
+#[derive(Clone, Copy, Debug, PartialEq, Eq)]
+pub enum Counted {
+    Columns,
+    Aggregates,
+    Conditions,
+    Texts,
+}
+
+impl fmt::Display for Counted {
+    fn fmt<W: fmt::Write>(&self, f: &mut fmt::Formatter<W>) -> fmt::Result {
+        f.write_str(match self {
+            Counted::Columns => "group columns",
+            Counted::Aggregates => "aggregates",
+            Counted::Conditions => "conditions",
+            Counted::Texts => "texts of a condition",
+        })
+    }
+}
+
+/// What is wrong with the words of a query, as one line.
+#[derive(Clone, Copy, Debug, PartialEq, Eq)]
+pub enum WordHint<'a> {
+    /// Neither a query of the benchmark nor an aggregate is given.
+    NothingAsked,
+    /// Other words stand beside a query of the benchmark.
+    NotAlone,
+    /// A word is no known name. A known name may be near.
+    Unknown {
+        word: &'a str,
+        known: Known,
+        near: Option<&'static str>,
+    },
+    /// A condition has no sign behind its name.
+    NoSign {
+        word: &'a str,
+    },
+    /// Something that takes a range is given texts.
+    NoList {
+        name: &'a str,
+    },
+    /// A range has no two ends.
+    NotTwoEnds {
+        word: &'a str,
+    },
+    /// An end of a range is no number of 0 to 255.
+    NoNumber {
+        word: &'a str,
+    },
+    /// An aggregate has no measure behind a colon.
+    NoMeasure {
+        word: &'a str,
+    },
+    /// An aggregate is written as the header of a report has it.
+    AsInHeader {
+        word: &'a str,
+        taken: &'a str,
+        measure: &'a str,
+    },
+    /// A group column stands twice.
+    Twice {
+        word: &'a str,
+    },
+    /// There are too many of something.
+    TooMany {
+        counted: Counted,
+        count: usize,
+        most: usize,
+    },
+}
+
+impl fmt::Display for WordHint<'_> {
+    fn fmt<W: fmt::Write>(&self, f: &mut fmt::Formatter<W>) -> fmt::Result {
+        match self {
+            WordHint::NothingAsked => f.write_str(
+                "nothing is asked: give --query Q, or --agg G,G with --set, --by and conditions",
+            ),
+            WordHint::NotAlone => f.write_str(
+                "--query stands alone: no --set, --by, --agg or condition beside it",
+            ),
+            WordHint::Unknown { word, known, near } => unknown(f, word, *known, *near),
+            WordHint::NoSign { word } => write!(
+                f,
+                "{word}: a condition is ATTRIBUTE=TEXT|TEXT or ATTRIBUTE:LOW|HIGH"
+            ),
+            WordHint::NoList { name } => write!(f, "{name}: a range is wanted, {name}:LOW|HIGH"),
+            WordHint::NotTwoEnds { word } => {
+                write!(f, "{word}: a range has two ends, with a bar between them")
+            }
+            WordHint::NoNumber { word } => write!(f, "{word}: no number of 0 to 255"),
+            WordHint::NoMeasure { word } => {
+                write!(f, "{word}: a measure is wanted, as in {word}:revenue")
+            }
+            WordHint::AsInHeader {
+                word,
+                taken,
+                measure,
+            } => write!(f, "{word}: write {taken}:{measure}"),
+            WordHint::Twice { word } => write!(f, "{word}: a group column stands once"),
+            WordHint::TooMany {
+                counted,
+                count,
+                most,
+            } => write!(f, "{count} {counted}: at most {most}"),
+        }
+    }
+}
+
+// A word that is no known name, and the name that is near, or else all of them.
+fn unknown<W: fmt::Write>(
+    f: &mut fmt::Formatter<W>,
+    word: &str,
+    known: Known,
+    near: Option<&str>,
+) -> fmt::Result {
+    write!(f, "{word}: no such {};", known.title())?;
+    match near {
+        Some(name) => write!(f, " {name}?"),
+        None => all_names(f, known.names()),
+    }
+}
+
+fn all_names<W: fmt::Write>(f: &mut fmt::Formatter<W>, names: &[&str]) -> fmt::Result {
+    f.write_str(" there are")?;
+    for name in names {
+        write!(f, " {name}")?;
+    }
+    Ok(())
+}
