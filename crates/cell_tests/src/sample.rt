@@ -1,5 +1,8 @@
 //! Cells of the sample star, and their runs.
-use cuboid_cells::{Cell, Key, Summaries, Summary};
+use cube_model::Fault;
+use cuboid_cells::{Cell, Cells, Key, Summaries, Summary};
+use std::alloc::Global;
+use wire::{push_bytes, push_i64, push_u16, push_u32, push_u64};
 
 // The run of the first batch, whose rows are the three of the sample star, by manufacturer and day: view 248. The first
 // row stands alone at its day, the others share one.
@@ -28,7 +31,7 @@ pub(crate) const SPELLED: [u8; 340] = [
     0x00, 0x00, 0x00, 0x00,
 ];
 
-// What is kept of the first row, and of the last two together.
+// What is kept of the first row, the second, the third, and of the last two together.
 pub(crate) const FIRST: Summaries = Summaries {
     quantity: Summary {
         sum: 17,
@@ -59,6 +62,72 @@ pub(crate) const FIRST: Summaries = Summaries {
         sum: 380,
         least: 380,
         greatest: 380,
+    },
+};
+
+pub(crate) const SECOND: Summaries = Summaries {
+    quantity: Summary {
+        sum: 24,
+        least: 24,
+        greatest: 24,
+    },
+    extendedprice: Summary {
+        sum: 2000,
+        least: 2000,
+        greatest: 2000,
+    },
+    revenue: Summary {
+        sum: 1940,
+        least: 1940,
+        greatest: 1940,
+    },
+    supplycost: Summary {
+        sum: 2000,
+        least: 2000,
+        greatest: 2000,
+    },
+    discounted: Summary {
+        sum: 6000,
+        least: 6000,
+        greatest: 6000,
+    },
+    profit: Summary {
+        sum: -60,
+        least: -60,
+        greatest: -60,
+    },
+};
+
+pub(crate) const THIRD: Summaries = Summaries {
+    quantity: Summary {
+        sum: 25,
+        least: 25,
+        greatest: 25,
+    },
+    extendedprice: Summary {
+        sum: 500,
+        least: 500,
+        greatest: 500,
+    },
+    revenue: Summary {
+        sum: 495,
+        least: 495,
+        greatest: 495,
+    },
+    supplycost: Summary {
+        sum: 100,
+        least: 100,
+        greatest: 100,
+    },
+    discounted: Summary {
+        sum: 500,
+        least: 500,
+        greatest: 500,
+    },
+    profit: Summary {
+        sum: 395,
+        least: 395,
+        greatest: 395,
     },
 };
 
@@ -108,4 +177,54 @@ pub(crate) fn at_day(date: u16, count: u64, measures: Summaries) -> Cell {
         count,
         measures,
     }
+}
+
+// The run over the first batch of cells of a view that does not group by ship mode.
+pub(crate) fn run(alloc: Global, view: u32, cells: &[Cell]) -> Result<Vec<u8>, Fault> {
+    let Ok(count) = u32::try_from(cells.len()) else {
+        return Err(Fault::BadLayout);
+    };
+    let mut out = Vec::new(alloc);
+    push_bytes(&mut out, b"CEL1")?;
+    for number in [view, 0, 1, count] {
+        push_u32(&mut out, number)?;
+    }
+    for cell in cells {
+        push_cell(&mut out, cell)?;
+    }
+    Ok(out)
+}
+
+fn push_cell(out: &mut Vec<u8>, cell: &Cell) -> Result<(), Fault> {
+    let key = cell.key;
+    for code in [key.customer, key.supplier, key.part, key.date] {
+        push_u16(out, code)?;
+    }
+    push_u64(out, cell.count)?;
+    let of = cell.measures;
+    for summary in [
+        of.quantity,
+        of.extendedprice,
+        of.revenue,
+        of.supplycost,
+        of.discounted,
+        of.profit,
+    ] {
+        push_summary(out, summary)?;
+    }
+    Ok(())
+}
+
+fn push_summary(out: &mut Vec<u8>, summary: Summary) -> Result<(), Fault> {
+    for number in [summary.sum, summary.least, summary.greatest] {
+        push_i64(out, number)?;
+    }
+    Ok(())
+}
+
+// The cells of a view that does not group by ship mode.
+pub(crate) fn cells_of(alloc: Global, view: u32, cells: &[Cell]) -> Result<Cells, Fault> {
+    let bytes = run(alloc, view, cells)?;
+    let (_, cells) = Cells::decode(alloc, &bytes)?;
+    Ok(cells)
 }
