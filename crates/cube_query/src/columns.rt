@@ -58,12 +58,7 @@ fn count_row<F: FactRows>(
 }
 
 /// Counts rows in at the slots of their groups. It takes no memory.
-pub fn count_in<F: FactRows>(
-    column: &mut [Tally],
-    agg: Agg,
-    rows: &F,
-    group_slots: &[Option<u32>],
-)
+pub fn count_in<F: FactRows>(column: &mut [Tally], agg: Agg, rows: &F, group_slots: &[Option<u32>])
     requires group_slots { length group_slots.now ≡ length (F.rows rows.now) }
     requires room { HasRoom agg column.old (F.rows rows.now) group_slots.now }
     ensures counted { CountsIn agg (F.rows rows.now) group_slots.now column.old column.new }

@@ -34,12 +34,7 @@ pub fn have_room<F: FactRows>(
 }
 
 // Whether a column has room for rows at the slots of their groups.
-fn has_room<F: FactRows>(
-    column: &[Tally],
-    agg: Agg,
-    rows: &F,
-    group_slots: &[Option<u32>],
-) -> bool
+fn has_room<F: FactRows>(column: &[Tally], agg: Agg, rows: &F, group_slots: &[Option<u32>]) -> bool
     requires { length group_slots.now ≡ length (F.rows rows.now) }
     ensures { IsTrue result ↔ HasRoom agg column.now (F.rows rows.now) group_slots.now }
 {
