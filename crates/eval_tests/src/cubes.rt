@@ -1,5 +1,6 @@
 //! Cubes, rollups, averages and orders that were worked by hand.
-use crate::given::{Given, NO_WORDS, SAMPLE, Words, first_other};
+use crate::given::{Given, SAMPLE, first_other};
+use crate::words::{NO_WORDS, Words};
 use std::test::Fail;
 
 static CASES: [(Given, Words, &str); 12] = [

@@ -1,5 +1,5 @@
 //! Readers and writers that fail, and the status at the end.
-use crate::given::FIRST;
+use crate::words::FIRST;
 use cube_model::{Fault, Query};
 use sample_star::{TABLES, Taker, in_sevens};
 use ssb_eval::{eval_texts, exit_of};

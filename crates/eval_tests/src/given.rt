@@ -1,40 +1,9 @@
 //! Cases, and what comes of them.
-use cube_model::{Fault, Query};
-use query_words::read_query;
+use crate::words::Words;
+use cube_model::Fault;
 use sample_star::{TABLES, Tables, in_sevens};
 use ssb_eval::eval_texts;
 use std::alloc::Global;
-
-/// The words of a query.
-#[derive(Clone, Copy)]
-pub struct Words {
-    pub q: Option<&'static str>,
-    pub set: Option<&'static str>,
-    pub by: Option<&'static str>,
-    pub agg: Option<&'static str>,
-    pub conditions: &'static [&'static str],
-}
-
-/// No word at all.
-pub const NO_WORDS: Words = Words {
-    q: None,
-    set: None,
-    by: None,
-    agg: None,
-    conditions: &[],
-};
-
-/// The first query of the benchmark. Over the sample tables it is 2000.
-pub const FIRST: Words = Words {
-    q: Some("1.1"),
-    ..NO_WORDS
-};
-
-impl Words {
-    pub fn read(&self, alloc: Global) -> Result<Query, Fault> {
-        read_query(alloc, self.q, self.set, self.by, self.agg, self.conditions)
-    }
-}
 
 /// The sample tables, save for those whose texts are given.
 #[derive(Clone, Copy)]

@@ -1,5 +1,5 @@
 //! Texts of so many rows that they are read in pieces.
-use crate::given::FIRST;
+use crate::words::FIRST;
 use cube_model::Fault;
 use sample_star::{TABLES, whole};
 use ssb_eval::eval_texts;

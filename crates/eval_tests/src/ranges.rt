@@ -1,5 +1,6 @@
 //! Sums of absolute values stay in their range.
-use crate::given::{Given, NO_WORDS, SAMPLE, Words, first_other, first_taken};
+use crate::given::{Given, SAMPLE, first_other, first_taken};
+use crate::words::{NO_WORDS, Words};
 use cube_model::{Fault, Measure};
 use std::test::Fail;
 

@@ -1,5 +1,6 @@
 //! Refusals: the first cause decides.
-use crate::given::{FIRST, Given, NO_WORDS, SAMPLE, Words, first_taken};
+use crate::given::{Given, SAMPLE, first_taken};
+use crate::words::{FIRST, NO_WORDS, Words};
 use cube_model::{Axis, Fault, Place};
 
 static OF_TABLES: [(Given, Words, Fault); 18] = [

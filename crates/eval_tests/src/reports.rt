@@ -1,5 +1,6 @@
 //! Reports that were worked by hand.
-use crate::given::{FIRST, Given, NO_WORDS, SAMPLE, Words, first_other};
+use crate::given::{Given, SAMPLE, first_other};
+use crate::words::{FIRST, NO_WORDS, Words};
 use std::test::Fail;
 
 const MORE_PARTS: Given = Given {

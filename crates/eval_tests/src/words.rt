@@ -22,6 +22,12 @@ pub const NO_WORDS: Words = Words {
     conditions: &[],
 };
 
+/// The first query of the benchmark. Over the sample tables it is 2000.
+pub const FIRST: Words = Words {
+    q: Some("1.1"),
+    ..NO_WORDS
+};
+
 impl Words {
     pub fn read(&self, alloc: Global) -> Result<Query, Fault> {
         read_query(alloc, self.q, self.set, self.by, self.agg, self.conditions)

@@ -1,5 +1,5 @@
 //! Writers that fail.
-use crate::reports::{Row, answer};
+use crate::made_reports::{Row, answer};
 use cube_model::{Agg, Answer, Attr, Fault, Fraction, Kind, Measure, Query, Value};
 use sample_star::{Asked, EVERY_ROW, Taker, WhenFull, query};
 use ssb_reports::write_report;

@@ -1,5 +1,5 @@
 //! Words that spell a query, each with the whole query.
-use crate::given::{NO_WORDS, Words};
+use crate::words::{NO_WORDS, Words};
 use cube_model::{Agg, Attr, Fault, Kind, Measure};
 use query_words::read_query;
 use sample_star::{Asked, Condition, query};

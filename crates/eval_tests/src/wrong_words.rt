@@ -1,5 +1,5 @@
 //! Words that spell no query.
-use crate::given::{NO_WORDS, Words};
+use crate::words::{NO_WORDS, Words};
 use cube_model::Fault;
 use std::alloc::Global;
 
