@@ -24,8 +24,9 @@ use Rattle.cube_query.specs.Tallies.{tallies_of}
 use Rattle.cube_query.specs.declared.slots.Slots.{Slots}
 use Rattle.cube_query.specs.declared.tally.Tally.{Tally}
 use Rattle.group_plan.specs.Numbers.{group_count, key_at}
-use Rattle.group_plan.specs.Plans.{IsPlanOver, count_of, query_of}
+use Rattle.group_plan.specs.Plans.{IsPlanOf, IsPlanOver, count_of, query_of}
 use Rattle.group_plan.specs.declared.plan.Plan.{Plan}
+use Rattle.group_plan.proofs.Extending.{plan_of_over}
 use Rattle.cube_query.proofs.Marking.{key_eq-same, key_eq-true, keys_apart, slotted-none}
 use Rattle.cube_query.proofs.Seen.{some_seen}
 use Rattle.cube_query.proofs.Steps.{AreTallied-grow, AreTallied-count, HaveRoom-foldable}
@@ -71,19 +72,22 @@ abbrev pub shown : Plan → Slots → List (Vec Tally Global) → FoldState
 shown plan slots columns = record { query = query_of plan; plan = plan; tallies = all_tallies plan slots columns }
 
 module _ (dimensions : DimRows) (plan : Plan) (over : IsPlanOver dimensions plan) where
+  made : IsPlanOf dimensions plan
+  made = plan_of_over dimensions plan over
+
   -- what it shows at a number
   shown_at : (slots : Slots) (columns : List (Vec Tally Global)) (number : ℕ) → number < group_count dimensions (query_of plan).columns
       → get_or (all_tallies plan slots columns) number [] ≡ tallies_in (query_of plan) slots columns number
   shown_at slots columns number h =
-      get_or-map-range_with_len (tallies_in (query_of plan) slots columns) 0 (count_of plan) number number [] (omega (arith, h, over.counted)) (omega arith)
+      get_or-map-range_with_len (tallies_in (query_of plan) slots columns) 0 (count_of plan) number number [] (omega (arith, h, made.counted)) (omega arith)
 
   -- ---- bounds of the plan are those of the dimensions
   module _ (slots : Slots) (columns : List (Vec Tally Global)) (kept : IsKept plan slots columns) where
     pub kept_numbers : AreSlots (group_count dimensions (query_of plan).columns) (entries_of slots)
-    kept_numbers = subst (λ n. AreSlots n (entries_of slots)) over.counted kept.numbers
+    kept_numbers = subst (λ n. AreSlots n (entries_of slots)) made.counted kept.numbers
 
     pub kept_cover : Cover (group_count dimensions (query_of plan).columns) slots
-    kept_cover = subst (λ n. Cover n slots) over.counted kept.cover
+    kept_cover = subst (λ n. Cover n slots) made.counted kept.cover
 
     -- ---- rows that it stands for
     pub tallied_for : (rows : List LineOrder) → StandsFor dimensions (shown plan slots columns) rows → AreTallied dimensions (finest (query_of plan)) (entries_of slots) columns rows
@@ -124,7 +128,7 @@ module _ (dimensions : DimRows) (plan : Plan) (over : IsPlanOver dimensions plan
             (elim (slot_of entries number) as (λ o. slot_of entries number ≡ o → tallies_or_none query columns o ≡ tallies_of aggs (rows_at dimensions (finest query) (key_of number) rows)) [
               | None ↦ λ e.
                   let none : rows_at dimensions (finest query) (key_of number) rows ≡ [] = tallied.others (key_of number) (λ other slot taken one.
-                  let is : other ≡ number = keys_apart dimensions query.columns over.rising other number (numbers.below other slot taken) h one in
+                  let is : other ≡ number = keys_apart dimensions query.columns made.rising other number (numbers.below other slot taken) h one in
                   let there : slot_of entries number ≡ Some slot = ap (slot_of entries) (sym is) ∙ taken in
                   cc (there, e)) in
                   ap (tallies_of aggs) (sym none)
@@ -146,7 +150,7 @@ module _ (dimensions : DimRows) (plan : Plan) (over : IsPlanOver dimensions plan
   pub fold_over : (slots : Slots) (columns : List (Vec Tally Global)) → IsKept plan slots columns → IsFoldOver dimensions (shown plan slots columns) → IsFold dimensions (query_of plan) slots columns
   fold_over slots columns kept is = record {
     proper = kept.proper;
-    rising = over.rising;
+    rising = made.rising;
     numbers = kept_numbers slots columns kept;
     cover = kept_cover slots columns kept;
     tallied = (is.0, (is.1.1, tallied_for slots columns kept is.0 is.1.0));
@@ -158,8 +162,8 @@ module _ (dimensions : DimRows) (plan : Plan) (over : IsPlanOver dimensions plan
     pub kept_ready : IsKept plan new longer
     kept_ready = record {
       proper = kept.proper;
-      numbers = subst (λ n. AreSlots n (entries_of new)) (sym over.counted) grow.slots;
-      cover = subst (λ n. Cover n new) (sym over.counted) cover;
+      numbers = subst (λ n. AreSlots n (entries_of new)) (sym made.counted) grow.slots;
+      cover = subst (λ n. Cover n new) (sym made.counted) cover;
       fresh = λ slot h. same slot ∙ kept.fresh slot (omega (arith, h, grow.longer));
     }
 
@@ -185,7 +189,7 @@ module _ (dimensions : DimRows) (plan : Plan) (over : IsPlanOver dimensions plan
 
     tallied_ready : (rows : List LineOrder) → AreTallied dimensions (finest (query_of plan)) (entries_of old) columns rows → AreTallied dimensions (finest (query_of plan)) (entries_of new) longer rows
     tallied_ready rows tallied =
-        AreTallied-grow dimensions (finest (query_of plan)) (entries_of old) (entries_of new) columns longer rows over.rising (kept_numbers old columns kept) grow same tallied
+        AreTallied-grow dimensions (finest (query_of plan)) (entries_of old) (entries_of new) columns longer rows made.rising (kept_numbers old columns kept) grow same tallied
 
     -- ---- and with more rows
     module _ (rows : List LineOrder) (group_slots : List (Option ℕ)) (group_slots_are : AreGroupSlots dimensions (query_of plan) (entries_of new) rows group_slots) where
@@ -199,7 +203,7 @@ module _ (dimensions : DimRows) (plan : Plan) (over : IsPlanOver dimensions plan
       module _ (counted : List (Vec Tally Global)) (count : CountIn (query_of plan).aggregates rows group_slots longer counted) where
         tallied_count : (so_far : List LineOrder) → StandsFor dimensions (shown plan old columns) so_far → AreTallied dimensions (finest (query_of plan)) (entries_of new) counted (so_far ++ rows)
         tallied_count so_far stands =
-            AreTallied-count dimensions (finest (query_of plan)) (entries_of new) longer counted so_far rows group_slots refl over.rising grow.slots
+            AreTallied-count dimensions (finest (query_of plan)) (entries_of new) longer counted so_far rows group_slots refl made.rising grow.slots
             (AreGroupSlots-finest dimensions (query_of plan) (entries_of new) rows group_slots group_slots_are) count
             (tallied_ready so_far (tallied_for old columns kept so_far stands))
 

@@ -1,5 +1,7 @@
 pub mod AtPlaces
 pub mod EachDigit
+pub mod Extending
+pub mod MemberPlaces
 pub mod Members
 pub mod Numbers
 pub mod Outcomes

@@ -90,7 +90,7 @@ keys_rise dimensions (column ∷ columns) c d below in_range =
     ]
 
 -- ---- the rank of a text that is there
-first_within : {X : Type 0} (p : X → Bool) (xs : List X) → list_any p xs ≡ true → position_or_len p xs < length xs
+pub first_within : {X : Type 0} (p : X → Bool) (xs : List X) → list_any p xs ≡ true → position_or_len p xs < length xs
 first_within p [] some = absurd (true≢false (sym some))
 first_within p (x ∷ xs) some =
     elim (p x) as (λ b. (b || list_any p xs) ≡ true → cond (not b) (1 + position_or_len p xs) 0 < length (x ∷ xs)) [
@@ -98,12 +98,12 @@ first_within p (x ∷ xs) some =
       | false ↦ λ e. omega (arith, first_within p xs e)
     ] some
 
-turned : (text : List ℕ) (texts : List (List ℕ)) → list_any (bytes_eq text) texts ≡ list_any (λ other. bytes_eq other text) texts
+pub turned : (text : List ℕ) (texts : List (List ℕ)) → list_any (bytes_eq text) texts ≡ list_any (λ other. bytes_eq other text) texts
 turned text [] = refl
 turned text (first ∷ texts) = λ i. bytes_eq-symm text first i || turned text texts i
 
 module _ (dimensions : DimRows) where
-  text_count : (attr : Attr) → length (texts_of dimensions attr) ≡ row_count_of dimensions (axis_of attr)
+  pub text_count : (attr : Attr) → length (texts_of dimensions attr) ≡ row_count_of dimensions (axis_of attr)
   text_count CustomerCity = length-map dimensions.customers (λ row. row.city)
   text_count CustomerNation = length-map dimensions.customers (λ row. row.nation)
   text_count CustomerRegion = length-map dimensions.customers (λ row. row.region)

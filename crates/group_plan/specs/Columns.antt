@@ -5,6 +5,7 @@ use Rattle.cube_model.specs.declared.answer.Member.TheVariants.{All, Text}
 use Rattle.cube_model.specs.declared.attr.Attr.{Attr}
 use Rattle.cube_model.specs.declared.attr.Attr.TheVariants.{CustomerCity}
 use Rattle.cube_model.specs.declared.rows.DimRows.{DimRows}
+use Rattle.group_plan.specs.MemberRows.{HaveMembers}
 use Rattle.group_plan.specs.Numbers.{digit_count, group_count}
 use Rattle.group_plan.specs.declared.column.Column.{Column}
 
@@ -34,6 +35,7 @@ pub record IsColumn (dimensions : DimRows) (columns : List Attr) (i : ℕ) (colu
   pub attr : column.attr ≡ attr_at columns i
   pub digits : column.digits ≡ digit_count dimensions (attr_at columns i)
   pub weight : column.weight ≡ weight_at dimensions columns i
+  pub places : HaveMembers dimensions (attr_at columns i) column.places.items
 
 -- the first of the columns of a query, so many
 pub record AreColumns (dimensions : DimRows) (attrs : List Attr) (count : ℕ) (columns : List Column) : Type 0 where

@@ -1,4 +1,6 @@
+pub mod Beginnings
 pub mod Columns
+pub mod MemberRows
 pub mod Numbers
 pub mod Parts
 pub mod Plans

@@ -9,6 +9,7 @@ use Rattle.cube_model.specs.declared.query.Query.{Query}
 use Rattle.cube_model.specs.declared.rows.DimRows.{DimRows}
 use Rattle.cube_model.specs.declared.rows.LineOrder.{LineOrder}
 use Rattle.cube_model.specs.Places.{row_count_of}
+use Rattle.group_plan.specs.Beginnings.{AreThoseOf}
 use Rattle.group_plan.specs.Columns.{AreColumns}
 use Rattle.group_plan.specs.Numbers.{group_count, KeysRise}
 use Rattle.group_plan.specs.Parts.{given_at, holds_in}
@@ -69,9 +70,8 @@ query_of plan = plan.query
 abbrev pub count_of : Plan → ℕ
 count_of plan = plan.count
 
--- A plan over the dimensions that it was made for: its tables say what its query does at each of their rows, and keys rise
--- with numbers. Who hands dimensions to a plan hands it these.
-pub record IsPlanOver (dimensions : DimRows) (plan : Plan) : Type 0 where
+-- A plan made over dimensions: its tables say what its query does at each of their rows, and keys rise with numbers.
+pub record IsPlanOf (dimensions : DimRows) (plan : Plan) : Type 0 where
   pub few : length plan.query.columns ≤ 6
   pub within : AreBounds plan.query.conditions plan.bounds
   pub sides : (axis : Axis) → IsSide dimensions plan.query axis (side_of plan axis)
@@ -79,3 +79,9 @@ pub record IsPlanOver (dimensions : DimRows) (plan : Plan) : Type 0 where
   pub rising : KeysRise dimensions plan.query.columns
   pub counted : plan.count ≡ group_count dimensions plan.query.columns
   pub fits : plan.count < 2 ^ 128
+
+-- A plan with the dimensions of its beginning. Who hands dimensions to a plan hands it these.
+pub record IsPlanOver (dimensions : DimRows) (plan : Plan) : Type 0 where
+  pub beginning : DimRows
+  pub made : IsPlanOf beginning plan
+  pub those : AreThoseOf beginning dimensions

@@ -1,33 +1,42 @@
 //! The columns of a query, and where their digits stand in the numbers of groups.
 ghost use Rattle.std.specs.Prelude.{◌≡◌, ◌<◌, ◌≤◌, ◌*◌, ◌+◌, ◌-◌, ◌^◌, length, drop, nat_eq, IfOk};
+ghost use Rattle.cube_model.specs.declared.rows.DimRows.{DimRows};
+ghost use Rattle.group_plan.specs.Beginnings.{Extend};
 ghost use Rattle.group_plan.specs.Columns.{digit_of, with_highest, AreColumns, IsColumn};
+ghost use Rattle.group_plan.specs.MemberRows.{HaveMembers};
+ghost use Rattle.group_plan.specs.Numbers.{member_at};
 
 use crate::digits::group_count;
-use cube_model::Attr;
+use crate::member_rows::member_places;
+use crate::places::text_at;
+use cube_model::{Attr, Items, Member};
 use dimensions::Dims;
 use std::alloc::{AllocError, Global};
 
-/// A column of a query: its attribute, how many digits it has, and what each counts in the number of a group.
-#[derive(Clone, Copy, Debug, PartialEq, Eq)]
+/// A column of a query: its attribute, how many digits it has, and what each counts in the number of a group. Of each
+/// member it keeps the place of a row that has it.
+#[derive(Debug, Drop)]
 pub struct Column {
     pub attr: Attr,
     pub digits: u128,
     pub weight: u128,
+    pub places: Vec<usize>,
 }
 
 impl Column {
     // The column at a place, of at most six.
-    fn at(dims: &Dims, columns: &[Attr], i: usize) -> Column
+    fn at(alloc: Global, dims: &Dims, columns: &[Attr], i: usize) -> Result<Column, AllocError>
         requires place { i < length columns.now }
         requires few { length columns.now ≤ 6 }
-        ensures { IsColumn dims.now columns.now i result }
+        ensures { IfOk result (IsColumn dims.now columns.now i) }
     {
         let attr = columns[i];
-        Column {
+        Ok(Column {
             attr,
             digits: dims.members(attr) as u128 + 1,
             weight: group_count(dims, &columns[i + 1..]),
-        }
+            places: member_places(alloc, dims, attr)?,
+        })
     }
 
     /// The columns of a query, of which there are at most six.
@@ -37,7 +46,8 @@ impl Column {
     {
         let mut all = Vec::with_capacity(alloc, columns.len())?;
         for i in 0..columns.len() {
-            all.push(Column::at(dims, columns, i))?;
+            let column = Column::at(alloc, dims, columns, i)?;
+            all.push(column)?;
         }
         Ok(all)
     }
@@ -71,5 +81,20 @@ impl Column {
     {
         let above = number / (self.digits * self.weight) * self.digits;
         (above + (self.digits - 1)) * self.weight + number % self.weight
+    }
+
+    /// What a digit stands for: the text of a row that has the member, and ALL behind the last member. Rows that were added
+    /// behind those that the column was made of do not change it.
+    pub fn member(&self, alloc: Global, dims: &Dims, digit: u128) -> Result<Member, AllocError>
+        requires { (beginning : DimRows) × (HaveMembers beginning self.now.attr self.now.places.items × Extend beginning dims.now) }
+        ensures { IfOk result (λ member. (beginning : DimRows) → HaveMembers beginning self.now.attr self.now.places.items
+            → Extend beginning dims.now → member ≡ member_at beginning self.now.attr digit) }
+    {
+        if digit >= self.places.len() as u128 {
+            return Ok(Member::All);
+        }
+        let place = self.places[digit as usize];
+        let text = Vec::from_slice(alloc, text_at(dims, self.attr, place))?;
+        Ok(Member::Text(Items::from_vec(text)))
     }
 }

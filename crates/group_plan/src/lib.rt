@@ -5,6 +5,7 @@ mod bounds;
 mod column;
 mod copies;
 mod digits;
+mod member_rows;
 mod over;
 mod places;
 mod plan;

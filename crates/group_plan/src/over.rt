@@ -4,13 +4,13 @@ ghost use Rattle.cube_model.specs.declared.answer.Member.TheVariants.{All};
 ghost use Rattle.group_plan.specs.Columns.{attr_at, is_all};
 ghost use Rattle.group_plan.specs.Numbers.{IsKnown, IsKnownOn, IsNumber, digit_count, group_count, key_at, member_at};
 ghost use Rattle.group_plan.specs.Parts.{given_on};
-ghost use Rattle.group_plan.specs.Plans.{IsPlanOver, query_of};
+ghost use Rattle.group_plan.specs.Plans.{IsPlanOf, query_of};
 ghost use Rattle.group_plan.specs.Rows.{row_at};
 
 use crate::plan::Plan;
 use crate::rows::FactRows;
 use crate::side::UnknownKey;
-use cube_model::{Attr, Axis, Items, Member};
+use cube_model::{Axis, Items, Member};
 use dimensions::Dims;
 use std::alloc::{AllocError, Global};
 use std::marker::Model;
@@ -26,19 +26,19 @@ pub struct PlanOver<'a> {
 
 impl<'a> Model for PlanOver<'a> {
     ghost use Rattle.group_plan.specs.Numbers.{Asked};
-    ghost use Rattle.group_plan.specs.Plans.{IsPlanOver, query_of};
+    ghost use Rattle.group_plan.specs.Plans.{IsPlanOf, query_of};
 
     ghost Value = { Asked };
 
     ghost view = { λ over. record { dimensions = over.dims.now; query = query_of over.plan.now } };
 
-    ghost invariant = { λ over. IsPlanOver over.dims.now over.plan.now };
+    ghost invariant = { λ over. IsPlanOf over.dims.now over.plan.now };
 }
 
 impl<'a> PlanOver<'a> {
     // A plan with its dimensions.
     pub(crate) fn of(dims: &'a Dims, plan: &'a Plan) -> PlanOver<'a>
-        requires { IsPlanOver dims.now plan.now }
+        requires { IsPlanOf dims.now plan.now }
         ensures { result ≡ record { dimensions = dims.now; query = query_of plan.now } }
     {
         PlanOver { dims, plan }
@@ -102,8 +102,8 @@ impl<'a> PlanOver<'a> {
     {
         let mut key = Vec::with_capacity(alloc, self.plan.columns.len())?;
         for i in 0..self.plan.columns.len() {
-            let column = self.plan.columns[i];
-            let member = member_at(alloc, self.dims, column.attr, column.digit(number))?;
+            let column = &self.plan.columns[i];
+            let member = column.member(alloc, self.dims, column.digit(number))?;
             key.push(member)?;
         }
         Ok(Items::from_vec(key))
@@ -138,15 +138,4 @@ impl<'a> PlanOver<'a> {
     {
         self.plan.columns[column].with_all(number)
     }
-}
-
-// What a digit of a column stands for.
-fn member_at(alloc: Global, dims: &Dims, attr: Attr, digit: u128) -> Result<Member, AllocError>
-    ensures { IfOk result (λ member. member ≡ member_at dims.now attr digit) }
-{
-    if digit >= dims.members(attr) as u128 {
-        return Ok(Member::All);
-    }
-    let text = Vec::from_slice(alloc, dims.member(attr, digit as u16))?;
-    Ok(Member::Text(Items::from_vec(text)))
 }

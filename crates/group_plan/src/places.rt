@@ -23,8 +23,8 @@ pub fn is_same(left: Axis, right: Axis) -> bool
     )
 }
 
-// The text of an attribute at a place.
-fn text_at(dims: &Dims, attr: Attr, place: usize) -> &[u8]
+/// The text of an attribute at a place.
+pub fn text_at(dims: &Dims, attr: Attr, place: usize) -> &[u8]
     requires { place < row_count_of dims.now (axis_of attr) }
     ensures { result.now ≡ text_at dims.now attr place }
 {

@@ -1,13 +1,13 @@
 //! Batches that were written down by hand.
 
 use column_segment::{encode, is_batch};
-use cube_model::{Amount, Fault, LineOrder, RowText};
-use sample_star::{FACTS, line_orders};
+use cube_model::{Fault, LineOrder, RowText};
+use sample_star::{FACTS, Fact, line_order, line_orders};
 use std::alloc::Global;
 use std::test::Fail;
 
 // The three sample rows as batch 1: 12 bytes of header, 189 of numbers, 84 of texts and codes.
-pub(crate) const SPELLED: [u8; 285] = [
+pub(crate) static SPELLED: [u8; 285] = [
     // the name, the batch's number, three rows
     0x53, 0x45, 0x47, 0x31, 0x01, 0x00, 0x00, 0x00, 0x03, 0x00, 0x00, 0x00,
     // orderkey
@@ -62,66 +62,63 @@ pub(crate) const SPELLED: [u8; 285] = [
 ];
 
 // No rows, as batch 7.
-pub(crate) const EMPTY: [u8; 28] = [
+pub(crate) static EMPTY: [u8; 28] = [
     0x53, 0x45, 0x47, 0x31, 0x07, 0x00, 0x00, 0x00, 0x00, 0x00, 0x00, 0x00, 0x00, 0x00, 0x00, 0x00,
     0x00, 0x00, 0x00, 0x00, 0x00, 0x00, 0x00, 0x00, 0x00, 0x00, 0x00, 0x00,
 ];
 
-// The bytes of rows, if they can be a batch.
-pub(crate) fn spelled(
-    alloc: Global,
-    number: u32,
-    rows: &[LineOrder],
-) -> Result<Option<Vec<u8>>, Fault> {
+// A row of zeros and of empty texts.
+pub(crate) const ZEROS: Fact<'static> = Fact {
+    orderkey: 0,
+    linenumber: 0,
+    custkey: 0,
+    partkey: 0,
+    suppkey: 0,
+    orderdate: 0,
+    orderpriority: "",
+    shippriority: "",
+    quantity: 0,
+    extendedprice: 0,
+    ordtotalprice: 0,
+    discount: 0,
+    revenue: 0,
+    supplycost: 0,
+    tax: 0,
+    commitdate: "",
+    shipmode: "",
+};
+
+// The bytes of rows. `Full` where they cannot be a batch.
+pub(crate) fn spelled(alloc: Global, number: u32, rows: &[LineOrder]) -> Result<Vec<u8>, Fault> {
     if !is_batch(rows) {
-        return Ok(None);
+        return Err(Fault::Full);
     }
-    Ok(Some(encode(alloc, number, rows)?))
+    encode(alloc, number, rows)
 }
 
 #[test]
 fn spells_the_sample(rt: HostRuntime) -> Result<(), Fail> {
     let rows = line_orders(rt.alloc(), &FACTS)?;
-    let bytes = spelled(rt.alloc(), 1, &rows)?.unwrap_or(Vec::new(rt.alloc()));
+    let bytes = spelled(rt.alloc(), 1, &rows)?;
     assert!(rt; bytes.as_slice() == SPELLED.as_slice());
     Ok(())
 }
 
 #[test]
 fn spells_no_rows(rt: HostRuntime) -> Result<(), Fail> {
-    let bytes = spelled(rt.alloc(), 7, &[])?.unwrap_or(Vec::new(rt.alloc()));
+    let bytes = spelled(rt.alloc(), 7, &[])?;
     assert!(rt; bytes.as_slice() == EMPTY.as_slice());
     Ok(())
 }
 
 // A row of zeros with a text for its ship mode.
 pub(crate) fn row_with(alloc: Global, shipmode: &[u8]) -> Result<LineOrder, Fault> {
-    let orderpriority = RowText::from_slice(alloc, b"")?;
-    let shippriority = RowText::from_slice(alloc, b"")?;
-    let commitdate = RowText::from_slice(alloc, b"")?;
-    let shipmode = RowText::from_slice(alloc, shipmode)?;
-    Ok(LineOrder {
-        orderkey: Amount::new(0),
-        linenumber: 0,
-        custkey: 0,
-        partkey: 0,
-        suppkey: 0,
-        orderdate: 0,
-        orderpriority,
-        shippriority,
-        quantity: 0,
-        extendedprice: Amount::new(0),
-        ordtotalprice: Amount::new(0),
-        discount: 0,
-        revenue: Amount::new(0),
-        supplycost: Amount::new(0),
-        tax: 0,
-        commitdate,
-        shipmode,
-    })
+    let mut row = line_order(alloc, &ZEROS)?;
+    row.shipmode = RowText::from_slice(alloc, shipmode)?;
+    Ok(row)
 }
 
-// As many rows as a batch may have, each with a ship mode of its own: two bytes that spell the row's number.
+// So many rows, each with a ship mode of its own: two bytes that spell the row's number.
 pub(crate) fn different_rows(alloc: Global, count: usize) -> Result<Vec<LineOrder>, Fault> {
     let mut rows = Vec::with_capacity(alloc, count)?;
     for i in 0..count {
@@ -140,13 +137,23 @@ fn count_up(codes: &[u8]) -> bool {
         .all(|(i, code)| usize::from(u16::from_le_bytes(*code)) == i)
 }
 
+// 63 bytes of numbers a row, three columns with one empty text, and one in which each text takes three bytes.
+const MODES_BYTES: usize = 12 + 63 * 65536 + 3 * (4 + 1 + 2 * 65536) + 4 + (3 + 2) * 65536;
+
+// The bytes of as many rows as a batch may have, each with a ship mode of its own.
+fn mode_bytes(alloc: Global) -> Result<Vec<u8>, Fault> {
+    let rows = different_rows(alloc, 65536)?;
+    spelled(alloc, 1, &rows)
+}
+
 #[test]
 fn spells_65536_ship_modes(rt: HostRuntime) -> Result<(), Fail> {
-    let rows = different_rows(rt.alloc(), 65536)?;
-    let bytes = spelled(rt.alloc(), 1, &rows)?.unwrap_or(Vec::new(rt.alloc()));
-    // 63 bytes of numbers a row, three columns with one empty text, and one in which each text takes three bytes
-    assert!(rt; bytes.len() == 12 + 63 * 65536 + 3 * (4 + 1 + 2 * 65536) + 4 + (3 + 2) * 65536);
-    assert!(rt; count_up(&bytes[bytes.len() - 2 * 65536..]));
+    let bytes = mode_bytes(rt.alloc())?;
+    assert_eq!(rt; bytes.len(), MODES_BYTES);
+    assert_eq!(rt;
+        bytes.get(MODES_BYTES - 2 * 65536..).map(count_up),
+        Some(true)
+    );
     Ok(())
 }
 
@@ -157,12 +164,15 @@ fn refuses_too_many_rows(rt: HostRuntime) -> Result<(), Fail> {
     Ok(())
 }
 
+// Whether a row whose ship mode has so many bytes can be a batch.
+fn can_be_a_batch(alloc: Global, bytes: &[u8]) -> Result<bool, Fault> {
+    let row = row_with(alloc, bytes)?;
+    Ok(is_batch(&[row]))
+}
+
 #[test]
 fn refuses_a_long_text(rt: HostRuntime) -> Result<(), Fail> {
-    let mut rows = Vec::new(rt.alloc());
-    rows.push(row_with(rt.alloc(), &[65; 255])?)?;
-    assert!(rt; is_batch(&rows));
-    rows.push(row_with(rt.alloc(), &[65; 256])?)?;
-    assert!(rt; !is_batch(&rows));
+    assert!(rt; can_be_a_batch(rt.alloc(), &[65; 255])?);
+    assert!(rt; !can_be_a_batch(rt.alloc(), &[65; 256])?);
     Ok(())
 }

@@ -6,7 +6,7 @@ use std::test::Fail;
 use wire::Cursor;
 
 // Two texts, and a byte behind them.
-const TWO: [u8; 14] = [
+static TWO: [u8; 14] = [
     0x02, 0x00, 0x00, 0x00, 0x03, 0x41, 0x49, 0x52, 0x04, 0x52, 0x41, 0x49, 0x4c, 0x09,
 ];
 
@@ -31,12 +31,17 @@ fn spells_what_was_read(rt: HostRuntime) -> Result<(), Fail> {
     Ok(())
 }
 
+// Whether the second text is that of the sample and the last one, and the byte behind the texts.
+fn behind_the_texts(alloc: Global) -> Result<(bool, u8), Fault> {
+    let mut cursor = Cursor::new(&TWO);
+    let found = Dictionary::read(alloc, &mut cursor, 65536)?;
+    let right = found.text(1) == Some(b"RAIL".as_slice()) && found.text(2).is_none();
+    Ok((right, cursor.u8()?))
+}
+
 #[test]
 fn leaves_what_stands_behind(rt: HostRuntime) -> Result<(), Fail> {
-    let mut cursor = Cursor::new(&TWO);
-    let found = Dictionary::read(rt.alloc(), &mut cursor, 65536)?;
-    assert!(rt; found.text(1) == Some(b"RAIL".as_slice()) && found.text(2).is_none());
-    assert!(rt; cursor.u8()? == 9);
+    assert_eq!(rt; behind_the_texts(rt.alloc()), Ok((true, 9)));
     Ok(())
 }
 
@@ -49,7 +54,7 @@ fn refuses_fewer_bytes(rt: HostRuntime) -> Result<(), Fail> {
 }
 
 // A place, the byte that is put there, and the limit.
-const CHANGES: [(usize, u8, u32); 5] = [
+static CHANGES: [(usize, u8, u32); 5] = [
     // more texts than the limit, and than there are
     (0, 2, 1),
     (0, 3, 2),
@@ -59,12 +64,20 @@ const CHANGES: [(usize, u8, u32); 5] = [
     (8, 6, 2),
 ];
 
+// The two texts with a byte changed.
+fn changed(place: usize, byte: u8) -> [u8; 14] {
+    let mut bytes = TWO;
+    if let Some(changed) = bytes.get_mut(place) {
+        *changed = byte;
+    }
+    bytes
+}
+
 #[test]
 fn refuses_changes(rt: HostRuntime) -> Result<(), Fail> {
     for (place, byte, limit) in CHANGES {
-        let mut bytes = TWO;
-        bytes[place] = byte;
-        assert!(rt; is_refused(rt.alloc(), &bytes, limit));
+        let bytes = changed(place, byte);
+        assert!(rt; is_refused(rt.alloc(), &bytes, limit), "{byte} at {place}");
     }
     Ok(())
 }
@@ -77,7 +90,7 @@ fn refuses_a_text_twice(rt: HostRuntime) -> Result<(), Fail> {
 }
 
 // Codes, how many texts there are, and whether the codes are right.
-const CODES: [(&[[u8; 2]], u32, bool); 10] = [
+static CODES: [(&[[u8; 2]], u32, bool); 10] = [
     (&[], 0, true),
     (&[], 1, false),
     (&[[0, 0]], 1, true),
@@ -96,7 +109,7 @@ const CODES: [(&[[u8; 2]], u32, bool); 10] = [
 #[test]
 fn tells_codes(rt: HostRuntime) -> Result<(), Fail> {
     for (codes, count, right) in CODES {
-        assert!(rt; are_codes(codes, count) == right);
+        assert_eq!(rt; are_codes(codes, count), right, "{codes:?} of {count}");
     }
     Ok(())
 }

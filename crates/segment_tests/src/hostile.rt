@@ -12,7 +12,7 @@ fn is_refused(alloc: Global, bytes: &[u8]) -> bool {
 }
 
 // Two places, and the bytes that are put there.
-const CHANGES: [[(usize, u8); 2]; 21] = [
+static CHANGES: [[(usize, u8); 2]; 21] = [
     // another name
     [(0, 0x54), (1, 0x45)],
     [(3, 0x32), (1, 0x45)],
@@ -43,14 +43,21 @@ const CHANGES: [[(usize, u8); 2]; 21] = [
     [(232, 1), (233, 0)],
 ];
 
+// The sample's bytes with two of them changed.
+fn changed(changes: &[(usize, u8); 2]) -> [u8; 285] {
+    let mut bytes = SPELLED;
+    for (place, byte) in changes {
+        if let Some(changed) = bytes.get_mut(*place) {
+            *changed = *byte;
+        }
+    }
+    bytes
+}
+
 #[test]
 fn refuses_a_broken_rule(rt: HostRuntime) -> Result<(), Fail> {
-    for changes in CHANGES {
-        let mut bytes = SPELLED;
-        for (place, byte) in changes {
-            bytes[place] = byte;
-        }
-        assert!(rt; is_refused(rt.alloc(), &bytes));
+    for changes in &CHANGES {
+        assert!(rt; is_refused(rt.alloc(), &changed(changes)), "{changes:?}");
     }
     Ok(())
 }
@@ -58,25 +65,37 @@ fn refuses_a_broken_rule(rt: HostRuntime) -> Result<(), Fail> {
 #[test]
 fn refuses_fewer_bytes(rt: HostRuntime) -> Result<(), Fail> {
     for end in 0..SPELLED.len() {
-        assert!(rt; is_refused(rt.alloc(), &SPELLED[..end]));
+        assert!(rt; is_refused(rt.alloc(), &SPELLED[..end]), "{end} bytes");
     }
     Ok(())
 }
 
+// The sample's bytes, and so many more.
+fn longer(alloc: Global, more: usize) -> Result<Vec<u8>, Fault> {
+    let mut bytes = Vec::from_slice(alloc, &SPELLED)?;
+    for _ in 0..more {
+        bytes.push(0)?;
+    }
+    Ok(bytes)
+}
+
 #[test]
 fn refuses_a_byte_more(rt: HostRuntime) -> Result<(), Fail> {
-    let mut bytes = [0; 286];
-    bytes[..285].copy_from_slice(&SPELLED);
-    assert!(rt; is_refused(rt.alloc(), &bytes));
-    assert!(rt; !is_refused(rt.alloc(), &bytes[..285]));
+    for more in 0..3 {
+        let bytes = longer(rt.alloc(), more)?;
+        assert_eq!(rt; is_refused(rt.alloc(), &bytes), more > 0, "{more} more");
+    }
     Ok(())
+}
+
+// The number of the sample's batch with another byte as its highest.
+fn number_with(alloc: Global, highest: u8) -> Result<u32, Fault> {
+    let segment = segment_of(alloc, &changed(&[(7, highest), (0, 0x53)]))?;
+    Ok(segment.number())
 }
 
 #[test]
 fn takes_any_number(rt: HostRuntime) -> Result<(), Fail> {
-    let mut bytes = SPELLED;
-    bytes[7] = 0xff;
-    let segment = segment_of(rt.alloc(), &bytes)?;
-    assert!(rt; segment.number() == 0xff00_0001);
+    assert_eq!(rt; number_with(rt.alloc(), 0xff), Ok(0xff00_0001));
     Ok(())
 }

@@ -10,4 +10,8 @@ mod dictionaries;
 #[cfg(test)]
 mod hostile;
 #[cfg(test)]
+mod lengths;
+#[cfg(test)]
+mod sources;
+#[cfg(test)]
 mod sums;

@@ -2,19 +2,32 @@
 
 use crate::batches::{SPELLED, row_with, spelled};
 use crate::decoding::segment_of;
-use column_segment::Segment;
+use column_segment::{Segment, decode};
 use cube_model::{Amount, Fault, LineOrder, Measure};
 use std::alloc::Global;
 use std::test::Fail;
 
+// What ranges say of the rows at four places, and how many rows their mask speaks of.
+fn selected(
+    alloc: Global,
+    segment: &Segment,
+    quantity: (u8, u8),
+    discount: (u8, u8),
+) -> Result<([Option<bool>; 4], usize), Fault> {
+    let mask = segment.mask(alloc, quantity, discount)?;
+    Ok((
+        [mask.get(0), mask.get(1), mask.get(2), mask.get(3)],
+        mask.rows(),
+    ))
+}
+
 #[test]
 fn selects_rows_of_the_sample(rt: HostRuntime) -> Result<(), Fail> {
     let segment = segment_of(rt.alloc(), &SPELLED)?;
-    let mask = segment.mask(rt.alloc(), (0, 24), (1, 3))?;
-    assert!(rt;
-        mask.get(0) == Some(true) && mask.get(1) == Some(true) && mask.get(2) == Some(false)
+    assert_eq!(rt;
+        selected(rt.alloc(), &segment, (0, 24), (1, 3)),
+        Ok(([Some(true), Some(true), Some(false), None], 3))
     );
-    assert!(rt; mask.rows() == 3);
     Ok(())
 }
 
@@ -31,7 +44,7 @@ fn sum_of(
 }
 
 // A measure, the greatest quantity and discount, and the sum over the sample's rows up to these.
-const SUMS: [(Measure, u8, u8, i128); 10] = [
+static SUMS: [(Measure, u8, u8, i128); 10] = [
     (Measure::Discounted, 24, 3, 8000),
     (Measure::Revenue, 24, 3, 2920),
     (Measure::Quantity, 24, 3, 41),
@@ -44,12 +57,20 @@ const SUMS: [(Measure, u8, u8, i128); 10] = [
     (Measure::Revenue, 16, 255, 0),
 ];
 
+// The first measure of the table that has another sum, and its greatest quantity and discount.
+fn first_wrong(alloc: Global, segment: &Segment) -> Result<Option<(Measure, u8, u8)>, Fault> {
+    for (measure, quantity, discount, sum) in SUMS {
+        if sum_of(alloc, segment, measure, (0, quantity), (1, discount))? != sum {
+            return Ok(Some((measure, quantity, discount)));
+        }
+    }
+    Ok(None)
+}
+
 #[test]
 fn adds_up_the_sample(rt: HostRuntime) -> Result<(), Fail> {
     let segment = segment_of(rt.alloc(), &SPELLED)?;
-    for (measure, quantity, discount, sum) in SUMS {
-        assert!(rt; sum_of(rt.alloc(), &segment, measure, (0, quantity), (1, discount))? == sum);
-    }
+    assert_eq!(rt; first_wrong(rt.alloc(), &segment), Ok(None));
     Ok(())
 }
 
@@ -64,14 +85,18 @@ fn dear_rows(alloc: Global) -> Result<Vec<LineOrder>, Fault> {
     Ok(rows)
 }
 
+// A batch of them.
+fn dear_segment(alloc: Global) -> Result<Segment, Fault> {
+    let rows = dear_rows(alloc)?;
+    decode(alloc, spelled(alloc, 1, &rows)?)
+}
+
 #[test]
 fn adds_up_the_greatest_revenues(rt: HostRuntime) -> Result<(), Fail> {
-    let rows = dear_rows(rt.alloc())?;
-    let bytes = spelled(rt.alloc(), 1, &rows)?.unwrap_or(Vec::new(rt.alloc()));
-    let segment = segment_of(rt.alloc(), &bytes)?;
-    assert!(rt;
-        sum_of(rt.alloc(), &segment, Measure::Revenue, (0, 255), (0, 255))?
-            == 604462909807314587287552
+    let segment = dear_segment(rt.alloc())?;
+    assert_eq!(rt;
+        sum_of(rt.alloc(), &segment, Measure::Revenue, (0, 255), (0, 255)),
+        Ok(604462909807314587287552)
     );
     Ok(())
 }

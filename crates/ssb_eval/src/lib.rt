@@ -7,6 +7,7 @@ mod exit;
 mod facts;
 mod laws;
 
+pub use dimension_tables::read_dimensions;
 pub use evaluation::eval_texts;
 pub use exit::exit_of;
 pub use laws::facts_are_the_rows_of_their_text;

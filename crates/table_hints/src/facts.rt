@@ -100,8 +100,8 @@ fn batch_of(line: u64) -> u64
     line.saturating_sub(1) / MOST_BATCH_ROWS as u64 + 1
 }
 
-// The field of a fact line that has the key of a dimension.
-fn key_field(axis: Axis) -> u8
+/// The field of a fact line that has the key of a dimension.
+pub fn key_field(axis: Axis) -> u8
     ensures { result ≡ key_field axis }
 {
     match axis {

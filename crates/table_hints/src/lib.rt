@@ -6,9 +6,11 @@ mod dimension_lines;
 mod facts;
 mod files;
 mod lines;
+mod loads;
 mod quoted;
 mod refusals;
 mod text_lines;
 
 pub use files::{Table, TableFiles};
+pub use loads::{Cut, load_hint};
 pub use refusals::table_hint;

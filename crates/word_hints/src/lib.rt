@@ -10,4 +10,4 @@ mod words;
 pub use known::Known;
 pub use nearness::nearest;
 pub use said::{Counted, WordHint};
-pub use words::{QueryWords, hint_of};
+pub use words::{QueryWords, hint_of, hint_of_cube};

@@ -27,6 +27,8 @@ impl fmt::Display for Counted {
 pub enum WordHint<'a> {
     /// Neither a query of the benchmark nor an aggregate is given.
     NothingAsked,
+    /// A query of one's own has no aggregate.
+    NoAggregate,
     /// Other words stand beside a query of the benchmark.
     NotAlone,
     /// A word is no known name. A known name may be near.
@@ -79,6 +81,9 @@ impl fmt::Display for WordHint<'_> {
             WordHint::NothingAsked => f.write_str(
                 "nothing is asked: give --query Q, or --agg G,G with --set, --by and conditions",
             ),
+            WordHint::NoAggregate => {
+                f.write_str("nothing is asked: give --agg G,G, such as --agg count,sum:revenue")
+            }
             WordHint::NotAlone => f.write_str(
                 "--query stands alone: no --set, --by, --agg or condition beside it",
             ),

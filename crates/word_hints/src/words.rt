@@ -38,6 +38,18 @@ pub fn hint_of<'a>(
     }
 }
 
+/// What is wrong with the words of a query of one's own, where none of the benchmark can be asked. It fails only for want
+/// of memory.
+pub fn hint_of_cube<'a>(
+    alloc: Global,
+    words: &QueryWords<'a>,
+) -> Result<Option<WordHint<'a>>, AllocError> {
+    match words.agg {
+        Some(agg) => cube_hint(alloc, words, agg),
+        None => Ok(Some(WordHint::NoAggregate)),
+    }
+}
+
 /// A word that is no known name.
 pub fn unknown<'a>(
     alloc: Global,

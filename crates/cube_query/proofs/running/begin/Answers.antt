@@ -4,6 +4,7 @@ use Rattle.cube_query.specs.Columns.{tallies_at}
 use Rattle.cube_query.specs.Slots.{entries_of, AreSlots, Cover}
 use Rattle.cube_query.specs.Tallies.{tallies_of}
 use Rattle.group_plan.specs.Plans.{query_of}
+use Rattle.group_plan.proofs.Extending.{plan_of_over}
 use Rattle.cube_query.proofs.Folds.{begun}
 use Rattle.cube_query.proofs.running.begin.Goals as goal
 
@@ -26,8 +27,9 @@ returns c =
     let slots = c.new-slots.result in
     let columns = c.in_ok-columns.columns.items in
     let over = c.in_ok-plan.ensures.over in
+    let made = plan_of_over c.args.dims.now plan over in
     let none = λ (slot : ℕ). (let here : tallies_at columns slot ≡ tallies_of (query_of plan).aggregates [] = c.in_ok-columns.ensures slot ∙ ap (λ aggs. tallies_of aggs []) (c.as_slice.ensures ∙ ap (λ q. q.aggregates) (sym c.in_ok-plan.ensures.query)) in here) in
     record {
       query_is = c.in_ok-plan.ensures.query;
-      stands = begun c.args.dims.now plan over slots columns (subst (λ n. AreSlots n (entries_of slots)) (c.group_count.ensures ∙ over.counted) c.new-slots.ensures.numbers) none;
+      stands = begun c.args.dims.now plan over slots columns (subst (λ n. AreSlots n (entries_of slots)) (c.group_count.ensures ∙ made.counted) c.new-slots.ensures.numbers) none;
     }

@@ -1,5 +1,4 @@
-use Rattle.std.proofs.Common.{◌∙◌, sym, ap}
-use Rattle.cube_model.specs.Attributes.{key_on}
+use Rattle.std.proofs.Common.{◌∙◌, ap}
 use Rattle.cube_model.specs.Places.{row_index_of}
 use Rattle.group_plan.specs.Parts.{given_at}
 use Rattle.group_plan.specs.Plans.{gives}

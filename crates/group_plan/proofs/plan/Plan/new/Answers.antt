@@ -3,7 +3,8 @@ use Rattle.cube_model.specs.declared.attr.Axis.TheVariants.{Customer, Supplier, 
 use Rattle.cube_model.specs.declared.query.Query.{Query}
 use Rattle.group_plan.specs.Columns.{AreColumns}
 use Rattle.group_plan.specs.Numbers.{group_count}
-use Rattle.group_plan.specs.Plans.{AreBounds, IsPlanOver}
+use Rattle.group_plan.specs.Plans.{AreBounds, IsPlanOf}
+use Rattle.group_plan.proofs.Extending.{plan_over}
 use Rattle.group_plan.proofs.Numbers.{keys_rise}
 use Rattle.group_plan.proofs.plan.Plan.new.Goals as goal
 
@@ -12,7 +13,7 @@ returns-clause-over c =
     let dims = c.args.dims.now in
     let query = c.args.query.now in
     let fits : c.group_count-count.result < 2 ^ 128 = search rules in
-    subst (λ (copy : Query). IsPlanOver dims (record {
+    plan_over dims _ (subst (λ (copy : Query). IsPlanOf dims (record {
       query = copy;
       bounds = c.of.result;
       columns = c.in_ok-all.field-0;
@@ -34,4 +35,4 @@ returns-clause-over c =
       rising = keys_rise dims query.columns;
       counted = c.group_count-count.ensures.count ∙ ap (group_count dims) c.as_slice.ensures;
       fits = fits;
-    })
+    }))

@@ -1,0 +1,86 @@
+-- A row for each member of an attribute, found in one pass over the rows.
+use Rattle.std.proofs.Common.{◌≡◌, ◌∙◌, sym, ap, subst, ℕ, ◌+◌, ◌<◌, true, List, [], arith, length, get_or, set, inl, inr}
+use Rattle.std.specs.Str.{bytes_eq}
+use Rattle.std.specs.List.{list_any, position_or_len}
+use Rattle.std.proofs.lemmas.Bool.{cases_lt}
+use Rattle.std.proofs.lemmas.List.{get_or-set_same, get_or-set_other, length-set}
+use Rattle.std.proofs.lemmas.List.Folds.{list_any_at}
+use Rattle.std.proofs.lemmas.List.Sums.{passes_at_first}
+use Rattle.cube_model.specs.declared.attr.Attr.{Attr}
+use Rattle.cube_model.specs.declared.rows.DimRows.{DimRows}
+use Rattle.cube_model.specs.Attributes.{axis_of}
+use Rattle.cube_model.specs.Places.{attr_members, row_count_of, texts_of, text_at}
+use Rattle.dimensions.proofs.CallerLemmas.{bytes_eq-same, bytes_eq-refl, has-members_of}
+use Rattle.group_plan.specs.MemberRows.{HasMember, HaveMembers}
+use Rattle.group_plan.proofs.Members.{rank_is}
+use Rattle.group_plan.proofs.Numbers.{first_within, text_count}
+
+module _ (dimensions : DimRows) (attr : Attr) where
+  -- each member that one of the first rows has stands beside such a row
+  pub record HaveSoFar (count : ℕ) (places : List ℕ) : Type 0 where
+    pub counted : length places ≡ length (attr_members dimensions attr)
+    pub each : (rank place : ℕ) → rank < length places → place < count
+        → text_at dimensions attr place ≡ get_or (attr_members dimensions attr) rank []
+        → HasMember dimensions attr rank (get_or places rank 0)
+
+  -- one row more
+  pub so_far_more : (count rank : ℕ) (places : List ℕ) → HaveSoFar count places → count < row_count_of dimensions (axis_of attr)
+      → rank < length (attr_members dimensions attr) → get_or (attr_members dimensions attr) rank [] ≡ text_at dimensions attr count
+      → HaveSoFar (count + 1) (set places rank count)
+  so_far_more count rank places before within lt text = record {
+    counted = length-set places rank count ∙ before.counted;
+    each = λ other place below earlier is. elim (cases_lt place count) [
+      | inl early ↦ decide other place (omega (arith, below, length-set places rank count)) (λ apart. before.each other place (omega (arith, below, length-set places rank count)) early is)
+      | inr late ↦
+          let here : place ≡ count = omega (arith, earlier, late) in
+          let same : other ≡ rank =
+          sym (rank_is dimensions attr count other (omega (arith, below, length-set places rank count, before.counted)) (sym is ∙ ap (text_at dimensions attr) here))
+          ∙ rank_is dimensions attr count rank lt text in
+          at_rank other (omega (arith, same))
+    ];
+  }
+    where
+      at_rank : (other : ℕ) → other ≡ rank → HasMember dimensions attr other (get_or (set places rank count) other 0)
+      at_rank other same =
+          subst (λ r. HasMember dimensions attr r (get_or (set places rank count) r 0)) (sym same)
+          (subst (HasMember dimensions attr rank) (sym (get_or-set_same places rank count 0 (omega (arith, lt, before.counted))))
+          (record { within = within; text = sym text }))
+
+      decide : (other place : ℕ) → other < length places → ((other ≡ rank → ⊥) → HasMember dimensions attr other (get_or places other 0))
+          → HasMember dimensions attr other (get_or (set places rank count) other 0)
+      decide other place below kept = elim (cases_lt other rank) [
+        | inl less ↦
+            let apart : other ≡ rank → ⊥ = λ e. omega (arith, e, less) in
+            subst (HasMember dimensions attr other) (sym (get_or-set_other places rank other count 0 apart)) (kept apart)
+        | inr at_least ↦ elim (cases_lt rank other) [
+          | inl more ↦
+              let apart : other ≡ rank → ⊥ = λ e. omega (arith, e, more) in
+              subst (HasMember dimensions attr other) (sym (get_or-set_other places rank other count 0 apart)) (kept apart)
+          | inr at_most ↦ at_rank other (omega (arith, at_least, at_most))
+        ]
+      ]
+
+  -- each member is the text of some row
+  row_of : (rank : ℕ) → rank < length (attr_members dimensions attr)
+      → (place : ℕ) × ((place < row_count_of dimensions (axis_of attr)) × (text_at dimensions attr place ≡ get_or (attr_members dimensions attr) rank []))
+  row_of rank lt =
+      let text = get_or (attr_members dimensions attr) rank [] in
+      let texts = texts_of dimensions attr in
+      let there : list_any (bytes_eq text) texts ≡ true =
+      sym (has-members_of text texts) ∙ list_any_at (bytes_eq text) (attr_members dimensions attr) rank [] lt (bytes_eq-refl text) in
+      let within : position_or_len (bytes_eq text) texts < length texts = first_within (bytes_eq text) texts there in (
+        position_or_len (bytes_eq text) texts,
+        (
+          omega (arith, within, text_count dimensions attr),
+          sym (bytes_eq-same text _ (passes_at_first (bytes_eq text) texts [] within)),
+        ),
+      )
+
+  -- all rows
+  pub so_far_all : (places : List ℕ) → HaveSoFar (row_count_of dimensions (axis_of attr)) places → HaveMembers dimensions attr places
+  so_far_all places all = record {
+    counted = all.counted;
+    each = λ rank below.
+        let row = row_of rank (omega (arith, below, all.counted)) in
+        all.each rank row.0 below row.1.0 row.1.1;
+  }
