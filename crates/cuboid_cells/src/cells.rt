@@ -47,6 +47,14 @@ impl Cells {
         }
     }
 
+    /// Cells that keep the rules of the cells of a view.
+    pub fn of(view: View, cells: Vec<Cell>) -> Cells
+        requires { AreProper (record { view = view; cells = cells.items }) }
+        ensures { result ≡ record { view = view; cells = cells.items } }
+    {
+        Cells { view, cells }
+    }
+
     /// The view.
     pub fn view(&self) -> View
         ensures value { result ≡ self.now.view }

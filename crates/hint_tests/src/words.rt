@@ -3,7 +3,7 @@ use cube_model::{Fault, Query};
 use query_words::read_query;
 use std::alloc::Global;
 use std::test::Fail;
-use word_hints::{QueryWords, hint_of};
+use word_hints::{QueryWords, WordHint, hint_of, hint_of_cube};
 
 const NONE: QueryWords<'static> = QueryWords {
     q: None,
@@ -236,6 +236,16 @@ fn first_other(alloc: Global) -> Result<Option<usize>, Fault> {
         }
     }
     Ok(None)
+}
+
+#[test]
+fn a_query_of_ones_own_needs_an_aggregate(rt: HostRuntime) -> Result<(), Fail> {
+    assert_eq!(rt;
+        hint_of_cube(rt.alloc(), &NONE)?,
+        Some(WordHint::NoAggregate)
+    );
+    assert_eq!(rt; hint_of_cube(rt.alloc(), &COUNT)?, None);
+    Ok(())
 }
 
 #[test]

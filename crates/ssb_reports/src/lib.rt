@@ -11,3 +11,4 @@ mod writing;
 pub use benchmark::query_of;
 pub use number::QNumber;
 pub use report::write_report;
+pub use writing::{flush, write_bytes, write_number};

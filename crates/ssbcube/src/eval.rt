@@ -1,53 +1,57 @@
 //! The command `eval`.
-use crate::refusal::{Refusal, explained, words_of};
-use crate::watched::Watched;
-use clap::ArgMatches;
+use crate::exit::DONE;
+use crate::files::{DimensionFiles, open, open_dimensions};
+use crate::options::{CUBE_HELP, cube_words, dimension_tables, option};
+use crate::output::{is_closed, output, unwritten};
+use crate::progress::Progress;
+use crate::query::query_of;
+use crate::refusal::{Refusal, explained};
+use crate::screens::Screens;
+use clap::{ArgMatches, Command};
 use cube_model::{Fault, Query};
-use query_words::read_query;
 use ssb_eval::eval_texts;
-use std::alloc::Global;
-use std::fs;
-use std::io::{self, BufWriter, ErrorKind, Read};
-use std::rt::Files;
+use std::alloc::{AllocError, Global};
+use std::io::{self, Read};
+use std::rt::{Clock, Files};
 
-/// The files of the dimensions.
-#[derive(Drop)]
-struct DimensionFiles<F> {
-    customer: F,
-    supplier: F,
-    part: F,
-    date: F,
+const ABOUT: &str = "Answers one query over five table files, and keeps nothing.";
+
+const USAGE: &str = "ssbcube eval --customer FILE --supplier FILE --part FILE
+                    --date FILE --lineorder FILE --query Q
+       ssbcube eval ... [--set SET] [--by A,A] --agg G,G [CONDITION]...";
+
+/// The words of the command.
+pub fn words<'a>(alloc: Global) -> Result<Command<'a>, AllocError> {
+    let eval = Command::new(alloc, "eval")
+        .about(ABOUT)
+        .override_usage(USAGE)
+        .after_help(CUBE_HELP);
+    let eval = dimension_tables(alloc, eval)?;
+    let facts = "The fact table, such as lineorder.tbl";
+    let eval = eval.arg(option(alloc, "lineorder", "FILE", facts).required(true))?;
+    let number = "A query of the benchmark, 1.1 to 4.3";
+    let eval = eval.arg(option(alloc, "query", "Q", number))?;
+    cube_words(alloc, eval)
 }
 
 /// Reads the query's words, opens the files in the order of the command, and writes the report.
-pub fn eval<R: Files + AllocGlobal + Print>(rt: &R, given: &ArgMatches<'_>) -> Result<(), Refusal> {
+pub fn eval<R: Files + AllocGlobal + Print + Eprint + Clock>(
+    rt: &R,
+    given: &ArgMatches<'_>,
+    screens: Screens,
+) -> Result<u8, Refusal> {
     let (query, dimensions, lineorder) = match opened(rt, given) {
         Ok(opened) => opened,
-        Err(fault) => return Err(explained(rt, given, fault)),
+        Err(fault) => return Err(explained(rt, given, fault, None)),
     };
-    let Ok(out) = BufWriter::new(rt.alloc(), io::writer(rt)) else {
-        return Err(Refusal::from(Fault::Memory));
-    };
-    let mut out = Watched::new(out);
+    let lineorder = Progress::new(rt, lineorder, screens.errors);
+    let mut out = output(rt)?;
     match report(rt.alloc(), &query, dimensions, lineorder, &mut out) {
-        Ok(()) => Ok(()),
-        Err(Fault::Output) => unwritten(rt.alloc(), out.failure()),
-        Err(fault) => Err(explained(rt, given, fault)),
+        Ok(()) => Ok(DONE),
+        Err(Fault::Output) if is_closed(out.failure()) => Ok(DONE),
+        Err(Fault::Output) => Err(unwritten(rt.alloc(), out.failure())),
+        Err(fault) => Err(explained(rt, given, fault, None)),
     }
-}
-
-// A reader that closes early has read what it wants.
-fn unwritten(alloc: Global, failure: Option<io::Error>) -> Result<(), Refusal> {
-    let Some(error) = failure else {
-        return Err(Refusal::from(Fault::Output));
-    };
-    if error.kind() == ErrorKind::BrokenPipe {
-        return Ok(());
-    }
-    Err(Refusal {
-        fault: Fault::Output,
-        hint: format!(in alloc; "standard output: {error}").ok(),
-    })
 }
 
 // The query, and the files of its tables.
@@ -55,52 +59,17 @@ fn opened<R: Files + AllocGlobal>(
     rt: &R,
     given: &ArgMatches<'_>,
 ) -> Result<(Query, DimensionFiles<R::File>, R::File), Fault> {
-    let query = query_of_words(rt.alloc(), given)?;
+    let query = query_of(rt.alloc(), given)?;
     let dimensions = open_dimensions(rt, given)?;
     let lineorder = open(rt, given, "lineorder")?;
     Ok((query, dimensions, lineorder))
 }
 
-fn query_of_words(alloc: Global, given: &ArgMatches<'_>) -> Result<Query, Fault> {
-    let words = words_of(given);
-    read_query(
-        alloc,
-        words.q,
-        words.set,
-        words.by,
-        words.agg,
-        words.conditions,
-    )
-}
-
-fn open_dimensions<R: Files>(
-    rt: &R,
-    given: &ArgMatches<'_>,
-) -> Result<DimensionFiles<R::File>, Fault> {
-    Ok(DimensionFiles {
-        customer: open(rt, given, "customer")?,
-        supplier: open(rt, given, "supplier")?,
-        part: open(rt, given, "part")?,
-        date: open(rt, given, "date")?,
-    })
-}
-
-// The file that an option names.
-fn open<R: Files>(rt: &R, given: &ArgMatches<'_>, name: &str) -> Result<R::File, Fault> {
-    let Some(path) = given.get_str(name) else {
-        return Err(Fault::Input);
-    };
-    match fs::open(rt, path) {
-        Ok(file) => Ok(file),
-        Err(_) => Err(Fault::Input),
-    }
-}
-
-fn report<F: Read + Drop, W: io::Write>(
+fn report<F: Read + Drop, L: Read + Drop, W: io::Write>(
     alloc: Global,
     query: &Query,
     dimensions: DimensionFiles<F>,
-    lineorder: F,
+    lineorder: L,
     out: &mut W,
 ) -> Result<(), Fault> {
     let DimensionFiles {

@@ -1,11 +1,44 @@
-//! The files that the options name.
+//! The files that the words of a command name.
 use clap::ArgMatches;
 use cube_model::Fault;
 use std::alloc::Global;
 use std::fs::{self, OpenFile};
-use std::io::Read;
+use std::io::{self, Read};
 use std::rt::Files;
 use table_hints::{Table, TableFiles};
+
+/// The files of the dimensions.
+#[derive(Drop)]
+pub struct DimensionFiles<F> {
+    pub customer: F,
+    pub supplier: F,
+    pub part: F,
+    pub date: F,
+}
+
+/// Opens the files of the dimensions, in the order of the command.
+pub fn open_dimensions<R: Files>(
+    rt: &R,
+    given: &ArgMatches<'_>,
+) -> Result<DimensionFiles<R::File>, Fault> {
+    Ok(DimensionFiles {
+        customer: open(rt, given, "customer")?,
+        supplier: open(rt, given, "supplier")?,
+        part: open(rt, given, "part")?,
+        date: open(rt, given, "date")?,
+    })
+}
+
+/// Opens the file that a word names.
+pub fn open<R: Files>(rt: &R, given: &ArgMatches<'_>, name: &str) -> Result<R::File, Fault> {
+    let Some(path) = given.get_str(name) else {
+        return Err(Fault::Input);
+    };
+    match fs::open(rt, path) {
+        Ok(file) => Ok(file),
+        Err(_) => Err(Fault::Input),
+    }
+}
 
 /// The words of a command, and the system whose files they name.
 #[derive(Drop)]
@@ -18,8 +51,7 @@ impl<R: Files> TableFiles for GivenFiles<'_, '_, '_, R> {
     type Reader = R::File;
 
     fn path(&self, table: Table) -> &str {
-        let name = table.name();
-        match self.given.get_str(name) {
+        match self.given.get_str(table.name()) {
             Some(path) => path,
             None => "",
         }
@@ -27,7 +59,7 @@ impl<R: Files> TableFiles for GivenFiles<'_, '_, '_, R> {
 
     // Only a regular file is the same when it is read again.
     fn open(&self, table: Table) -> Option<R::File> {
-        let path = self.path(table);
+        let path = self.given.get_str(table.name())?;
         let file = fs::open(self.rt, path).ok()?;
         if file.metadata().ok()?.is_file() {
             Some(file)
@@ -41,9 +73,10 @@ impl<R: Files> GivenFiles<'_, '_, '_, R> {
     /// The first file that cannot be opened or read, and what the system says.
     pub fn unreadable(&self, alloc: Global) -> Result<Option<String>, Fault> {
         for table in Table::ALL {
-            let path = self.path(table);
-            if let Some(error) = first_error(self.rt, path) {
-                return Ok(Some(format!(in alloc; "{path}: {error}")?));
+            if let Some(path) = self.given.get_str(table.name()) {
+                if let Some(error) = first_error(self.rt, path) {
+                    return Ok(Some(format!(in alloc; "{path}: {error}")?));
+                }
             }
         }
         Ok(None)
@@ -51,7 +84,7 @@ impl<R: Files> GivenFiles<'_, '_, '_, R> {
 }
 
 // Why a file cannot be opened, or its first byte not be read. What is neither a file nor a folder is only opened.
-fn first_error<R: Files>(rt: &R, path: &str) -> Option<std::io::Error> {
+fn first_error<R: Files>(rt: &R, path: &str) -> Option<io::Error> {
     let mut file = match fs::open(rt, path) {
         Ok(file) => file,
         Err(error) => return Some(error),

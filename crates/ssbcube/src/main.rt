@@ -2,27 +2,46 @@
 #![tactic(auto)]
 
 mod command;
+mod create;
+mod cube;
+mod device;
+mod device_hints;
 mod eval;
+mod exit;
 mod files;
+mod job;
+mod load;
+mod options;
+mod output;
+mod progress;
+mod query;
 mod refusal;
+mod report;
+mod screens;
+mod status;
 mod watched;
 
 use clap::ArgMatches;
 use clap::error::{Error, ErrorKind};
 use cube_model::Fault;
+use exit::{DONE, NO_COMMAND};
 use refusal::Refusal;
+use screens::Screens;
 use ssb_eval::exit_of;
 use std::alloc::Global;
 use std::env::{self, Env};
-use std::io;
+use std::io::{self, IsTerminal};
+use std::os::unix::fs::FileExt;
 use std::process::ExitCode;
-use std::rt::Files;
-
-/// The status where the words are none of the program's.
-const NO_COMMAND: u8 = 2;
+use std::rt::{Clock, Files};
+use warehouse_jobs::Job;
 
 fn main(rt: HostRuntime) -> io::Result<ExitCode> {
-    match run(&rt) {
+    let screens = Screens {
+        output: rt.stdout().is_terminal(),
+        errors: rt.stderr().is_terminal(),
+    };
+    match run(&rt, screens) {
         Ok(status) => Ok(ExitCode::from(status)),
         Err(Refusal { fault, hint }) => {
             eprintln!(rt; "{fault}")?;
@@ -34,11 +53,17 @@ fn main(rt: HostRuntime) -> io::Result<ExitCode> {
     }
 }
 
-fn run<R: Files + AllocGlobal + Print + Eprint + Env>(rt: &R) -> Result<u8, Refusal> {
+fn run<R: Files + AllocGlobal + Print + Eprint + Env + Clock>(
+    rt: &R,
+    screens: Screens,
+) -> Result<u8, Refusal>
+where
+    R::File: FileExt,
+{
     let words = words(rt)?;
     let command = command::command(rt.alloc())?;
     match command.try_get_matches_from(words.as_slice()) {
-        Ok(matches) => perform(rt, &matches),
+        Ok(matches) => perform(rt, &matches, screens),
         Err(error) => Ok(explain(rt, &error)?),
     }
 }
@@ -52,15 +77,21 @@ fn words<R: AllocGlobal + Env>(rt: &R) -> Result<Vec<String>, Fault> {
 }
 
 // The status of the command that the words name.
-fn perform<R: Files + AllocGlobal + Print>(
+fn perform<R: Files + AllocGlobal + Print + Eprint + Clock>(
     rt: &R,
     matches: &ArgMatches<'_>,
-) -> Result<u8, Refusal> {
+    screens: Screens,
+) -> Result<u8, Refusal>
+where
+    R::File: FileExt,
+{
     match matches.subcommand() {
-        Some(("eval", given)) => {
-            eval::eval(rt, given)?;
-            Ok(exit_of(&Ok(true)))
-        }
+        Some(("eval", given)) => eval::eval(rt, given, screens),
+        Some(("create", given)) => create::create(rt, given),
+        Some(("load", given)) => load::load(rt, given, screens),
+        Some(("report", given)) => job::ask(rt, given),
+        Some(("cube", given)) => job::ask(rt, given),
+        Some(("status", given)) => job::perform_job(rt, given, Job::Status, io::empty()),
         _ => Ok(NO_COMMAND),
     }
 }
@@ -76,7 +107,7 @@ fn explain<R: Print + Eprint>(rt: &R, error: &Error) -> Result<u8, Fault> {
         }
     }
     Ok(if error.exit_code() == 0 {
-        0
+        DONE
     } else {
         NO_COMMAND
     })

@@ -1,11 +1,13 @@
 //! A refusal, and what the program knows of it.
+use crate::device_hints::device_hint;
 use crate::files::GivenFiles;
+use crate::load::cut_of;
+use crate::query::query_hint;
 use clap::ArgMatches;
 use cube_model::Fault;
 use std::alloc::{AllocError, Global};
 use std::rt::Files;
-use table_hints::table_hint;
-use word_hints::{QueryWords, hint_of};
+use table_hints::{load_hint, table_hint};
 
 /// A fault, and a line in plain words behind it where the program knows more.
 #[derive(Drop)]
@@ -26,35 +28,62 @@ impl From<AllocError> for Refusal {
     }
 }
 
-/// A fault of a query over tables with what can be found out of it. Where that fails nothing is said.
-pub fn explained<R: Files + AllocGlobal>(rt: &R, given: &ArgMatches<'_>, fault: Fault) -> Refusal {
-    let alloc = rt.alloc();
-    let found = match fault {
-        Fault::BadQuery => words_hint(alloc, given),
-        Fault::Input => GivenFiles { rt, given }.unreadable(alloc),
-        _ => table_hint(alloc, &GivenFiles { rt, given }, fault),
-    };
-    let hint = match found {
+/// A fault of a command with what can be found out of it, where the warehouse has so many batches, if it was opened.
+/// Where nothing can be found out nothing is said.
+pub fn explained<R: Files + AllocGlobal>(
+    rt: &R,
+    given: &ArgMatches<'_>,
+    fault: Fault,
+    batches: Option<u32>,
+) -> Refusal {
+    let hint = match hint_of(rt, given, fault, batches) {
         Ok(hint) => hint,
         Err(_) => None,
     };
     Refusal { fault, hint }
 }
 
-/// The words of a query that a command was given.
-pub fn words_of<'a>(given: &'a ArgMatches<'_>) -> QueryWords<'a> {
-    QueryWords {
-        q: given.get_str("query"),
-        set: given.get_str("set"),
-        by: given.get_str("by"),
-        agg: given.get_str("agg"),
-        conditions: given.get_strs("condition").unwrap_or(&[]),
+fn hint_of<R: Files + AllocGlobal>(
+    rt: &R,
+    given: &ArgMatches<'_>,
+    fault: Fault,
+    batches: Option<u32>,
+) -> Result<Option<String>, Fault> {
+    let files = GivenFiles { rt, given };
+    match fault {
+        Fault::BadQuery => query_hint(rt.alloc(), given),
+        Fault::Input => files.unreadable(rt.alloc()),
+        Fault::NoSuchPrefix => prefix_hint(rt.alloc(), given, batches),
+        Fault::Device
+        | Fault::Full
+        | Fault::NotFormatted
+        | Fault::AlreadyFormatted
+        | Fault::BadLayout
+        | Fault::DeviceSize => device_hint(rt, given, fault),
+        _ => row_hint(rt.alloc(), &files, fault, batches),
     }
 }
 
-fn words_hint(alloc: Global, given: &ArgMatches<'_>) -> Result<Option<String>, Fault> {
-    match hint_of(alloc, &words_of(given))? {
-        None => Ok(None),
-        Some(hint) => Ok(Some(format!(in alloc; "{hint}")?)),
+fn prefix_hint(
+    alloc: Global,
+    given: &ArgMatches<'_>,
+    batches: Option<u32>,
+) -> Result<Option<String>, Fault> {
+    let (Some(as_of), Some(batches)) = (given.get_str("as-of"), batches) else {
+        return Ok(None);
+    };
+    let said = format!(in alloc; "--as-of {as_of}: batches in the warehouse: {batches}")?;
+    Ok(Some(said))
+}
+
+fn row_hint<R: Files>(
+    alloc: Global,
+    files: &GivenFiles<'_, '_, '_, R>,
+    fault: Fault,
+    batches: Option<u32>,
+) -> Result<Option<String>, Fault> {
+    match (cut_of(files.given), batches) {
+        (Some(cut), Some(batches)) => load_hint(alloc, files, fault, cut, batches),
+        _ => table_hint(alloc, files, fault),
     }
 }

@@ -85,7 +85,7 @@ fn line_at(cut: Cut, batch: u32, row: u32) -> Option<u64>
 
 fn gap_hint(alloc: Global, cut: Cut, batches: u32) -> Result<Option<String>, Fault> {
     let said = format!(in alloc;
-        "--first {}: the warehouse has {batches} batches, so the next is {}",
+        "--first {}: the next batch of the warehouse is {}",
         cut.first,
         batches.saturating_add(1)
     )?;

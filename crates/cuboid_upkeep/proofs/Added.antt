@@ -1,0 +1,96 @@
+-- Cells of fact rows put end to end.
+use Rattle.std.proofs.Common.{◌≡◌, ◌∙◌, sym, ap, refl, subst, inl, inr, ◌⊎◌, ℕ, List, [], ◌∷◌, ◌++◌, Some, All, append_assoc, append-nil, Ok, Err}
+use Rattle.std.specs.Prelude.{IfErr, OnOk, Result}
+use Rattle.std.proofs.lemmas.List.Elements.{All-append, All-tail}
+use Rattle.cube_model.specs.declared.fault.Fault.{Fault}
+use Rattle.cube_model.specs.declared.rows.DimRows.{DimRows}
+use Rattle.cube_model.specs.declared.rows.LineOrder.{LineOrder}
+use Rattle.lattice.specs.declared.view.View.{View}
+use Rattle.cuboid_cells.specs.declared.cell.Cell.{Cell}
+use Rattle.cuboid_cells.specs.Cells.{cell_at, number_of}
+use Rattle.cuboid_cells.specs.Merges.{IsMergeFault, PassesType, merged, merged_if_any}
+use Rattle.cuboid_upkeep.specs.Grouping.{Group, HasMembers, PassType, StandFor}
+use Rattle.cuboid_upkeep.specs.Lawful.{MergesStandForBoth}
+use Rattle.cuboid_upkeep.specs.Steps.{AreUnfit, IsAddFault}
+use Rattle.cuboid_upkeep.proofs.Merged.{both_group, over_append}
+use Rattle.cuboid_upkeep.proofs.Sorted.{ascending_apart, only_one}
+
+-- what follows in a result
+pub ok_through : {A : Type 0} (r : Result A Fault) (P Q : Type 0) → (P → Q) → OnOk r P → OnOk r Q
+ok_through (Ok a) P Q f p = f p
+ok_through (Err fault) P Q f p = p
+
+pub err_through : {A : Type 0} (r : Result A Fault) (P Q : Fault → Type 0) → ((fault : Fault) → P fault → Q fault) → IfErr r P → IfErr r Q
+err_through (Ok a) P Q f p = p
+err_through (Err fault) P Q f p = f fault p
+
+pub both_stand : MergesStandForBoth
+both_stand dimensions rows others one other new same first second merge =
+    let to_new : one.view ≡ new.view = sym merge.view in
+    let from_other : other.view ≡ new.view = sym same ∙ sym merge.view in record {
+      known = All-append (HasMembers dimensions new.view) rows others
+          (subst (λ (view : View). All (HasMembers dimensions view) rows) to_new first.known)
+          (subst (λ (view : View). All (HasMembers dimensions view) others) from_other second.known);
+      ascending = merge.cells.ascending;
+      group = both_group dimensions new.view rows others one.cells other.cells new.cells
+          (subst (λ (view : View). Group dimensions view rows one.cells) to_new first.group)
+          (subst (λ (view : View). Group dimensions view others other.cells) from_other second.group) merge.cells.by_key;
+    }
+
+all_behind : (P : LineOrder → Type 0) (rows others : List LineOrder) → All P (rows ++ others) → All P others
+all_behind P [] others all = all
+all_behind P (row ∷ rows) others all = all_behind P rows others (All-tail P row (rows ++ others) all)
+
+module _ (dimensions : DimRows) (view : View) (so_far rows : List LineOrder) where
+  -- rows that are unfit by themselves are so behind others
+  pub unfit_behind : AreUnfit dimensions view rows → AreUnfit dimensions view (so_far ++ rows)
+  unfit_behind (inl none) = inl (λ all. none (all_behind (HasMembers dimensions view) so_far rows all))
+  unfit_behind (inr past) = inr (record {
+    before = so_far ++ past.before;
+    part = past.part;
+    behind = past.behind;
+    number = past.number;
+    cell = past.cell;
+    parts = ap (λ (l : List LineOrder). so_far ++ l) past.parts ∙ sym (append_assoc so_far past.before (past.part ++ past.behind));
+    is = past.is;
+    passes = past.passes;
+  })
+
+  pub batch_refused : (fault : Fault) → (fault ≡ Fault.Memory) ⊎ ((fault ≡ Fault.BadLayout) × AreUnfit dimensions view rows) → IsAddFault dimensions view (so_far ++ rows) fault
+  batch_refused fault (inl memory) = inl memory
+  batch_refused fault (inr bad) = inr (inl (bad.0, unfit_behind bad.1))
+
+  module _ (one other : List Cell) (first : StandFor dimensions so_far (record { view = view; cells = one }))
+      (second : StandFor dimensions rows (record { view = view; cells = other })) where
+    passed : PassesType one other → PassType dimensions view (so_far ++ rows)
+    passed p =
+        let number : ℕ = number_of p.left.key in
+        let at_left : cell_at number one ≡ Some p.left = only_one one p.left (ascending_apart one first.ascending) p.in_one in
+        let at_right : cell_at number other ≡ Some p.right =
+        ap (λ (n : ℕ). cell_at n other) p.key ∙ only_one other p.right (ascending_apart other second.ascending) p.in_other in record {
+          before = [];
+          part = so_far ++ rows;
+          behind = [];
+          number = number;
+          cell = merged p.left p.right;
+          parts = sym (append-nil (so_far ++ rows));
+          is =
+              over_append dimensions view number so_far rows
+              ∙ (λ i. merged_if_any (sym (first.group number) i) (sym (second.group number) i))
+              ∙ (λ i. merged_if_any (at_left i) (at_right i));
+          passes = p.passes;
+        }
+
+    pub merge_refused : (fault : Fault) → IsMergeFault (record { view = view; cells = one }) (record { view = view; cells = other }) fault
+        → IsAddFault dimensions view (so_far ++ rows) fault
+    merge_refused fault (inl memory) = inl memory
+    merge_refused fault (inr (inl bad)) = inr (inl (bad.0, inr (passed bad.1)))
+    merge_refused fault (inr (inr many)) = inr (inr (
+      many.0,
+      record {
+        cells = many.1.cells;
+        stand = both_stand dimensions so_far rows (record { view = view; cells = one }) (record { view = view; cells = other })
+            (record { view = view; cells = many.1.cells }) refl first second (record { view = refl; cells = many.1.are });
+        many = many.1.many;
+      },
+    ))

@@ -1,0 +1,135 @@
+-- One fact row more is grouped.
+use Rattle.std.proofs.Common.{◌≡◌, ◌∙◌, sym, ap, refl, subst, inl, inr, ◌⊎◌, ℕ, ◌==◌, ◌<◌, ◌≤◌, ◌+◌, Bool, true, false, cond, nat_eq, List, [], ◌∷◌, ◌++◌, length, take, drop, Some, None, arith, All, append_assoc}
+use Rattle.std.specs.List.{IsDistinct}
+use Rattle.std.proofs.lemmas.List.{length_push, take_all, take_more, take-append-drop}
+use Rattle.std.proofs.lemmas.List.Elements.{All-append, All-cons, All-nil}
+use Rattle.cube_model.specs.declared.fault.Fault.{Fault}
+use Rattle.cube_model.specs.declared.rows.DimRows.{DimRows}
+use Rattle.cube_model.specs.declared.rows.LineOrder.{LineOrder}
+use Rattle.group_plan.specs.Rows.{no_row, row_at}
+use Rattle.lattice.specs.declared.view.View.{View}
+use Rattle.cuboid_cells.specs.declared.cell.Cell.{Cell}
+use Rattle.cuboid_cells.specs.Cells.{cell_at, number_of}
+use Rattle.cuboid_cells.specs.Merges.{merged, merged_if_any}
+use Rattle.cuboid_upkeep.specs.Grouping.{Group, HasMembers, cell_over, key_of, summaries_over}
+use Rattle.cuboid_upkeep.specs.Steps.{AreGrouped, AreKeyed, AreUnfit, HasNoCell, IsCellOfRow, IsGood, Overflows, TakesIn}
+use Rattle.cuboid_upkeep.proofs.Found.{own_key}
+use Rattle.cuboid_upkeep.proofs.Merged.{both_group, over_append}
+
+-- the rows before a place were grouped
+pub record Grouping (dimensions : DimRows) (view : View) (rows : List LineOrder) (keys : List ℕ) (cells : List Cell) : Type 0 where
+  pub keyed : AreKeyed keys cells
+  pub few : length cells ≤ length rows
+  pub known : All (HasMembers dimensions view) rows
+  pub good : All (IsGood view) cells
+  pub group : Group dimensions view rows cells
+
+module _ (dimensions : DimRows) (view : View) where
+  pub none_yet : (keys : List ℕ) → keys ≡ [] → IsDistinct nat_eq keys → (cells : List Cell) → cells ≡ [] → Grouping dimensions view [] keys cells
+  none_yet keys keys_are once cells cells_are = subst (Grouping dimensions view [] keys) (sym cells_are) (record {
+    keyed = record { keys_are = keys_are; once = once };
+    few = omega arith;
+    known = All-nil (HasMembers dimensions view);
+    good = All-nil (IsGood view);
+    group = λ number. refl;
+  })
+
+  -- the cell of one row
+  abbrev of_row : (row : LineOrder) → Cell
+  of_row row = record { key = key_of dimensions view row; count = 1; measures = summaries_over (row ∷ []) }
+
+  one_if : (row : LineOrder) (b : Bool) → cond b (Some (of_row row)) None ≡ cell_over dimensions view (cond b (row ∷ []) [])
+  one_if row true = refl
+  one_if row false = refl
+
+  pub row_alone : (row : LineOrder) (cell : Cell) → IsCellOfRow dimensions view row cell → Group dimensions view (row ∷ []) (cell ∷ [])
+  row_alone row cell is =
+      let same : of_row row ≡ cell = cc is.is in
+      subst (λ (c : Cell). Group dimensions view (row ∷ []) (c ∷ [])) same
+      (λ number. one_if row (number_of (key_of dimensions view row) == number))
+
+  module _ (rows : List LineOrder) (place : ℕ) (within : place < length rows) where
+    abbrev pub row : LineOrder
+    row = row_at rows place
+
+    more : take (place + 1) rows ≡ take place rows ++ row ∷ []
+    more = take_more rows place no_row within
+
+    pub one_more : (keys new_keys : List ℕ) (cells new : List Cell) (cell : Cell) → Grouping dimensions view (take place rows) keys cells
+        → IsCellOfRow dimensions view row cell → AreKeyed new_keys new → TakesIn cells cell new → Grouping dimensions view (take (place + 1) rows) new_keys new
+    one_more keys new_keys cells new cell so_far is keyed takes =
+        subst (λ (l : List LineOrder). Grouping dimensions view l new_keys new) (sym more) (record {
+          keyed = keyed;
+          few = omega (arith, takes.longer, so_far.few, length_more);
+          known = All-append (HasMembers dimensions view) (take place rows) (row ∷ []) so_far.known
+              (All-cons (HasMembers dimensions view) row [] is.members (All-nil (HasMembers dimensions view)));
+          good = takes.good view so_far.good is.good;
+          group = both_group dimensions view (take place rows) (row ∷ []) cells (cell ∷ []) new so_far.group (row_alone row cell is) takes.by_key;
+        })
+      where
+        length_more : length (take place rows ++ row ∷ []) ≡ length (take place rows) + 1
+        length_more = length_push (take place rows) row
+
+    parts_of_row : rows ≡ take place rows ++ (row ∷ [] ++ drop (place + 1) rows)
+    parts_of_row =
+        sym (take-append-drop (place + 1) rows) ∙ ap (λ (l : List LineOrder). l ++ drop (place + 1) rows) more
+        ∙ append_assoc (take place rows) (row ∷ []) (drop (place + 1) rows)
+
+    parts_so_far : rows ≡ [] ++ ((take place rows ++ row ∷ []) ++ drop (place + 1) rows)
+    parts_so_far = sym (take-append-drop (place + 1) rows) ∙ ap (λ (l : List LineOrder). l ++ drop (place + 1) rows) more
+
+    -- a row that has no cell
+    pub row_unfit : HasNoCell dimensions view row → AreUnfit dimensions view rows
+    row_unfit why = elim why as (λ _. AreUnfit dimensions view rows) [
+      | inl none ↦ inl (λ all. none (all place no_row within))
+      | inr past ↦ inr (record {
+        before = take place rows;
+        part = row ∷ [];
+        behind = drop (place + 1) rows;
+        number = number_of (key_of dimensions view row);
+        cell = past.0;
+        parts = parts_of_row;
+        is =
+            ap (λ (b : Bool). cell_over dimensions view (cond b (row ∷ []) [])) (own_key (number_of (key_of dimensions view row)) (number_of (key_of dimensions view row)) refl)
+            ∙ past.1;
+        passes = past.2;
+      })
+    ]
+
+    -- a row whose cell cannot be taken in
+    pub row_overflows : (keys : List ℕ) (cells : List Cell) (cell : Cell) → Grouping dimensions view (take place rows) keys cells
+        → IsCellOfRow dimensions view row cell → Overflows cells cell → AreUnfit dimensions view rows
+    row_overflows keys cells cell so_far is over =
+        let alone : cell_at (number_of cell.key) (cell ∷ []) ≡ Some cell =
+        ap (λ (b : Bool). cond b (Some cell) None) (own_key (number_of cell.key) (number_of cell.key) refl) in
+        inr (record {
+          before = [];
+          part = take place rows ++ row ∷ [];
+          behind = drop (place + 1) rows;
+          number = number_of cell.key;
+          cell = merged over.before cell;
+          parts = parts_so_far;
+          is =
+              over_append dimensions view (number_of cell.key) (take place rows) (row ∷ [])
+              ∙ (λ i. merged_if_any (sym (so_far.group (number_of cell.key)) i) (sym (row_alone row cell is (number_of cell.key)) i))
+              ∙ (λ i. merged_if_any (over.is i) (alone i));
+          passes = over.passes;
+        })
+
+    pub overflow_refused : (keys : List ℕ) (cells : List Cell) (cell : Cell) → Grouping dimensions view (take place rows) keys cells
+        → IsCellOfRow dimensions view row cell → (fault : Fault) → (fault ≡ Fault.Memory) ⊎ ((fault ≡ Fault.BadLayout) × Overflows cells cell)
+        → (fault ≡ Fault.Memory) ⊎ ((fault ≡ Fault.BadLayout) × AreUnfit dimensions view rows)
+    overflow_refused keys cells cell so_far is fault (inl memory) = inl memory
+    overflow_refused keys cells cell so_far is fault (inr over) = inr (over.0, row_overflows keys cells cell so_far is over.1)
+
+  -- all rows were grouped
+  pub are_grouped : (rows : List LineOrder) (place : ℕ) → length rows ≤ place → (keys : List ℕ) (cells : List Cell)
+      → Grouping dimensions view (take place rows) keys cells → AreGrouped dimensions view rows cells
+  are_grouped rows place all keys cells so_far =
+      let whole = subst (λ (l : List LineOrder). Grouping dimensions view l keys cells) (take_all place rows all) so_far in record {
+        few = whole.few;
+        known = whole.known;
+        once = subst (IsDistinct nat_eq) whole.keyed.keys_are whole.keyed.once;
+        good = whole.good;
+        group = whole.group;
+      }

@@ -1,0 +1,30 @@
+-- The codes of members: each is the place of the member's text among those of its attribute, in the order of their first
+-- use by the rows of the dimension. So a code stays when rows are added. A day's code is the place of its row. Our layout.
+use Rattle.std.specs.Prelude.{ℕ, Option, Some, None}
+use Rattle.cube_model.specs.declared.attr.Attr.{Attr}
+use Rattle.cube_model.specs.declared.attr.Axis.{Axis}
+use Rattle.cube_model.specs.declared.rows.DimRows.{DimRows}
+use Rattle.cube_model.specs.Places.{texts_of}
+use Rattle.dimensions.specs.Columns.{code_at}
+use Rattle.dimensions.specs.Shapes.{attr_column}
+use Rattle.lattice.specs.declared.level.Level.{Level}
+use Rattle.lattice.specs.Levels.{level_attribute}
+use Rattle.cuboid_cells.specs.Limits.{all_code}
+
+-- the code of an attribute at a row of its dimension, where the attribute has a column of texts and where it has none
+abbrev pub code_in : Option ℕ → DimRows → Attr → ℕ → ℕ
+code_in None dimensions attr place = place
+code_in (Some column) dimensions attr place = code_at (texts_of dimensions attr) place
+
+-- the code of the member of a level at a row of a dimension; ALL has one for every row
+abbrev pub code_of : Option Attr → DimRows → ℕ → ℕ
+code_of None dimensions place = all_code
+code_of (Some attr) dimensions place = code_in (attr_column attr) dimensions attr place
+
+-- the column of texts that has the members of a level: none for a day, and none for ALL
+abbrev pub level_column : Option Attr → Option ℕ
+level_column None = None
+level_column (Some attr) = attr_column attr
+
+abbrev pub member_code : DimRows → Axis → Level → ℕ → ℕ
+member_code dimensions axis level place = code_of (level_attribute axis level) dimensions place

@@ -1,0 +1,97 @@
+-- The plain grouping of fact rows by the levels of a view: a cell for each choice of members that some row has, with the
+-- count of its rows and, for each measure, the sum, the least and the greatest of their numbers (Gray et al. 1997).
+use Rattle.std.specs.Prelude.{◌≡◌, ℕ, ◌==◌, Option, Some, None, List, [], ◌∷◌, ◌++◌, length, map, All}
+use Rattle.std.specs.List.{filter}
+use Rattle.cube_model.specs.declared.attr.Axis.{Axis}
+use Rattle.cube_model.specs.declared.attr.Axis.TheVariants.{Customer, Supplier, Part, Date}
+use Rattle.cube_model.specs.declared.measure.Measure.{Measure}
+use Rattle.cube_model.specs.declared.measure.Measure.TheVariants.{Quantity, ExtendedPrice, Revenue, SupplyCost, Discounted, Profit}
+use Rattle.cube_model.specs.declared.rows.DimRows.{DimRows}
+use Rattle.cube_model.specs.declared.rows.LineOrder.{LineOrder}
+use Rattle.cube_model.specs.Aggregates.{greatest, least, total}
+use Rattle.cube_model.specs.Attributes.{key_on}
+use Rattle.cube_model.specs.Measures.{measure_of}
+use Rattle.cube_model.specs.Places.{row_index_of}
+use Rattle.group_plan.specs.Numbers.{IsKnownOn}
+use Rattle.lattice.specs.declared.level.Level.{Level}
+use Rattle.lattice.specs.declared.level.Level.TheVariants as level
+use Rattle.lattice.specs.declared.view.View.{View}
+use Rattle.lattice.specs.Views.{level_on}
+use Rattle.cuboid_cells.specs.declared.cell.Cell.{Cell}
+use Rattle.cuboid_cells.specs.declared.key.Key.{Key}
+use Rattle.cuboid_cells.specs.declared.summary.Summaries.{Summaries}
+use Rattle.cuboid_cells.specs.declared.summary.Summary.{Summary}
+use Rattle.cuboid_cells.specs.Cells.{AreAscending, CellFits, PlainCells, cell_at, number_of}
+use Rattle.cuboid_cells.specs.Limits.{all_code}
+use Rattle.cuboid_upkeep.specs.Codes.{member_code}
+
+-- the code of a fact row's member at a level of a dimension
+abbrev pub code_on : DimRows → Axis → Level → LineOrder → ℕ
+code_on dimensions axis level row = member_code dimensions axis level (row_index_of dimensions axis (key_on axis row))
+
+-- the key of a fact row in a view that does not group by ship mode
+abbrev pub key_of : DimRows → View → LineOrder → Key
+key_of dimensions view row = record {
+  customer = code_on dimensions Customer view.customer row;
+  supplier = code_on dimensions Supplier view.supplier row;
+  part = code_on dimensions Part view.part row;
+  date = code_on dimensions Date view.date row;
+  ship_mode = all_code;
+}
+
+-- the fact rows of a key, told by its number
+abbrev pub rows_of : DimRows → View → ℕ → List LineOrder → List LineOrder
+rows_of dimensions view number rows = filter (λ row. number_of (key_of dimensions view row) == number) rows
+
+-- what is kept of a measure of fact rows
+abbrev pub summary_over : Measure → List LineOrder → Summary
+summary_over measure rows = record {
+  sum = total (map (measure_of measure) rows);
+  least = least (map (measure_of measure) rows);
+  greatest = greatest (map (measure_of measure) rows);
+}
+
+-- and of each measure
+abbrev pub summaries_over : List LineOrder → Summaries
+summaries_over rows = record {
+  quantity = summary_over Quantity rows;
+  extendedprice = summary_over ExtendedPrice rows;
+  revenue = summary_over Revenue rows;
+  supplycost = summary_over SupplyCost rows;
+  discounted = summary_over Discounted rows;
+  profit = summary_over Profit rows;
+}
+
+-- the cell of fact rows of one key, where there are any
+abbrev pub cell_over : DimRows → View → List LineOrder → Option Cell
+cell_over dimensions view [] = None
+cell_over dimensions view (row ∷ rows) = Some (record {
+  key = key_of dimensions view row;
+  count = length (row ∷ rows);
+  measures = summaries_over (row ∷ rows);
+})
+
+-- cells are told by keys: that of a key is the cell of the fact rows of the key
+abbrev pub Group : DimRows → View → List LineOrder → List Cell → Type 0
+Group dimensions view rows cells = (number : ℕ) → cell_at number cells ≡ cell_over dimensions view (rows_of dimensions view number rows)
+
+-- a fact row has a member at each level by which a view groups: its key is in the dimension
+abbrev pub HasMembers : DimRows → View → LineOrder → Type 0
+HasMembers dimensions view row = (axis : Axis) → (level_on axis view ≡ level.All → ⊥) → IsKnownOn dimensions row axis
+
+-- the cells of a view stand for fact rows: each row has its members, and the cells group the rows
+pub record StandFor (dimensions : DimRows) (rows : List LineOrder) (plain : PlainCells) : Type 0 where
+  pub known : All (HasMembers dimensions plain.view) rows
+  pub ascending : AreAscending plain.cells
+  pub group : Group dimensions plain.view rows plain.cells
+
+-- those of one key among some fact rows one behind the other have a cell whose count, sum, least or greatest passes its type
+pub record PassType (dimensions : DimRows) (view : View) (rows : List LineOrder) : Type 0 where
+  pub before : List LineOrder
+  pub part : List LineOrder
+  pub behind : List LineOrder
+  pub number : ℕ
+  pub cell : Cell
+  pub parts : rows ≡ before ++ (part ++ behind)
+  pub is : cell_over dimensions view (rows_of dimensions view number part) ≡ Some cell
+  pub passes : CellFits cell → ⊥

@@ -1,0 +1,18 @@
+-- What the definitions mean. Each is proved as the contract of a function of its name.
+use Rattle.std.specs.Prelude.{◌≡◌, List, ◌++◌}
+use Rattle.cube_model.specs.declared.rows.DimRows.{DimRows}
+use Rattle.cube_model.specs.declared.rows.LineOrder.{LineOrder}
+use Rattle.cuboid_cells.specs.Cells.{PlainCells}
+use Rattle.cuboid_cells.specs.Merges.{IsMergeOf}
+use Rattle.cuboid_upkeep.specs.Grouping.{StandFor}
+
+-- the cells of fact rows put end to end are the merge of their cells
+abbrev pub MergesStandForBoth : Type 0
+MergesStandForBoth = (dimensions : DimRows) (rows others : List LineOrder) (one other new : PlainCells)
+    → one.view ≡ other.view → StandFor dimensions rows one → StandFor dimensions others other
+    → IsMergeOf one other new → StandFor dimensions (rows ++ others) new
+
+-- fact rows have one list of cells
+abbrev pub CellsAreTheOne : Type 0
+CellsAreTheOne = (dimensions : DimRows) (rows : List LineOrder) (one other : PlainCells)
+    → one.view ≡ other.view → StandFor dimensions rows one → StandFor dimensions rows other → one ≡ other

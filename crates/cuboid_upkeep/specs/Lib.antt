@@ -1,0 +1,4 @@
+pub mod Codes
+pub mod Grouping
+pub mod Lawful
+pub mod Steps

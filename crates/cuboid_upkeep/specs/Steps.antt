@@ -1,0 +1,73 @@
+-- Cells while fact rows are grouped, in the order of the first rows of their keys. Our own.
+use Rattle.std.specs.Prelude.{◌≡◌, ◌⊎◌, ℕ, ◌+◌, ◌≤◌, ◌<◌, nat_eq, Some, List, [], ◌∷◌, length, map, All}
+use Rattle.std.specs.List.{IsDistinct}
+use Rattle.cube_model.specs.declared.fault.Fault.{Fault}
+use Rattle.cube_model.specs.declared.fault.Fault.TheVariants.{BadLayout, Memory, TooManyCells}
+use Rattle.cube_model.specs.declared.rows.DimRows.{DimRows}
+use Rattle.cube_model.specs.declared.rows.LineOrder.{LineOrder}
+use Rattle.lattice.specs.declared.view.View.{View}
+use Rattle.lattice.specs.Views.{index_of}
+use Rattle.cuboid_cells.specs.declared.cell.Cell.{Cell}
+use Rattle.cuboid_cells.specs.Cells.{CellFits, IsCellOf, cell_at, number_of}
+use Rattle.cuboid_cells.specs.Limits.{most_cells}
+use Rattle.cuboid_cells.specs.Merges.{merged, merged_if_any}
+use Rattle.cuboid_upkeep.specs.Grouping.{Group, HasMembers, PassType, StandFor, cell_over}
+
+-- a cell of a view whose numbers fit their fields
+pub record IsGood (view : View) (cell : Cell) : Type 0 where
+  pub is_cell : IsCellOf view cell
+  pub fits : CellFits cell
+
+-- the cell of one fact row, which has its members
+pub record IsCellOfRow (dimensions : DimRows) (view : View) (row : LineOrder) (cell : Cell) : Type 0 where
+  pub is : cell_over dimensions view (row ∷ []) ≡ Some cell
+  pub good : IsGood view cell
+  pub members : HasMembers dimensions view row
+
+-- why a fact row has no cell: it has not its members, or one of its numbers passes its type
+abbrev pub HasNoCell : DimRows → View → LineOrder → Type 0
+HasNoCell dimensions view row =
+    (HasMembers dimensions view row → ⊥)
+    ⊎ ((cell : Cell) × (cell_over dimensions view (row ∷ []) ≡ Some cell) × (CellFits cell → ⊥))
+
+-- cells by the numbers of their keys, in the order that these came, no two of one key
+pub record AreKeyed (keys : List ℕ) (cells : List Cell) : Type 0 where
+  pub keys_are : keys ≡ map (λ cell. number_of cell.key) cells
+  pub once : IsDistinct nat_eq keys
+
+-- a cell was taken in: that of its key is the merge of both
+pub record TakesIn (old : List Cell) (cell : Cell) (new : List Cell) : Type 0 where
+  pub longer : length new ≤ length old + 1
+  pub good : (view : View) → All (IsGood view) old → IsGood view cell → All (IsGood view) new
+  pub by_key : (number : ℕ) → cell_at number new ≡ merged_if_any (cell_at number old) (cell_at number (cell ∷ []))
+
+-- the merge of both passes a number's type
+pub record Overflows (old : List Cell) (cell : Cell) : Type 0 where
+  pub before : Cell
+  pub is : cell_at (number_of cell.key) old ≡ Some before
+  pub passes : CellFits (merged before cell) → ⊥
+
+-- fact rows were grouped
+pub record AreGrouped (dimensions : DimRows) (view : View) (rows : List LineOrder) (cells : List Cell) : Type 0 where
+  pub few : length cells ≤ length rows
+  pub known : All (HasMembers dimensions view) rows
+  pub once : IsDistinct nat_eq (map (λ cell. number_of cell.key) cells)
+  pub good : All (IsGood view) cells
+  pub group : Group dimensions view rows cells
+
+-- why fact rows are not grouped: one has not its members, or numbers pass their type
+abbrev pub AreUnfit : DimRows → View → List LineOrder → Type 0
+AreUnfit dimensions view rows = (All (HasMembers dimensions view) rows → ⊥) ⊎ PassType dimensions view rows
+
+-- the cells of a view that stand for fact rows are more than a cuboid can have
+pub record HaveTooMany (dimensions : DimRows) (view : View) (rows : List LineOrder) : Type 0 where
+  pub cells : List Cell
+  pub stand : StandFor dimensions rows (record { view = view; cells = cells })
+  pub many : most_cells < length cells
+
+-- why fact rows are not added to others
+abbrev pub IsAddFault : DimRows → View → List LineOrder → Fault → Type 0
+IsAddFault dimensions view rows fault =
+    (fault ≡ Memory)
+    ⊎ (((fault ≡ BadLayout) × AreUnfit dimensions view rows)
+    ⊎ ((fault ≡ TooManyCells (index_of view)) × HaveTooMany dimensions view rows))

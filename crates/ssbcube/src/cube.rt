@@ -1,0 +1,20 @@
+//! The command `cube`.
+use crate::options::{CUBE_HELP, as_of, cube_words, device};
+use clap::Command;
+use std::alloc::{AllocError, Global};
+
+const ABOUT: &str = "Answers a query of one's own over a warehouse.";
+
+const USAGE: &str = "ssbcube cube DEV [--as-of N] [--set SET] [--by A,A] --agg G,G
+                    [CONDITION]...";
+
+/// The words of the command.
+pub fn words<'a>(alloc: Global) -> Result<Command<'a>, AllocError> {
+    let cube = Command::new(alloc, "cube")
+        .about(ABOUT)
+        .override_usage(USAGE)
+        .after_help(CUBE_HELP)
+        .arg(device(alloc))?
+        .arg(as_of(alloc))?;
+    cube_words(alloc, cube)
+}

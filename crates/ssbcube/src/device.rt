@@ -1,0 +1,69 @@
+//! The file of a warehouse.
+use clap::ArgMatches;
+use cube_model::Fault;
+use dimensions::Dims;
+use file_device::{FileDisk, Host, Unread};
+use sector_cache::Cached;
+use std::alloc::Global;
+use std::fs::OpenFile;
+use std::os::unix::fs::FileExt;
+use std::rt::Files;
+use warehouse::Session;
+
+/// The device of a warehouse: a file behind a cache.
+pub type Device<F> = Cached<FileDisk<Host<F>, Unread>>;
+
+/// The sectors that the cache has room for, 512 KiB.
+const CACHED_SECTORS: u32 = 1024;
+
+/// Makes a warehouse without batches in the file of a command, which is made where it is absent.
+pub fn create<R: Files + AllocGlobal>(
+    rt: &R,
+    path: &str,
+    sectors: u32,
+    dims: Dims,
+) -> Result<Session<Device<R::File>>, Fault>
+where
+    R::File: FileExt,
+{
+    let disk = FileDisk::make(rt, path, sectors)?;
+    let device = cached(rt.alloc(), disk)?;
+    match warehouse::create(rt.alloc(), device, dims) {
+        Ok(session) => Ok(session),
+        Err((fault, _)) => Err(fault),
+    }
+}
+
+/// Opens the warehouse in the file of a command.
+pub fn open<R: Files + AllocGlobal>(
+    rt: &R,
+    given: &ArgMatches<'_>,
+) -> Result<Session<Device<R::File>>, Fault>
+where
+    R::File: FileExt,
+{
+    let disk = FileDisk::open(rt, path_of(given))?;
+    let device = cached(rt.alloc(), disk)?;
+    match warehouse::open(rt.alloc(), device) {
+        Ok(session) => Ok(session),
+        Err((fault, _)) => Err(fault),
+    }
+}
+
+/// The file of the warehouse.
+pub fn path_of<'w>(given: &ArgMatches<'w>) -> &'w str {
+    match given.get_str("device") {
+        Some(path) => path,
+        None => "",
+    }
+}
+
+fn cached<F: FileExt + OpenFile + Drop>(
+    alloc: Global,
+    disk: FileDisk<Host<F>, Unread>,
+) -> Result<Device<F>, Fault> {
+    match Cached::new(alloc, disk, CACHED_SECTORS) {
+        Ok(device) => Ok(device),
+        Err((fault, _)) => Err(fault),
+    }
+}

@@ -1,0 +1,66 @@
+//! A job that a command has done to its warehouse.
+use crate::device;
+use crate::exit::{DONE, UNFINISHED};
+use crate::load::cut_of;
+use crate::output::{is_closed, output, unwritten};
+use crate::query::query_of;
+use crate::refusal::{Refusal, explained};
+use clap::ArgMatches;
+use cube_model::Fault;
+use sector_device::Sectors;
+use ssb_eval::exit_of;
+use std::io::{self, Read};
+use std::os::unix::fs::FileExt;
+use std::rt::Files;
+use warehouse::Session;
+use warehouse_jobs::{Job, perform};
+
+/// Asks the query of a command, over the batches that it names.
+pub fn ask<R: Files + AllocGlobal + Print>(rt: &R, given: &ArgMatches<'_>) -> Result<u8, Refusal>
+where
+    R::File: FileExt,
+{
+    let query = match query_of(rt.alloc(), given) {
+        Ok(query) => query,
+        Err(fault) => return Err(explained(rt, given, fault, None)),
+    };
+    let as_of = given.get_one::<u32>("as-of");
+    perform_job(rt, given, Job::Report { as_of, query }, io::empty())
+}
+
+/// Opens the warehouse of a command, does a job to it, and gives the status of the program.
+pub fn perform_job<R: Files + AllocGlobal + Print, L: Read + Drop>(
+    rt: &R,
+    given: &ArgMatches<'_>,
+    job: Job,
+    lineorder: L,
+) -> Result<u8, Refusal>
+where
+    R::File: FileExt,
+{
+    let mut session = match device::open(rt, given) {
+        Ok(session) => session,
+        Err(fault) => return Err(explained(rt, given, fault, None)),
+    };
+    let mut out = output(rt)?;
+    match perform(rt.alloc(), &mut session, job, lineorder, &mut out) {
+        Ok(done) => Ok(exit_of(&Ok(done))),
+        Err(Fault::Output) if is_closed(out.failure()) => Ok(status_of_closed(given)),
+        Err(Fault::Output) => Err(unwritten(rt.alloc(), out.failure())),
+        Err(fault) => Err(explained(rt, given, fault, batches_of(&session))),
+    }
+}
+
+// A reader of a report that closes early has read what it wants.
+fn status_of_closed(given: &ArgMatches<'_>) -> u8 {
+    match cut_of(given) {
+        Some(_) => UNFINISHED,
+        None => DONE,
+    }
+}
+
+// How many batches there are, where that is still known.
+fn batches_of<D: Sectors>(session: &Session<D>) -> Option<u32> {
+    let status = session.status().ok()?;
+    Some(status.batches)
+}

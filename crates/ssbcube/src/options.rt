@@ -1,0 +1,118 @@
+//! Words that several commands have.
+use clap::builder::ValueParser;
+use clap::{Arg, ArgAction, Command};
+use std::alloc::{AllocError, Global};
+
+/// What can be asked, and how a refusal is told.
+pub const CUBE_HELP: &str = "Sets:
+  plain   groups by all columns
+  rollup  by each beginning of the columns, the whole last
+  cube    by each choice of the columns
+  ALL stands in a column by which a line is not grouped.
+
+Aggregates, with a measure M:
+  count sum:M min:M max:M avg:M
+  An average is a fraction in lowest terms, such as 1475/2.
+
+Measures:
+  quantity extendedprice revenue supplycost
+  discounted (extendedprice times discount) profit (revenue less supplycost)
+
+Attributes, for --by and for conditions:
+  c_city c_nation c_region    s_city s_nation s_region
+  p_brand1 p_category p_mfgr  d_datekey d_yearmonthnum d_year
+  d_yearmonth d_weeknuminyear
+
+Conditions, which all have to hold. Quote them, since | is of the shell:
+  ATTRIBUTE=TEXT|TEXT  one of some texts
+  ATTRIBUTE:LOW|HIGH   a range by bytes, with both ends
+  quantity:LOW|HIGH    numbers of 0 to 255, and so with discount
+
+Examples of queries, each behind the other words of the command:
+  --by d_year,p_brand1 --agg sum:revenue 'p_category=MFGR#12'
+  --set cube --by c_region,d_year --agg count,avg:revenue
+  --set rollup --by d_year,d_yearmonthnum --agg sum:revenue
+
+The report goes to standard output. A refusal goes to standard error with
+status 1: a line such as 'fault 24 BadQuery', and behind it a line in plain
+words where more is known.";
+
+/// The option and the help of each dimension table.
+const DIMENSION_TABLES: [(&str, &str); 4] = [
+    ("customer", "The customer table, such as customer.tbl"),
+    ("supplier", "The supplier table, such as supplier.tbl"),
+    ("part", "The part table, such as part.tbl"),
+    ("date", "The date table, such as date.tbl"),
+];
+
+/// The option, the value and the help of each word of a query of one's own but the conditions.
+const CUBE_WORDS: [(&str, &str, &str); 3] = [
+    (
+        "set",
+        "SET",
+        "Groupings: plain, rollup or cube; plain if left out",
+    ),
+    ("by", "A,A", "Group columns, such as d_year,p_brand1"),
+    ("agg", "G,G", "Aggregates, such as count,sum:revenue"),
+];
+
+/// The words of the four dimension tables, behind the other words of a command.
+pub fn dimension_tables<'a>(
+    alloc: Global,
+    command: Command<'a>,
+) -> Result<Command<'a>, AllocError> {
+    let mut command = command;
+    for (name, help) in DIMENSION_TABLES {
+        command = command.arg(option(alloc, name, "FILE", help).required(true))?;
+    }
+    Ok(command)
+}
+
+/// The words of a query of one's own, behind the other words of a command.
+pub fn cube_words<'a>(alloc: Global, command: Command<'a>) -> Result<Command<'a>, AllocError> {
+    let mut command = command;
+    for (name, value, help) in CUBE_WORDS {
+        command = command.arg(option(alloc, name, value, help))?;
+    }
+    let conditions = Arg::new(alloc, "condition")
+        .value_name("CONDITION")
+        .num_args(0..)
+        .action(ArgAction::Append)
+        .help("What all rows meet, such as d_year=1997 or 'quantity:0|24'");
+    command.arg(conditions)
+}
+
+/// The word that names the file of a warehouse.
+pub fn device<'a>(alloc: Global) -> Arg<'a> {
+    word(alloc, "device", "DEV", "The file of the warehouse")
+}
+
+/// A word that stands at its place.
+pub fn word<'a>(alloc: Global, name: &'a str, value: &'a str, help: &'a str) -> Arg<'a> {
+    Arg::new(alloc, name)
+        .value_name(value)
+        .action(ArgAction::Set)
+        .required(true)
+        .help(help)
+}
+
+/// The option that names a prefix of the batches.
+pub fn as_of<'a>(alloc: Global) -> Arg<'a> {
+    let help = "Over the first N batches; over all if left out";
+    number(alloc, "as-of", help, 0, u32::MAX)
+}
+
+/// An option with a number from the least to the most.
+pub fn number<'a>(alloc: Global, name: &'a str, help: &'a str, least: u32, most: u32) -> Arg<'a> {
+    let range = ValueParser::unsigned(u64::from(least), u64::from(most));
+    option(alloc, name, "N", help).value_parser(range)
+}
+
+/// An option with a value.
+pub fn option<'a>(alloc: Global, name: &'a str, value: &'a str, help: &'a str) -> Arg<'a> {
+    Arg::new(alloc, name)
+        .long(name)
+        .value_name(value)
+        .action(ArgAction::Set)
+        .help(help)
+}

@@ -1,0 +1,6 @@
+pub mod Cuts
+pub mod Turns
+pub mod Through
+pub mod Endings
+pub mod Reported
+pub mod Performed

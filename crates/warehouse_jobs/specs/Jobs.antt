@@ -1,0 +1,16 @@
+-- What each job does. Our own.
+use Rattle.std.specs.Prelude.{ℕ, List, Option, Result}
+use Rattle.sector_device.specs.declared.device.Sectors.{Ghosts}
+use Rattle.cube_model.specs.declared.fault.Fault.{Fault}
+use Rattle.warehouse_objects.specs.Warehouse.{Warehouse}
+use Rattle.warehouse.specs.declared.session.Session.{Session}
+use Rattle.warehouse_jobs.specs.declared.job.Job.{Job}
+use Rattle.warehouse_jobs.specs.declared.job.Job.TheVariants.{Load, Report, Status}
+use Rattle.warehouse_jobs.specs.Loading.{Loads}
+use Rattle.warehouse_jobs.specs.Reporting.{Reports, Tells}
+
+-- what a job on a warehouse does, where the reader has the bytes of a text
+abbrev pub Performs : {D A : Type 0} (g : Ghosts D) → Warehouse → List ℕ → Job → (old new : Session D g) → (before after : Option (List ℕ)) → Result A Fault → Type 0
+Performs g w text (Load first rows) old new before after result = Loads g w first rows text old new before after result
+Performs g w text (Report as_of query) old new before after result = Reports g w as_of query old new before after result
+Performs g w text Status old new before after result = Tells g w old new before after result

@@ -1,0 +1,5 @@
+pub mod Printed
+pub mod Cutting
+pub mod Loading
+pub mod Reporting
+pub mod Jobs

@@ -1,0 +1,106 @@
+//! Loading the fact rows of a file.
+ghost use Rattle.std.specs.Prelude.{◌≡◌, ◌≤◌, ℕ, List, Some, None, IfOk, IfErr};
+ghost use Rattle.warehouse_objects.specs.Warehouse.{Warehouse};
+ghost use Rattle.warehouse.specs.Session.{device_of, IsAt};
+ghost use Rattle.warehouse_jobs.specs.Loading.{DoesBatch, Loads, Refuses, TakesIn};
+
+use crate::job::{BatchNumber, BatchRows};
+use crate::printing::{write_batch, write_count};
+use crate::taken::Taken;
+use batch_loader::{Lines, read_batch_into};
+use cube_model::limits::MOST_BATCHES;
+use cube_model::{Fault, Items, LineOrder};
+use sector_device::Sectors;
+use std::alloc::Global;
+use std::io::{Read, Write};
+use warehouse::Session;
+
+// A load does no more batches than a warehouse may have, and its next step ends it.
+const MOST_STEPS: u32 = MOST_BATCHES as u32 + 1;
+
+/// Adds the batches of a text, and writes a line for each, and how many there are then.
+pub(crate) fn load<D: Sectors, R: Read + Drop, W: Write>(
+    alloc: Global,
+    session: &mut Session<D>,
+    first: BatchNumber,
+    rows: BatchRows,
+    lineorder: R,
+    out: &mut W,
+) -> Result<(), Fault>
+    ensures loads { (w : Warehouse) (text : List ℕ) → IsAt D.Sectors session.old w → R.remaining lineorder ≡ Some text → D.keeps_word (device_of session.new)
+        → Loads D.Sectors w first rows text session.old session.new (W.contents out.old) (W.contents out.new) result }
+    ensures word { D.keeps_word (device_of session.new) → D.keeps_word (device_of session.old) }
+{
+    let _broken = session.is_broken();
+    let mut lines = Lines::new(alloc, lineorder)?;
+    load_lines(alloc, session, first.get(), rows.get(), &mut lines, out)
+}
+
+// Adds the batches of some lines, so many lines a batch, the first one with a number.
+fn load_lines<D: Sectors, R: Read, W: Write>(
+    alloc: Global,
+    session: &mut Session<D>,
+    first: u32,
+    size: usize,
+    lines: &mut Lines<R>,
+    out: &mut W,
+) -> Result<(), Fault>
+    requires positive { 1 ≤ first }
+    requires some { 1 ≤ size }
+    requires number { lines.old.number ≡ 0 }
+    requires fault { lines.old.fault ≡ None }
+    ensures loads { (w : Warehouse) (text : List ℕ) → IsAt D.Sectors session.old w → lines.old.left ≡ Some text → D.keeps_word (device_of session.new)
+        → Loads D.Sectors w first size text session.old session.new (W.contents out.old) (W.contents out.new) result }
+    ensures word { D.keeps_word (device_of session.new) → D.keeps_word (device_of session.old) }
+{
+    let _broken = session.is_broken();
+    let mut rows = Items::new(alloc);
+    for done in 0..MOST_STEPS {
+        let number = first.saturating_add(done);
+        rows = read_batch_into(alloc, lines, size, rows)?;
+        if rows.is_empty() {
+            return write_count(out, session.status()?.batches);
+        }
+        load_batch(alloc, session, number, rows.as_slice(), out)?;
+    }
+    Err(Fault::TooManyBatches) // no load has so many steps
+}
+
+// Does the batch of a number, and then writes its line.
+fn load_batch<D: Sectors, W: Write>(
+    alloc: Global,
+    session: &mut Session<D>,
+    number: u32,
+    rows: &[LineOrder],
+    out: &mut W,
+) -> Result<(), Fault>
+    ensures does { (w : Warehouse) → IsAt D.Sectors session.old w → D.keeps_word (device_of session.new)
+        → DoesBatch D.Sectors w number rows.now session.old session.new (W.contents out.old) (W.contents out.new) result }
+    ensures word { D.keeps_word (device_of session.new) → D.keeps_word (device_of session.old) }
+{
+    let taken = take_in(alloc, session, number, rows)?;
+    write_batch(out, number, rows.len(), taken)
+}
+
+// Adds the batch of a number, unless it is there already.
+fn take_in<D: Sectors>(
+    alloc: Global,
+    session: &mut Session<D>,
+    number: u32,
+    rows: &[LineOrder],
+) -> Result<Taken, Fault>
+    ensures taken { IfOk result (λ taken. (w : Warehouse) → IsAt D.Sectors session.old w → D.keeps_word (device_of session.new)
+        → TakesIn D.Sectors w number rows.now session.old session.new taken) }
+    ensures refused { IfErr result (λ fault. (w : Warehouse) → IsAt D.Sectors session.old w → D.keeps_word (device_of session.new)
+        → Refuses D.Sectors w number rows.now session.old session.new fault) }
+    ensures word { D.keeps_word (device_of session.new) → D.keeps_word (device_of session.old) }
+{
+    let _broken = session.is_broken();
+    if number <= session.status()?.batches {
+        return Ok(Taken::Skipped);
+    }
+    match session.submit(alloc, number, rows) {
+        Ok(()) => Ok(Taken::Added),
+        Err(fault) => Err(fault),
+    }
+}

@@ -1,0 +1,41 @@
+//! The report of a query over a warehouse.
+ghost use Rattle.std.specs.Prelude.{◌≡◌, true, IfOk, IfErr};
+ghost use Rattle.cube_model.specs.declared.fault.Fault.TheVariants.{Failed};
+ghost use Rattle.warehouse_objects.specs.Warehouse.{Warehouse};
+ghost use Rattle.warehouse.specs.Session.{device_of, has_failed, IsAt};
+ghost use Rattle.warehouse_jobs.specs.Reporting.{Reports, asked_for};
+
+use cube_model::{Fault, Query};
+use sector_device::Sectors;
+use ssb_reports::write_report;
+use std::alloc::Global;
+use std::io::Write;
+use warehouse::Session;
+
+/// Writes the report of the answer to a query over the first batches, or over all.
+pub(crate) fn report<D: Sectors, W: Write>(
+    alloc: Global,
+    session: &mut Session<D>,
+    as_of: Option<u32>,
+    query: &Query,
+    out: &mut W,
+) -> Result<(), Fault>
+    ensures reports { (w : Warehouse) → IsAt D.Sectors session.old w → D.keeps_word (device_of session.new)
+        → Reports D.Sectors w as_of query.now session.old session.new (W.contents out.old) (W.contents out.new) result }
+    ensures word { D.keeps_word (device_of session.new) → D.keeps_word (device_of session.old) }
+{
+    let as_of = batches_asked(session, as_of)?;
+    let answer = session.query(alloc, as_of, query)?;
+    write_report(query, &answer, out)
+}
+
+// How many batches are asked for.
+fn batches_asked<D: Sectors>(session: &Session<D>, as_of: Option<u32>) -> Result<u32, Fault>
+    ensures ok { IfOk result (λ count. (w : Warehouse) → IsAt D.Sectors session.now w → D.keeps_word (device_of session.now) → count ≡ asked_for w as_of) }
+    ensures err { IfErr result (λ _. has_failed session.now ≡ true) }
+{
+    match as_of {
+        Some(as_of) => Ok(as_of),
+        None => Ok(session.status()?.batches),
+    }
+}
