@@ -2,6 +2,8 @@
 #![tactic(auto)]
 
 #[cfg(test)]
+mod grouped;
+#[cfg(test)]
 mod merges;
 #[cfg(test)]
 mod runs;

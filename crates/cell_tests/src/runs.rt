@@ -1,10 +1,11 @@
 //! Runs that were written down by hand.
 use crate::sample::{FIRST, LAST_TWO, SPELLED, at_day};
 use cube_model::Fault;
-use cuboid_cells::{Cell, Cells, Key, Span};
+use cuboid_cells::{Cell, Cells, Key, Span, decode_from};
 use lattice::View;
 use std::alloc::Global;
 use std::test::Fail;
+use wire::SliceSource;
 
 // Why the bytes are refused.
 fn refusal(alloc: Global, bytes: &[u8]) -> Option<Fault> {
@@ -22,6 +23,19 @@ fn reads_what_is_spelled(rt: HostRuntime) -> Result<(), Fail> {
         cells.as_slice(),
         [at_day(0, 1, FIRST), at_day(1, 2, LAST_TWO)].as_slice()
     );
+    Ok(())
+}
+
+#[test]
+fn reads_from_a_source(rt: HostRuntime) -> Result<(), Fail> {
+    let (span, cells) = decode_from(rt.alloc(), &mut SliceSource::new(&SPELLED), 9)?;
+    let bytes = cells.encode(rt.alloc(), Span { from: 0, to: 1 })?;
+    assert_eq!(rt;
+        (span.from, span.to, bytes.as_slice()),
+        (0, 1, SPELLED.as_slice())
+    );
+    let cut = decode_from(rt.alloc(), &mut SliceSource::new(&SPELLED[..339]), 9);
+    assert_eq!(rt; cut.err(), BAD);
     Ok(())
 }
 

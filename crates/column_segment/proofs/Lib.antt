@@ -9,7 +9,6 @@ mod Refused
 mod Short
 mod Sourced
 mod Tests
-mod Together
 mod Totals
 mod Values
 mod Whole

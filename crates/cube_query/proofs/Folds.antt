@@ -153,7 +153,7 @@ module _ (dimensions : DimRows) (plan : Plan) (over : IsPlanOver dimensions plan
     rising = made.rising;
     numbers = kept_numbers slots columns kept;
     cover = kept_cover slots columns kept;
-    tallied = (is.0, (is.1.1, tallied_for slots columns kept is.0 is.1.0));
+    tallied = (is.0, tallied_for slots columns kept is.0 is.1);
   }
 
   -- ---- with more slots

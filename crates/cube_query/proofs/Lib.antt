@@ -1,3 +1,5 @@
+pub mod CallerLemmas
+pub mod Choosing
 pub mod Columnwise
 pub mod Counting
 pub mod Folds
@@ -11,6 +13,7 @@ pub mod Marking
 pub mod OneRow
 pub mod Placing
 pub mod Ranges
+pub mod Refusals
 pub mod Rooms
 pub mod Seen
 pub mod Steps

@@ -18,7 +18,6 @@ use Rattle.cube_model.specs.declared.rows.DimRows.{DimRows}
 use Rattle.cube_model.specs.declared.rows.LineOrder.{LineOrder}
 use Rattle.group_plan.specs.Columns.{is_all}
 use Rattle.cube_model.specs.Proper.{IsProper}
-use Rattle.cube_query.specs.Limits.{AreFoldable}
 use Rattle.cube_query.specs.declared.slots.Slots.{Slots}
 use Rattle.group_plan.specs.Numbers.{group_count, key_at, KeysRise}
 use Rattle.cube_query.specs.Columns.{is_seen, tallies_at, tally_at, IsCountable}
@@ -133,9 +132,14 @@ MergesIn sources targets old new = (aggs : List Agg) (part : ℕ × ℕ → List
     → CanMergeAll aggs old sources targets part
     → AddIn aggs (λ slot. gathered slot part sources targets) old new
 
--- the sources can be merged, with room for what comes
+-- the sources can be merged
 abbrev pub MayMerge : List (ℕ × ℕ) → List ℕ → List (Vec Tally Global) → Type 0
 MayMerge sources targets columns = (aggs : List Agg) × (part : ℕ × ℕ → List LineOrder)
+    × CanMergeAll aggs columns sources targets part
+
+-- the same, with room for what comes
+abbrev pub FitMerged : List (ℕ × ℕ) → List ℕ → List (Vec Tally Global) → Type 0
+FitMerged sources targets columns = (aggs : List Agg) × (part : ℕ × ℕ → List LineOrder)
     × (CanMergeAll aggs columns sources targets part × HaveMergeRoom aggs columns sources targets part)
 
 -- a fold's slots and columns from which coarser groups can be made, from a column on
@@ -145,5 +149,4 @@ pub record CanCoarsen (dimensions : DimRows) (query : Query) (i : ℕ) (slots : 
   pub rising : KeysRise dimensions query.columns
   pub numbers : AreSlots (group_count dimensions query.columns) (entries_of slots)
   pub cover : Cover (group_count dimensions query.columns) slots
-  pub tallied : (rows : List LineOrder) × (AreFoldable dimensions rows
-      × AreTalliedFrom dimensions query i (entries_of slots) columns rows)
+  pub tallied : (rows : List LineOrder) × AreTalliedFrom dimensions query i (entries_of slots) columns rows

@@ -55,9 +55,13 @@ pub record Begins (dimensions : DimRows) (query : Query) (fold : FoldState) : Ty
 abbrev pub IsOver : DimRows → FoldState → Type 0
 IsOver dimensions fold = IsPlanOver dimensions fold.plan
 
--- a fold over the dimensions of its beginning: it stands for fact rows that may be folded
+-- a fold over the dimensions of its beginning: it stands for some fact rows
 abbrev pub IsFoldOver : DimRows → FoldState → Type 0
-IsFoldOver dimensions fold = (rows : List LineOrder) × (StandsFor dimensions fold rows × AreFoldable dimensions rows)
+IsFoldOver dimensions fold = (rows : List LineOrder) × StandsFor dimensions fold rows
+
+-- a fold over the dimensions of its beginning that stands for fact rows that may be folded
+abbrev pub IsFoldable : DimRows → FoldState → Type 0
+IsFoldable dimensions fold = (rows : List LineOrder) × (StandsFor dimensions fold rows × AreFoldable dimensions rows)
 
 -- the fold stands for fact rows behind which others may be added
 abbrev pub CanTake : DimRows → FoldState → List LineOrder → Type 0

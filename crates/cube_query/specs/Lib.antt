@@ -1,3 +1,4 @@
+pub mod Chosen
 pub mod Coarser
 pub mod Columns
 pub mod Groups

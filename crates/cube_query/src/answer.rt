@@ -1,5 +1,5 @@
 //! The answer to a query over fact rows at hand.
-ghost use Rattle.std.specs.Prelude.{◌≡◌, ◌≢◌, Err, IfOk, IfErr, OnOk};
+ghost use Rattle.std.specs.Prelude.{◌≡◌, ◌≢◌, ◌⊎◌, Err, IfOk, IfErr, OnOk};
 ghost use Rattle.cube_model.specs.Answers.{answer};
 ghost use Rattle.cube_model.specs.Proper.{IsProper};
 ghost use Rattle.cube_query.specs.Limits.{AreFoldable};
@@ -10,15 +10,20 @@ use dimensions::Dims;
 use std::alloc::Global;
 
 /// The answer to a query over fact rows.
+///
+/// It asks nothing of the rows: `BadLayout` says that a row has a key that no dimension row has, or that a sum passes its
+/// limit.
 pub fn fold(alloc: Global, dims: &Dims, rows: &[LineOrder], query: &Query) -> Result<Answer, Fault>
-    requires { AreFoldable dims.now rows.now }
     ensures answer { IfOk result (λ found. found ≡ answer query.now dims.now rows.now) }
     ensures proper { OnOk result (IsProper query.now) }
     ensures improper { (IsProper query.now → ⊥) → result ≡ Err Fault.BadQuery }
     ensures refused { result ≡ Err Fault.BadQuery → IsProper query.now → ⊥ }
-    ensures only { IfErr result (λ fault. fault ≢ Fault.BadQuery → fault ≡ Fault.Memory) }
+    ensures unfolded { result ≡ Err Fault.BadLayout → AreFoldable dims.now rows.now → ⊥ }
+    ensures only { IfErr result (λ fault. fault ≢ Fault.BadQuery → (fault ≡ Fault.Memory) ⊎ (fault ≡ Fault.BadLayout)) }
 {
     let mut state = Fold::new(alloc, dims, query)?;
-    state.add_rows(dims, rows)?;
-    state.finish(dims)
+    match state.add_rows(dims, rows) {
+        Ok(()) => state.finish(dims),
+        Err(fault) => Err(fault),
+    }
 }

@@ -1,17 +1,18 @@
 //! Coarser groupings, made from finer ones: column by column, from the last to the first, each group is merged into the one
 //! that has ALL in that column.
-ghost use Rattle.std.specs.Prelude.{◌≡◌, ℕ, ◌+◌, ◌≤◌, ◌<◌, List, length, Some, OnOk, IfOk};
+ghost use Rattle.std.specs.Prelude.{◌≡◌, ◌⊎◌, ℕ, ◌+◌, ◌≤◌, ◌<◌, List, length, Some, Err, OnErr, OnOk, IfErr, IfOk};
 ghost use Rattle.std.specs.List.{All, AllByRecursion};
 ghost use Rattle.cube_model.specs.declared.rows.LineOrder.{LineOrder};
-ghost use Rattle.cube_query.specs.Coarser.{leads, sources_of, AreTalliedFrom, AreTargets, CanCoarsen, IsTarget, MayMerge, MergesIn};
+ghost use Rattle.cube_query.specs.Coarser.{leads, sources_of, AreTalliedFrom, AreTargets, CanCoarsen, FitMerged, IsTarget, MayMerge, MergesIn};
 ghost use Rattle.cube_query.specs.Columns.{tallies_at};
+ghost use Rattle.cube_query.specs.Limits.{AreFoldable};
 ghost use Rattle.cube_query.specs.Slots.{entries_of, slot_of, AreSlots, Cover, Grow};
 ghost use Rattle.group_plan.specs.Numbers.{group_count, key_at};
 
 use crate::columns::{is_seen, lengthen_all, merge_in_all};
 use crate::slots::Slots;
 use crate::tally::Tally;
-use cube_model::Kind;
+use cube_model::{Fault, Kind};
 use group_plan::PlanOver;
 use std::alloc::{AllocError, Global};
 
@@ -117,12 +118,21 @@ fn make_room(columns: &mut Vec<Vec<Tally>>, slots: &Slots) -> Result<(), AllocEr
 }
 
 // Merges the tallies of sources into those of their targets.
-fn merge(columns: &mut Vec<Vec<Tally>>, sources: &[(u128, u32)], targets: &[u32])
+fn merge(
+    columns: &mut Vec<Vec<Tally>>,
+    sources: &[(u128, u32)],
+    targets: &[u32],
+) -> Result<(), Fault>
     requires targets { length targets.now ≡ length sources.now }
-    requires room { MayMerge sources.now targets.now columns.old.items }
-    ensures { MergesIn sources.now targets.now columns.old.items columns.new.items }
+    requires may { MayMerge sources.now targets.now columns.old.items }
+    ensures ok { OnOk result (MergesIn sources.now targets.now columns.old.items columns.new.items) }
+    ensures err { OnErr result (FitMerged sources.now targets.now columns.old.items → ⊥) }
+    ensures only { IfErr result (λ fault. fault ≡ Fault.BadLayout) }
 {
-    merge_in_all(columns.as_mut_slice(), sources, targets);
+    match merge_in_all(columns.as_mut_slice(), sources, targets) {
+        Ok(()) => Ok(()),
+        Err(_) => Err(Fault::BadLayout),
+    }
 }
 
 // Adds the groups with ALL in a column to those that there are from the next column on.
@@ -133,7 +143,7 @@ fn coarsen(
     column: usize,
     slots: &mut Slots,
     columns: &mut Vec<Vec<Tally>>,
-) -> Result<(), AllocError>
+) -> Result<(), Fault>
     requires kind { kind ≡ plan.now.query.kind }
     requires column { column < length plan.now.query.columns }
     requires can { CanCoarsen plan.now.dimensions plan.now.query (column + 1) slots.old columns.old.items }
@@ -141,6 +151,10 @@ fn coarsen(
     ensures tallied { OnOk result ((rows : List LineOrder)
         → AreTalliedFrom plan.now.dimensions plan.now.query (column + 1) (entries_of slots.old) columns.old.items rows
         → AreTalliedFrom plan.now.dimensions plan.now.query column (entries_of slots.new) columns.new.items rows) }
+    ensures refused { result ≡ Err Fault.BadLayout → (rows : List LineOrder)
+        → AreTalliedFrom plan.now.dimensions plan.now.query (column + 1) (entries_of slots.old) columns.old.items rows
+        → AreFoldable plan.now.dimensions rows → ⊥ }
+    ensures only { IfErr result (λ fault. (fault ≡ Fault.Memory) ⊎ (fault ≡ Fault.BadLayout)) }
 {
     let entries = slots.entries(alloc)?;
     let sources = sources_of(
@@ -153,7 +167,7 @@ fn coarsen(
     )?;
     let targets = targets_of(alloc, plan, column, slots, sources.as_slice())?;
     make_room(columns, slots)?;
-    merge(columns, sources.as_slice(), targets.as_slice());
+    merge(columns, sources.as_slice(), targets.as_slice())?;
     Ok(())
 }
 
@@ -165,7 +179,7 @@ pub fn coarsen_all(
     count: usize,
     slots: &mut Slots,
     columns: &mut Vec<Vec<Tally>>,
-) -> Result<(), AllocError>
+) -> Result<(), Fault>
     requires kind { kind ≡ plan.now.query.kind }
     requires count { count ≤ length plan.now.query.columns }
     requires can { CanCoarsen plan.now.dimensions plan.now.query count slots.old columns.old.items }
@@ -173,10 +187,16 @@ pub fn coarsen_all(
     ensures tallied { OnOk result ((rows : List LineOrder)
         → AreTalliedFrom plan.now.dimensions plan.now.query count (entries_of slots.old) columns.old.items rows
         → AreTalliedFrom plan.now.dimensions plan.now.query 0 (entries_of slots.new) columns.new.items rows) }
+    ensures refused { result ≡ Err Fault.BadLayout → (rows : List LineOrder)
+        → AreTalliedFrom plan.now.dimensions plan.now.query count (entries_of slots.old) columns.old.items rows
+        → AreFoldable plan.now.dimensions rows → ⊥ }
+    ensures only { IfErr result (λ fault. (fault ≡ Fault.Memory) ⊎ (fault ≡ Fault.BadLayout)) }
 {
     if count == 0 {
         return Ok(());
     }
-    coarsen(alloc, plan, kind, count - 1, slots, columns)?;
-    coarsen_all(alloc, plan, kind, count - 1, slots, columns)
+    match coarsen(alloc, plan, kind, count - 1, slots, columns) {
+        Ok(()) => coarsen_all(alloc, plan, kind, count - 1, slots, columns),
+        Err(fault) => Err(fault),
+    }
 }

@@ -1,16 +1,16 @@
 //! The tallies of groups in columns, one column for each aggregate, each with a tally at each slot.
-ghost use Rattle.std.specs.Prelude.{◌≡◌, ℕ, ◌≤◌, ◌<◌, true, [], ◌∷◌, length, slice_get, slice_index_or, IfOk, OnOk, FitsSigned, nat_lt, slice_set, List, ◌+◌, ◌^◌, ◌+ℤ◌};
+ghost use Rattle.std.specs.Prelude.{◌≡◌, ℕ, ◌≤◌, ◌<◌, true, [], ◌∷◌, length, slice_get, slice_index_or, IfOk, OnErr, OnOk, FitsSigned, nat_lt, slice_set, List, ◌+◌, ◌^◌, ◌+ℤ◌};
 ghost use Rattle.std.specs.List.{AllByRecursion, list_all};
 ghost use Rattle.std.specs.Int.{w64};
 ghost use Rattle.cube_model.specs.declared.measure.Agg.{Agg};
 ghost use Rattle.cube_model.specs.declared.rows.LineOrder.{LineOrder};
-ghost use Rattle.cube_query.specs.Coarser.{gathered, AddsIn, CanMerge, HasMergeRoom, MayMerge, MergesIn};
+ghost use Rattle.cube_query.specs.Coarser.{gathered, AddsIn, CanMerge, FitMerged, HasMergeRoom, MayMerge, MergesIn};
 ghost use Rattle.cube_query.specs.Columns.{tally_at, tallies_at, is_seen, CountsIn, HasRoom, IsBounded};
 ghost use Rattle.cube_query.specs.FoldInvariant.{CountIn, HaveRoom};
 ghost use Rattle.group_plan.specs.Rows.{row_at};
 ghost use Rattle.cube_query.specs.Tallies.{merged, number_of, tallies_of, values_of};
 
-use crate::tally::Tally;
+use crate::tally::{Tally, TooLarge};
 use cube_model::{Agg, Items, Value};
 use group_plan::FactRows;
 use std::alloc::{AllocError, Global};
@@ -88,41 +88,55 @@ pub fn count_in_all<F: FactRows>(
 }
 
 // Merges the tally of a source into that of its target.
-fn merge_one(column: &mut [Tally], source: u32, target: u32)
+fn merge_one(column: &mut [Tally], source: u32, target: u32) -> Result<(), TooLarge>
     requires source { source < length column.old }
     requires target { target < length column.old }
-    requires count { (tally_at column.old target).count + (tally_at column.old source).count < 2 ^ 63 }
-    requires sum { FitsSigned w64 ((tally_at column.old target).sum +ℤ (tally_at column.old source).sum) }
-    ensures { column.new ≡ slice_set column.old target (merged (tally_at column.old target) (tally_at column.old source)) }
+    ensures ok { OnOk result (column.new ≡ slice_set column.old target (merged (tally_at column.old target) (tally_at column.old source))) }
+    ensures err { OnErr result ((tally_at column.old target).count + (tally_at column.old source).count < 2 ^ 63
+        → FitsSigned w64 ((tally_at column.old target).sum +ℤ (tally_at column.old source).sum) → ⊥) }
+    ensures length { length column.new ≡ length column.old }
 {
     let tally = column[source as usize];
-    column[target as usize] = column[target as usize].merge(tally);
+    column[target as usize] = column[target as usize].merge(tally)?;
+    Ok(())
 }
 
 /// Merges the tallies of sources into those of their targets. It takes no memory.
-pub fn merge_in(column: &mut [Tally], sources: &[(u128, u32)], targets: &[u32])
+pub fn merge_in(
+    column: &mut [Tally],
+    sources: &[(u128, u32)],
+    targets: &[u32],
+) -> Result<(), TooLarge>
     requires targets { length targets.now ≡ length sources.now }
-    requires room { (agg : Agg) × (part : ℕ × ℕ → List LineOrder)
-        × (CanMerge agg column.old sources.now targets.now part × HasMergeRoom agg column.old sources.now targets.now part) }
-    ensures merged { (agg : Agg) (part : ℕ × ℕ → List LineOrder) → CanMerge agg column.old sources.now targets.now part
-        → AddsIn agg (λ slot. gathered slot part sources.now targets.now) column.old column.new }
+    requires may { (agg : Agg) × (part : ℕ × ℕ → List LineOrder) × CanMerge agg column.old sources.now targets.now part }
+    ensures ok { OnOk result ((agg : Agg) (part : ℕ × ℕ → List LineOrder) → CanMerge agg column.old sources.now targets.now part
+        → AddsIn agg (λ slot. gathered slot part sources.now targets.now) column.old column.new) }
+    ensures err { OnErr result ((agg : Agg) (part : ℕ × ℕ → List LineOrder) → CanMerge agg column.old sources.now targets.now part
+        → HasMergeRoom agg column.old sources.now targets.now part → ⊥) }
     ensures length { length column.new ≡ length column.old }
 {
     for place in 0..sources.len() {
-        merge_one(column, sources[place].1, targets[place]);
+        merge_one(column, sources[place].1, targets[place])?;
     }
+    Ok(())
 }
 
 /// Merges the tallies of sources into those of their targets, in all columns. It takes no memory.
-pub fn merge_in_all(columns: &mut [Vec<Tally>], sources: &[(u128, u32)], targets: &[u32])
+pub fn merge_in_all(
+    columns: &mut [Vec<Tally>],
+    sources: &[(u128, u32)],
+    targets: &[u32],
+) -> Result<(), TooLarge>
     requires targets { length targets.now ≡ length sources.now }
-    requires room { MayMerge sources.now targets.now columns.old }
-    ensures { MergesIn sources.now targets.now columns.old columns.new }
+    requires may { MayMerge sources.now targets.now columns.old }
+    ensures ok { OnOk result (MergesIn sources.now targets.now columns.old columns.new) }
+    ensures err { OnErr result (FitMerged sources.now targets.now columns.old → ⊥) }
 {
     for i in 0..columns.len() {
         let column = &mut columns[i];
-        merge_in(column.as_mut_slice(), sources, targets);
+        merge_in(column.as_mut_slice(), sources, targets)?;
     }
+    Ok(())
 }
 
 /// Columns that have no row, one for each aggregate.

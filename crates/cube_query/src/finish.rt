@@ -1,9 +1,13 @@
 //! The lines of an answer, made of the groups by all columns.
-ghost use Rattle.std.specs.Prelude.{◌≡◌, List, IfOk};
+ghost use Rattle.std.specs.Prelude.{◌≡◌, ◌⊎◌, List, length, Err, IfErr, IfOk};
 ghost use Rattle.cube_model.specs.Answers.{answer};
 ghost use Rattle.cube_model.specs.declared.rows.LineOrder.{LineOrder};
-ghost use Rattle.cube_query.specs.Groups.{finest};
-ghost use Rattle.cube_query.specs.Slots.{entries_of};
+ghost use Rattle.cube_model.specs.Proper.{IsProper};
+ghost use Rattle.cube_query.specs.Columns.{seen_groups, tallies_at};
+ghost use Rattle.cube_query.specs.Groups.{finest, groups_of};
+ghost use Rattle.cube_query.specs.Limits.{AreFoldable};
+ghost use Rattle.cube_query.specs.Slots.{entries_of, AreSlots};
+ghost use Rattle.group_plan.specs.Numbers.{group_count, key_at};
 ghost use Rattle.cube_query.specs.FoldInvariant.{AreTallied, IsFold};
 
 use crate::coarser::coarsen_all;
@@ -11,9 +15,9 @@ use crate::columns::copy_columns;
 use crate::lines::lines_of;
 use crate::slots::Slots;
 use crate::tally::Tally;
-use cube_model::{Items, Kind, Line, Query};
+use cube_model::{Fault, Items, Kind, Line, Query};
 use group_plan::PlanOver;
-use std::alloc::{AllocError, Global};
+use std::alloc::Global;
 
 // The lines of a rollup or a cube. What the fold has stays as it is.
 fn coarser_lines(
@@ -22,18 +26,48 @@ fn coarser_lines(
     query: &Query,
     columns: &[Vec<Tally>],
     slots: &Slots,
-) -> Result<Items<Line>, AllocError>
+) -> Result<Items<Line>, Fault>
     requires query { query.now ≡ plan.now.query }
     requires fold { IsFold plan.now.dimensions plan.now.query slots.now columns.now }
-    ensures { IfOk result (λ lines. (rows : List LineOrder)
+    ensures lines { IfOk result (λ lines. (rows : List LineOrder)
         → AreTallied plan.now.dimensions (finest plan.now.query) (entries_of slots.now) columns.now rows
         → lines ≡ (answer plan.now.query plan.now.dimensions rows).lines) }
+    ensures refused { result ≡ Err Fault.BadLayout → (rows : List LineOrder)
+        → AreTallied plan.now.dimensions (finest plan.now.query) (entries_of slots.now) columns.now rows
+        → AreFoldable plan.now.dimensions rows → ⊥ }
+    ensures only { IfErr result (λ fault. (fault ≡ Fault.Memory) ⊎ (fault ≡ Fault.BadLayout)) }
 {
     let mut slots = slots.copy()?;
     let mut columns = copy_columns(alloc, columns)?;
     let count = query.columns.len();
-    coarsen_all(alloc, plan, query.kind, count, &mut slots, &mut columns)?;
-    lines_of(alloc, plan, query, columns.as_slice(), &slots)
+    match coarsen_all(alloc, plan, query.kind, count, &mut slots, &mut columns) {
+        Ok(()) => finest_lines(alloc, plan, query, columns.as_slice(), &slots),
+        Err(fault) => Err(fault),
+    }
+}
+
+// The lines of the groups that there are.
+fn finest_lines(
+    alloc: Global,
+    plan: &PlanOver,
+    query: &Query,
+    columns: &[Vec<Tally>],
+    slots: &Slots,
+) -> Result<Items<Line>, Fault>
+    requires query { query.now ≡ plan.now.query }
+    requires proper { IsProper plan.now.query }
+    requires numbers { AreSlots (group_count plan.now.dimensions plan.now.query.columns) (entries_of slots.now) }
+    requires columns { length columns.now ≡ length plan.now.query.aggregates }
+    ensures lines { IfOk result (λ lines. (rows : List LineOrder)
+        → seen_groups (key_at plan.now.dimensions plan.now.query.columns) (tallies_at columns.now) (entries_of slots.now)
+        ≡ groups_of plan.now.dimensions plan.now.query rows
+        → lines ≡ (answer plan.now.query plan.now.dimensions rows).lines) }
+    ensures only { IfErr result (λ fault. fault ≡ Fault.Memory) }
+{
+    match lines_of(alloc, plan, query, columns, slots) {
+        Ok(lines) => Ok(lines),
+        Err(_) => Err(Fault::Memory),
+    }
 }
 
 /// The lines of the answer over the rows of the groups by all columns.
@@ -43,15 +77,19 @@ pub fn answer_lines(
     query: &Query,
     columns: &[Vec<Tally>],
     slots: &Slots,
-) -> Result<Items<Line>, AllocError>
+) -> Result<Items<Line>, Fault>
     requires query { query.now ≡ plan.now.query }
     requires fold { IsFold plan.now.dimensions plan.now.query slots.now columns.now }
-    ensures { IfOk result (λ lines. (rows : List LineOrder)
+    ensures lines { IfOk result (λ lines. (rows : List LineOrder)
         → AreTallied plan.now.dimensions (finest plan.now.query) (entries_of slots.now) columns.now rows
         → lines ≡ (answer plan.now.query plan.now.dimensions rows).lines) }
+    ensures refused { result ≡ Err Fault.BadLayout → (rows : List LineOrder)
+        → AreTallied plan.now.dimensions (finest plan.now.query) (entries_of slots.now) columns.now rows
+        → AreFoldable plan.now.dimensions rows → ⊥ }
+    ensures only { IfErr result (λ fault. (fault ≡ Fault.Memory) ⊎ (fault ≡ Fault.BadLayout)) }
 {
     match query.kind {
-        Kind::Plain => lines_of(alloc, plan, query, columns, slots),
+        Kind::Plain => finest_lines(alloc, plan, query, columns, slots),
         Kind::Rollup | Kind::Cube => coarser_lines(alloc, plan, query, columns, slots),
     }
 }

@@ -2,6 +2,7 @@
 #![tactic(auto)]
 
 mod answer;
+mod chosen_rows;
 mod coarser;
 mod columns;
 mod finish;

@@ -1,16 +1,17 @@
 //! A fold over fact rows that come in any number of calls.
-ghost use Rattle.std.specs.Prelude.{◌≡◌, ◌≢◌, ◌≤◌, ℕ, List, length, Err, IfOk, IfErr, OnOk, OnErr};
+ghost use Rattle.std.specs.Prelude.{◌≡◌, ◌≢◌, ◌⊎◌, ◌≤◌, ℕ, List, length, Err, IfOk, IfErr, OnOk, OnErr};
 ghost use Rattle.std.specs.List.{All, AllByRecursion};
 ghost use Rattle.cube_model.specs.Answers.{answer};
 ghost use Rattle.cube_model.specs.Proper.{IsProper};
 ghost use Rattle.cube_model.specs.declared.rows.LineOrder.{LineOrder};
 ghost use Rattle.cube_query.specs.Columns.{tallies_at};
-ghost use Rattle.cube_query.specs.Groups.{StandsFor, Begins, CanTake, IsFoldOver, IsOver, Takes};
+ghost use Rattle.cube_query.specs.Groups.{StandsFor, Begins, CanTake, IsFoldOver, IsFoldable, IsOver, Takes};
 ghost use Rattle.group_plan.specs.Numbers.{group_count, IsKnown};
 ghost use Rattle.group_plan.specs.Plans.{IsPlanOver, query_of};
 ghost use Rattle.cube_query.specs.Slots.{entries_of, AreSlots, Cover, Grow};
 ghost use Rattle.cube_query.specs.FoldInvariant.{AreGroupSlots};
 
+use crate::chosen_rows::ChosenRows;
 use crate::columns::{count_in_all, lengthen_all, no_columns};
 use crate::finish::answer_lines;
 use crate::group_slots::group_slots_of;
@@ -19,9 +20,9 @@ use crate::segment_rows::SegmentRows;
 use crate::slots::Slots;
 use crate::tally::Tally;
 use column_segment::Segment;
-use cube_model::{Answer, Fault, LineOrder, Query};
+use cube_model::{Answer, Cond, Fault, LineOrder, Query};
 use dimensions::Dims;
-use group_plan::{FactRows, Plan, RowSlice};
+use group_plan::{Bounds, FactRows, Plan, RowSlice};
 use std::alloc::{AllocError, Global};
 use std::marker::Model;
 
@@ -74,30 +75,36 @@ impl Fold {
 
     /// Counts fact rows in. A refusal leaves the fold as it was.
     ///
-    /// All memory is taken before the first row is counted: some for new groups, and for the time of the call some for
-    /// each row.
+    /// It asks nothing of the rows: `BadLayout` says that a row has a key that no dimension row has, or that the sums with
+    /// them pass their limit. All memory is taken before the first row is counted: some for new groups, and for the time
+    /// of the call some for each row.
     pub fn add_rows(&mut self, dims: &Dims, rows: &[LineOrder]) -> Result<(), Fault>
-        requires { CanTake dims.now self.old rows.now }
+        requires { IsOver dims.now self.old }
         ensures ok { OnOk result (Takes dims.now self.old rows.now self.new) }
         ensures err { OnErr result (self.new ≡ self.old) }
-        ensures only { IfErr result (λ fault. fault ≡ Fault.Memory) }
+        ensures refused { result ≡ Err Fault.BadLayout → CanTake dims.now self.old rows.now → ⊥ }
+        ensures only { IfErr result (λ fault. (fault ≡ Fault.Memory) ⊎ (fault ≡ Fault.BadLayout)) }
     {
         self.add(dims, &RowSlice(rows))
     }
 
     /// Counts the rows of a batch in. A refusal leaves the fold as it was.
     ///
-    /// It asks nothing of the rows: `BadLayout` says that they could not be added by `add_rows`, since a row has a key that
-    /// no dimension row has, or since the sums with them pass their limit. All memory is taken before the first row is
-    /// counted.
+    /// It asks nothing of the rows, and refuses them as `add_rows` does. Where the query has a condition on quantities or
+    /// discounts, only the rows that keep it are looked at further.
     pub fn add_segment(&mut self, dims: &Dims, segment: &Segment) -> Result<(), Fault>
         requires { IsOver dims.now self.old }
         ensures ok { OnOk result (Takes dims.now self.old segment.now.rows self.new) }
         ensures err { OnErr result (self.new ≡ self.old) }
         ensures refused { result ≡ Err Fault.BadLayout → CanTake dims.now self.old segment.now.rows → ⊥ }
-        ensures only { IfErr result (λ fault. fault ≢ Fault.BadLayout → fault ≡ Fault.Memory) }
+        ensures only { IfErr result (λ fault. (fault ≡ Fault.Memory) ⊎ (fault ≡ Fault.BadLayout)) }
     {
-        self.add(dims, &SegmentRows::of(segment))
+        let conditions = self.plan.query().conditions.as_slice();
+        if !conditions.iter().any(|condition| is_bound(condition)) {
+            return self.add(dims, &SegmentRows::of(segment));
+        }
+        let rows = ChosenRows::within(self.alloc, segment, Bounds::of(conditions))?;
+        self.add(dims, &rows)
     }
 
     // Counts fact rows in, wherever they stand. A refusal leaves the fold as it was.
@@ -106,7 +113,7 @@ impl Fold {
         ensures ok { OnOk result (Takes dims.now self.old (F.rows rows.now) self.new) }
         ensures err { OnErr result (self.new ≡ self.old) }
         ensures refused { result ≡ Err Fault.BadLayout → CanTake dims.now self.old (F.rows rows.now) → ⊥ }
-        ensures only { IfErr result (λ fault. fault ≢ Fault.BadLayout → fault ≡ Fault.Memory) }
+        ensures only { IfErr result (λ fault. (fault ≡ Fault.Memory) ⊎ (fault ≡ Fault.BadLayout)) }
     {
         let columns = &mut self.columns;
         let slots = &mut self.slots;
@@ -127,12 +134,13 @@ impl Fold {
         Ok(())
     }
 
-    /// The answer over the fact rows that were added.
+    /// The answer over the fact rows that were added. `BadLayout` says that a sum over some of them passes its limit.
     pub fn finish(&self, dims: &Dims) -> Result<Answer, Fault>
         requires { IsFoldOver dims.now self.now }
         ensures answer { IfOk result (λ found. (rows : List LineOrder) → StandsFor dims.now self.now rows
             → found ≡ answer self.now.query dims.now rows) }
-        ensures only { IfErr result (λ fault. fault ≡ Fault.Memory) }
+        ensures refused { result ≡ Err Fault.BadLayout → IsFoldable dims.now self.now → ⊥ }
+        ensures only { IfErr result (λ fault. (fault ≡ Fault.Memory) ⊎ (fault ≡ Fault.BadLayout)) }
     {
         let plan = self.plan.over(dims);
         let query = self.plan.query();
@@ -144,9 +152,14 @@ impl Fold {
             &self.slots,
         ) {
             Ok(lines) => Ok(Answer { lines }),
-            Err(_) => Err(Fault::Memory),
+            Err(fault) => Err(fault),
         }
     }
+}
+
+// Whether a condition is on the quantity or the discount of a row.
+fn is_bound(condition: &Cond) -> bool {
+    matches!(condition, Cond::Quantity(_, _) | Cond::Discount(_, _))
 }
 
 // A fold of a proper query, with no row yet.
@@ -180,7 +193,7 @@ fn ready<F: FactRows>(
     ensures group_slots { IfOk result (λ group_slots.
         AreGroupSlots dims.now (query_of plan.now) (entries_of slots.new) (F.rows rows.now) group_slots.items) }
     ensures refused { result ≡ Err Fault.BadLayout → All (IsKnown dims.now) (F.rows rows.now) → ⊥ }
-    ensures only { IfErr result (λ fault. fault ≢ Fault.BadLayout → fault ≡ Fault.Memory) }
+    ensures only { IfErr result (λ fault. (fault ≡ Fault.Memory) ⊎ (fault ≡ Fault.BadLayout)) }
     ensures long { OnOk result (AllByRecursion (λ column. length (entries_of slots.new) ≤ length column.items)
         columns.new.items) }
     ensures same { (slot : ℕ) → tallies_at columns.new.items slot ≡ tallies_at columns.old.items slot }

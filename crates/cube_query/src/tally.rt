@@ -1,5 +1,5 @@
 //! The tally of some numbers.
-ghost use Rattle.std.specs.Prelude.{◌≡◌, ◌+◌, ◌+ℤ◌, ◌<◌, ◌≤◌, ◌^◌, false, [], ◌∷◌, FitsSigned};
+ghost use Rattle.std.specs.Prelude.{◌≡◌, ◌+◌, ◌+ℤ◌, ◌<◌, ◌≤◌, ◌^◌, false, [], ◌∷◌, FitsSigned, IfNone, IfOk, IfSome, OnErr};
 ghost use Rattle.std.specs.Int.{w64};
 ghost use Rattle.cube_model.specs.Proper.{is_average};
 ghost use Rattle.cube_model.specs.declared.answer.Value.TheVariants.{Whole};
@@ -8,6 +8,13 @@ ghost use Rattle.cube_query.specs.Tallies as spec;
 
 use crate::fraction::fraction_of;
 use cube_model::{Agg, Amount, Value};
+
+// The least count that a tally does not hold.
+const LIMIT: u64 = 1 << 63;
+
+/// A count or a sum would pass its type.
+#[derive(Clone, Copy, Debug, PartialEq, Eq)]
+pub struct TooLarge;
 
 /// The count of some numbers with their sum, the least and the greatest.
 #[derive(Clone, Copy, Debug, PartialEq, Eq)]
@@ -71,22 +78,28 @@ impl Tally {
     }
 
     /// Two tallies as one, where either may be that of none.
-    pub fn merge(self, other: Tally) -> Self
-        requires count { self.count + other.count < 2 ^ 63 }
-        requires sum { FitsSigned w64 (self.sum +ℤ other.sum) }
-        ensures { result ≡ spec.merged self other }
+    pub fn merge(self, other: Tally) -> Result<Self, TooLarge>
+        ensures ok { IfOk result (λ tally. tally ≡ spec.merged self other) }
+        ensures err { OnErr result (self.count + other.count < 2 ^ 63 → FitsSigned w64 (self.sum +ℤ other.sum) → ⊥) }
     {
         if self.count.get() == 0 {
-            return other;
+            return Ok(other);
         }
         if other.count.get() == 0 {
-            return self;
+            return Ok(self);
         }
-        Tally {
-            count: Amount::new(self.count.get() + other.count.get()),
-            sum: self.sum + other.sum,
-            least: self.least.min(other.least),
-            greatest: self.greatest.max(other.greatest),
+        let count = self.count.get() + other.count.get();
+        if count >= LIMIT {
+            return Err(TooLarge);
+        }
+        match sum_of(self.sum, other.sum) {
+            None => Err(TooLarge),
+            Some(sum) => Ok(Tally {
+                count: Amount::new(count),
+                sum,
+                least: self.least.min(other.least),
+                greatest: self.greatest.max(other.greatest),
+            }),
         }
     }
 
@@ -117,4 +130,12 @@ impl Tally {
             Agg::Avg(_) => unreachable!(),
         }
     }
+}
+
+// The sum of two numbers, where it fits.
+fn sum_of(left: i64, right: i64) -> Option<i64>
+    ensures some { IfSome result (λ sum. sum ≡ left +ℤ right) }
+    ensures none { IfNone result (FitsSigned w64 (left +ℤ right) → ⊥) }
+{
+    left.checked_add(right)
 }

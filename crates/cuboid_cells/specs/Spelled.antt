@@ -1,6 +1,6 @@
 -- How a run of cells is spelled. A view that does not group by ship mode has cells of 160 bytes, with four codes; one that
 -- does has cells of 162 bytes, with a fifth. Our layout.
-use Rattle.std.specs.Prelude.{◌≡◌, ℕ, ◌+◌, ◌<◌, ◌^◌, Bool, true, false, List, [], ◌++◌, length, codes}
+use Rattle.std.specs.Prelude.{◌≡◌, ℕ, ◌+◌, ◌<◌, ◌^◌, Bool, true, false, Option, Some, List, [], ◌++◌, length, codes}
 use Rattle.std.specs.List.{flat_map}
 use Rattle.wire.specs.Spelling.{signed_spelling, spelling}
 use Rattle.lattice.specs.Views.{index_of}
@@ -70,3 +70,7 @@ pub record IsRun (bytes : List ℕ) (batches : Span) (plain : PlainCells) : Type
   pub spelled : bytes ≡ run_of batches plain
   pub span : IsSpan batches
   pub proper : AreProper plain
+
+-- there is no text, or it is that of no run
+abbrev pub HoldsNoRun : Option (List ℕ) → Type 0
+HoldsNoRun text = (bytes : List ℕ) (span : Span) (plain : PlainCells) → text ≡ Some bytes → IsRun bytes span plain → ⊥

@@ -10,11 +10,13 @@ pub mod limits;
 mod merging;
 mod reading;
 mod rules;
+mod sources;
 mod span;
 mod summary;
 
 pub use cell::Cell;
 pub use cells::Cells;
 pub use key::Key;
+pub use sources::decode_from;
 pub use span::Span;
 pub use summary::{Summaries, Summary};

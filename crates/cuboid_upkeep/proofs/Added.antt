@@ -7,7 +7,7 @@ use Rattle.cube_model.specs.declared.rows.DimRows.{DimRows}
 use Rattle.cube_model.specs.declared.rows.LineOrder.{LineOrder}
 use Rattle.lattice.specs.declared.view.View.{View}
 use Rattle.cuboid_cells.specs.declared.cell.Cell.{Cell}
-use Rattle.cuboid_cells.specs.Cells.{cell_at, number_of}
+use Rattle.cuboid_cells.specs.Cells.{cell_at, number_of, CellFits, KeyFits}
 use Rattle.cuboid_cells.specs.Merges.{IsMergeFault, PassesType, merged, merged_if_any}
 use Rattle.cuboid_upkeep.specs.Grouping.{Group, HasMembers, PassType, StandFor}
 use Rattle.cuboid_upkeep.specs.Lawful.{MergesStandForBoth}
@@ -60,11 +60,12 @@ module _ (dimensions : DimRows) (view : View) (so_far rows : List LineOrder) whe
   batch_refused fault (inl memory) = inl memory
   batch_refused fault (inr bad) = inr (inl (bad.0, unfit_behind bad.1))
 
-  module _ (one other : List Cell) (first : StandFor dimensions so_far (record { view = view; cells = one }))
+  module _ (one other : List Cell) (fit : All CellFits one) (first : StandFor dimensions so_far (record { view = view; cells = one }))
       (second : StandFor dimensions rows (record { view = view; cells = other })) where
     passed : PassesType one other → PassType dimensions view (so_far ++ rows)
     passed p =
         let number : ℕ = number_of p.left.key in
+        let left_key : KeyFits p.left.key = subst (λ (c : Cell). KeyFits c.key) p.in_one.2 (fit p.in_one.0 p.left p.in_one.1).key in
         let at_left : cell_at number one ≡ Some p.left = only_one one p.left (ascending_apart one first.ascending) p.in_one in
         let at_right : cell_at number other ≡ Some p.right =
         ap (λ (n : ℕ). cell_at n other) p.key ∙ only_one other p.right (ascending_apart other second.ascending) p.in_other in record {
@@ -78,7 +79,7 @@ module _ (dimensions : DimRows) (view : View) (so_far rows : List LineOrder) whe
               over_append dimensions view number so_far rows
               ∙ (λ i. merged_if_any (sym (first.group number) i) (sym (second.group number) i))
               ∙ (λ i. merged_if_any (at_left i) (at_right i));
-          passes = p.passes;
+          passes = λ numbers. p.passes (record { key = left_key; count = numbers.count; measures = numbers.measures });
         }
 
     pub merge_refused : (fault : Fault) → IsMergeFault (record { view = view; cells = one }) (record { view = view; cells = other }) fault

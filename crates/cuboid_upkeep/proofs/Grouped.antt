@@ -9,11 +9,12 @@ use Rattle.cube_model.specs.declared.rows.LineOrder.{LineOrder}
 use Rattle.group_plan.specs.Rows.{no_row, row_at}
 use Rattle.lattice.specs.declared.view.View.{View}
 use Rattle.cuboid_cells.specs.declared.cell.Cell.{Cell}
-use Rattle.cuboid_cells.specs.Cells.{cell_at, number_of}
+use Rattle.cuboid_cells.specs.Cells.{cell_at, number_of, KeyFits}
 use Rattle.cuboid_cells.specs.Merges.{merged, merged_if_any}
 use Rattle.cuboid_upkeep.specs.Grouping.{Group, HasMembers, cell_over, key_of, summaries_over}
 use Rattle.cuboid_upkeep.specs.Steps.{AreGrouped, AreKeyed, AreUnfit, HasNoCell, IsCellOfRow, IsGood, Overflows, TakesIn}
 use Rattle.cuboid_upkeep.proofs.Found.{own_key}
+use Rattle.cuboid_upkeep.proofs.Sorted.{found_in}
 use Rattle.cuboid_upkeep.proofs.Merged.{both_group, over_append}
 
 -- the rows before a place were grouped
@@ -100,6 +101,8 @@ module _ (dimensions : DimRows) (view : View) where
     pub row_overflows : (keys : List ℕ) (cells : List Cell) (cell : Cell) → Grouping dimensions view (take place rows) keys cells
         → IsCellOfRow dimensions view row cell → Overflows cells cell → AreUnfit dimensions view rows
     row_overflows keys cells cell so_far is over =
+        let there = found_in (number_of cell.key) cells over.before over.is in
+        let key : KeyFits over.before.key = subst (λ (c : Cell). KeyFits c.key) there.2 (so_far.good there.0 over.before there.1).fits.key in
         let alone : cell_at (number_of cell.key) (cell ∷ []) ≡ Some cell =
         ap (λ (b : Bool). cond b (Some cell) None) (own_key (number_of cell.key) (number_of cell.key) refl) in
         inr (record {
@@ -113,7 +116,7 @@ module _ (dimensions : DimRows) (view : View) where
               over_append dimensions view (number_of cell.key) (take place rows) (row ∷ [])
               ∙ (λ i. merged_if_any (sym (so_far.group (number_of cell.key)) i) (sym (row_alone row cell is (number_of cell.key)) i))
               ∙ (λ i. merged_if_any (over.is i) (alone i));
-          passes = over.passes;
+          passes = λ numbers. over.passes (record { key = key; count = numbers.count; measures = numbers.measures });
         })
 
     pub overflow_refused : (keys : List ℕ) (cells : List Cell) (cell : Cell) → Grouping dimensions view (take place rows) keys cells

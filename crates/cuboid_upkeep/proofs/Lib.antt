@@ -6,3 +6,4 @@ mod Sorted
 mod Added
 mod OneList
 mod Coded
+mod InRange

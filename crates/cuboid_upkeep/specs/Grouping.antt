@@ -1,6 +1,6 @@
 -- The plain grouping of fact rows by the levels of a view: a cell for each choice of members that some row has, with the
 -- count of its rows and, for each measure, the sum, the least and the greatest of their numbers (Gray et al. 1997).
-use Rattle.std.specs.Prelude.{◌≡◌, ℕ, ◌==◌, Option, Some, None, List, [], ◌∷◌, ◌++◌, length, map, All}
+use Rattle.std.specs.Prelude.{◌≡◌, ℕ, ◌==◌, ◌<◌, ◌^◌, Option, Some, None, List, [], ◌∷◌, ◌++◌, length, map, All}
 use Rattle.std.specs.List.{filter}
 use Rattle.cube_model.specs.declared.attr.Axis.{Axis}
 use Rattle.cube_model.specs.declared.attr.Axis.TheVariants.{Customer, Supplier, Part, Date}
@@ -21,7 +21,7 @@ use Rattle.cuboid_cells.specs.declared.cell.Cell.{Cell}
 use Rattle.cuboid_cells.specs.declared.key.Key.{Key}
 use Rattle.cuboid_cells.specs.declared.summary.Summaries.{Summaries}
 use Rattle.cuboid_cells.specs.declared.summary.Summary.{Summary}
-use Rattle.cuboid_cells.specs.Cells.{AreAscending, CellFits, PlainCells, cell_at, number_of}
+use Rattle.cuboid_cells.specs.Cells.{AreAscending, PlainCells, SummariesFit, cell_at, number_of}
 use Rattle.cuboid_cells.specs.Limits.{all_code}
 use Rattle.cuboid_upkeep.specs.Codes.{member_code}
 
@@ -85,6 +85,11 @@ pub record StandFor (dimensions : DimRows) (rows : List LineOrder) (plain : Plai
   pub ascending : AreAscending plain.cells
   pub group : Group dimensions plain.view rows plain.cells
 
+-- the count and the measures of a cell fit their fields
+pub record NumbersFit (cell : Cell) : Type 0 where
+  pub count : cell.count < 2 ^ 64
+  pub measures : SummariesFit cell.measures
+
 -- those of one key among some fact rows one behind the other have a cell whose count, sum, least or greatest passes its type
 pub record PassType (dimensions : DimRows) (view : View) (rows : List LineOrder) : Type 0 where
   pub before : List LineOrder
@@ -94,4 +99,4 @@ pub record PassType (dimensions : DimRows) (view : View) (rows : List LineOrder)
   pub cell : Cell
   pub parts : rows ≡ before ++ (part ++ behind)
   pub is : cell_over dimensions view (rows_of dimensions view number part) ≡ Some cell
-  pub passes : CellFits cell → ⊥
+  pub passes : NumbersFit cell → ⊥

@@ -1,10 +1,12 @@
 -- What the definitions mean. Each is proved as the contract of a function of its name.
-use Rattle.std.specs.Prelude.{◌≡◌, List, ◌++◌}
+use Rattle.std.specs.Prelude.{◌≡◌, List, ◌++◌, length, ◌<◌, ◌^◌}
 use Rattle.cube_model.specs.declared.rows.DimRows.{DimRows}
 use Rattle.cube_model.specs.declared.rows.LineOrder.{LineOrder}
+use Rattle.cube_model.specs.Admission.{AreInRange}
+use Rattle.lattice.specs.declared.view.View.{View}
 use Rattle.cuboid_cells.specs.Cells.{PlainCells}
 use Rattle.cuboid_cells.specs.Merges.{IsMergeOf}
-use Rattle.cuboid_upkeep.specs.Grouping.{StandFor}
+use Rattle.cuboid_upkeep.specs.Grouping.{PassType, StandFor}
 
 -- the cells of fact rows put end to end are the merge of their cells
 abbrev pub MergesStandForBoth : Type 0
@@ -16,3 +18,8 @@ MergesStandForBoth = (dimensions : DimRows) (rows others : List LineOrder) (one 
 abbrev pub CellsAreTheOne : Type 0
 CellsAreTheOne = (dimensions : DimRows) (rows : List LineOrder) (one other : PlainCells)
     → one.view ≡ other.view → StandFor dimensions rows one → StandFor dimensions rows other → one ≡ other
+
+-- no cell of fact rows passes a type where the sums of the rows are in range
+abbrev pub RowsInRangeFit : Type 0
+RowsInRangeFit = (dimensions : DimRows) (view : View) (rows : List LineOrder)
+    → AreInRange rows → length rows < 2 ^ 63 → PassType dimensions view rows → ⊥

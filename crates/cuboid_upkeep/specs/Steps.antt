@@ -11,7 +11,7 @@ use Rattle.cuboid_cells.specs.declared.cell.Cell.{Cell}
 use Rattle.cuboid_cells.specs.Cells.{CellFits, IsCellOf, cell_at, number_of}
 use Rattle.cuboid_cells.specs.Limits.{most_cells}
 use Rattle.cuboid_cells.specs.Merges.{merged, merged_if_any}
-use Rattle.cuboid_upkeep.specs.Grouping.{Group, HasMembers, PassType, StandFor, cell_over}
+use Rattle.cuboid_upkeep.specs.Grouping.{Group, HasMembers, NumbersFit, PassType, StandFor, cell_over}
 
 -- a cell of a view whose numbers fit their fields
 pub record IsGood (view : View) (cell : Cell) : Type 0 where
@@ -28,7 +28,7 @@ pub record IsCellOfRow (dimensions : DimRows) (view : View) (row : LineOrder) (c
 abbrev pub HasNoCell : DimRows → View → LineOrder → Type 0
 HasNoCell dimensions view row =
     (HasMembers dimensions view row → ⊥)
-    ⊎ ((cell : Cell) × (cell_over dimensions view (row ∷ []) ≡ Some cell) × (CellFits cell → ⊥))
+    ⊎ ((cell : Cell) × (cell_over dimensions view (row ∷ []) ≡ Some cell) × (NumbersFit cell → ⊥))
 
 -- cells by the numbers of their keys, in the order that these came, no two of one key
 pub record AreKeyed (keys : List ℕ) (cells : List Cell) : Type 0 where

@@ -1,5 +1,5 @@
 //! Laws of the definitions: each function proves the statement that its contract names, and does nothing.
-ghost use Rattle.cuboid_upkeep.specs.Lawful.{CellsAreTheOne, MergesStandForBoth};
+ghost use Rattle.cuboid_upkeep.specs.Lawful.{CellsAreTheOne, MergesStandForBoth, RowsInRangeFit};
 
 /// The cells of fact rows put end to end are the merge of their cells.
 pub fn merges_stand_for_both()
@@ -9,4 +9,9 @@ pub fn merges_stand_for_both()
 /// Fact rows have one list of cells.
 pub fn cells_are_the_one()
     ensures { CellsAreTheOne }
+{}
+
+/// Fact rows whose sums are in range have no cell that passes a type.
+pub fn rows_in_range_fit()
+    ensures { RowsInRangeFit }
 {}

@@ -8,5 +8,5 @@ mod row_cell;
 mod taking;
 mod upkeep;
 
-pub use laws::{cells_are_the_one, merges_stand_for_both};
+pub use laws::{cells_are_the_one, merges_stand_for_both, rows_in_range_fit};
 pub use upkeep::add_rows;

@@ -55,6 +55,13 @@ impl<F: RawFile, S: Start> FileDisk<F, S> {
         }
     }
 
+    /// The open file.
+    pub fn file(&self) -> &F
+        ensures { result.now ≡ file_of self.now }
+    {
+        &self.file
+    }
+
     // Reads ahead, if the sector is not there and stands behind the one that was read last.
     fn look_ahead(&mut self, i: u32)
         requires { i < self.old.count }

@@ -1,5 +1,5 @@
 // Each method makes one call of the system, and then notes it with its answer.
-ghost use Rattle.std.specs.Prelude.{◌≡◌, ◌∷◌, [], MatchResult, is_ok};
+ghost use Rattle.std.specs.Prelude.{◌≡◌, ◌∷◌, [], Some, IfErr, MatchResult, is_ok};
 ghost use Rattle.file_device.specs.declared.event.Event.{Event};
 
 use crate::calls::Calls;
@@ -9,11 +9,12 @@ use std::fs::OpenFile;
 use std::io;
 use std::os::unix::fs::FileExt;
 
-/// An open file of the operating system, with the calls that were made of it.
+/// An open file of the operating system, with the calls that were made of it, and the last failure of one.
 #[derive(Drop)]
 pub struct Host<F: FileExt + OpenFile + Drop> {
     file: F,
     calls: Calls,
+    failure: Option<io::Error>,
 }
 
 impl<F: FileExt + OpenFile + Drop> Host<F> {
@@ -26,7 +27,13 @@ impl<F: FileExt + OpenFile + Drop> Host<F> {
         Host {
             file,
             calls: Calls::none(),
+            failure: None,
         }
+    }
+
+    /// What the system said of the last call for sectors that failed, if one did.
+    pub fn failure(&self) -> Option<io::Error> {
+        self.failure
     }
 
     /// How many bytes the file has. A call that fails is not recorded.
@@ -54,14 +61,16 @@ impl<F: FileExt + OpenFile + Drop> RawFile for Host<F> {
     ghost history = { events_of };
 
     fn read_sector(&mut self, i: u32, to: &mut [u8; 512]) -> io::Result<()> {
-        self.file.read_exact_at(to, u64::from(i) * 512)?;
+        let answer = self.file.read_exact_at(to, u64::from(i) * 512);
+        noted(answer, &mut self.failure)?;
         self.calls = self.calls.then(&Event::Read(i, *to));
         Ok(())
     }
 
     fn read_run(&mut self, first: u32, to: &mut [[u8; 512]]) -> io::Result<()> {
         let offset = u64::from(first) * 512;
-        self.file.read_exact_at(to.as_flattened_mut(), offset)?;
+        let answer = self.file.read_exact_at(to.as_flattened_mut(), offset);
+        noted(answer, &mut self.failure)?;
         for k in 0..to.len() {
             self.calls = self.calls.then(&Event::Read(first + k as u32, to[k]));
         }
@@ -71,12 +80,23 @@ impl<F: FileExt + OpenFile + Drop> RawFile for Host<F> {
     fn write_sector(&mut self, i: u32, from: &[u8; 512]) -> io::Result<()> {
         let answer = self.file.write_all_at(from, u64::from(i) * 512);
         self.calls = self.calls.then(&Event::Written(i, *from, answer.is_ok()));
-        answer
+        noted(answer, &mut self.failure)
     }
 
     fn sync(&mut self) -> io::Result<()> {
         let answer = self.file.sync_all();
         self.calls = self.calls.then(&Event::Synced(answer.is_ok()));
-        answer
+        noted(answer, &mut self.failure)
     }
+}
+
+// The answer of a call, of which a failure is kept.
+fn noted(answer: io::Result<()>, failure: &mut Option<io::Error>) -> io::Result<()>
+    ensures same { result ≡ answer }
+    ensures kept { IfErr answer (λ error. failure.new ≡ Some error) }
+{
+    if let Err(error) = &answer {
+        *failure = Some(*error);
+    }
+    answer
 }

@@ -14,14 +14,15 @@ use Rattle.cube_model.specs.declared.answer.Member.TheVariants.{All, Text}
 use Rattle.cube_model.specs.declared.attr.Attr.{Attr}
 use Rattle.cube_model.specs.declared.attr.Axis.{Axis}
 use Rattle.cube_model.specs.declared.attr.Axis.TheVariants.{Customer, Supplier, Part, Date}
+use Rattle.cube_model.specs.declared.query.Query.{Query}
 use Rattle.cube_model.specs.declared.rows.DimRows.{DimRows}
 use Rattle.cube_model.specs.declared.rows.LineOrder.{LineOrder}
 use Rattle.cube_model.specs.Attributes.{axis_of}
 use Rattle.cube_model.specs.Keys.{key_cmp, key_under, member_cmp}
 use Rattle.cube_model.specs.Order.{member_cmp_total}
 use Rattle.cube_model.specs.Places.{attr_members, row_count_of, texts_of, text_at}
-use Rattle.group_plan.specs.Numbers.{digit_count, group_count, member_at, key_at, KeysRise, IsKnown}
-use Rattle.group_plan.specs.Parts.{is_same, rank_at, part_at}
+use Rattle.group_plan.specs.Numbers.{digit_count, group_count, member_at, key_at, KeysRise, IsKnownOn}
+use Rattle.group_plan.specs.Parts.{is_on, is_same, is_used, rank_at, part_at}
 use Rattle.std.specs.Fmt.{decimal}
 use Rattle.std.proofs.lemmas.List.{length-map}
 use Rattle.std.proofs.lemmas.List.Folds.{list_any_at}
@@ -142,6 +143,30 @@ gather Supplier x a b c d = omega arith
 gather Part x a b c d = omega arith
 gather Date x a b c d = omega arith
 
+same_axis : (axis : Axis) → is_same axis axis ≡ true
+same_axis Customer = refl
+same_axis Supplier = refl
+same_axis Part = refl
+same_axis Date = refl
+
+-- the keys of a fact row are known in the dimensions that a query uses
+abbrev pub KnownWhereUsed : DimRows → Query → LineOrder → Type 0
+KnownWhereUsed dimensions query row = (axis : Axis) → is_used query axis ≡ true → IsKnownOn dimensions row axis
+
+-- so they are in those of its columns
+pub known_in_columns : (dimensions : DimRows) (query : Query) (row : LineOrder) → KnownWhereUsed dimensions query row
+    → (axis : Axis) → list_any (λ column. is_same (axis_of column) axis) query.columns ≡ true → IsKnownOn dimensions row axis
+known_in_columns dimensions query row known axis is =
+    known axis (ap (λ columns. columns || list_any (is_on axis) query.conditions) is)
+
+-- nothing is asked of a key in a dimension that a query does not use
+pub not_used : {Known : Type 0} (query : Query) (axis : Axis) → is_used query axis ≡ false → is_used query axis ≡ true → Known
+not_used query axis off on = absurd (true≢false (sym on ∙ off))
+
+or_more : (here behind : Bool) → behind ≡ true → here || behind ≡ true
+or_more true behind is = refl
+or_more false behind is = is
+
 module _ (dimensions : DimRows) (row : LineOrder) where
   abbrev pub part_on : List Attr → Axis → ℕ
   part_on columns axis = part_at dimensions axis (place_on dimensions row axis) columns
@@ -155,18 +180,23 @@ module _ (dimensions : DimRows) (row : LineOrder) where
   next_digit column columns = gather (axis_of column) (λ axis. rank_at dimensions column (place_on dimensions row axis) * group_count dimensions columns)
       (part_on columns Customer) (part_on columns Supplier) (part_on columns Part) (part_on columns Date)
 
-  -- the number is that of the row's key
-  pub number_is : IsKnown dimensions row → (columns : List Attr)
+  -- a column's own dimension is one of the columns'
+  own : (column : Attr) (columns : List Attr) → list_any (λ other. is_same (axis_of other) (axis_of column)) (column ∷ columns) ≡ true
+  own column columns = ap (λ here. here || list_any (λ other. is_same (axis_of other) (axis_of column)) columns) (same_axis (axis_of column))
+
+  -- the number is that of the row's key, where its keys are known in the dimensions of the columns
+  pub number_is : (columns : List Attr)
+      → ((axis : Axis) → list_any (λ column. is_same (axis_of column) axis) columns ≡ true → IsKnownOn dimensions row axis)
       → (number_on columns < group_count dimensions columns) × (key_at dimensions columns (number_on columns) ≡ key_under dimensions row columns (map (λ _. true) columns))
-  number_is known [] = (omega arith, refl)
-  number_is known (column ∷ columns) =
+  number_is [] known = (omega arith, refl)
+  number_is (column ∷ columns) known =
       let count = group_count dimensions columns in
       let members = attr_members dimensions column in
       let digits = digit_count dimensions column in
       let place = place_on dimensions row (axis_of column) in
       let rank = rank_at dimensions column place in
-      let small = rank_within dimensions column place (known (axis_of column)) in
-      let rest = number_is known columns in
+      let small = rank_within dimensions column place (known (axis_of column) (own column columns)) in
+      let rest = number_is columns (λ axis is. known axis (or_more (is_same (axis_of column) axis) _ is)) in
       let here = div-mul-add rank count (number_on columns) rest.0 in
       let others = mod-mul-add rank count (number_on columns) rest.0 in
       let within : number_on (column ∷ columns) < digits * count =
@@ -175,7 +205,7 @@ module _ (dimensions : DimRows) (row : LineOrder) where
         ap (key_at dimensions (column ∷ columns)) (next_digit column columns)
             ∙ (λ i. member_at dimensions column (here i) ∷ key_at dimensions columns (others i))
             ∙ (λ i. member_at-rank dimensions column rank small i ∷ key_at dimensions columns (number_on columns))
-            ∙ (λ i. Text ((rank_text dimensions column place (known (axis_of column)) ∙ sym (attribute_at_place dimensions column row)) i) ∷ rest.1 i),
+            ∙ (λ i. Text ((rank_text dimensions column place (known (axis_of column) (own column columns)) ∙ sym (attribute_at_place dimensions column row)) i) ∷ rest.1 i),
       )
 
 -- ---- what one place adds is less than there are groups, where there are any

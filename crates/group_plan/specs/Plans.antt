@@ -1,5 +1,5 @@
 -- What a plan keeps. Our own.
-use Rattle.std.specs.Prelude.{◌≡◌, ℕ, ◌<◌, ◌≤◌, ◌^◌, ◌&&◌, nat_le, Bool, min, max, Option, Some, None, List, length, slice_get, unwrap_or}
+use Rattle.std.specs.Prelude.{◌≡◌, ℕ, ◌<◌, ◌≤◌, ◌^◌, ◌&&◌, nat_le, Bool, false, min, max, Option, Some, None, List, length, slice_get, unwrap_or}
 use Rattle.std.specs.List.{list_all}
 use Rattle.cube_model.specs.declared.attr.Axis.{Axis}
 use Rattle.cube_model.specs.declared.attr.Axis.TheVariants.{Customer, Supplier, Part, Date}
@@ -12,7 +12,7 @@ use Rattle.cube_model.specs.Places.{row_count_of}
 use Rattle.group_plan.specs.Beginnings.{AreThoseOf}
 use Rattle.group_plan.specs.Columns.{AreColumns}
 use Rattle.group_plan.specs.Numbers.{group_count, KeysRise}
-use Rattle.group_plan.specs.Parts.{given_at, holds_in}
+use Rattle.group_plan.specs.Parts.{given_at, holds_in, is_used}
 use Rattle.group_plan.specs.declared.bounds.Bounds.{Bounds}
 use Rattle.group_plan.specs.declared.plan.Plan.{Plan}
 use Rattle.group_plan.specs.declared.side.Side.{Side}
@@ -75,6 +75,7 @@ pub record IsPlanOf (dimensions : DimRows) (plan : Plan) : Type 0 where
   pub few : length plan.query.columns ≤ 6
   pub within : AreBounds plan.query.conditions plan.bounds
   pub sides : (axis : Axis) → IsSide dimensions plan.query axis (side_of plan axis)
+  pub unused : (axis : Axis) → side_of plan axis ≡ Unused → is_used plan.query axis ≡ false
   pub columns : AreColumns dimensions plan.query.columns (length plan.query.columns) plan.columns.items
   pub rising : KeysRise dimensions plan.query.columns
   pub counted : plan.count ≡ group_count dimensions plan.query.columns

@@ -12,6 +12,7 @@ mod plan;
 mod rows;
 mod side;
 
+pub use bounds::Bounds;
 pub use over::PlanOver;
 pub use plan::Plan;
 pub use rows::{FactRows, RowSlice};

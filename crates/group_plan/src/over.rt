@@ -1,9 +1,9 @@
 //! A plan with its dimensions.
-ghost use Rattle.std.specs.Prelude.{◌≡◌, ◌<◌, length, slice_index_or, slice_set, IfOk, OnOk, OnErr};
+ghost use Rattle.std.specs.Prelude.{◌≡◌, ◌<◌, true, length, slice_index_or, slice_set, IfOk, OnOk, OnErr};
 ghost use Rattle.cube_model.specs.declared.answer.Member.TheVariants.{All};
 ghost use Rattle.group_plan.specs.Columns.{attr_at, is_all};
 ghost use Rattle.group_plan.specs.Numbers.{IsKnown, IsKnownOn, IsNumber, digit_count, group_count, key_at, member_at};
-ghost use Rattle.group_plan.specs.Parts.{given_on};
+ghost use Rattle.group_plan.specs.Parts.{given_on, is_used};
 ghost use Rattle.group_plan.specs.Plans.{IsPlanOf, query_of};
 ghost use Rattle.group_plan.specs.Rows.{row_at};
 
@@ -45,7 +45,8 @@ impl<'a> PlanOver<'a> {
     }
 
     /// The number of the group of the fact row at a place, if the row is selected. It refuses a row with a key that no
-    /// dimension row has, but where another number of the row tells that it is not selected it may not look at that key.
+    /// dimension row has, but it does not look at the key in a dimension that the query does not use, and where another
+    /// number of the row tells that it is not selected it may not look at any.
     pub fn number<F: FactRows>(&self, rows: &F, place: usize) -> Result<Option<u128>, UnknownKey>
         requires { place < length (F.rows rows.now) }
         ensures ok { IfOk result (IsNumber self.now.dimensions self.now.query (row_at (F.rows rows.now) place)) }
@@ -79,7 +80,8 @@ impl<'a> PlanOver<'a> {
         Ok(Some(customer + (supplier + (part + date))))
     }
 
-    // What the dimension row with the key of a fact row gives to the number of its group.
+    // What the dimension row with the key of a fact row gives to the number of its group. A dimension that the query does
+    // not use is not looked at.
     fn given<F: FactRows>(
         &self,
         rows: &F,
@@ -88,11 +90,16 @@ impl<'a> PlanOver<'a> {
     ) -> Result<Option<u128>, UnknownKey>
         requires { place < length (F.rows rows.now) }
         ensures ok { IfOk result (λ part. part ≡ given_on self.now.dimensions self.now.query (row_at (F.rows rows.now) place) axis) }
-        ensures known { OnOk result (IsKnownOn self.now.dimensions (row_at (F.rows rows.now) place) axis) }
+        ensures known { OnOk result (is_used self.now.query axis ≡ true
+            → IsKnownOn self.now.dimensions (row_at (F.rows rows.now) place) axis) }
         ensures unknown { OnErr result (IsKnownOn self.now.dimensions (row_at (F.rows rows.now) place) axis → ⊥) }
     {
+        let side = self.plan.side(axis);
+        if side.is_unused() {
+            return Ok(Some(0));
+        }
         let key = rows.key(place, axis);
-        self.plan.side(axis).given(self.dims, axis, key)
+        side.given(self.dims, axis, key)
     }
 
     /// The key of the group with a number.

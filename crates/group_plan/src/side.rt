@@ -1,5 +1,5 @@
 //! What the rows of one dimension give to the number of a group.
-ghost use Rattle.std.specs.Prelude.{◌≡◌, ◌<◌, ◌≤◌, ◌^◌, length, map, IfOk, IfSome, OnOk, OnErr};
+ghost use Rattle.std.specs.Prelude.{◌≡◌, ◌↔◌, ◌<◌, ◌≤◌, ◌^◌, false, length, map, IfOk, IfSome, IsTrue, OnOk, OnErr};
 ghost use Rattle.std.specs.List.{list_any, range_with_len};
 ghost use Rattle.cube_model.specs.Attributes.{axis_of};
 ghost use Rattle.cube_model.specs.Places.{row_index_of, row_count_of};
@@ -44,7 +44,8 @@ impl Side {
     ) -> Result<Side, AllocError>
         requires few { length query.now.columns ≤ 6 }
         requires count { count ≡ group_count dims.now query.now.columns }
-        ensures { IfOk result (IsSide dims.now query.now axis) }
+        ensures side { IfOk result (IsSide dims.now query.now axis) }
+        ensures unused { IfOk result (λ side. side ≡ Side.Unused → is_used query.now axis ≡ false) }
     {
         if !is_used(query, axis) {
             return Ok(Side::Unused);
@@ -67,6 +68,13 @@ impl Side {
             return Err(UnknownKey);
         }
         Ok(self.at(place))
+    }
+
+    /// Whether no condition and no column is on the dimension.
+    pub fn is_unused(&self) -> bool
+        ensures { IsTrue result ↔ (self.now ≡ Side.Unused) }
+    {
+        matches!(self, Side::Unused)
     }
 
     // What the row at a place gives.

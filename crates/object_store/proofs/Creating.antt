@@ -115,6 +115,18 @@ module _ (d0 d1 : Disk) (word : d1.keeps_word → d0.keeps_word) (size : d1.stat
   pub not_blank : (super : Super) → d1.keeps_word → (d1.keeps_word → (i : ℕ) → d1.state.may_hold i (d1.state.reads i)) → IsNewest d1.state.reads super → Each d0 IsBlank → ⊥
   not_blank super w stay newest blank = still_blank blank w d1.state.reads (stay w) (super.generation % 2) (omega arith) super newest.standing
 
+  -- where no valid superblock is read, none was read before
+  pub none_before : d1.keeps_word → HasNone d1.state.reads → HasNone d0.state.reads
+  none_before w none = none_same d1.state.reads d0.state.reads (λ slot lt. (only w).others slot (λ none. none)) none
+
+  -- over a valid superblock there are no writes of a creation
+  pub spared : (d2 : Disk) → (d2.keeps_word → d1.keeps_word) → d2.state.size ≡ d1.state.size → (d1.keeps_word → HasNone d1.state.reads) → (HasNone d0.state.reads → ⊥) → OnlyImagesOf d0 d2
+  spared d2 word2 size2 none formatted = record {
+    word = λ w. word (word2 w);
+    size = λ w. size2 ∙ size;
+    moments = λ w. absurd (formatted (none_before (word2 w) (none (word2 w))));
+  }
+
   -- and then the writes of a creation
   pub created_leaves : (d2 : Disk) (puts : List (ℕ × List ℕ)) (root : List ℕ) (layout : ℕ) (plan : Plan) → (d2.keeps_word → d1.keeps_word) → d2.state.size ≡ d1.state.size → (d1.keeps_word → HasNone d1.state.reads)
       → IsPlan d1.state.size [] [] puts root 1 layout plan → (d2.keeps_word → LeavesOnly d1.state d2.state (IsEither plan puts d1.state.reads)) → Each d0 IsBlank → LeavesOrNone d0 d2 (λ c. c ≡ created puts root layout)

@@ -1,10 +1,11 @@
 // The device calls of a creation.
-ghost use Rattle.std.specs.Prelude.{◌≡◌, ◌≢◌, ◌⊎◌, ◌+◌, ◌-◌, ◌^◌, ◌≤◌, ◌<◌, ℕ, [], min, IfOk, IfErr, OnOk};
+ghost use Rattle.std.specs.Prelude.{◌≡◌, ◌≢◌, ◌⊎◌, ◌+◌, ◌-◌, ◌^◌, ◌≤◌, ◌<◌, ℕ, [], min, IfOk, IfErr, OnOk, OnErr};
 ghost use Rattle.cube_model.specs.declared.fault.Fault.{Fault};
 ghost use Rattle.object_store.specs.Commit.{ArePuts, IsFew, IsLayout, IsRoot, created, puts_of};
 ghost use Rattle.object_store.specs.Disk.{disk, Each, IsBlank, LeavesOrNone, OnlyImagesOf};
 ghost use Rattle.object_store.specs.Ready.{IsKept, IsReady, content_from};
 ghost use Rattle.object_store.specs.Room.{LacksPlaces, asked_for};
+ghost use Rattle.object_store.specs.Shows.{HasNone};
 
 use crate::find::newest;
 use crate::plan::{Plan, first_plan};
@@ -37,6 +38,8 @@ pub(crate) fn create<D: Sectors>(
     ensures blank { IfErr result (λ fault. fault ≢ Fault.Device → Each (disk D.Sectors device.old) IsBlank → Each (disk D.Sectors device.new) IsBlank) }
     ensures not_already { IfErr result (λ fault. D.keeps_word device.new → Each (disk D.Sectors device.old) IsBlank → fault ≢ Fault.AlreadyFormatted) }
     ensures only { IfErr result (λ fault. fault ≡ Fault.AlreadyFormatted → OnlyImagesOf (disk D.Sectors device.old) (disk D.Sectors device.new)) }
+    ensures unformatted { OnOk result (D.keeps_word device.new → HasNone (D.state device.old).reads) }
+    ensures spared { OnErr result ((HasNone (D.state device.old).reads → ⊥) → OnlyImagesOf (disk D.Sectors device.old) (disk D.Sectors device.new)) }
     ensures device { IfErr result (λ fault. fault ≡ Fault.Device → D.failed device.new ≡ min (D.failed device.old + 1) (2 ^ 64 - 1)) }
     ensures full { IfErr result (λ fault. fault ≡ Fault.Full → LacksPlaces (D.state device.old).size [] (asked_for [] (puts_of puts.now) root.now)) }
     ensures causes { IfErr result (λ fault. (fault ≡ Fault.AlreadyFormatted) ⊎ ((fault ≡ Fault.Device) ⊎ ((fault ≡ Fault.Memory) ⊎ (fault ≡ Fault.Full)))) }

@@ -8,6 +8,7 @@ ghost use Rattle.object_store.specs.Ready.{IsKept, IsReady};
 ghost use Rattle.object_store.specs.Room.{LacksRoom, empty_room};
 ghost use Rattle.object_store.specs.Disk.{disk, IsBlank, AllShow, Leaves, LeavesOrNone, Each, OnlyImagesOf, IsShown, MayShowNothing, HasOneImage};
 ghost use Rattle.object_store.specs.Found.{is_of_layout};
+ghost use Rattle.object_store.specs.Shows.{HasNone};
 
 use crate::create::create;
 use crate::entries::find as find_entry;
@@ -68,8 +69,10 @@ impl<D: Sectors> Store<D> {
         ensures shows { IfOk result (λ store. AllShow (disk_of D.Sectors store) (λ c. c ≡ content_of D.Sectors store)) }
         ensures failures { IfOk result (λ store. (disk_of D.Sectors store).failures ≡ D.failed device) }
 
-        // On a device with a store no sector is written.
+        // It succeeds only where reads show no valid superblock at the start. Where they show one, no sector is written.
         ensures only { IfErr result (λ e. e.0 ≡ AlreadyFormatted → OnlyImagesOf (disk D.Sectors device) (disk D.Sectors e.1)) }
+        ensures unformatted { IfOk result (λ store. (disk_of D.Sectors store).keeps_word → HasNone (D.state device).reads) }
+        ensures spared { IfErr result (λ e. (HasNone (D.state device).reads → ⊥) → OnlyImagesOf (disk D.Sectors device) (disk D.Sectors e.1)) }
 
         // When each error comes.
         ensures device { IfErr result (λ e. e.0 ≡ Device → D.failed e.1 ≡ min (D.failed device + 1) (2 ^ 64 - 1)) }

@@ -1,14 +1,15 @@
 //! Batches that a fold refuses, and some that it takes.
 
 use column_segment::{decode, encode, is_batch};
-use cube_model::{Agg, Fault, Measure};
+use cube_model::{Agg, Attr, Fault, Measure};
 use cube_query::Fold;
 use dimensions::{Dims, have_short_texts};
 use sample_star::{Asked, EVERY_ROW, FIRST_FACT, Fact, STAR, dim_rows, line_orders, query};
 use std::alloc::Global;
 
-/// The sums of prices and of discounts.
+/// The sums of prices and of discounts, by the regions of the customers.
 const SUMS: Asked<'static> = Asked {
+    columns: &[Attr::CustomerRegion],
     aggregates: &[
         Agg::Sum(Measure::ExtendedPrice),
         Agg::Sum(Measure::Discounted),
@@ -23,7 +24,7 @@ const LARGE: Fact<'static> = Fact {
     ..FIRST_FACT
 };
 
-/// Rows with a key that no dimension row has, or whose sums pass their limit.
+/// Rows with a key that no row of a dimension in use has, or whose sums pass their limit.
 pub static REFUSED: [&[Fact<'static>]; 3] = [
     &[Fact {
         custkey: 9,

@@ -1,7 +1,5 @@
 //! Answers by the plain program, and by the fold in one call, in several, and over the columns of a batch.
-ghost use Rattle.cube_query.specs.Limits.{AreFoldable};
 
-use super::checks::are_foldable;
 use super::examples::Example;
 use super::plain::plain_answer;
 use super::printing::printed;
@@ -26,9 +24,7 @@ fn answer_row_by_row(
     dims: Dims,
     rows: &[LineOrder],
     query: &Query,
-) -> Result<Answer, Fault>
-    requires { AreFoldable dims rows.now }
-{
+) -> Result<Answer, Fault> {
     let fold = Fold::new(alloc, &dims, query)?;
     let mut session = Session { dims, fold };
     for i in 0..rows.len() {
@@ -38,21 +34,16 @@ fn answer_row_by_row(
     session.fold.finish(&session.dims)
 }
 
-// The answer by a fold over the columns of a batch; none where its rows may not be folded.
+// The answer by a fold over the columns of a batch.
 fn answer_over(
     alloc: Global,
     dims: &Dims,
     segment: &Segment,
     query: &Query,
-) -> Result<Option<Answer>, Fault> {
-    let mut rows = Vec::new(alloc);
-    segment.push_rows(alloc, 0, segment.len(), &mut rows)?;
-    if !are_foldable(dims, rows.as_slice()) {
-        return Ok(None);
-    }
+) -> Result<Answer, Fault> {
     let mut fold = Fold::new(alloc, dims, query)?;
     fold.add_segment(dims, segment)?;
-    Ok(Some(fold.finish(dims)?))
+    fold.finish(dims)
 }
 
 // The answer over rows that are spelled as a batch and read back; none where they are no batch.
@@ -67,11 +58,11 @@ fn answer_by_segment(
     }
     let bytes = encode(alloc, 1, rows)?;
     let segment = decode(alloc, bytes)?;
-    answer_over(alloc, dims, &segment, query)
+    Ok(Some(answer_over(alloc, dims, &segment, query)?))
 }
 
 /// The answer that the fold, in one call, row by row and over the columns of a batch, and the plain program agree on; none
-/// where they do not, or where the rows may not be folded.
+/// where they do not.
 pub fn agreed_answer(
     alloc: Global,
     dimensions: &DimRows,
@@ -82,9 +73,6 @@ pub fn agreed_answer(
         return Ok(None);
     }
     let dims = Dims::build(alloc, dimensions)?;
-    if !are_foldable(&dims, rows) {
-        return Ok(None);
-    }
     let answer = fold(alloc, &dims, rows, query)?;
     let Some(by_segment) = answer_by_segment(alloc, &dims, rows, query)? else {
         return Ok(None);

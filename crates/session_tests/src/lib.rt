@@ -12,6 +12,8 @@ mod calls;
 #[cfg(test)]
 mod changes;
 #[cfg(test)]
+mod example;
+#[cfg(test)]
 mod failures;
 #[cfg(test)]
 mod formatting;

@@ -56,5 +56,6 @@ pub(crate) fn status(batches: u32, rows: u64) -> Status {
         rows,
         target: 0,
         generation: u64::from(batches) + 1,
+        cuboids: [None; 16],
     }
 }

@@ -124,6 +124,8 @@ fn look_at_piece(
     if more.cause().is_some() {
         return Ok(more);
     }
-    fold.add_rows(dims, rows)?;
-    Ok(more)
+    match fold.add_rows(dims, rows) {
+        Ok(()) => Ok(more),
+        Err(fault) => Err(fault),
+    }
 }

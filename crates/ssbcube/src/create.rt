@@ -4,7 +4,7 @@ use crate::exit::DONE;
 use crate::files::{DimensionFiles, open_dimensions};
 use crate::options::{device as device_word, dimension_tables, number};
 use crate::output::unwritten;
-use crate::refusal::{Refusal, explained};
+use crate::refusal::{Met, Refusal, explained};
 use clap::{ArgMatches, Command};
 use cube_model::Fault;
 use dimensions::Dims;
@@ -52,7 +52,7 @@ where
 {
     let sectors = match made(rt, given) {
         Ok(sectors) => sectors,
-        Err(fault) => return Err(explained(rt, given, fault, None)),
+        Err(met) => return Err(explained(rt, given, met)),
     };
     match println!(rt; "created {sectors} sectors") {
         Ok(()) => Ok(DONE),
@@ -62,7 +62,7 @@ where
 }
 
 // The sectors of the warehouse that was made.
-fn made<R: Files + AllocGlobal>(rt: &R, given: &ArgMatches<'_>) -> Result<u32, Fault>
+fn made<R: Files + AllocGlobal>(rt: &R, given: &ArgMatches<'_>) -> Result<u32, Met>
 where
     R::File: FileExt,
 {

@@ -1,4 +1,5 @@
 //! The file of a warehouse.
+use crate::refusal::Met;
 use clap::ArgMatches;
 use cube_model::Fault;
 use dimensions::Dims;
@@ -22,7 +23,7 @@ pub fn create<R: Files + AllocGlobal>(
     path: &str,
     sectors: u32,
     dims: Dims,
-) -> Result<Session<Device<R::File>>, Fault>
+) -> Result<Session<Device<R::File>>, Met>
 where
     R::File: FileExt,
 {
@@ -30,7 +31,7 @@ where
     let device = cached(rt.alloc(), disk)?;
     match warehouse::create(rt.alloc(), device, dims) {
         Ok(session) => Ok(session),
-        Err((fault, _)) => Err(fault),
+        Err((fault, device)) => Err(met_by(fault, &device)),
     }
 }
 
@@ -38,7 +39,7 @@ where
 pub fn open<R: Files + AllocGlobal>(
     rt: &R,
     given: &ArgMatches<'_>,
-) -> Result<Session<Device<R::File>>, Fault>
+) -> Result<Session<Device<R::File>>, Met>
 where
     R::File: FileExt,
 {
@@ -46,7 +47,15 @@ where
     let device = cached(rt.alloc(), disk)?;
     match warehouse::open(rt.alloc(), device) {
         Ok(session) => Ok(session),
-        Err((fault, _)) => Err(fault),
+        Err((fault, device)) => Err(met_by(fault, &device)),
+    }
+}
+
+/// A fault, with what the system said of the file last.
+pub fn met_by<F: FileExt + OpenFile + Drop>(fault: Fault, device: &Device<F>) -> Met {
+    Met {
+        failure: device.device().file().failure(),
+        ..Met::from(fault)
     }
 }
 

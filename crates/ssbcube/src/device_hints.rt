@@ -5,6 +5,7 @@ use cube_model::Fault;
 use file_device::sectors_of;
 use std::alloc::Global;
 use std::fs::{self, OpenOptions};
+use std::io;
 use std::rt::Files;
 
 /// The bytes of a sector.
@@ -17,7 +18,6 @@ pub fn device_hint<R: Files + AllocGlobal>(
     fault: Fault,
 ) -> Result<Option<String>, Fault> {
     match fault {
-        Fault::Device => failure_hint(rt, given),
         Fault::DeviceSize => size_hint(rt, given),
         Fault::Full => room_hint(rt.alloc(), given),
         Fault::NotFormatted => said(
@@ -40,22 +40,25 @@ fn said(alloc: Global, given: &ArgMatches<'_>, what: &str) -> Result<Option<Stri
     Ok(Some(said))
 }
 
-// What the system says of the file now. A call that failed may go well when it is made again.
-fn failure_hint<R: Files + AllocGlobal>(
+/// Why a call of the file failed: what the system said, or else says when the file is opened again.
+pub fn failure_hint<R: Files + AllocGlobal>(
     rt: &R,
     given: &ArgMatches<'_>,
+    failure: Option<io::Error>,
 ) -> Result<Option<String>, Fault> {
     let path = path_of(given);
+    let said = match failure.or_else(|| unopened(rt, given)) {
+        Some(error) => format!(in rt.alloc(); "{path}: {error}")?,
+        None => format!(in rt.alloc(); "{path}: the system refused a call for it")?,
+    };
+    Ok(Some(said))
+}
+
+fn unopened<R: Files>(rt: &R, given: &ArgMatches<'_>) -> Option<io::Error> {
     let mut how = OpenOptions::new();
     let is_created = given.get_str("sectors").is_some();
     let how = how.read(true).write(true).create(is_created);
-    let said = match how.open(rt, path) {
-        Err(error) => format!(in rt.alloc(); "{path}: {error}")?,
-        Ok(_) => format!(in rt.alloc();
-            "{path}: the system refused a read, a write or a sync of it; is its disk full?"
-        )?,
-    };
-    Ok(Some(said))
+    how.open(rt, path_of(given)).err()
 }
 
 fn size_hint<R: Files + AllocGlobal>(

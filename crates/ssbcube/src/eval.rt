@@ -5,7 +5,7 @@ use crate::options::{CUBE_HELP, cube_words, dimension_tables, option};
 use crate::output::{is_closed, output, unwritten};
 use crate::progress::Progress;
 use crate::query::query_of;
-use crate::refusal::{Refusal, explained};
+use crate::refusal::{Met, Refusal, explained};
 use crate::screens::Screens;
 use clap::{ArgMatches, Command};
 use cube_model::{Fault, Query};
@@ -42,7 +42,7 @@ pub fn eval<R: Files + AllocGlobal + Print + Eprint + Clock>(
 ) -> Result<u8, Refusal> {
     let (query, dimensions, lineorder) = match opened(rt, given) {
         Ok(opened) => opened,
-        Err(fault) => return Err(explained(rt, given, fault, None)),
+        Err(fault) => return Err(explained(rt, given, Met::from(fault))),
     };
     let lineorder = Progress::new(rt, lineorder, screens.errors);
     let mut out = output(rt)?;
@@ -50,7 +50,7 @@ pub fn eval<R: Files + AllocGlobal + Print + Eprint + Clock>(
         Ok(()) => Ok(DONE),
         Err(Fault::Output) if is_closed(out.failure()) => Ok(DONE),
         Err(Fault::Output) => Err(unwritten(rt.alloc(), out.failure())),
-        Err(fault) => Err(explained(rt, given, fault, None)),
+        Err(fault) => Err(explained(rt, given, Met::from(fault))),
     }
 }
 

@@ -1,14 +1,14 @@
 //! A job that a command has done to its warehouse.
-use crate::device;
+use crate::device::{self, Device};
 use crate::exit::{DONE, UNFINISHED};
 use crate::load::cut_of;
 use crate::output::{is_closed, output, unwritten};
 use crate::query::query_of;
-use crate::refusal::{Refusal, explained};
+use crate::refusal::{Met, Refusal, explained};
 use clap::ArgMatches;
 use cube_model::Fault;
-use sector_device::Sectors;
 use ssb_eval::exit_of;
+use std::fs::OpenFile;
 use std::io::{self, Read};
 use std::os::unix::fs::FileExt;
 use std::rt::Files;
@@ -22,7 +22,7 @@ where
 {
     let query = match query_of(rt.alloc(), given) {
         Ok(query) => query,
-        Err(fault) => return Err(explained(rt, given, fault, None)),
+        Err(fault) => return Err(explained(rt, given, Met::from(fault))),
     };
     let as_of = given.get_one::<u32>("as-of");
     perform_job(rt, given, Job::Report { as_of, query }, io::empty())
@@ -40,14 +40,14 @@ where
 {
     let mut session = match device::open(rt, given) {
         Ok(session) => session,
-        Err(fault) => return Err(explained(rt, given, fault, None)),
+        Err(met) => return Err(explained(rt, given, met)),
     };
     let mut out = output(rt)?;
     match perform(rt.alloc(), &mut session, job, lineorder, &mut out) {
         Ok(done) => Ok(exit_of(&Ok(done))),
         Err(Fault::Output) if is_closed(out.failure()) => Ok(status_of_closed(given)),
         Err(Fault::Output) => Err(unwritten(rt.alloc(), out.failure())),
-        Err(fault) => Err(explained(rt, given, fault, batches_of(&session))),
+        Err(fault) => Err(explained(rt, given, met_in(fault, &session))),
     }
 }
 
@@ -59,8 +59,14 @@ fn status_of_closed(given: &ArgMatches<'_>) -> u8 {
     }
 }
 
-// How many batches there are, where that is still known.
-fn batches_of<D: Sectors>(session: &Session<D>) -> Option<u32> {
-    let status = session.status().ok()?;
-    Some(status.batches)
+// A fault, with how many batches there are, where that is still known, and why the device failed.
+fn met_in<F: FileExt + OpenFile + Drop>(fault: Fault, session: &Session<Device<F>>) -> Met {
+    let batches = match session.status() {
+        Ok(status) => Some(status.batches),
+        Err(_) => None,
+    };
+    Met {
+        batches,
+        ..device::met_by(fault, session.device())
+    }
 }

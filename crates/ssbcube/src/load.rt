@@ -4,7 +4,7 @@ use crate::files::open;
 use crate::job::perform_job;
 use crate::options::{device, number, word};
 use crate::progress::Progress;
-use crate::refusal::{Refusal, explained};
+use crate::refusal::{Met, Refusal, explained};
 use crate::screens::Screens;
 use clap::{ArgMatches, Command};
 use cube_model::limits::MOST_BATCH_ROWS;
@@ -71,7 +71,7 @@ where
 {
     let lineorder = match open(rt, given, "lineorder") {
         Ok(file) => file,
-        Err(fault) => return Err(explained(rt, given, fault, None)),
+        Err(fault) => return Err(explained(rt, given, Met::from(fault))),
     };
     let Some(job) = job_of(given) else {
         return Ok(NO_COMMAND);

@@ -1,11 +1,12 @@
 //! A refusal, and what the program knows of it.
-use crate::device_hints::device_hint;
+use crate::device_hints::{device_hint, failure_hint};
 use crate::files::GivenFiles;
 use crate::load::cut_of;
 use crate::query::query_hint;
 use clap::ArgMatches;
 use cube_model::Fault;
 use std::alloc::{AllocError, Global};
+use std::io;
 use std::rt::Files;
 use table_hints::{load_hint, table_hint};
 
@@ -28,39 +29,55 @@ impl From<AllocError> for Refusal {
     }
 }
 
-/// A fault of a command with what can be found out of it, where the warehouse has so many batches, if it was opened.
-/// Where nothing can be found out nothing is said.
-pub fn explained<R: Files + AllocGlobal>(
-    rt: &R,
-    given: &ArgMatches<'_>,
-    fault: Fault,
-    batches: Option<u32>,
-) -> Refusal {
-    let hint = match hint_of(rt, given, fault, batches) {
+/// A fault, and what is known where it comes.
+#[derive(Clone, Copy)]
+pub struct Met {
+    pub fault: Fault,
+    /// How many batches the warehouse has, where it was opened.
+    pub batches: Option<u32>,
+    /// What the system said of the warehouse's file.
+    pub failure: Option<io::Error>,
+}
+
+impl From<Fault> for Met {
+    fn from(fault: Fault) -> Met {
+        Met {
+            fault,
+            batches: None,
+            failure: None,
+        }
+    }
+}
+
+/// A fault of a command with what can be found out of it. Where nothing can be found out nothing is said.
+pub fn explained<R: Files + AllocGlobal>(rt: &R, given: &ArgMatches<'_>, met: Met) -> Refusal {
+    let hint = match hint_of(rt, given, met) {
         Ok(hint) => hint,
         Err(_) => None,
     };
-    Refusal { fault, hint }
+    Refusal {
+        fault: met.fault,
+        hint,
+    }
 }
 
 fn hint_of<R: Files + AllocGlobal>(
     rt: &R,
     given: &ArgMatches<'_>,
-    fault: Fault,
-    batches: Option<u32>,
+    met: Met,
 ) -> Result<Option<String>, Fault> {
     let files = GivenFiles { rt, given };
-    match fault {
+    match met.fault {
         Fault::BadQuery => query_hint(rt.alloc(), given),
         Fault::Input => files.unreadable(rt.alloc()),
-        Fault::NoSuchPrefix => prefix_hint(rt.alloc(), given, batches),
-        Fault::Device
-        | Fault::Full
+        Fault::NoSuchPrefix => prefix_hint(rt.alloc(), given, met.batches),
+        Fault::Device => failure_hint(rt, given, met.failure),
+        Fault::Full
         | Fault::NotFormatted
         | Fault::AlreadyFormatted
         | Fault::BadLayout
-        | Fault::DeviceSize => device_hint(rt, given, fault),
-        _ => row_hint(rt.alloc(), &files, fault, batches),
+        | Fault::DeviceSize => device_hint(rt, given, met.fault),
+        _ => row_hint(rt.alloc(), &files, met),
     }
 }
 
@@ -79,11 +96,10 @@ fn prefix_hint(
 fn row_hint<R: Files>(
     alloc: Global,
     files: &GivenFiles<'_, '_, '_, R>,
-    fault: Fault,
-    batches: Option<u32>,
+    met: Met,
 ) -> Result<Option<String>, Fault> {
-    match (cut_of(files.given), batches) {
-        (Some(cut), Some(batches)) => load_hint(alloc, files, fault, cut, batches),
-        _ => table_hint(alloc, files, fault),
+    match (cut_of(files.given), met.batches) {
+        (Some(cut), Some(batches)) => load_hint(alloc, files, met.fault, cut, batches),
+        _ => table_hint(alloc, files, met.fault),
     }
 }

@@ -3,6 +3,7 @@ ghost use Rattle.std.specs.Prelude.{◌≡◌, ◌≢◌, ◌⊎◌, ◌+◌, �
 ghost use Rattle.cube_model.specs.declared.fault.Fault.TheVariants.{AlreadyFormatted, Device, DeviceSize, Full, Memory};
 ghost use Rattle.object_store.specs.Disk.{disk, Each, IsBlank, LeavesOrNone, OnlyImagesOf};
 ghost use Rattle.object_store.specs.Room.{LacksRoom, empty_room};
+ghost use Rattle.object_store.specs.Shows.{HasNone};
 ghost use Rattle.warehouse_root.specs.declared.layout.Layout.TheVariants.{First};
 ghost use Rattle.warehouse_root.specs.Root as roots;
 ghost use Rattle.warehouse_objects.specs.Lawful.{dimension_puts};
@@ -33,8 +34,10 @@ pub fn create<D: Sectors>(alloc: Global, device: D, dims: Dims) -> Result<Sessio
     // Then it is at the warehouse of no batch, and every image stands for it.
     ensures ok { IfOk result (λ session. IsAt D.Sectors session (fresh dims)) }
 
-    // On a device with a store no sector is written.
+    // It succeeds only where reads show no valid superblock at the start. Where they show one, no sector is written.
     ensures only { IfErr result (λ e. e.0 ≡ AlreadyFormatted → OnlyImagesOf (disk D.Sectors device) (disk D.Sectors e.1)) }
+    ensures unformatted { IfOk result (λ session. (disk_of D.Sectors session).keeps_word → HasNone (D.state device).reads) }
+    ensures spared { IfErr result (λ e. (HasNone (D.state device).reads → ⊥) → OnlyImagesOf (disk D.Sectors device) (disk D.Sectors e.1)) }
 
     // When each error comes.
     ensures device { IfErr result (λ e. e.0 ≡ Device → D.failed e.1 ≡ min (D.failed device + 1) (2 ^ 64 - 1)) }

@@ -18,4 +18,5 @@ pub use creation::create;
 pub use opening::open;
 pub use running::run;
 pub use session::Session;
-pub use status::Status;
+pub use status::{MOST_CUBOIDS, Status};
+pub use warehouse_root::StoredCuboid;

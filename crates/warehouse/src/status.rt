@@ -11,6 +11,10 @@ use crate::prepared::kept_is_what_stands;
 use crate::session::Session;
 use cube_model::Fault;
 use sector_device::Sectors;
+use warehouse_root::StoredCuboid;
+
+/// The most cuboids that a warehouse stores.
+pub const MOST_CUBOIDS: usize = 16;
 
 /// The numbers of a warehouse.
 #[derive(Clone, Copy, Debug, PartialEq, Eq)]
@@ -23,6 +27,8 @@ pub struct Status {
     pub target: u32,
     /// How many commits made what stands on the device.
     pub generation: u64,
+    /// The stored cuboids, by ascending view. Places behind the last one are empty.
+    pub cuboids: [Option<StoredCuboid>; MOST_CUBOIDS],
 }
 
 impl<D: Sectors> Session<D> {
@@ -44,6 +50,7 @@ impl<D: Sectors> Session<D> {
             rows: row_total(batches),
             target: self.root.target(),
             generation: self.store.generation(),
+            cuboids: [None; MOST_CUBOIDS], // no warehouse stores one yet
         })
     }
 }

@@ -23,26 +23,27 @@ use Rattle.warehouse_objects.specs.Stands.{Stands}
 use Rattle.warehouse.specs.declared.session.Session.{Session}
 use Rattle.warehouse.specs.Session.{IsAt, disk_of}
 use Rattle.warehouse_jobs.specs.Cutting.{IsNextFault}
-use Rattle.warehouse_jobs.specs.Loading.{Ends, FailsInBatch, Loads, MayHold, with_batch, with_batches}
+use Rattle.warehouse_jobs.specs.Loading.{Ends, FailsInBatch, InTurn, Loads, MayHold, with_batch, with_batches}
 use Rattle.warehouse_jobs.specs.Printed.{count_line}
 use Rattle.warehouse_jobs.proofs.Cuts.{parts-fault, parts-none}
-use Rattle.warehouse_jobs.proofs.Through.{IsThrough, few_batches, holds-next, next-part, through-none}
-use Rattle.warehouse_jobs.proofs.Turns.{with-added}
+use Rattle.warehouse_jobs.proofs.Through.{IsThrough, few_batches, holds-fewer, holds-next, next-part, through-none}
+use Rattle.warehouse_jobs.proofs.Turns.{turns-later, with-added}
 
 module _ {D : Type 0} (g : Ghosts D) (w : Warehouse) (first size : ℕ) (text : List ℕ) (old mid : Session D g) (before told : Option (List ℕ)) (lines : Unread) (done : List (List LineOrder))
     (through : IsThrough g w first size text old mid before told lines done) where
   -- the batches that were done, and an end
   ended : (new : Session D g) (after : Option (List ℕ)) (result : Result Unit Fault)
       → Ends g (next_number lines.number) (parts_of size (lines_of through.left)) (with_batches w first done) (first + length done) mid new told after result
-      → Leaves (disk_of g old) (disk_of g new) (MayHold w first (parts_of size (lines_of text))) → Loads g w first size text old new before after result
-  ended new after result ends leaves = record {
+      → InTurn g (MayHold w first (parts_of size (lines_of text))) new 0 old before w first done mid told
+      → Leaves (disk_of g old) (disk_of g new) (MayHold w first (parts_of size (lines_of text)) 0) → Loads g w first size text old new before after result
+  ended new after result ends in_turn leaves = record {
     done = done;
     next = next_number lines.number;
     left = parts_of size (lines_of through.left);
     cut = through.cut;
     session = mid;
     told = told;
-    in_turn = through.in_turn;
+    in_turn = in_turn;
     at = through.at;
     told_is = through.told_is;
     ends = ends;
@@ -61,7 +62,7 @@ module _ {D : Type 0} (g : Ghosts D) (w : Warehouse) (first size : ℕ) (text : 
   pub loads-unread : (fault : Fault) (result : Result Unit Fault) → 1 ≤ size → RefusesBatch lineorder_row size lines fault → (other : Fault) × (result ≡ Err other) × (other ≡ fault)
       → Loads g w first size text old mid before told result
   loads-unread fault result some refused stop =
-      rw (stop.1, stop.2) (ended mid told (Err fault) (inl (record { cause = unread_cause fault some refused; same = refl; nothing = Keeps-refl told })) through.leaves)
+      rw (stop.1, stop.2) (ended mid told (Err fault) (inl (record { cause = unread_cause fault some refused; same = refl; nothing = Keeps-refl told })) through.in_turn through.leaves)
 
   -- what a stop in a batch that did not end well leaves
   failed_leaves : (new : Session D g) (after : Option (List ℕ)) (rows : List LineOrder) (fault : Fault) → FailsInBatch g (with_batches w first done) (first + length done) rows mid new told after fault
@@ -81,11 +82,14 @@ module _ {D : Type 0} (g : Ghosts D) (w : Warehouse) (first size : ℕ) (text : 
       let part = next-part size lines others through.left rows some any through.left_is takes in
       let parts = parts_of size (lines_of text) in
       let now = with_batches w first done in
-      rw (stop.1, stop.2) (ended new after (Err fault) (inr (inl (record { rows = rows; read = part.batch; ends = fails })))
-      (leaves_then (MayHold w first parts) (disk_of g old) (disk_of g mid) (disk_of g new) through.leaves
-      (leaves_weaker (λ (c : Content). Stands c now ⊎ Stands c (with_batch now (first + length done) rows)) (MayHold w first parts) (disk_of g mid) (disk_of g new)
+      let between : Leaves (disk_of g mid) (disk_of g new) (MayHold w first parts (length done)) =
+      leaves_weaker (λ (c : Content). Stands c now ⊎ Stands c (with_batch now (first + length done) rows)) (MayHold w first parts (length done)) (disk_of g mid) (disk_of g new)
       (λ k c here. holds-next g w first (next_number lines.number) parts (parts_of size (lines_of through.left)) done rows c through.cut part.batch here)
-      (failed_leaves new after rows fault fails))))
+      (failed_leaves new after rows fault fails) in
+      rw (stop.1, stop.2) (ended new after (Err fault) (inr (inl (record { rows = rows; read = part.batch; ends = fails })))
+      (turns-later g (MayHold w first parts) (length done) mid new 0 old mid before told w first done (holds-fewer w first parts) between (omega arith) through.in_turn)
+      (leaves_then (MayHold w first parts 0) (disk_of g old) (disk_of g mid) (disk_of g new) through.leaves
+      (leaves_weaker (MayHold w first parts (length done)) (MayHold w first parts 0) (disk_of g mid) (disk_of g new) (λ k c may. holds-fewer w first parts 0 (length done) c (omega arith) may) between)))
 
   -- no row was left
   none_left : (others : Unread) (rows : List LineOrder) → 1 ≤ size → length rows ≡ 0 → TakesBatch lineorder_row size lines others rows → parts_of size (lines_of through.left) ≡ []
@@ -98,10 +102,10 @@ module _ {D : Type 0} (g : Ghosts D) (w : Warehouse) (first size : ℕ) (text : 
   pub loads-closed : (after : Option (List ℕ)) (others : Unread) (rows : List LineOrder) (count : ℕ) (result : Result Unit Fault) → 1 ≤ size → length rows ≡ 0
       → TakesBatch lineorder_row size lines others rows → count ≡ length (with_batches w first done).batches → Writes told after result (count_line count) → Loads g w first size text old mid before after result
   loads-closed after others rows count (Ok wrote) some none takes counted written =
-      ended mid after (Ok wrote) (record { none = none_left others rows some none takes; same = refl; written = subst (λ n. Appends told after (count_line n)) counted written }) through.leaves
+      ended mid after (Ok wrote) (record { none = none_left others rows some none takes; same = refl; written = subst (λ n. Appends told after (count_line n)) counted written }) through.in_turn through.leaves
   loads-closed after others rows count (Err fault) some none takes counted written =
       let whole = subst (λ n. Writes told after (Err fault) (count_line n)) counted written in
-      ended mid after (Err fault) (inr (inr (record { failed = whole.0; none = none_left others rows some none takes; same = refl; written = whole.1 }))) through.leaves
+      ended mid after (Err fault) (inr (inr (record { failed = whole.0; none = none_left others rows some none takes; same = refl; written = whole.1 }))) through.in_turn through.leaves
 
   -- the number of the next batch is one
   pub numbered : (number : ℕ) → first < 4294967296 → number ≡ min (first + length done) 4294967295 → (disk_of g mid).keeps_word → number ≡ first + length done
@@ -127,4 +131,4 @@ pub loads-none : {D : Type 0} (g : Ghosts D) (w : Warehouse) (first size : ℕ) 
 loads-none g w first size text now before fault result memory at leaves stop =
     let lines : Unread = record { left = Some text; line = []; number = 0; fault = None } in
     let through = through-none g w first size text now before lines refl refl at leaves in
-    rw (stop.1, stop.2) (ended g w first size text now now before before lines [] through now before (Err fault) (inl (record { cause = inl memory; same = refl; nothing = Keeps-refl before })) through.leaves)
+    rw (stop.1, stop.2) (ended g w first size text now now before before lines [] through now before (Err fault) (inl (record { cause = inl memory; same = refl; nothing = Keeps-refl before })) through.in_turn through.leaves)

@@ -4,3 +4,4 @@ pub mod Through
 pub mod Endings
 pub mod Reported
 pub mod Performed
+pub mod Added

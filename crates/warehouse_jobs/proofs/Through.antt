@@ -26,17 +26,17 @@ use Rattle.warehouse.proofs.Preparing.{follows}
 use Rattle.warehouse_jobs.specs.Cutting.{AreCut, IsNextBatch}
 use Rattle.warehouse_jobs.specs.Loading.{InTurn, MayHold, TakesIn, line_in, lines_in, taken_of, with_batch, with_batches}
 use Rattle.warehouse_jobs.proofs.Cuts.{cut-more, parts-next}
-use Rattle.warehouse_jobs.proofs.Turns.{lines-last, turn-more, with-added, with-last, with-skipped}
+use Rattle.warehouse_jobs.proofs.Turns.{lines-last, turn-more, turns-later, with-added, with-last, with-skipped}
 
 -- so many batches of a text were done, and the lines of the others are left
 pub record IsThrough {D : Type 0} (g : Ghosts D) (w : Warehouse) (first size : ℕ) (text : List ℕ) (old now : Session D g) (before after : Option (List ℕ)) (lines : Unread) (done : List (List LineOrder)) : Type 0 where
   pub left : List ℕ
   pub left_is : lines.left ≡ Some left
   pub cut : AreCut 1 (parts_of size (lines_of text)) done (next_number lines.number) (parts_of size (lines_of left))
-  pub in_turn : InTurn g old before w first done now after
+  pub in_turn : InTurn g (MayHold w first (parts_of size (lines_of text))) now 0 old before w first done now after
   pub at : IsAt g now (with_batches w first done)
   pub told_is : Appends before after (lines_in w first done)
-  pub leaves : Leaves (disk_of g old) (disk_of g now) (MayHold w first (parts_of size (lines_of text)))
+  pub leaves : Leaves (disk_of g old) (disk_of g now) (MayHold w first (parts_of size (lines_of text)) 0)
   pub reached : (length done ≡ 0) ⊎ (first + length done ≤ length (with_batches w first done).batches + 1)
 
 -- none at first
@@ -50,8 +50,8 @@ through-none g w first size text now before lines left_is number at leaves = rec
   in_turn = (refl, refl);
   at = at;
   told_is = Appends-nil before;
-  leaves = leaves_weaker (λ (c : Content). Stands c w) (MayHold w first (parts_of size (lines_of text))) (disk_of g now) (disk_of g now)
-      (λ k c here. record { some = []; next = 1; left = parts_of size (lines_of text); cut = (refl, refl); stands = here }) leaves;
+  leaves = leaves_weaker (λ (c : Content). Stands c w) (MayHold w first (parts_of size (lines_of text)) 0) (disk_of g now) (disk_of g now)
+      (λ k c here. record { some = []; next = 1; left = parts_of size (lines_of text); cut = (refl, refl); no_fewer = omega arith; stands = here }) leaves;
   reached = inl refl;
 }
 
@@ -83,14 +83,26 @@ next-part size old new left rows some any left_is takes =
 -- what a stop within a batch leaves
 pub holds-next : {D : Type 0} (g : Ghosts D) (w : Warehouse) (first next : ℕ) (parts left : List (List (List ℕ))) (done : List (List LineOrder)) (rows : List LineOrder) (c : Content)
     → AreCut 1 parts done next left → IsNextBatch next left rows
-    → Stands c (with_batches w first done) ⊎ Stands c (with_batch (with_batches w first done) (first + length done) rows) → MayHold w first parts c
-holds-next g w first next parts left done rows c cut batch (inl here) = record { some = done; next = next; left = left; cut = cut; stands = here }
+    → Stands c (with_batches w first done) ⊎ Stands c (with_batch (with_batches w first done) (first + length done) rows) → MayHold w first parts (length done) c
+holds-next g w first next parts left done rows c cut batch (inl here) = record { some = done; next = next; left = left; cut = cut; no_fewer = omega arith; stands = here }
 holds-next g w first next parts left done rows c cut batch (inr here) = record {
   some = done ++ rows ∷ [];
   next = number_after (length rows) next;
   left = batch.others;
   cut = cut-more 1 parts done next left batch.others batch.lines rows cut batch.part batch.read;
+  no_fewer = let longer : length (done ++ rows ∷ []) ≡ length done + 1 = length_push done rows in omega (arith, longer);
   stands = subst (λ (v : Warehouse). Stands c v) (sym (with-last w first done rows)) here;
+}
+
+-- what may be held with many batches may be with fewer
+pub holds-fewer : (w : Warehouse) (first : ℕ) (parts : List (List (List ℕ))) (fewer many : ℕ) (c : Content) → fewer ≤ many → MayHold w first parts many c → MayHold w first parts fewer c
+holds-fewer w first parts fewer many c le may = record {
+  some = may.some;
+  next = may.next;
+  left = may.left;
+  cut = may.cut;
+  no_fewer = omega (arith, le, may.no_fewer);
+  stands = may.stands;
 }
 
 -- a batch that was done has a number of the warehouse behind it
@@ -115,9 +127,10 @@ few_batches g session w at k =
 pub through-more : {D : Type 0} (g : Ghosts D) (w : Warehouse) (first size : ℕ) (text : List ℕ) (old mid new : Session D g) (before told after : Option (List ℕ)) (lines others : Unread) (done : List (List LineOrder)) (rows : List LineOrder)
     → 1 ≤ size → 1 ≤ length rows → IsThrough g w first size text old mid before told lines done → TakesBatch lineorder_row size lines others rows
     → TakesIn g (with_batches w first done) (first + length done) rows mid new (taken_of (with_batches w first done) (first + length done))
+    → Leaves (disk_of g new) (disk_of g new) (λ c. Stands c (with_batch (with_batches w first done) (first + length done) rows))
     → Appends told after (line_in (with_batches w first done) (first + length done) rows)
     → IsThrough g w first size text old new before after others (done ++ rows ∷ [])
-through-more {D} g w first size text old mid new before told after lines others done rows some any through takes one line =
+through-more {D} g w first size text old mid new before told after lines others done rows some any through takes one here line =
     let part = next-part size lines others through.left rows some any through.left_is takes in
     let parts = parts_of size (lines_of text) in
     let now = with_batches w first done in
@@ -128,16 +141,29 @@ through-more {D} g w first size text old mid new before told after lines others 
     let longer : length (done ++ rows ∷ []) ≡ length done + 1 = length_push done rows in
     let reached : number ≤ length (with_batch now number rows).batches = reaches now number rows one.follows in
     let at_most : number + 1 ≤ length (with_batches w first (done ++ rows ∷ [])).batches + 1 = subst (λ (v : Warehouse). number + 1 ≤ length v.batches + 1) (sym back) (omega (arith, reached)) in
+    let between : Leaves (disk_of g mid) (disk_of g new) (MayHold w first parts (length done)) =
+    leaves_weaker (λ (c : Content). Stands c now ⊎ Stands c (with_batch now number rows)) (MayHold w first parts (length done)) (disk_of g mid) (disk_of g new)
+    (λ k c holds. holds-next g w first (next_number lines.number) parts (parts_of size (lines_of through.left)) done rows c through.cut part.batch holds) one.leaves in
+    let then : Leaves (disk_of g new) (disk_of g new) (MayHold w first parts (0 + length done + 1)) =
+    leaves_weaker (λ (c : Content). Stands c (with_batch now number rows)) (MayHold w first parts (0 + length done + 1)) (disk_of g new) (disk_of g new)
+    (λ k c stands. record {
+      some = done ++ rows ∷ [];
+      next = number_after (length rows) (next_number lines.number);
+      left = part.batch.others;
+      cut = cut;
+      no_fewer = omega (arith, longer);
+      stands = subst (λ (v : Warehouse). Stands c v) (sym back) stands;
+    }) here in
     record {
       left = part.rest;
       left_is = part.rest_is;
       cut = subst (λ n. AreCut 1 parts (done ++ rows ∷ []) n (parts_of size (lines_of part.rest))) counted
           (subst (λ (l : List (List (List ℕ))). AreCut 1 parts (done ++ rows ∷ []) (number_after (length rows) (next_number lines.number)) l) part.others_are cut);
-      in_turn = turn-more g old mid new before told after w first done rows through.in_turn one line;
+      in_turn = turn-more g (MayHold w first parts) 0 old mid new before told after w first done rows
+          (turns-later g (MayHold w first parts) (length done) mid new 0 old mid before told w first done (holds-fewer w first parts) between (omega arith) through.in_turn) one then line;
       at = subst (λ (v : Warehouse). IsAt g new v) (sym back) one.at;
       told_is = subst (λ (l : List ℕ). Appends before after l) (sym (lines-last w first done rows)) (Appends-trans before told after (lines_in w first done) (line_in now number rows) through.told_is line);
-      leaves = leaves_then (MayHold w first parts) (disk_of g old) (disk_of g mid) (disk_of g new) through.leaves
-          (leaves_weaker (λ (c : Content). Stands c now ⊎ Stands c (with_batch now number rows)) (MayHold w first parts) (disk_of g mid) (disk_of g new)
-          (λ k c here. holds-next g w first (next_number lines.number) parts (parts_of size (lines_of through.left)) done rows c through.cut part.batch here) one.leaves);
+      leaves = leaves_then (MayHold w first parts 0) (disk_of g old) (disk_of g mid) (disk_of g new) through.leaves
+          (leaves_weaker (MayHold w first parts (length done)) (MayHold w first parts 0) (disk_of g mid) (disk_of g new) (λ k c may. holds-fewer w first parts 0 (length done) c (omega arith) may) between);
       reached = inr (omega (arith, longer, at_most));
     }

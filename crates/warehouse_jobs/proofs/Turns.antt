@@ -4,18 +4,19 @@ use Rattle.std.proofs.KnownBytes.{Keeps-refl}
 use Rattle.std.proofs.lemmas.Bool.Decides.{nat_tests}
 use Rattle.std.specs.Io.KnownBytes.{Appends}
 use Rattle.sector_device.specs.declared.device.Sectors.{Ghosts}
+use Rattle.sector_device.specs.Device.{Image, IsImage}
 use Rattle.cube_model.specs.declared.fault.Fault.{Fault}
 use Rattle.cube_model.specs.declared.fault.Fault.TheVariants.{Device}
 use Rattle.cube_model.specs.declared.rows.LineOrder.{LineOrder}
 use Rattle.cube_model.specs.Admission.{IsAdmissible}
 use Rattle.object_store.specs.Content.{Content}
-use Rattle.object_store.specs.Disk.{Leaves}
-use Rattle.object_store.specs.Moments.{leaves_weaker}
+use Rattle.object_store.specs.Disk.{Leaves, ShowsSome}
+use Rattle.object_store.specs.Moments.{begins, leaves_then, leaves_weaker}
 use Rattle.ssb_reports.specs.Writing.{AppendsBeginning, Writes}
 use Rattle.warehouse_objects.specs.Warehouse.{Warehouse, loaded}
 use Rattle.warehouse_objects.specs.Stands.{Stands}
 use Rattle.warehouse.specs.declared.session.Session.{Session}
-use Rattle.warehouse.specs.Session.{IsAt, SubmitRefuses, disk_of, has_failed}
+use Rattle.warehouse.specs.Session.{IsAt, SubmitRefuses, device_of, disk_of, has_failed}
 use Rattle.warehouse.proofs.Refusing.{device_or}
 use Rattle.warehouse_jobs.specs.declared.taken.Taken.{Taken}
 use Rattle.warehouse_jobs.specs.declared.taken.Taken.TheVariants.{Added, Skipped}
@@ -65,29 +66,55 @@ lines-last w number (batch ∷ batches) rows =
     ∙ sym (append_assoc (line_in w number batch) front (line_in back (number + 1 + length batches) rows))
     ∙ ap (λ n. (line_in w number batch ++ front) ++ line_in back n rows) same
 
-pub turn-more : {D : Type 0} (g : Ghosts D) (old mid new : Session D g) (before told after : Option (List ℕ)) (w : Warehouse) (number : ℕ) (batches : List (List LineOrder)) (rows : List LineOrder)
-    → InTurn g old before w number batches mid told
+pub turn-more : {D : Type 0} (g : Ghosts D) (May : ℕ → Content → Type 0) (count : ℕ) (old mid new : Session D g) (before told after : Option (List ℕ)) (w : Warehouse) (number : ℕ) (batches : List (List LineOrder)) (rows : List LineOrder)
+    → InTurn g May new count old before w number batches mid told
     → TakesIn g (with_batches w number batches) (number + length batches) rows mid new (taken_of (with_batches w number batches) (number + length batches))
+    → Leaves (disk_of g new) (disk_of g new) (May (count + length batches + 1))
     → Appends told after (line_in (with_batches w number batches) (number + length batches) rows)
-    → InTurn g old before w number (batches ++ rows ∷ []) new after
-turn-more {D} g old mid new before told after w number [] rows all takes line =
-    let same : number + 0 ≡ number = omega arith in (
+    → InTurn g May new count old before w number (batches ++ rows ∷ []) new after
+turn-more {D} g May count old mid new before told after w number [] rows all takes leaves line =
+    let same : number + 0 ≡ number = omega arith in
+    let one : count + 0 + 1 ≡ count + 1 = omega arith in (
       new,
       after,
       subst (λ (s : Session D g). TakesIn g w number rows s new (taken_of w number)) all.0 (subst (λ n. TakesIn g w n rows mid new (taken_of w n)) same takes),
+      subst (λ n. Leaves (disk_of g new) (disk_of g new) (May n)) one leaves,
       subst (λ (t : Option (List ℕ)). Appends t after (line_in w number rows)) all.1 (subst (λ n. Appends told after (line_in w n rows)) same line),
       (refl, refl),
     )
-turn-more {D} g old mid new before told after w number (batch ∷ batches) rows all takes line =
+turn-more {D} g May count old mid new before told after w number (batch ∷ batches) rows all takes leaves line =
     let same : number + length (batch ∷ batches) ≡ number + 1 + length batches = omega arith in
+    let more : count + length (batch ∷ batches) + 1 ≡ count + 1 + length batches + 1 = omega arith in
     let back = with_batches (with_batch w number batch) (number + 1) batches in (
       all.0,
       all.1,
       all.2,
       all.3,
-      turn-more g all.0 mid new all.1 told after (with_batch w number batch) (number + 1) batches rows all.4
-          (subst (λ n. TakesIn g back n rows mid new (taken_of back n)) same takes) (subst (λ n. Appends told after (line_in back n rows)) same line),
+      all.4,
+      turn-more g May (count + 1) all.0 mid new all.1 told after (with_batch w number batch) (number + 1) batches rows all.5
+          (subst (λ n. TakesIn g back n rows mid new (taken_of back n)) same takes) (subst (λ n. Leaves (disk_of g new) (disk_of g new) (May n)) more leaves) (subst (λ n. Appends told after (line_in back n rows)) same line),
     )
+
+-- the same to a later last session, until which no fewer are held
+pub turns-later : {D : Type 0} (g : Ghosts D) (May : ℕ → Content → Type 0) (all_done : ℕ) (last later : Session D g) (count : ℕ) (old new : Session D g) (before after : Option (List ℕ)) (w : Warehouse) (number : ℕ) (batches : List (List LineOrder))
+    → ((fewer many : ℕ) (c : Content) → fewer ≤ many → May many c → May fewer c) → Leaves (disk_of g last) (disk_of g later) (May all_done) → count + length batches ≤ all_done
+    → InTurn g May last count old before w number batches new after → InTurn g May later count old before w number batches new after
+turns-later g May all_done last later count old new before after w number [] fewer leaves within all = all
+turns-later g May all_done last later count old new before after w number (rows ∷ batches) fewer leaves within all = (
+  all.0,
+  all.1,
+  all.2,
+  leaves_then (May (count + 1)) (disk_of g all.0) (disk_of g last) (disk_of g later) all.3
+      (leaves_weaker (May all_done) (May (count + 1)) (disk_of g last) (disk_of g later) (λ k c here. fewer (count + 1) all_done c (omega (arith, within)) here) leaves),
+  all.4,
+  turns-later g May all_done last later (count + 1) all.0 new all.1 after (with_batch w number rows) (number + 1) batches fewer leaves (omega (arith, within)) all.5,
+)
+
+-- at this moment a stop leaves what the session stands for
+pub still : {D : Type 0} (g : Ghosts D) (session : Session D g) (w : Warehouse)
+    → ((device : D) (image : Image) → g.keeps_word device → (g.state device).left_since (g.state device).moment image → IsImage (g.state device) image)
+    → IsAt g session w → Leaves (disk_of g session) (disk_of g session) (λ c. Stands c w)
+still g session w only at = begins (ShowsSome (λ (c : Content). Stands c w)) (disk_of g session) (λ k image. only (device_of session) image k) at.all
 
 -- what became of one batch
 

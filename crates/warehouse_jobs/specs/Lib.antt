@@ -3,3 +3,4 @@ pub mod Cutting
 pub mod Loading
 pub mod Reporting
 pub mod Jobs
+pub mod Lawful

@@ -1,5 +1,5 @@
 -- What a load makes of a warehouse, and what it writes. Our own.
-use Rattle.std.specs.Prelude.{◌≡◌, ◌⊎◌, ◌<◌, ℕ, ◌+◌, nat_le, if◌then◌else◌, true, List, [], ◌∷◌, ◌++◌, length, Option, Result, Ok, Err}
+use Rattle.std.specs.Prelude.{◌≡◌, ◌⊎◌, ◌<◌, ◌≤◌, ℕ, ◌+◌, nat_le, if◌then◌else◌, true, List, [], ◌∷◌, ◌++◌, length, Option, Result, Ok, Err}
 use Rattle.std.specs.Io.KnownBytes.{Appends, Keeps}
 use Rattle.sector_device.specs.declared.device.Sectors.{Ghosts}
 use Rattle.batch_loader.specs.Lines.{lines_of}
@@ -73,14 +73,17 @@ DoesBatch g w number rows old new before after (Ok done) =
     TakesIn g w number rows old new (taken_of w number) × Appends before after (line_in w number rows)
 DoesBatch g w number rows old new before after (Err fault) = FailsInBatch g w number rows old new before after fault
 
--- Batches that were done one after the other, with the session and what the writer had as each of them ended. The line of
--- a batch is written while the device stands for a warehouse with it: nothing else happens to the device until the next
-abbrev pub InTurn : {D : Type 0} (g : Ghosts D) → (old : Session D g) → Option (List ℕ) → Warehouse → ℕ → List (List LineOrder) → (new : Session D g) → Option (List ℕ) → Type 0
-InTurn g old before w number [] new after = (new ≡ old) × (after ≡ before)
-InTurn {D} g old before w number (rows ∷ batches) new after =
+-- Batches that were done one after the other, behind so many, with the session and what the writer had as each of them
+-- ended. The line of a batch is written while the device stands for a warehouse with it, and nothing happens to the device
+-- meanwhile. From then on to the last session a stop leaves what may be held with it
+abbrev pub InTurn : {D : Type 0} (g : Ghosts D) → (ℕ → Content → Type 0) → (last : Session D g) → ℕ → (old : Session D g) → Option (List ℕ) → Warehouse → ℕ → List (List LineOrder) → (new : Session D g) → Option (List ℕ) → Type 0
+InTurn g May last count old before w number [] new after = (new ≡ old) × (after ≡ before)
+InTurn {D} g May last count old before w number (rows ∷ batches) new after =
     (session : Session D g) × (told : Option (List ℕ))
-    × TakesIn g w number rows old session (taken_of w number) × Appends before told (line_in w number rows)
-    × InTurn g session told (with_batch w number rows) (number + 1) batches new after
+    × TakesIn g w number rows old session (taken_of w number)
+    × Leaves (disk_of g session) (disk_of g last) (May (count + 1))
+    × Appends before told (line_in w number rows)
+    × InTurn g May last (count + 1) session told (with_batch w number rows) (number + 1) batches new after
 
 -- no line was left, and the number of batches is written
 pub record Closes {D : Type 0} (g : Ghosts D) (left : List (List (List ℕ))) (w : Warehouse) (old new : Session D g) (before after : Option (List ℕ)) : Type 0 where
@@ -114,12 +117,13 @@ Ends g next left w number old new before after (Err fault) =
     CannotRead g next left old new before after fault
     ⊎ (EndsInBatch g next left w number old new before after fault ⊎ CannotClose g left w old new before after fault)
 
--- what a stop within a load may leave: the warehouse behind some of the first batches of a text
-pub record MayHold (w : Warehouse) (first : ℕ) (parts : List (List (List ℕ))) (c : Content) : Type 0 where
+-- what a stop within a load may leave once so many batches were done: the warehouse behind these, or behind more of them
+pub record MayHold (w : Warehouse) (first : ℕ) (parts : List (List (List ℕ))) (count : ℕ) (c : Content) : Type 0 where
   pub some : List (List LineOrder)
   pub next : ℕ
   pub left : List (List (List ℕ))
   pub cut : AreCut 1 parts some next left
+  pub no_fewer : count ≤ length some
   pub stands : Stands c (with_batches w first some)
 
 -- A load of a text in batches of so many lines, the first of them with a number
@@ -129,13 +133,13 @@ pub record Loads {D A : Type 0} (g : Ghosts D) (w : Warehouse) (first size : ℕ
   pub next : ℕ
   pub left : List (List (List ℕ))
   pub cut : AreCut 1 (parts_of size (lines_of text)) done next left
-  -- the warehouse has them, and their lines are written: each once its batch is there
+  -- the warehouse has them, and their lines are written: each once its batch is there, and to stay
   pub session : Session D g
   pub told : Option (List ℕ)
-  pub in_turn : InTurn g old before w first done session told
+  pub in_turn : InTurn g (MayHold w first (parts_of size (lines_of text))) new 0 old before w first done session told
   pub at : IsAt g session (with_batches w first done)
   pub told_is : Appends before told (lines_in w first done)
   -- and the end
   pub ends : Ends g next left (with_batches w first done) (first + length done) session new told after result
   -- what a stop at any moment leaves
-  pub leaves : Leaves (disk_of g old) (disk_of g new) (MayHold w first (parts_of size (lines_of text)))
+  pub leaves : Leaves (disk_of g old) (disk_of g new) (MayHold w first (parts_of size (lines_of text)) 0)

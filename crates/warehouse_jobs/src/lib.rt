@@ -2,6 +2,7 @@
 #![tactic(auto)]
 
 mod job;
+pub mod laws;
 mod loading;
 mod performing;
 mod printing;

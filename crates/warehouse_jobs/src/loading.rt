@@ -31,7 +31,6 @@ pub(crate) fn load<D: Sectors, R: Read + Drop, W: Write>(
         → Loads D.Sectors w first rows text session.old session.new (W.contents out.old) (W.contents out.new) result }
     ensures word { D.keeps_word (device_of session.new) → D.keeps_word (device_of session.old) }
 {
-    let _broken = session.is_broken();
     let mut lines = Lines::new(alloc, lineorder)?;
     load_lines(alloc, session, first.get(), rows.get(), &mut lines, out)
 }
@@ -53,7 +52,6 @@ fn load_lines<D: Sectors, R: Read, W: Write>(
         → Loads D.Sectors w first size text session.old session.new (W.contents out.old) (W.contents out.new) result }
     ensures word { D.keeps_word (device_of session.new) → D.keeps_word (device_of session.old) }
 {
-    let _broken = session.is_broken();
     let mut rows = Items::new(alloc);
     for done in 0..MOST_STEPS {
         let number = first.saturating_add(done);
@@ -95,7 +93,6 @@ fn take_in<D: Sectors>(
         → Refuses D.Sectors w number rows.now session.old session.new fault) }
     ensures word { D.keeps_word (device_of session.new) → D.keeps_word (device_of session.old) }
 {
-    let _broken = session.is_broken();
     if number <= session.status()?.batches {
         return Ok(Taken::Skipped);
     }

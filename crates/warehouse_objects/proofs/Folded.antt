@@ -1,9 +1,9 @@
 -- Batches that are read and counted one after another.
-use Rattle.std.proofs.Common.{◌≡◌, ◌⊎◌, ⊎_elim, get_or, map, inl, inr, Vec, Global, IfOk, ◌+◌, ℕ, List, [], ◌∷◌, ◌++◌, Option, Some, None, length, take, slice_get, Result, Ok, Err, IfErr, IsErrOf, OnOk, refl, sym, ◌∙◌, ap, subst, arith, length-append}
+use Rattle.std.proofs.Common.{◌≡◌, ◌⊎◌, ⊎_elim, get_or, map, inl, inr, Vec, Global, IfOk, ◌+◌, ◌≤◌, suc, ℕ, List, [], ◌∷◌, ◌++◌, Option, Some, None, length, take, slice_get, Result, Ok, Err, IfErr, IsErrOf, OnOk, refl, sym, ◌∙◌, ap, subst, arith, length-append}
 use Rattle.std.specs.Option.{option_map}
 use Rattle.std.proofs.lemmas.List.{length-take-le}
 use Rattle.std.proofs.lemmas.Option.{get_or_from_slice_get, slice_get-map, slice_get_within}
-use Rattle.cube_model.specs.Admission.{IsAdmissible, all_rows}
+use Rattle.cube_model.specs.Admission.{all_rows}
 use Rattle.cube_model.specs.declared.fault.Fault.{Fault}
 use Rattle.cube_model.specs.declared.fault.Fault.TheVariants.{BadLayout, Device, Memory}
 use Rattle.cube_model.specs.declared.rows.DimRows.{DimRows}
@@ -11,39 +11,12 @@ use Rattle.cube_model.specs.declared.rows.LineOrder.{LineOrder}
 use Rattle.object_store.specs.Content.{Content, bytes_of}
 use Rattle.column_segment.specs.Segment.{IsSegment, segment_of}
 use Rattle.column_segment.proofs.CallerLemmas.{IsSegment-one}
-use Rattle.batch_admission.specs.Accepted.{Accepted, StandsBehind}
-use Rattle.batch_admission.proofs.CallerLemmas.{all_rows-last, in_range, known_both, passes}
-use Rattle.cube_query.specs.Groups.{CanTake, FoldState, StandsFor, Takes}
+use Rattle.cube_query.specs.Groups.{CanTake, FoldState, StandsFor}
 use Rattle.cube_query.specs.Limits.{AreFoldable}
-use Rattle.warehouse_objects.specs.Folding.{HasFolded}
 use Rattle.warehouse_objects.specs.Stands.{Stands}
 use Rattle.warehouse_objects.specs.Warehouse.{Warehouse}
-use Rattle.warehouse_objects.proofs.Batches.{segment_at, some_one}
+use Rattle.warehouse_objects.proofs.Batches.{foldable, rows_next, segment_at, some_one}
 use Rattle.warehouse_objects.proofs.Contents.{object_batch}
-
--- ---- one batch more
-
-module _ (rows : DimRows) (old : Accepted) (fold : FoldState) (batches : List (List LineOrder)) (number : ℕ) (batch : List LineOrder) (has : HasFolded rows old fold batches) (admissible : IsAdmissible rows batches number batch) where
-  foldable_more : AreFoldable rows (all_rows batches ++ batch)
-  foldable_more =
-      let pass = passes rows batches number batch admissible in record {
-        few = omega (arith, length-append (all_rows batches) batch, has.few, pass.few, pass.batches_left);
-        known = known_both rows 1 1 1 (all_rows batches) batch has.foldable.known pass.known;
-        in_range = in_range (all_rows batches ++ batch) pass.sums;
-      }
-
-  pub can_take : CanTake rows fold batch
-  can_take = (all_rows batches, (has.stands, foldable_more))
-
-  pub folded_more : (new : Accepted) (after : FoldState) → StandsBehind new (batches ++ batch ∷ []) → Takes rows fold batch after → HasFolded rows new after (batches ++ batch ∷ [])
-  folded_more new after behind takes =
-      let more : all_rows (batches ++ batch ∷ []) ≡ all_rows batches ++ batch = all_rows-last batches batch in
-      let pass = passes rows batches number batch admissible in record {
-        behind = behind;
-        stands = subst (λ (l : List LineOrder). StandsFor rows after l) (sym more) (takes.stands (all_rows batches) has.stands);
-        foldable = subst (λ (l : List LineOrder). AreFoldable rows l) (sym more) foldable_more;
-        few = omega (arith, ap length more, length-append (all_rows batches) batch, length-append batches (batch ∷ []), has.few, pass.few);
-      }
 
 -- ---- the batches of a warehouse
 
@@ -86,18 +59,20 @@ module _ (c : Content) (w : Warehouse) (stands : Stands c w) where
       pub never_missing : bytes_of c id ≡ None → ⊥
       never_missing none = let both : None ≡ Some (segment_of (before + 1) batch) = sym none ∙ sym at_id ∙ batch_bytes before batch here in cc
 
-      pub admissible_there : (dims : DimRows) (rows : List LineOrder) → dims ≡ w.rows → rows ≡ batch → number ≡ length (take before w.batches) + 1 → IsAdmissible dims (take before w.batches) number rows
-      admissible_there dims rows same rows_are next =
-          subst (λ (d : DimRows). IsAdmissible d (take before w.batches) number rows) (sym same)
-          (subst (λ (l : List LineOrder). IsAdmissible w.rows (take before w.batches) number l) (sym rows_are)
-          (subst (λ (n : ℕ). IsAdmissible w.rows (take before w.batches) n batch) (sym next) (stands.batches before batch here).admissible))
+  -- a batch can be taken behind those before it
+  pub can_take_there : (dims : DimRows) (fold : FoldState) (before : ℕ) (batch rows : List LineOrder) → dims ≡ w.rows → slice_get w.batches before ≡ Some batch
+      → rows ≡ batch → StandsFor dims fold (all_rows (take before w.batches)) → CanTake dims fold rows
+  can_take_there dims fold before batch rows same here rows_are so_far =
+      let within : suc before ≤ length w.batches = omega (arith, slice_get_within w.batches before batch here) in
+      let more : all_rows (take (suc before) w.batches) ≡ all_rows (take before w.batches) ++ rows =
+      rows_next w.batches before batch here ∙ ap (λ (l : List LineOrder). all_rows (take before w.batches) ++ l) (sym rows_are) in
+      let all : AreFoldable dims (all_rows (take (suc before) w.batches)) =
+      subst (λ (d : DimRows). AreFoldable d (all_rows (take (suc before) w.batches))) (sym same) (foldable w.rows w.batches stands.batches (suc before) within) in
+      (all_rows (take before w.batches), (so_far, subst (λ (l : List LineOrder). AreFoldable dims l) more all))
 
   -- how many rows the root says it has
   pub count_there : (before : ℕ) (batch : List LineOrder) → slice_get w.batches before ≡ Some batch → get_or (map length w.batches) before 0 ≡ length batch
   count_there before batch here = get_or_from_slice_get (map length w.batches) before (length batch) 0 (slice_get-map length w.batches before ∙ ap (option_map length) here)
-
-pub length_first : {A : Type 0} (before : ℕ) (xs : List A) (x : A) → slice_get xs before ≡ Some x → length (take before xs) ≡ before
-length_first before xs x is = length-take-le before xs (omega (arith, slice_get_within xs before x is))
 
 -- ---- the rows of some bytes
 
@@ -110,17 +85,6 @@ module _ (bytes : List ℕ) (number count : ℕ) where
   other_rows own rows segment other others many also =
       let same = IsSegment-one bytes own number rows others segment also in
       other same.0 (ap (λ (l : List LineOrder). length l) same.1 ∙ many)
-
-  pub other_fault : (own : ℕ) (rows : List LineOrder) {X : Type 0} (result : Result X Fault) → IsSegment bytes own rows
-      → IfErr result (λ fault. (fault ≡ Memory) ⊎ ((fault ≡ BadLayout) × (own ≡ number → length rows ≡ count → ⊥)))
-      → IfErr result (λ fault. (fault ≡ Memory) ⊎ ((fault ≡ BadLayout) × NoRows))
-  other_fault own rows (Ok x) segment cause = tt
-  other_fault own rows (Err fault) segment cause = ⊎_elim (λ memory. inl memory) (λ bad. inr (bad.0, other_rows own rows segment bad.1)) cause
-
-  pub own_rows : (own : ℕ) (rows : List LineOrder) (result : Result (Vec LineOrder Global) Fault) → IsSegment bytes own rows → IfOk result (λ v. v.items ≡ rows) → OnOk result (own ≡ number)
-      → IfOk result (λ v. IsSegment bytes number v.items)
-  own_rows own rows (Ok v) segment same numbered = subst (λ (n : ℕ). IsSegment bytes n v.items) numbered (subst (λ (l : List LineOrder). IsSegment bytes own l) (sym same) segment)
-  own_rows own rows (Err fault) segment same numbered = tt
 
 -- ---- refusals
 

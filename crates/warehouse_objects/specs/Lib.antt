@@ -1,4 +1,3 @@
 pub mod Warehouse
 pub mod Stands
 pub mod Lawful
-pub mod Folding

@@ -1,23 +1,21 @@
 //! Folding the batches of a store.
-ghost use Rattle.std.specs.Prelude.{◌≡◌, ◌⊎◌, ◌+◌, ◌<◌, ◌≤◌, ◌++◌, ◌∷◌, [], ℕ, List, false, Some, Err, length, slice_get, take, IfErr, IfOk, IsErrOf, OnErr, OnOk};
+ghost use Rattle.std.specs.Prelude.{◌≡◌, ◌⊎◌, ◌↔◌, ◌<◌, ◌≤◌, [], List, false, Some, length, slice_get, take, IfErr, IfOk, IsErrOf, IsTrue, OnOk};
 ghost use Rattle.cube_model.specs.declared.fault.Fault.TheVariants.{BadLayout, Device, Memory};
 ghost use Rattle.cube_model.specs.declared.rows.LineOrder.{LineOrder};
-ghost use Rattle.cube_model.specs.Admission.{IsAdmissible, all_rows};
+ghost use Rattle.cube_model.specs.Admission.{all_rows};
 ghost use Rattle.cube_model.specs.Limits.{most_batches};
 ghost use Rattle.object_store.specs.Content.{bytes_of};
 ghost use Rattle.object_store.specs.Disk.{Leaves};
 ghost use Rattle.object_store.specs.Store.{Breaks, IsStill, content_of, device_of, disk_of, has_failed};
 ghost use Rattle.column_segment.specs.Segment.{IsSegment};
-ghost use Rattle.cube_query.specs.Groups.{IsFoldOver, StandsFor};
+ghost use Rattle.cube_query.specs.Groups.{CanTake, IsFoldOver, IsOver, StandsFor, Takes};
 ghost use Rattle.warehouse_root.specs.Objects.{segment_id};
 ghost use Rattle.warehouse_objects.specs.Warehouse.{Warehouse};
 ghost use Rattle.warehouse_objects.specs.Stands.{Stands, root_of};
-ghost use Rattle.warehouse_objects.specs.Folding.{HasFolded, HasFoldedSome};
 
 use crate::reading::read_object;
-use batch_admission::Admission;
 use column_segment::{Segment, decode};
-use cube_model::{Fault, LineOrder};
+use cube_model::Fault;
 use cube_query::Fold;
 use dimensions::Dims;
 use object_store::Store;
@@ -25,11 +23,11 @@ use sector_device::Sectors;
 use std::alloc::Global;
 use warehouse_root::{Root, segment_id};
 
-/// Counts the rows of the first batches of a store into a fold that stands for no row yet. Each batch is checked anew,
-/// and there is one in memory at a time.
+/// Counts the rows of the first batches of a store into a fold that stands for no row yet, straight from their columns.
+/// There is one batch in memory at a time.
 ///
-/// `BadLayout` where a batch is not the one of the root, or is not admissible behind those before it. After a refusal
-/// the fold is to be dropped.
+/// `BadLayout` where a batch has another number than its place, or another count of rows than the root says, and where the
+/// fold cannot take its rows. After a refusal the fold is to be dropped.
 pub fn fold_batches<D: Sectors>(
     alloc: Global,
     store: &mut Store<D>,
@@ -59,10 +57,9 @@ pub fn fold_batches<D: Sectors>(
     let _usable = store.is_broken();
     let _layout = root.layout();
     let batches = root.batches();
-    let mut admission = Admission::new();
     for before in 0..as_of {
-        let rows = batches[before as usize];
-        match add_batch(alloc, store, dims, &mut admission, fold, rows) {
+        let count = batches[before as usize];
+        match add_batch(alloc, store, dims, fold, before, count) {
             Ok(()) => {}
             Err(fault) => return Err(fault),
         }
@@ -70,96 +67,70 @@ pub fn fold_batches<D: Sectors>(
     Ok(())
 }
 
-// Counts the rows of the next batch into a fold. There are to be so many.
+// Counts the rows of the batch behind so many others into a fold. There are to be so many rows.
 fn add_batch<D: Sectors>(
     alloc: Global,
     store: &mut Store<D>,
     dims: &Dims,
-    admission: &mut Admission,
     fold: &mut Fold,
+    before: u32,
     count: u32,
 ) -> Result<(), Fault>
     requires fine { has_failed store.old ≡ false }
-    requires folded { HasFoldedSome dims.now admission.old fold.old }
-    requires few { admission.old.count < most_batches }
-    ensures ok { OnOk result ((batches : List (List LineOrder)) → HasFolded dims.now admission.old fold.old batches
-        → (batch : List LineOrder) × HasFolded dims.now admission.new fold.new (batches ++ batch ∷ [])
-        × (D.keeps_word (device_of store.new) → (w : Warehouse) → Stands (content_of D.Sectors store.old) w → slice_get w.batches (length batches) ≡ Some batch)) }
+    requires over { IsOver dims.now fold.old }
+    requires few { before < most_batches }
+    ensures ok { OnOk result ((batch : List LineOrder) × Takes dims.now fold.old batch fold.new
+        × (D.keeps_word (device_of store.new) → (w : Warehouse) → Stands (content_of D.Sectors store.old) w
+        → slice_get w.batches before ≡ Some batch)) }
     ensures query { fold.new.query ≡ fold.old.query }
     ensures refused { IsErrOf result BadLayout → D.keeps_word (device_of store.new) → (w : Warehouse) → Stands (content_of D.Sectors store.old) w
-        → dims.now ≡ w.rows → (before : ℕ) (batch : List LineOrder) → slice_get w.batches before ≡ Some batch → count ≡ length batch
-        → HasFolded dims.now admission.old fold.old (take before w.batches) → ⊥ }
+        → dims.now ≡ w.rows → (batch : List LineOrder) → slice_get w.batches before ≡ Some batch → count ≡ length batch
+        → StandsFor dims.now fold.old (all_rows (take before w.batches)) → ⊥ }
     ensures leaves { Leaves (disk_of D.Sectors store.old) (disk_of D.Sectors store.new) (λ c. c ≡ content_of D.Sectors store.old) }
     ensures stays { (IsErrOf result Device → ⊥) → IsStill D.Sectors store.old store.new }
     ensures device { IsErrOf result Device → Breaks D.Sectors store.old store.new }
     ensures causes { IfErr result (λ fault. (fault ≡ Memory) ⊎ ((fault ≡ Device) ⊎ (fault ≡ BadLayout))) }
 {
-    let number = admission.next_number();
+    let number = before + 1;
     match read_object(alloc, store, segment_id(number)) {
-        Ok(bytes) => match decoded_rows(alloc, bytes, number, count) {
-            Ok(rows) => take_in(dims, admission, fold, number, &rows),
+        Ok(bytes) => match decoded_batch(alloc, bytes, number, count) {
+            Ok(segment) => take_in(dims, fold, &segment),
             Err(fault) => Err(fault),
         },
         Err(fault) => Err(fault),
     }
 }
 
-// The rows of the batch that has these bytes. `BadLayout` where it has another number, or another count of rows.
-fn decoded_rows(
-    alloc: Global,
-    bytes: Vec<u8>,
-    number: u32,
-    count: u32,
-) -> Result<Vec<LineOrder>, Fault>
-    ensures ok { IfOk result (λ rows. IsSegment bytes.items number rows.items) }
+// The batch that has these bytes. `BadLayout` where it has another number, or another count of rows.
+fn decoded_batch(alloc: Global, bytes: Vec<u8>, number: u32, count: u32) -> Result<Segment, Fault>
+    ensures ok { IfOk result (λ segment. IsSegment bytes.items number segment.rows) }
     ensures refused { IfErr result (λ fault. (fault ≡ Memory) ⊎ ((fault ≡ BadLayout)
         × ((rows : List LineOrder) → length rows ≡ count → IsSegment bytes.items number rows → ⊥))) }
 {
-    match decode(alloc, bytes) {
-        Ok(segment) => rows_of(alloc, &segment, number, count),
-        Err(fault) => Err(fault),
-    }
-}
-
-// The rows of a segment. `BadLayout` where it has another number, or another count of rows.
-fn rows_of(
-    alloc: Global,
-    segment: &Segment,
-    number: u32,
-    count: u32,
-) -> Result<Vec<LineOrder>, Fault>
-    ensures rows { IfOk result (λ rows. rows.items ≡ segment.now.rows) }
-    ensures number { OnOk result (segment.now.number ≡ number) }
-    ensures refused { IfErr result (λ fault. (fault ≡ Memory) ⊎ ((fault ≡ BadLayout)
-        × (segment.now.number ≡ number → length segment.now.rows ≡ count → ⊥))) }
-{
-    if segment.number() != number || segment.len() != count as usize {
+    let segment = match decode(alloc, bytes) {
+        Ok(segment) => segment,
+        Err(fault) => return Err(fault),
+    };
+    if !is_batch(&segment, number, count) {
         return Err(Fault::BadLayout);
     }
-    let mut rows = Vec::new(alloc);
-    match segment.push_rows(alloc, 0, segment.len(), &mut rows) {
-        Ok(()) => Ok(rows),
-        Err(_) => Err(Fault::Memory),
-    }
+    Ok(segment)
 }
 
-// Counts rows in, which are to be admissible behind the accepted batches.
-fn take_in(
-    dims: &Dims,
-    admission: &mut Admission,
-    fold: &mut Fold,
-    number: u32,
-    rows: &[LineOrder],
-) -> Result<(), Fault>
-    requires folded { HasFoldedSome dims.now admission.old fold.old }
-    ensures ok { OnOk result ((batches : List (List LineOrder)) → HasFolded dims.now admission.old fold.old batches
-        → HasFolded dims.now admission.new fold.new (batches ++ rows.now ∷ [])) }
-    ensures query { fold.new.query ≡ fold.old.query }
-    ensures refused { IfErr result (λ fault. (fault ≡ Memory) ⊎ ((fault ≡ BadLayout) × ((batches : List (List LineOrder))
-        → HasFolded dims.now admission.old fold.old batches → IsAdmissible dims.now batches number rows.now → ⊥))) }
+// Whether a batch has a number, and so many rows.
+fn is_batch(segment: &Segment, number: u32, count: u32) -> bool
+    ensures { IsTrue result ↔ (segment.now.number ≡ number) × (length segment.now.rows ≡ count) }
 {
-    match admission.admit(dims, number, rows) {
-        Ok(()) => fold.add_rows(dims, rows),
-        Err(_) => Err(Fault::BadLayout),
-    }
+    segment.number() == number && segment.len() == count as usize
+}
+
+// Counts the rows of a batch in.
+fn take_in(dims: &Dims, fold: &mut Fold, segment: &Segment) -> Result<(), Fault>
+    requires over { IsOver dims.now fold.old }
+    ensures ok { OnOk result (Takes dims.now fold.old segment.now.rows fold.new) }
+    ensures query { fold.new.query ≡ fold.old.query }
+    ensures refused { IfErr result (λ fault. (fault ≡ Memory) ⊎ ((fault ≡ BadLayout)
+        × (CanTake dims.now fold.old segment.now.rows → ⊥))) }
+{
+    fold.add_segment(dims, segment)
 }

@@ -1,2 +1,4 @@
 pub mod CallerLemmas
 mod FieldLemmas
+pub mod Stopped
+mod Together

@@ -2,7 +2,7 @@ use Rattle.std.proofs.Common.{List, ℕ, Option, subst}
 use Rattle.std.specs.Option.{IsSomeAnd}
 use Rattle.std.proofs.lemmas.Result.{IfOk-weaker}
 use Rattle.column_segment.specs.Segment.{HoldsNoBatch, IsSegment}
-use Rattle.column_segment.proofs.Sourced.{decoded_bad, decoded_run, stopped_bad, stopped_run}
+use Rattle.wire.proofs.Stopped.{decoded_bad, decoded_run, stopped_bad, stopped_run}
 use Rattle.column_segment.proofs.sources.decode_from.Goals as goal
 
 pub returns-in_err-found-clause-refused : goal.returns-in_err-found-clause-refused

@@ -4,23 +4,22 @@ use Rattle.std.specs.declared.alloc.Global.{Global}
 use Rattle.std.specs.declared.vec.Vec.{Vec}
 use Rattle.std.proofs.lemmas.List.{get_or_default, with_items_is}
 use Rattle.cube_model.specs.declared.measure.Agg.TheVariants.{Count}
-use Rattle.cube_query.specs.Coarser.{gathered, AddsIn, CanMerge, HasMergeRoom}
+use Rattle.cube_query.specs.Coarser.{gathered, AddsIn, CanMerge, FitMerged, HasMergeRoom}
 use Rattle.cube_query.specs.declared.tally.Tally.{Tally}
 use Rattle.cube_query.proofs.Columnwise.{AreAddedBelow-set, AddIn-whole}
 use Rattle.cube_query.proofs.Merging.{CanMerge-at, HasMergeRoom-at}
+use Rattle.cube_query.proofs.Refusals.{on_err}
 use Rattle.cube_query.proofs.columns.merge_in_all.Goals as goal
 
-pub merge_in-requires-clause-room : goal.merge_in-requires-clause-room
-merge_in-requires-clause-room c =
-    let r = c.requires.room in
+pub merge_in-requires-clause-may : goal.merge_in-requires-clause-may
+merge_in-requires-clause-may c =
+    let r = c.requires.may in
     let i = c.loop-i.i in
-    let within : i < length r.0 = omega (arith, c.loop-i-test.true, c.loop-i.invariant.0, r.2.0.count) in
-    let below = c.loop-i.invariant.1 r.0 r.1 r.2.0 in
+    let within : i < length r.0 = omega (arith, c.loop-i-test.true, c.loop-i.invariant.0, r.2.count) in
+    let below = c.loop-i.invariant.1 r.0 r.1 r.2 in
     let may : CanMerge (get_or r.0 i Count) c.as_mut_slice.result.now c.args.sources.now c.args.targets.now r.1 =
-    rw c.as_mut_slice.ensures.value (CanMerge-at r.0 c.args.sources.now c.args.targets.now r.1 c.args.columns.now c.loop-i.columns i within r.2.0 below Count c.index-columns-i.result) in
-    let room : HasMergeRoom (get_or r.0 i Count) c.as_mut_slice.result.now c.args.sources.now c.args.targets.now r.1 =
-    rw c.as_mut_slice.ensures.value (HasMergeRoom-at r.0 c.args.sources.now c.args.targets.now r.1 c.args.columns.now c.loop-i.columns i within r.2.1 below Count c.index-columns-i.result) in
-    (get_or r.0 i Count, r.1, (may, room))
+    rw c.as_mut_slice.ensures.value (CanMerge-at r.0 c.args.sources.now c.args.targets.now r.1 c.args.columns.now c.loop-i.columns i within r.2 below Count c.index-columns-i.result) in
+    (get_or r.0 i Count, r.1, may)
 
 pub loop-i-preserved : goal.loop-i-preserved
 loop-i-preserved c =
@@ -37,7 +36,7 @@ loop-i-preserved c =
           let may : CanMerge (get_or aggs i Count) c.as_mut_slice.result.now c.args.sources.now c.args.targets.now part =
           rw c.as_mut_slice.ensures.value (CanMerge-at aggs c.args.sources.now c.args.targets.now part c.args.columns.now c.loop-i.columns i within can below Count c.index-columns-i.result) in
           let counted : AddsIn (get_or aggs i Count) added column.items new =
-          subst (λ old. AddsIn (get_or aggs i Count) added old new) c.as_mut_slice.ensures.value (c.merge_in.ensures.merged (get_or aggs i Count) part may) in
+          subst (λ old. AddsIn (get_or aggs i Count) added old new) c.as_mut_slice.ensures.value (c.in_ok-merge_in.ensures.ok (get_or aggs i Count) part may) in
           AreAddedBelow-set aggs added c.args.columns.now c.loop-i.columns i (with_items column new) can.count within below
           (λ agg first.
           subst (AddsIn (get_or aggs i agg) added (get_or c.loop-i.columns i first).items) (sym (with_items_is column new len))
@@ -45,6 +44,21 @@ loop-i-preserved c =
           (subst (λ (old : Vec Tally Global). AddsIn (get_or aggs i Count) added old.items new) (get_or_default c.loop-i.columns i c.index-columns-i.result first in_columns) counted))),
     )
 
-pub returns : goal.returns
-returns c = λ aggs part can.
+pub returns-clause-ok : goal.returns-clause-ok
+returns-clause-ok c = λ aggs part can.
     AddIn-whole aggs (λ slot. gathered slot part c.args.sources.now c.args.targets.now) c.args.columns.now c.loop-i.columns c.loop-i.i can.count (omega (arith, c.loop-i-test.false, c.loop-i.invariant.0, can.count)) (c.loop-i.invariant.1 aggs part can)
+
+pub returns-in_err-merge_in-clause-err : goal.returns-in_err-merge_in-clause-err
+returns-in_err-merge_in-clause-err c =
+    let refused : FitMerged c.args.sources.now c.args.targets.now c.args.columns.now → ⊥ = λ fit.
+    let aggs = fit.0 in
+    let part = fit.1 in
+    let i = c.loop-i.i in
+    let within : i < length aggs = omega (arith, c.loop-i-test.true, c.loop-i.invariant.0, fit.2.0.count) in
+    let below = c.loop-i.invariant.1 aggs part fit.2.0 in
+    let can : CanMerge (get_or aggs i Count) c.as_mut_slice.result.now c.args.sources.now c.args.targets.now part =
+    rw c.as_mut_slice.ensures.value (CanMerge-at aggs c.args.sources.now c.args.targets.now part c.args.columns.now c.loop-i.columns i within fit.2.0 below Count c.index-columns-i.result) in
+    let room : HasMergeRoom (get_or aggs i Count) c.as_mut_slice.result.now c.args.sources.now c.args.targets.now part =
+    rw c.as_mut_slice.ensures.value (HasMergeRoom-at aggs c.args.sources.now c.args.targets.now part c.args.columns.now c.loop-i.columns i within fit.2.1 below Count c.index-columns-i.result) in
+    c.in_err-merge_in.ensures.err (get_or aggs i Count) part can room in
+    on_err _ _ refused

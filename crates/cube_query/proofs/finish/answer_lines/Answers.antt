@@ -6,14 +6,14 @@ use Rattle.cube_query.proofs.Ends.{plain_groups}
 use Rattle.cube_query.proofs.Seen.{seen_are}
 use Rattle.cube_query.proofs.finish.answer_lines.Goals as goal
 
-pub returns-in-Plain : goal.returns-in-Plain
-returns-in-Plain c =
+pub returns-in-Plain-clause-lines : goal.returns-in-Plain-clause-lines
+returns-in-Plain-clause-lines c =
     let d = c.args.plan.now.dimensions in
     let q = c.args.plan.now.query in
     let fold = c.requires.fold in
     let plain = ap (λ query. query.kind) (sym c.requires.query) ∙ c.in-Plain.is in
-    IfOk-weaker c.lines_of.result _ _
+    IfOk-weaker c.finest_lines.result _ _
     (λ lines is rows tallied. is rows (
     seen_are d (finest q) (entries_of c.args.slots.now) c.args.columns.now rows fold.proper.some_aggregate fold.rising fold.numbers tallied
     ∙ plain_groups d q plain rows))
-    c.lines_of.ensures
+    c.finest_lines.ensures.lines

@@ -32,6 +32,6 @@ returns-clause-refused g c =
     let same : c.in_ok-batch.batch.view ≡ c.args.cells.now.view = c.in_ok-batch.ensures.view ∙ c.view.ensures.value in
     err_through c.merge.result (IsMergeFault c.args.cells.now c.in_ok-batch.batch)
     (λ fault. (so_far : List LineOrder) → StandFor c.args.dims.now so_far c.args.cells.now → IsAddFault c.args.dims.now c.args.cells.now.view (so_far ++ rows) fault)
-    (λ fault why so_far stand. merge_refused c.args.dims.now c.args.cells.now.view so_far rows c.args.cells.now.cells c.in_ok-batch.batch.cells stand
+    (λ fault why so_far stand. merge_refused c.args.dims.now c.args.cells.now.view so_far rows c.args.cells.now.cells c.in_ok-batch.batch.cells c.view.ensures.proper.fit stand
     (subst (λ (view : View). StandFor c.args.dims.now rows (record { view = view; cells = c.in_ok-batch.batch.cells })) same c.in_ok-batch.ensures.ok) fault why)
     c.merge.ensures.refused

@@ -1,6 +1,8 @@
 use Rattle.std.proofs.Common.{◌∷◌, ◌++◌, [], refl}
 use Rattle.std.proofs.lemmas.Result.{err_from_is_err_and}
 use Rattle.cube_model.specs.Admission.{all_rows}
+use Rattle.cube_query.specs.Groups.{IsFoldable}
+use Rattle.cube_query.proofs.CallerLemmas.{memory_alone}
 use Rattle.ssb_eval.proofs.Batches.{leaves_on, gives-answer}
 use Rattle.ssb_eval.proofs.Taking.{AreTaken-own, AreTaken-of, gives-stopped, count_more}
 use Rattle.ssb_eval.proofs.facts.fold_lines.Goals as goal
@@ -19,7 +21,8 @@ returns-then-not-more g c = λ text known.
     let done = rw c.if-not-more.true at (c.in_ok-more.ensures batches own) in
     gives-answer c.args.fold.now.query c.args.dims.now text c.take_batch.new.admission c.take_batch.new.fold batches c.loop-more.lines.number c.loop-more.lines.left c.take_batch.new.lines.left [] _
     (AreTaken-of c.args.dims.now c.loop-more.fold.query c.args.fold.now.query c.take_batch.new.admission c.take_batch.new.fold batches c.loop-more.invariant.1.query_is done.1)
-    (c.loop-more.invariant.3 text known) done.0.taken refl c.finish.ensures.answer c.finish.ensures.only
+    (c.loop-more.invariant.3 text known) done.0.taken refl c.finish.ensures.answer
+    (memory_alone c.finish.result (IsFoldable c.args.dims.now c.take_batch.new.fold) (all_rows batches, (done.1.folded, done.1.foldable)) c.finish.ensures.refused c.finish.ensures.only)
 
 pub take_batch-requires : goal.take_batch-requires
 take_batch-requires g c =
@@ -53,4 +56,4 @@ finish-requires g c =
     let batches = c.loop-more.invariant.0 in
     let own = AreTaken-own c.args.dims.now c.args.fold.now.query c.loop-more.admission c.loop-more.fold batches c.loop-more.invariant.1 in
     let done = rw c.if-not-more.true at (c.in_ok-more.ensures batches own) in
-    (all_rows batches, (done.1.folded, done.1.foldable))
+    (all_rows batches, done.1.folded)

@@ -1,5 +1,6 @@
 use Rattle.std.proofs.Common.{◌≡◌, ◌≤◌, ℕ, List, [], ◌∷◌, inl, length, sym, ◌∙◌, ap, subst}
 use Rattle.wire.specs.Limits.{most_root_bytes}
+use Rattle.sector_device.specs.Device.{Image, IsImage}
 use Rattle.object_store.specs.Content.{Content}
 use Rattle.object_store.specs.Commit.{ArePuts}
 use Rattle.object_store.specs.Disk.{disk, ShowsSomeOrNone}
@@ -115,3 +116,7 @@ invariant_of-result g c =
           let bytes_are : bytes ≡ roots.root_of b.root = c.as_slice-5.ensures.value ∙ is.spelled.spelled in
           subst (λ (x : Content). IsLoaded x c.args.dims b.root) (sym (c.in-Ok-create.ensures.ok k)) (loaded_at_first c.args.dims puts bytes c.number.result b.root c.kept_is_what_stands.ensures.dims are is.root_is bytes_are c.number.ensures);
     }
+
+pub returns-in-Err-clause-spared : goal.returns-in-Err-clause-spared
+returns-in-Err-clause-spared g c formatted =
+    begins (λ _ (image : Image). IsImage (g.D.Sectors.state c.args.device) image) (disk g.D.Sectors c.args.device) (λ k image. g.met.D.Sectors.only_now c.args.device image k) (λ k image is. is)

@@ -1,10 +1,11 @@
 use Rattle.std.proofs.lemmas.Result.{err_from_is_err_and}
 use Rattle.warehouse_jobs.proofs.Endings.{keeps-some, loads-none}
+use Rattle.warehouse_jobs.proofs.Turns.{still}
 use Rattle.warehouse_jobs.proofs.loading.load.Goals as goal
 
 pub returns-in_err-lines-clause-loads : goal.returns-in_err-lines-clause-loads
 returns-in_err-lines-clause-loads g c w text at known k =
-    loads-none g.D.Sectors w c.args.first c.args.rows text c.args.session.now (g.W.Write.contents c.args.out.now) _ _ c.in_err-lines.ensures.err at (c.is_broken-broken.ensures.leaves w at) (err_from_is_err_and _ c.from_residual.ensures.1)
+    loads-none g.D.Sectors w c.args.first c.args.rows text c.args.session.now (g.W.Write.contents c.args.out.now) _ _ c.in_err-lines.ensures.err at (still g.D.Sectors c.args.session.now w g.met.D.Sectors.only_now at) (err_from_is_err_and _ c.from_residual.ensures.1)
 
 pub returns-clause-loads : goal.returns-clause-loads
 returns-clause-loads g c w text at known k =

@@ -1,9 +1,10 @@
 use Rattle.std.proofs.Common.{◌≡◌, ◌+◌, ◌≤◌, [], ◌∷◌, ◌++◌, length, true, false, refl, sym, ap, ◌∙◌, Err, rules, arith}
 use Rattle.std.proofs.lemmas.List.{length_push}
 use Rattle.std.proofs.lemmas.Result.{err_from_is_err_and}
-use Rattle.warehouse_jobs.specs.Loading.{with_batches}
+use Rattle.warehouse_jobs.specs.Loading.{with_batch, with_batches}
 use Rattle.warehouse_jobs.proofs.Endings.{loads-closed, loads-failed, loads-unread, never_more, numbered}
 use Rattle.warehouse_jobs.proofs.Through.{through-more, through-none}
+use Rattle.warehouse_jobs.proofs.Turns.{still}
 use Rattle.warehouse_jobs.proofs.loading.load_lines.Goals as goal
 
 pub loop-done-init : goal.loop-done-init
@@ -13,7 +14,7 @@ loop-done-init g c = record {
   through = λ w text at left k. (
     [],
     refl,
-    through-none g.D.Sectors w c.args.first c.args.size text c.args.session.now (g.W.Write.contents c.args.out.now) c.args.lines.now left c.requires.number at (c.is_broken-broken.ensures.leaves w at),
+    through-none g.D.Sectors w c.args.first c.args.size text c.args.session.now (g.W.Write.contents c.args.out.now) c.args.lines.now left c.requires.number at (still g.D.Sectors c.args.session.now w g.met.D.Sectors.only_now at),
   );
 }
 
@@ -64,7 +65,8 @@ loop-done-preserved g c = record {
         th.0 ++ c.in_ok-rows.rows ∷ [],
         length_push th.0 c.in_ok-rows.rows ∙ ap (λ n. n + 1) th.1,
         through-more g.D.Sectors w c.args.first c.args.size text c.args.session.now c.loop-done.session c.load_batch.new.session (g.W.Write.contents c.args.out.now) (g.W.Write.contents c.loop-done.out)
-            (g.W.Write.contents c.load_batch.new.out) c.loop-done.lines c.read_batch_into.new.lines th.0 c.in_ok-rows.rows c.requires.some some th.2 c.in_ok-rows.ensures.taken does.0 does.1,
+            (g.W.Write.contents c.load_batch.new.out) c.loop-done.lines c.read_batch_into.new.lines th.0 c.in_ok-rows.rows c.requires.some some th.2 c.in_ok-rows.ensures.taken does.0
+            (still g.D.Sectors c.load_batch.new.session (with_batch (with_batches w c.args.first th.0) (c.args.first + length th.0) c.in_ok-rows.rows) g.met.D.Sectors.only_now does.0.at) does.1,
       );
 }
 

@@ -1,12 +1,12 @@
 use Rattle.std.proofs.Common.{◌≤◌, ◌<◌, length, arith, ap, Err}
-use Rattle.warehouse_jobs.proofs.Turns.{takes-added, takes-skipped, refuses}
+use Rattle.warehouse_jobs.proofs.Turns.{takes-added, takes-skipped, refuses, still}
 use Rattle.warehouse_jobs.proofs.loading.take_in.Goals as goal
 
 pub returns-then-branch-clause-taken : goal.returns-then-branch-clause-taken
 returns-then-branch-clause-taken g c w at k =
     let status = c.in_ok-status.ensures.ok w at k in
     let there : c.args.number ≤ length w.batches = omega (arith, c.if-branch.true, status.batches) in
-    takes-skipped g.D.Sectors w c.args.number c.args.rows.now c.args.session.now there at (c.is_broken-broken.ensures.leaves w at)
+    takes-skipped g.D.Sectors w c.args.number c.args.rows.now c.args.session.now there at (still g.D.Sectors c.args.session.now w g.met.D.Sectors.only_now at)
 
 pub returns-in-Ok-clause-taken : goal.returns-in-Ok-clause-taken
 returns-in-Ok-clause-taken g c w at k =

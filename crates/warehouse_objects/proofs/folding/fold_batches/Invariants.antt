@@ -1,8 +1,9 @@
-use Rattle.std.proofs.Common.{◌≡◌, false, List, length, take}
+use Rattle.std.proofs.Common.{◌≡◌, false, List, take}
+use Rattle.cube_model.specs.Admission.{all_rows}
 use Rattle.cube_model.specs.declared.rows.LineOrder.{LineOrder}
+use Rattle.cube_query.specs.Groups.{StandsFor}
 use Rattle.object_store.specs.Disk.{Leaves}
 use Rattle.object_store.specs.Store.{IsStill, content_of, device_of, disk_of, has_failed}
-use Rattle.warehouse_objects.specs.Folding.{HasFolded}
 use Rattle.warehouse_objects.specs.Stands.{Stands}
 use Rattle.warehouse_objects.specs.Warehouse.{Warehouse}
 use Rattle.warehouse_objects.proofs.folding.fold_batches.Given as goal
@@ -14,6 +15,6 @@ invariant-loop-before g l =
       still : IsStill g.D.Sectors l.initial.store l.store;
       leaves : Leaves (disk_of g.D.Sectors l.initial.store) (disk_of g.D.Sectors l.store) (λ c. c ≡ first);
       query : l.fold.query ≡ l.initial.fold.query;
-      folded : (batches : List (List LineOrder)) × HasFolded l.dims l.admission l.fold batches × (length batches ≡ l.before)
+      folded : (batches : List (List LineOrder)) × StandsFor l.dims l.fold (all_rows batches)
           × (g.D.Sectors.keeps_word (device_of l.store) → (w : Warehouse) → Stands first w → batches ≡ take l.before w.batches);
     }

@@ -1,7 +1,9 @@
-use Rattle.std.proofs.Common.{◌≡◌, ◌∙◌, sym, ap, subst}
+use Rattle.std.proofs.Common.{◌≡◌, ◌∙◌, Err, sym, ap, subst}
+use Rattle.cube_model.specs.declared.fault.Fault.TheVariants.{BadLayout}
 use Rattle.cube_model.specs.Answers.{answer}
 use Rattle.cube_query.specs.FoldInvariant.{AreTallied, IsFold}
-use Rattle.cube_query.specs.Groups.{FoldState, IsFoldOver, StandsFor, finest}
+use Rattle.cube_query.specs.Groups.{FoldState, IsFoldOver, IsFoldable, StandsFor, finest}
+use Rattle.cube_query.specs.Limits.{AreFoldable}
 use Rattle.cube_query.specs.Slots.{entries_of}
 use Rattle.group_plan.specs.Numbers.{Asked}
 use Rattle.group_plan.specs.Plans.{query_of}
@@ -11,7 +13,7 @@ use Rattle.cube_query.proofs.running.Fold.finish.Goals as goal
 pub over-plan-requires : goal.over-plan-requires
 over-plan-requires c =
     let is = subst (λ (state : FoldState). IsFoldOver c.args.dims.now state) (sym c.self.view_is) c.requires in
-    is.1.0.over
+    is.1.over
 
 pub answer_lines-requires-clause-fold : goal.answer_lines-requires-clause-fold
 answer_lines-requires-clause-fold c =
@@ -19,7 +21,7 @@ answer_lines-requires-clause-fold c =
     let inside = c.self.inside in
     let query = query_of inside.plan in
     let is = subst (λ (state : FoldState). IsFoldOver dims state) (sym c.self.view_is) c.requires in
-    let fold : IsFold dims query inside.slots inside.columns.items = fold_over dims inside.plan is.1.0.over inside.slots inside.columns.items c.self.invariant is in
+    let fold : IsFold dims query inside.slots inside.columns.items = fold_over dims inside.plan is.1.over inside.slots inside.columns.items c.self.invariant is in
     subst (λ (asked : Asked). IsFold asked.dimensions asked.query inside.slots c.as_slice.result.now) (sym c.over-plan.ensures)
     (subst (IsFold dims query inside.slots) (sym c.as_slice.ensures.value) fold)
 
@@ -31,8 +33,24 @@ returns-in-Ok-clause-answer c = λ rows stands.
     let entries = entries_of inside.slots in
     let is = subst (λ (state : FoldState). IsFoldOver dims state) (sym c.self.view_is) c.requires in
     let here = subst (λ (state : FoldState). StandsFor dims state rows) (sym c.self.view_is) stands in
-    let tallied : AreTallied dims (finest query) entries inside.columns.items rows = tallied_for dims inside.plan is.1.0.over inside.slots inside.columns.items c.self.invariant rows here in
+    let tallied : AreTallied dims (finest query) entries inside.columns.items rows = tallied_for dims inside.plan is.1.over inside.slots inside.columns.items c.self.invariant rows here in
     let lines : c.in-Ok.lines ≡ (answer query dims rows).lines =
-    subst (λ (asked : Asked). AreTallied asked.dimensions (finest asked.query) entries c.as_slice.result.now rows → c.in-Ok.lines ≡ (answer asked.query asked.dimensions rows).lines) c.over-plan.ensures (c.in-Ok.ensures rows)
+    subst (λ (asked : Asked). AreTallied asked.dimensions (finest asked.query) entries c.as_slice.result.now rows → c.in-Ok.lines ≡ (answer asked.query asked.dimensions rows).lines) c.over-plan.ensures (c.in-Ok.ensures.lines rows)
     (subst (λ columns. AreTallied dims (finest query) entries columns rows) (sym c.as_slice.ensures.value) tallied) in
     (λ i. record { lines = lines i }) ∙ ap (λ q. answer q dims rows) (ap (λ (state : FoldState). state.query) c.self.view_is)
+
+pub returns-in-Err-clause-refused : goal.returns-in-Err-clause-refused
+returns-in-Err-clause-refused c = λ bad can.
+    let dims = c.args.dims.now in
+    let inside = c.self.inside in
+    let query = query_of inside.plan in
+    let entries = entries_of inside.slots in
+    let is = subst (λ (state : FoldState). IsFoldOver dims state) (sym c.self.view_is) c.requires in
+    let given = subst (λ (state : FoldState). IsFoldable dims state) (sym c.self.view_is) can in
+    let rows = given.0 in
+    let tallied : AreTallied dims (finest query) entries inside.columns.items rows = tallied_for dims inside.plan is.1.over inside.slots inside.columns.items c.self.invariant rows given.1.0 in
+    let fault : c.in-Err.fault ≡ BadLayout = cc bad in
+    c.in-Err.ensures.refused (ap (λ f. Err f) fault) rows
+    (subst (λ (asked : Asked). AreTallied asked.dimensions (finest asked.query) entries c.as_slice.result.now rows) (sym c.over-plan.ensures)
+    (subst (λ columns. AreTallied dims (finest query) entries columns rows) (sym c.as_slice.ensures.value) tallied))
+    (subst (λ (asked : Asked). AreFoldable asked.dimensions rows) (sym c.over-plan.ensures) given.1.1)

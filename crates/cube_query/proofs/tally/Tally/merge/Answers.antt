@@ -6,8 +6,8 @@ use Rattle.cube_query.specs.Tallies.{merged}
 use Rattle.cube_query.specs.declared.tally.Tally.{Tally}
 use Rattle.cube_query.proofs.tally.Tally.merge.Goals as goal
 
-pub returns : goal.returns
-returns c =
+pub returns-in-Some-clause-ok : goal.returns-in-Some-clause-ok
+returns-in-Some-clause-ok c =
     let left = c.args.self in
     let right = c.args.other in
     let all : Tally = record { count = left.count + right.count; sum = left.sum +ℤ right.sum; least = int_min left.least right.least; greatest = int_max left.greatest right.greatest } in

@@ -1,10 +1,29 @@
-use Rattle.std.proofs.Common.{◌∙◌, ap}
+use Rattle.std.proofs.Common.{◌≡◌, ◌∙◌, sym, ap, false}
+use Rattle.cube_model.specs.Attributes.{key_on}
 use Rattle.cube_model.specs.Places.{row_index_of}
-use Rattle.group_plan.specs.Parts.{given_at}
+use Rattle.group_plan.specs.Parts.{given_at, is_used}
 use Rattle.group_plan.specs.Plans.{gives}
 use Rattle.group_plan.specs.Rows.{row_at}
-use Rattle.group_plan.proofs.Outcomes.{given_is}
+use Rattle.group_plan.proofs.Outcomes.{given_is, given_unused}
+use Rattle.group_plan.proofs.Numbers.{not_used}
 use Rattle.group_plan.proofs.over.PlanOver.given.Goals as goal
+
+pub returns-then-is_unused-clause-ok : goal.returns-then-is_unused-clause-ok
+returns-then-is_unused-clause-ok g c =
+    let dims = c.self.inside.dims.now in
+    let query = c.self.inside.plan.now.query in
+    let axis = c.args.axis in
+    let row = row_at (g.F.FactRows.rows c.args.rows.now) c.args.place in
+    let unused = c.is_unused.ensures.0 c.if-is_unused.true in
+    let off : is_used query axis ≡ false = c.self.invariant.unused axis (sym c.side-side.ensures ∙ unused) in
+    rw (← c.self.view_is) (sym (given_unused dims axis (row_index_of dims axis (key_on axis row)) query off))
+
+pub returns-then-is_unused-clause-known : goal.returns-then-is_unused-clause-known
+returns-then-is_unused-clause-known g c =
+    let query = c.self.inside.plan.now.query in
+    let unused = c.is_unused.ensures.0 c.if-is_unused.true in
+    let off : is_used query c.args.axis ≡ false = c.self.invariant.unused c.args.axis (sym c.side-side.ensures ∙ unused) in
+    rw (← c.self.view_is) (not_used query c.args.axis off)
 
 pub returns-clause-ok : goal.returns-clause-ok
 returns-clause-ok g c =
@@ -14,5 +33,5 @@ returns-clause-ok g c =
     let key = ap (row_index_of dims axis) c.key-key.ensures in
     rw (← c.self.view_is)
     (given_is c.given.result _ _ _ c.given.ensures.ok c.given.ensures.known (λ known.
-    ap (λ side. gives side (row_index_of dims axis c.key-key.result)) c.side.ensures ∙ c.self.invariant.sides axis _ known
+    ap (λ side. gives side (row_index_of dims axis c.key-key.result)) c.side-side.ensures ∙ c.self.invariant.sides axis _ known
     ∙ ap (given_at dims c.self.inside.plan.now.query axis) key))

@@ -26,10 +26,16 @@ returns-clause-over c =
       few = c.requires.few_columns;
       within = subst (λ conditions. AreBounds conditions c.of.result) c.as_slice-2.ensures c.of.ensures;
       sides = elim [
-        | Customer ↦ c.in_ok-of.ensures
-        | Supplier ↦ c.in_ok-of-2.ensures
-        | Part ↦ c.in_ok-of-3.ensures
-        | Date ↦ c.in_ok-of-4.ensures
+        | Customer ↦ c.in_ok-of.ensures.side
+        | Supplier ↦ c.in_ok-of-2.ensures.side
+        | Part ↦ c.in_ok-of-3.ensures.side
+        | Date ↦ c.in_ok-of-4.ensures.side
+      ];
+      unused = elim [
+        | Customer ↦ c.in_ok-of.ensures.unused
+        | Supplier ↦ c.in_ok-of-2.ensures.unused
+        | Part ↦ c.in_ok-of-3.ensures.unused
+        | Date ↦ c.in_ok-of-4.ensures.unused
       ];
       columns = subst (λ attrs. AreColumns dims attrs (length attrs) c.in_ok-all.field-0.items) c.as_slice-3.ensures c.in_ok-all.ensures;
       rising = keys_rise dims query.columns;

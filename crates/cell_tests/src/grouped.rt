@@ -1,0 +1,187 @@
+//! Cells of the sample rows, worked out by hand.
+use crate::sample::{FIRST, LAST_TWO, SECOND, SPELLED, THIRD, at_day};
+use cube_model::Fault;
+use cuboid_cells::{Cell, Cells, Key, Span, Summaries, Summary};
+use cuboid_upkeep::add_rows;
+use dimensions::Dims;
+use group_plan::RowSlice;
+use lattice::View;
+use sample_star::{FACTS, FIRST_FACT, Fact, STAR, THIRD_FACT, dim_rows, line_orders};
+use std::alloc::Global;
+use std::test::Fail;
+
+// What is kept of the first row and the third together.
+const FIRST_AND_THIRD: Summaries = Summaries {
+    quantity: Summary {
+        sum: 42,
+        least: 17,
+        greatest: 25,
+    },
+    extendedprice: Summary {
+        sum: 1500,
+        least: 500,
+        greatest: 1000,
+    },
+    revenue: Summary {
+        sum: 1475,
+        least: 495,
+        greatest: 980,
+    },
+    supplycost: Summary {
+        sum: 700,
+        least: 100,
+        greatest: 600,
+    },
+    discounted: Summary {
+        sum: 2500,
+        least: 500,
+        greatest: 2000,
+    },
+    profit: Summary {
+        sum: 775,
+        least: 380,
+        greatest: 395,
+    },
+};
+
+// A cell of the codes of a customer, a supplier, a part and a day.
+fn cell(codes: [u16; 4], count: u64, measures: Summaries) -> Cell {
+    Cell {
+        key: Key {
+            customer: codes[0],
+            supplier: codes[1],
+            part: codes[2],
+            date: codes[3],
+            ship_mode: 65_535,
+        },
+        count,
+        measures,
+    }
+}
+
+// Takes the facts in as a batch, where the view does not group by ship mode.
+fn take_in(alloc: Global, dims: &Dims, facts: &[Fact<'_>], cells: &mut Cells) -> Result<(), Fault> {
+    let rows = line_orders(alloc, facts)?;
+    if cells.view().ship_mode || rows.len() > 65_536 {
+        return Ok(());
+    }
+    add_rows(cells, alloc, dims, &RowSlice(&rows))
+}
+
+// The cells of batches of facts under a view.
+fn grouped(alloc: Global, index: u16, batches: &[&[Fact<'_>]]) -> Result<Cells, Fault> {
+    let rows = dim_rows(alloc, &STAR)?;
+    let dims = Dims::build(alloc, &rows)?;
+    let Some(view) = View::new(index) else {
+        return Err(Fault::BadQuery);
+    };
+    let mut cells = Cells::empty(alloc, view);
+    for batch in batches {
+        take_in(alloc, &dims, batch, &mut cells)?;
+    }
+    Ok(cells)
+}
+
+#[test]
+fn groups_the_sample_rows_by_manufacturer_and_day(rt: HostRuntime) -> Result<(), Fail> {
+    let cells = grouped(rt.alloc(), 248, &[&FACTS])?;
+    let bytes = cells.encode(rt.alloc(), Span { from: 0, to: 1 })?;
+    assert_eq!(rt; bytes.as_slice(), SPELLED.as_slice());
+    Ok(())
+}
+
+const ALL: u16 = 65_535;
+
+// A view, and the codes of its two cells: of the first and the third row, and of the second.
+const CITIES: [(u16, [u16; 4], [u16; 4]); 4] = [
+    // City of the customer and manufacturer, city of the supplier and manufacturer.
+    (59, [0, ALL, 0, ALL], [1, ALL, 0, ALL]),
+    (203, [ALL, 0, 0, ALL], [ALL, 1, 0, ALL]),
+    // Nation of the customer and region of the supplier; region of the customer alone.
+    (111, [0, 0, ALL, ALL], [1, 1, ALL, ALL]),
+    (191, [0, ALL, ALL, ALL], [1, ALL, ALL, ALL]),
+];
+
+#[test]
+fn groups_the_sample_rows_by_place(rt: HostRuntime) -> Result<(), Fail> {
+    for (view, first, second) in CITIES {
+        let cells = grouped(rt.alloc(), view, &[&FACTS])?;
+        let want = [cell(first, 2, FIRST_AND_THIRD), cell(second, 1, SECOND)];
+        assert_eq!(rt; cells.as_slice(), want.as_slice(), "view {view}");
+    }
+    Ok(())
+}
+
+#[test]
+fn groups_batches_as_their_rows(rt: HostRuntime) -> Result<(), Fail> {
+    let batches: [&[Fact<'_>]; 5] = [&FACTS[2..], &[], &FACTS[..1], &[], &FACTS[1..2]];
+    let cells = grouped(rt.alloc(), 248, &batches)?;
+    let want = [at_day(0, 1, FIRST), at_day(1, 2, LAST_TWO)];
+    assert_eq!(rt; cells.as_slice(), want.as_slice());
+    Ok(())
+}
+
+// Batches, the view, and its cell or none, where there is at most one.
+const SINGLE: [(&[Fact<'static>], u16, Option<([u16; 4], Summaries)>); 4] = [
+    (&[], 248, None),
+    (&[THIRD_FACT], 0, Some(([0, 0, 1, 1], THIRD))),
+    (&[THIRD_FACT], 85, Some(([0, 0, 1, 1], THIRD))),
+    (&[THIRD_FACT], 255, Some(([ALL, ALL, ALL, ALL], THIRD))),
+];
+
+#[test]
+fn groups_no_row_and_one_row(rt: HostRuntime) -> Result<(), Fail> {
+    for (facts, view, want) in SINGLE {
+        let cells = grouped(rt.alloc(), view, &[facts])?;
+        let found = cells.as_slice().first().copied();
+        let want = want.map(|(codes, measures)| cell(codes, 1, measures));
+        assert_eq!(rt;
+            (found, cells.as_slice().len() < 2),
+            (want, true),
+            "view {view}"
+        );
+    }
+    Ok(())
+}
+
+// The first row at the most money, without and with a discount, and at the most that can be lost.
+const RICH: Fact<'static> = Fact {
+    extendedprice: 9_223_372_036_854_775_807,
+    discount: 0,
+    ..FIRST_FACT
+};
+
+const REDUCED: Fact<'static> = Fact {
+    discount: 2,
+    ..RICH
+};
+
+const STRANGER: Fact<'static> = Fact {
+    suppkey: 9,
+    ..FIRST_FACT
+};
+
+// A view, a batch behind the sample rows, and whether it is taken.
+const BEHIND: [(u16, &[Fact<'static>], bool); 6] = [
+    (255, &[RICH], false),
+    (0, &[RICH], false),
+    (255, &[REDUCED], false),
+    (59, &[STRANGER], true),
+    (203, &[STRANGER], false),
+    (203, &[FIRST_FACT, STRANGER], false),
+];
+
+#[test]
+fn refuses_rows_and_stays_as_it_was(rt: HostRuntime) -> Result<(), Fail> {
+    let rows = dim_rows(rt.alloc(), &STAR)?;
+    let dims = Dims::build(rt.alloc(), &rows)?;
+    for (view, facts, taken) in BEHIND {
+        let mut cells = grouped(rt.alloc(), view, &[&FACTS])?;
+        let before = Vec::from_slice(rt.alloc(), cells.as_slice())?;
+        let found = take_in(rt.alloc(), &dims, facts, &mut cells);
+        let stays = before.as_slice() == cells.as_slice();
+        let want = if taken { Ok(()) } else { Err(Fault::BadLayout) };
+        assert_eq!(rt; (found, stays), (want, !taken), "view {view}");
+    }
+    Ok(())
+}

@@ -1,0 +1,145 @@
+//! Loads one after the other, each with what it writes and what comes of it.
+use crate::given::{created, loaded};
+use crate::loads::File::{Sample, Text};
+use cube_model::Fault;
+use sample_star::TABLES;
+use std::alloc::Global;
+use std::test::Fail;
+
+/// The text of a file.
+#[derive(Clone, Copy)]
+enum File {
+    /// The sample's fact lines.
+    Sample,
+    Text(&'static [u8]),
+}
+
+impl File {
+    fn text(self) -> &'static [u8] {
+        match self {
+            Sample => TABLES.lineorder,
+            Text(text) => text,
+        }
+    }
+}
+
+/// The first batch's number, the rows of a batch, the file, what is written, and what comes of it.
+type Step = (u32, usize, File, &'static str, Result<bool, Fault>);
+
+/// The third line has no quantity.
+const BAD_THIRD: &[u8] =
+    b"1|1|1|1|1|19930105|1-URGENT|0|17|1000|1000|2|980|600|0|19930201|AIR|\n2|1|2|2|2|19971202|5-LOW|0|24|2000|2000|3|1940|2000|0|19980101|RAIL|\n3|1|1|2|1|19971202|5-LOW|0|x|500|500|1|495|100|0|19980101|AIR|\n";
+
+/// The second line is of a customer that is not there.
+const STRANGER: &[u8] =
+    b"1|1|1|1|1|19930105|1-URGENT|0|17|1000|1000|2|980|600|0|19930201|AIR|\n2|1|7|2|2|19971202|5-LOW|0|24|2000|2000|3|1940|2000|0|19980101|RAIL|\n";
+
+const NO_QUANTITY: Fault = Fault::BadNumber { line: 3, field: 9 };
+
+/// Each list is done on a warehouse of its own.
+static LOADS: [&[Step]; 7] = [
+    &[
+        (1, 65_536, Sample, "batch 1 rows 3\nbatches 1\n", Ok(true)),
+        (1, 65_536, Sample, "batch 1 skipped\nbatches 1\n", Ok(true)),
+        (2, 3, Sample, "batch 2 rows 3\nbatches 2\n", Ok(true)),
+    ],
+    &[
+        (
+            1,
+            1,
+            Sample,
+            "batch 1 rows 1\nbatch 2 rows 1\nbatch 3 rows 1\nbatches 3\n",
+            Ok(true),
+        ),
+        (
+            3,
+            2,
+            Sample,
+            "batch 3 skipped\nbatch 4 rows 1\nbatches 4\n",
+            Ok(true),
+        ),
+        (1, 4, Sample, "batch 1 skipped\nbatches 4\n", Ok(true)),
+    ],
+    &[
+        (
+            1,
+            1,
+            Text(BAD_THIRD),
+            "batch 1 rows 1\nbatch 2 rows 1\n",
+            Err(NO_QUANTITY),
+        ),
+        (
+            1,
+            1,
+            Sample,
+            "batch 1 skipped\nbatch 2 skipped\nbatch 3 rows 1\nbatches 3\n",
+            Ok(true),
+        ),
+        // A batch that is there is read all the same.
+        (
+            1,
+            1,
+            Text(BAD_THIRD),
+            "batch 1 skipped\nbatch 2 skipped\n",
+            Err(NO_QUANTITY),
+        ),
+    ],
+    &[
+        (1, 2, Text(BAD_THIRD), "batch 1 rows 2\n", Err(NO_QUANTITY)),
+        (1, 3, Text(BAD_THIRD), "", Err(NO_QUANTITY)),
+        (2, 1, Text(b""), "batches 1\n", Ok(true)),
+    ],
+    &[
+        (1, 1, Text(b""), "batches 0\n", Ok(true)),
+        (4_294_967_295, 65_536, Text(b""), "batches 0\n", Ok(true)),
+    ],
+    &[
+        (2, 3, Sample, "", Err(Fault::Gap)),
+        (4_294_967_295, 1, Sample, "", Err(Fault::Gap)),
+        (4_294_967_295, 3, Text(BAD_THIRD), "", Err(NO_QUANTITY)),
+        (1, 1, Text(b"\n"), "", Err(Fault::FieldCount { line: 1 })),
+    ],
+    &[
+        (
+            1,
+            1,
+            Text(STRANGER),
+            "batch 1 rows 1\n",
+            Err(Fault::UnknownCustomer { row: 1 }),
+        ),
+        (
+            1,
+            2,
+            Text(STRANGER),
+            "batch 1 skipped\nbatches 1\n",
+            Ok(true),
+        ),
+        (
+            2,
+            2,
+            Text(STRANGER),
+            "",
+            Err(Fault::UnknownCustomer { row: 2 }),
+        ),
+    ],
+];
+
+/// The first list, and the place in it, of a load that writes another text or comes to another end.
+fn first_other(alloc: Global) -> Result<Option<(usize, usize)>, Fault> {
+    for (list, steps) in LOADS.iter().enumerate() {
+        let mut session = created(alloc)?;
+        for (place, (first, rows, file, lines, end)) in steps.iter().enumerate() {
+            let (out, done) = loaded(alloc, &mut session, *first, *rows, file.text())?;
+            if out.as_slice() != lines.as_bytes() || done != *end {
+                return Ok(Some((list, place)));
+            }
+        }
+    }
+    Ok(None)
+}
+
+#[test]
+fn loads_write_a_line_a_batch(rt: HostRuntime) -> Result<(), Fail> {
+    assert_eq!(rt; first_other(rt.alloc())?, None);
+    Ok(())
+}

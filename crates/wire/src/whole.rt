@@ -1,0 +1,56 @@
+//! Reading whole texts from a source.
+ghost use Rattle.std.specs.Prelude.{◌≡◌, ◌⊎◌, Some, length, option_map, vec_len, IfOk, OnOk, MatchResult};
+ghost use Rattle.cube_model.specs.declared.fault.Fault.{Fault};
+ghost use Rattle.wire.specs.Runs.{HasRead, IsRefused};
+
+use crate::part::read_part;
+use crate::source::Source;
+use cube_model::Fault;
+use std::alloc::Global;
+
+/// The bytes that a source has at an id, read through one small buffer; nothing where it has none.
+///
+/// It can fail for want of memory, or with what the source answers.
+pub fn read_whole<S: Source>(
+    alloc: Global,
+    source: &mut S,
+    id: u32,
+) -> Result<Option<Vec<u8>>, Fault>
+    ensures found { IfOk result (λ found. S.keeps_word source.new
+        → option_map (λ bytes. bytes.items) found ≡ S.texts source.old id) }
+    ensures run { MatchResult result (λ _. HasRead S.Source source.old source.new)
+        (λ fault. ((fault ≡ Fault.Memory) × HasRead S.Source source.old source.new) ⊎ IsRefused S.Source fault source.old source.new) }
+{
+    let Some(total) = source.total(id) else {
+        return Ok(None);
+    };
+    let mut bytes = Vec::with_capacity(alloc, total as usize)?;
+    read_to_end(source, id, total, &mut bytes)?;
+    Ok(Some(bytes))
+}
+
+// Reads all bytes at an id through a buffer.
+fn read_to_end<S: Source>(
+    source: &mut S,
+    id: u32,
+    total: u64,
+    out: &mut Vec<u8>,
+) -> Result<(), Fault>
+    requires total { S.totals source.old id ≡ Some total }
+    requires empty { vec_len out.old ≡ 0 }
+    ensures found { OnOk result (S.keeps_word source.new → S.totals source.old id ≡ option_map length (S.texts source.old id)
+        → Some out.new.items ≡ S.texts source.old id) }
+    ensures run { MatchResult result (λ _. HasRead S.Source source.old source.new)
+        (λ fault. ((fault ≡ Fault.Memory) × HasRead S.Source source.old source.new) ⊎ IsRefused S.Source fault source.old source.new) }
+{
+    let mut buffer = [0; 512];
+    let mut at = 0;
+    while at < total {
+        let count = (total - at).min(512);
+        let part = &mut buffer[..count as usize];
+        read_part(source, id, at, part)?;
+        out.extend_from_slice(part)?;
+        at += count;
+    }
+    Ok(())
+}
