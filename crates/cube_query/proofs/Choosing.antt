@@ -1,12 +1,12 @@
 -- Rows that a mask leaves out change nothing that a fold stands for. Our own.
-use Rattle.std.proofs.Common.{◌≡◌, ◌∙◌, sym, ap, refl, subst, ℕ, zero, suc, ◌+◌, ◌<◌, ◌≤◌, ◌^◌, ◌&&◌, Bool, true, false, cond, Option, Some, None, List, [], ◌∷◌, ◌++◌, Result, Ok, Err, length, map, drop, slice_get, arith, append_assoc}
+use Rattle.std.proofs.Common.{◌≡◌, ◌∙◌, sym, ap, refl, subst, ℕ, zero, suc, ◌+◌, ◌<◌, ◌≤◌, ◌&&◌, Bool, true, false, cond, Option, Some, None, List, [], ◌∷◌, ◌++◌, Result, Ok, Err, length, map, drop, slice_get, arith, append_assoc}
 use Rattle.std.specs.Prelude.{nat_abs, nat_le, unwrap_or, OnOk}
-use Rattle.std.specs.List.{All, filter, list_all, sum_by}
+use Rattle.std.specs.List.{All, filter, sum_by}
 use Rattle.std.proofs.lemmas.List.{length-append, length-map}
 use Rattle.std.proofs.lemmas.List.Elements.{filter-append}
 use Rattle.std.proofs.lemmas.List.Sums.{sum_by-append, sum_by-cons}
 use Rattle.cube_model.specs.declared.fault.Fault.{Fault}
-use Rattle.cube_model.specs.declared.fault.Fault.TheVariants.{BadLayout, UnknownCustomer, UnknownSupplier, UnknownPart, UnknownDate}
+use Rattle.cube_model.specs.declared.fault.Fault.TheVariants.{UnknownCustomer, UnknownSupplier, UnknownPart, UnknownDate}
 use Rattle.cube_model.specs.declared.query.Cond.{Cond}
 use Rattle.cube_model.specs.declared.query.Kind.TheVariants.{Plain}
 use Rattle.cube_model.specs.declared.query.Query.{Query}
@@ -14,14 +14,12 @@ use Rattle.cube_model.specs.declared.rows.DimRows.{DimRows}
 use Rattle.cube_model.specs.declared.rows.LineOrder.{LineOrder}
 use Rattle.cube_model.specs.Admission.{unknown_axis, unknown_key}
 use Rattle.cube_model.specs.Answers.{rows_of_key}
-use Rattle.cube_model.specs.Attributes.{customer_of, supplier_of, part_of, date_of}
 use Rattle.cube_model.specs.Causes.{first_cause, cause_if}
 use Rattle.cube_model.specs.Measures.{measure_of}
 use Rattle.cube_model.specs.Selection.{is_selected, selected as selected_by}
 use Rattle.column_kernels.specs.Masks.{selected}
 use Rattle.column_segment.specs.Segment.{FitColumns}
 use Rattle.group_plan.specs.Numbers.{key_at}
-use Rattle.group_plan.specs.Parts.{holds_in}
 use Rattle.group_plan.specs.Plans.{AreBounds, is_within}
 use Rattle.group_plan.specs.Rows.{row_at}
 use Rattle.group_plan.specs.declared.bounds.Bounds.{Bounds}

@@ -2,12 +2,11 @@
 use Rattle.std.proofs.Common.{◌≡◌, ◌≢◌, ◌∙◌, sym, ap, refl, subst, ℕ, zero, suc, ◌+◌, ◌<◌, ◌≤◌, ◌^◌, true, false, cond, ℤ, ◌+ℤ◌, List, [], ◌∷◌, ◌++◌, map, length, length-append, append-nil, append_assoc, take, drop, get_or, Some, None, arith, FitsSigned, w64, slice_set, get_or-set_same, get_or-set_other}
 use Rattle.std.specs.Prelude.{Option, ◌==◌, nat_abs, slice_get}
 use Rattle.std.proofs.lemmas.Bool.Decides.{nat_tests}
-use Rattle.std.proofs.lemmas.List.{map-append, take_more, take-append-drop, length-take-le, length-map, get_or_default}
+use Rattle.std.proofs.lemmas.List.{map-append, take_more, take-append-drop, length-take-le, get_or_default}
 use Rattle.std.proofs.lemmas.List.Sums.{sum_by-append, sum_by-cons}
 use Rattle.std.proofs.lemmas.Option.{slice_get-get_or}
 use Rattle.cube_model.specs.declared.measure.Agg.{Agg}
 use Rattle.cube_model.specs.declared.rows.LineOrder.{LineOrder}
-use Rattle.cube_model.specs.Aggregates.{total}
 use Rattle.cube_query.specs.Columns.{tally_after, tally_at, no_tally, can_add, chosen, size_of, slotted, IsBounded, IsCountable, HasRoom, CountsIn}
 use Rattle.cube_query.specs.Tallies.{number_of, tally_of, tally_with}
 use Rattle.cube_query.specs.declared.tally.Tally.{Tally}

@@ -1,5 +1,5 @@
 -- When the tallies of a column have room, slot by slot.
-use Rattle.std.proofs.Common.{◌≡◌, ◌∙◌, sym, ap, refl, ℕ, zero, suc, ◌<◌, ◌^◌, true, false, Bool, List, [], ◌∷◌, length, Some, None, arith, subst}
+use Rattle.std.proofs.Common.{◌≡◌, ◌∙◌, sym, ap, refl, ℕ, zero, suc, ◌<◌, ◌^◌, true, false, Bool, List, [], ◌∷◌, length, Some, None, arith}
 use Rattle.std.specs.Prelude.{Option, ◌&&◌, nat_lt, slice_get}
 use Rattle.std.specs.List.{list_all}
 use Rattle.std.proofs.lemmas.Bool.Decides.{nat_tests}

@@ -1,12 +1,9 @@
 -- How a fold goes on: to more slots, and to more rows.
-use Rattle.std.proofs.Common.{◌≡◌, ◌∙◌, sym, ap, refl, subst, ℕ, ◌<◌, ◌≤◌, List, [], ◌∷◌, ◌++◌, map, get_or, length, length-append, Some, None, arith, inl, inr}
+use Rattle.std.proofs.Common.{◌≡◌, ◌∙◌, sym, ap, ℕ, ◌≤◌, List, [], ◌∷◌, ◌++◌, map, get_or, length, length-append, Some, None, arith, inl, inr}
 use Rattle.std.specs.Prelude.{Option, nat_abs}
-use Rattle.std.specs.BTreeMap.{is_at}
 use Rattle.std.specs.List.{AllByRecursion}
-use Rattle.std.specs.Map.{lookup}
 use Rattle.std.specs.declared.alloc.Global.{Global}
 use Rattle.std.specs.declared.vec.Vec.{Vec}
-use Rattle.cube_model.specs.declared.answer.Member.{Member}
 use Rattle.cube_model.specs.declared.measure.Agg.{Agg}
 use Rattle.cube_model.specs.declared.query.Query.{Query}
 use Rattle.cube_model.specs.declared.query.Kind.TheVariants.{Plain}
@@ -19,14 +16,13 @@ use Rattle.std.proofs.lemmas.List.Sums.{sum_by-append, sum_by-cons}
 use Rattle.cube_model.specs.Keys.{key_cmp, keys_of}
 use Rattle.cube_model.specs.Selection.{is_selected}
 use Rattle.cube_query.specs.Columns.{tallies_at, tally_at, can_add, chosen, size_of}
-use Rattle.cube_query.specs.Groups.{groups_of, rows_at}
+use Rattle.cube_query.specs.Groups.{rows_at}
 use Rattle.cube_query.specs.Limits.{AreFoldable}
 use Rattle.group_plan.specs.Numbers.{group_count, key_at, KeysRise}
 use Rattle.cube_query.specs.Slots.{slot_of, AreSlots, Grow}
 use Rattle.cube_query.specs.FoldInvariant.{AreGroupSlots, HaveRoom, CountIn, AreTallied}
-use Rattle.cube_query.specs.Tallies.{number_of, tally_of, tallies_of, tallies_if_any}
+use Rattle.cube_query.specs.Tallies.{number_of, tally_of, tallies_of}
 use Rattle.cube_query.specs.declared.tally.Tally.{Tally}
-use Rattle.cube_query.proofs.Answered.{groups_have}
 use Rattle.cube_query.proofs.Marking.{keys_apart, slotted-none, rows_at-none, rows_at-slotted, AreGroupSlots-at}
 use Rattle.cube_query.proofs.OneRow.{rows_at-append}
 use Rattle.cube_query.proofs.Columnwise.{All-at, tallies-length, tallies-one}

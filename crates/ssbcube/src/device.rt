@@ -6,7 +6,7 @@ use dimensions::Dims;
 use file_device::{FileDisk, Host, Unread};
 use sector_cache::Cached;
 use std::alloc::Global;
-use std::fs::OpenFile;
+use std::fs::{self, OpenFile};
 use std::os::unix::fs::FileExt;
 use std::rt::Files;
 use warehouse::Session;
@@ -30,8 +30,23 @@ where
     let disk = FileDisk::make(rt, path, sectors)?;
     let device = cached(rt.alloc(), disk)?;
     match warehouse::create(rt.alloc(), device, dims) {
-        Ok(session) => Ok(session),
+        Ok(session) => {
+            keep_name(rt, path);
+            Ok(session)
+        }
         Err((fault, device)) => Err(met_by(fault, &device)),
+    }
+}
+
+// Has the folder of a file keep its name on the disk, where the system can: a sync of a file need not keep its name.
+fn keep_name<R: Files>(rt: &R, path: &str) {
+    let folder = match path.rsplit_once('/') {
+        None => ".",
+        Some((folder, _)) if folder.is_empty() => "/",
+        Some((folder, _)) => folder,
+    };
+    if let Ok(folder) = fs::open(rt, folder) {
+        let _kept = folder.sync_all();
     }
 }
 

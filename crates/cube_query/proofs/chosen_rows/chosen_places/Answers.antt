@@ -1,4 +1,4 @@
-use Rattle.std.proofs.Common.{◌≡◌, ◌∙◌, sym, ap, ◌+◌, ◌<◌, ℕ, Bool, false, List, ◌++◌, drop, length, slice_get, arith}
+use Rattle.std.proofs.Common.{◌≡◌, ◌∙◌, sym, ap, ◌+◌, ◌<◌, ℕ, false, List, ◌++◌, drop, length, slice_get, arith}
 use Rattle.std.specs.Prelude.{unwrap_or}
 use Rattle.cube_query.specs.Chosen.{places_from}
 use Rattle.cube_query.proofs.Choosing.{one_chosen, one_left_out}

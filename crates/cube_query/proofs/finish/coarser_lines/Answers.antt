@@ -3,7 +3,7 @@ use Rattle.std.proofs.Common.{◌≡◌, ◌∙◌, Err, [], sym, ap, subst, ari
 use Rattle.std.proofs.lemmas.Result.{IfOk-weaker}
 use Rattle.cube_query.specs.Coarser.{AreTalliedFrom, CanCoarsen}
 use Rattle.cube_query.specs.Columns.{seen_groups, tallies_at}
-use Rattle.cube_query.specs.Groups.{groups_of, finest}
+use Rattle.cube_query.specs.Groups.{groups_of}
 use Rattle.cube_query.specs.Slots.{entries_of, AreSlots}
 use Rattle.cube_query.specs.FoldInvariant.{AreTallied}
 use Rattle.cube_query.proofs.Columnwise.{tallies-length}

@@ -1,4 +1,4 @@
-use Rattle.std.proofs.Common.{◌≡◌, ◌∙◌, ◌+◌, ◌++◌, ◌∷◌, ◌<◌, [], sym, subst, take, length, arith}
+use Rattle.std.proofs.Common.{◌≡◌, ◌+◌, ◌++◌, ◌∷◌, ◌<◌, [], sym, subst, take, length, arith}
 use Rattle.std.proofs.lemmas.List.{take_more}
 use Rattle.group_plan.specs.Rows.{no_row, row_at}
 use Rattle.cube_query.specs.Slots.{entries_of}

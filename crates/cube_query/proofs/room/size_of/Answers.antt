@@ -1,4 +1,4 @@
-use Rattle.std.proofs.Common.{◌≡◌, ◌+◌, ◌<◌, length, slice_index_or, None, arith}
+use Rattle.std.proofs.Common.{◌+◌, ◌<◌, length, slice_index_or, None, arith}
 use Rattle.std.proofs.lemmas.List.{get_or_default}
 use Rattle.group_plan.specs.Rows.{no_row, row_at}
 use Rattle.cube_query.proofs.Counting.{size-next, size-take}

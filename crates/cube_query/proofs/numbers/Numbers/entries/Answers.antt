@@ -1,5 +1,4 @@
-use Rattle.std.proofs.Common.{◌≡◌, ◌∙◌, ℕ, sym, ap, subst, map, nat_eq}
-use Rattle.std.specs.List.{position_or_len}
+use Rattle.std.proofs.Common.{◌≡◌, ◌∙◌, ap, subst, map}
 use Rattle.std.specs.List.Sorted.{IsPermutation}
 use Rattle.cube_query.specs.Numbered.{entries_in}
 use Rattle.cube_query.proofs.Numbering.{place_in, sorted_entries}
