@@ -3,6 +3,7 @@ use crate::dimension_lines::{key_hint, upper_hint};
 use crate::facts::fact_hint;
 use crate::files::{Table, TableFiles};
 use crate::text_lines::line_hint;
+use cube_model::limits::{MOST_DAYS, MOST_DIMENSION_ROWS};
 use cube_model::{Axis, Fault, Measure, Place};
 use std::alloc::Global;
 
@@ -32,6 +33,7 @@ pub fn table_hint<T: TableFiles>(
         Fault::UnknownDate { row } => fact_hint(alloc, files, Axis::Date, row),
         Fault::SumRange { measure } => passed(alloc, files, measure),
         Fault::TooManyBatches => batches(alloc, files),
+        Fault::TooManyRows => rows(alloc),
         _ => Ok(None),
     }
 }
@@ -77,5 +79,12 @@ fn passed<T: TableFiles>(
 fn batches<T: TableFiles>(alloc: Global, files: &T) -> Result<Option<String>, Fault> {
     let path = files.path(Table::Lineorder);
     let said = format!(in alloc; "{path}: more than 268435456 lines")?;
+    Ok(Some(said))
+}
+
+fn rows(alloc: Global) -> Result<Option<String>, Fault> {
+    let said = format!(in alloc;
+        "a customer, supplier or part table has at most {MOST_DIMENSION_ROWS} rows, and a date table {MOST_DAYS}"
+    )?;
     Ok(Some(said))
 }
