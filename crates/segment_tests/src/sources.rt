@@ -10,19 +10,19 @@ use std::alloc::Global;
 use std::test::Fail;
 use wire::{SliceSource, Source};
 
-// Bytes that stand at every id, of which so many parts can be read before a read is refused.
+// Bytes that stand at every id, if there are any, of which so many parts can be read before a read is refused.
 #[derive(Debug, Drop)]
 struct Refusing<'a> {
-    bytes: &'a [u8],
+    bytes: Option<&'a [u8]>,
     left: usize,
 }
 
 impl<'a> Source for Refusing<'a> {
-    ghost use Rattle.std.specs.Prelude.{length, Some};
+    ghost use Rattle.std.specs.Prelude.{length, option_map};
 
-    ghost totals = { λ s id. Some (length s.bytes.now) };
+    ghost totals = { λ s id. option_map (λ bytes. length bytes.now) s.bytes };
 
-    ghost texts = { λ s id. Some s.bytes.now };
+    ghost texts = { λ s id. option_map (λ bytes. bytes.now) s.bytes };
 
     ghost keeps_word = { λ s. Unit {0} };
 
@@ -34,54 +34,30 @@ impl<'a> Source for Refusing<'a> {
 
     fn total(&self, id: u32) -> Option<u64> {
         let _ = id;
-        Some(self.bytes.len() as u64)
+        match self.bytes {
+            None => None,
+            Some(bytes) => Some(bytes.len() as u64),
+        }
     }
 
     fn read_part(&mut self, id: u32, at: u64, to: &mut [u8]) -> Result<(), Fault> {
         let _ = id;
+        let Some(bytes) = self.bytes else {
+            return Err(Fault::Failed);
+        };
         if self.left == 0 {
             return Err(Fault::Device);
         }
         self.left -= 1;
         let at = at as usize;
-        to.copy_from_slice(&self.bytes[at..at + to.len()]);
+        let Some(end) = at.checked_add(to.len()) else {
+            return Err(Fault::Failed);
+        };
+        let Some(part) = bytes.get(at..end) else {
+            return Err(Fault::Failed);
+        };
+        to.copy_from_slice(part);
         Ok(())
-    }
-
-    ghost none_read = { λ source. tt };
-
-    ghost reads_on = { λ old mid new first second. tt };
-
-    ghost fails_later = { λ fault old mid new first second. tt };
-}
-
-// A source without a text.
-#[derive(Debug, Drop)]
-struct Nothing;
-
-impl Source for Nothing {
-    ghost use Rattle.std.specs.Prelude.{None};
-
-    ghost totals = { λ s id. None };
-
-    ghost texts = { λ s id. None };
-
-    ghost keeps_word = { λ s. Unit {0} };
-
-    ghost always_keeps = { Unit {0} };
-
-    ghost reads = { λ old new. Unit {0} };
-
-    ghost fails = { λ fault old new. Unit {0} };
-
-    fn total(&self, id: u32) -> Option<u64> {
-        let _ = id;
-        None
-    }
-
-    fn read_part(&mut self, id: u32, at: u64, to: &mut [u8]) -> Result<(), Fault> {
-        let _ = (id, at, to.len());
-        Err(Fault::Failed)
     }
 
     ghost none_read = { λ source. tt };
@@ -116,7 +92,13 @@ fn refusal<S: Source>(alloc: Global, source: &mut S) -> Option<Fault> {
 
 // The same of bytes, of which so many parts can be read.
 fn refusal_after(alloc: Global, bytes: &[u8], left: usize) -> Option<Fault> {
-    refusal(alloc, &mut Refusing { bytes, left })
+    refusal(
+        alloc,
+        &mut Refusing {
+            bytes: Some(bytes),
+            left,
+        },
+    )
 }
 
 // The bytes of so many rows.
@@ -144,6 +126,10 @@ fn each_read_is_refused_in_turn(rt: HostRuntime) -> Result<(), Fail> {
 fn a_source_without_a_batch_is_refused(rt: HostRuntime) -> Result<(), Fail> {
     let mut shorter = SliceSource::new(&SPELLED[..284]);
     assert_eq!(rt; refusal(rt.alloc(), &mut shorter), Some(Fault::BadLayout));
-    assert_eq!(rt; refusal(rt.alloc(), &mut Nothing), Some(Fault::BadLayout));
+    let mut nothing = Refusing {
+        bytes: None,
+        left: 1,
+    };
+    assert_eq!(rt; refusal(rt.alloc(), &mut nothing), Some(Fault::BadLayout));
     Ok(())
 }
