@@ -1,9 +1,10 @@
 //! The answer to a query over the first batches of a warehouse.
-ghost use Rattle.std.specs.Prelude.{◌≡◌, ◌≢◌, take, ◌⊎◌, ◌<◌, ◌≤◌, ◌↔◌, true, false, Err, length, IfOk, IfErr, IsErrOf, OnOk};
+ghost use Rattle.std.specs.Prelude.{◌≡◌, ◌≢◌, take, ◌⊎◌, ◌<◌, ◌≤◌, ◌↔◌, true, false, [], Err, length, IfOk, IfErr, IsErrOf, OnOk};
 ghost use Rattle.cube_model.specs.declared.fault.Fault.TheVariants.{BadLayout, Device, Failed, Memory, BadQuery, NoSuchPrefix};
 ghost use Rattle.cube_model.specs.Admission.{all_rows};
 ghost use Rattle.cube_model.specs.Answers.{answer, answer_as_of};
 ghost use Rattle.cube_model.specs.Proper.{IsProper};
+ghost use Rattle.cube_query.specs.Groups.{StandsFor};
 ghost use Rattle.object_store.specs.Disk.{Leaves};
 ghost use Rattle.object_store.specs.Store as stores;
 ghost use Rattle.warehouse_objects.specs.Warehouse.{Warehouse};
@@ -82,11 +83,35 @@ fn answer_of<D: Sectors>(
     ensures causes { IfErr result (λ fault. (fault ≡ Memory) ⊎ ((fault ≡ Device) ⊎ (fault ≡ BadLayout))) }
 {
     let _broken = store.is_broken();
-    let mut fold = match Fold::new(alloc, dims, query) {
-        Ok(fold) => fold,
-        Err(_) => return Err(Fault::Memory), // the query is proper
-    };
-    match fold_batches(alloc, store, root, dims, &mut fold, as_of) {
+    match Fold::new(alloc, dims, query) {
+        Ok(mut fold) => answer_by(alloc, store, root, dims, &mut fold, as_of),
+        Err(_) => Err(Fault::Memory), // the query is proper
+    }
+}
+
+// The answer to the query of a fold that stands for no row yet, over the first batches of a store.
+fn answer_by<D: Sectors>(
+    alloc: Global,
+    store: &mut Store<D>,
+    root: &Root,
+    dims: &Dims,
+    fold: &mut Fold,
+    as_of: u32,
+) -> Result<Answer, Fault>
+    requires fine { stores.has_failed store.old ≡ false }
+    requires begun { StandsFor dims.now fold.old [] }
+    requires few { as_of ≤ length root.now.batches }
+    ensures answer { IfOk result (λ found. D.keeps_word (stores.device_of store.new) → (w : Warehouse) → Stands (stores.content_of D.Sectors store.old) w
+        → found ≡ answer fold.old.query dims.now (all_rows (take as_of w.batches))) }
+    ensures refused { IsErrOf result BadLayout → D.keeps_word (stores.device_of store.new) → (w : Warehouse) → Stands (stores.content_of D.Sectors store.old) w
+        → root.now ≡ root_of w → dims.now ≡ w.rows → ⊥ }
+    ensures leaves { Leaves (stores.disk_of D.Sectors store.old) (stores.disk_of D.Sectors store.new) (λ c. c ≡ stores.content_of D.Sectors store.old) }
+    ensures stays { (IsErrOf result Device → ⊥) → stores.IsStill D.Sectors store.old store.new }
+    ensures device { IsErrOf result Device → stores.Breaks D.Sectors store.old store.new }
+    ensures causes { IfErr result (λ fault. (fault ≡ Memory) ⊎ ((fault ≡ Device) ⊎ (fault ≡ BadLayout))) }
+{
+    let _broken = store.is_broken();
+    match fold_batches(alloc, store, root, dims, fold, as_of) {
         Ok(()) => fold.finish(dims),
         Err(fault) => Err(fault),
     }

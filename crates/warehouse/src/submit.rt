@@ -43,13 +43,13 @@ impl<D: Sectors> Session<D> {
             return Err(Fault::Failed);
         }
         kept_is_what_stands(&self.dims, &self.root);
+        if self.store.objects() as usize >= MOST_OBJECTS {
+            return Err(Fault::BadLayout); // more than a warehouse has
+        }
         let prepared = match Prepared::of(alloc, &self.dims, &self.root, number, rows) {
             Ok(prepared) => prepared,
             Err(fault) => return Err(fault),
         };
-        if self.store.objects() as usize >= MOST_OBJECTS {
-            return Err(Fault::BadLayout); // more than a warehouse has
-        }
         let puts = [(segment_id(number), prepared.segment.as_slice())];
         match self.store.commit(
             alloc,

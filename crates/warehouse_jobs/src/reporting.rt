@@ -1,9 +1,11 @@
 //! The report of a query over a warehouse.
 ghost use Rattle.std.specs.Prelude.{◌≡◌, true, IfOk, IfErr};
 ghost use Rattle.cube_model.specs.declared.fault.Fault.TheVariants.{Failed};
+ghost use Rattle.object_store.specs.Disk.{Leaves};
 ghost use Rattle.warehouse_objects.specs.Warehouse.{Warehouse};
-ghost use Rattle.warehouse.specs.Session.{device_of, has_failed, IsAt};
-ghost use Rattle.warehouse_jobs.specs.Reporting.{Reports, asked_for};
+ghost use Rattle.warehouse_objects.specs.Stands.{Stands};
+ghost use Rattle.warehouse.specs.Session.{device_of, disk_of, has_failed, IsAt};
+ghost use Rattle.warehouse_jobs.specs.Reporting.{ReportEnds, Reports, asked_for};
 
 use cube_model::{Fault, Query};
 use sector_device::Sectors;
@@ -24,8 +26,24 @@ pub(crate) fn report<D: Sectors, W: Write>(
         → Reports D.Sectors w as_of query.now session.old session.new (W.contents out.old) (W.contents out.new) result }
     ensures word { D.keeps_word (device_of session.new) → D.keeps_word (device_of session.old) }
 {
-    let as_of = batches_asked(session, as_of)?;
-    let answer = session.query(alloc, as_of, query)?;
+    let count = batches_asked(session, as_of)?;
+    report_over(alloc, session, count, query, out)
+}
+
+// Writes the report of the answer to a query over so many batches.
+fn report_over<D: Sectors, W: Write>(
+    alloc: Global,
+    session: &mut Session<D>,
+    count: u32,
+    query: &Query,
+    out: &mut W,
+) -> Result<(), Fault>
+    ensures ends { (w : Warehouse) → IsAt D.Sectors session.old w → D.keeps_word (device_of session.new)
+        → ReportEnds D.Sectors w count query.now session.new (W.contents out.old) (W.contents out.new) result }
+    ensures leaves { (w : Warehouse) → IsAt D.Sectors session.old w → Leaves (disk_of D.Sectors session.old) (disk_of D.Sectors session.new) (λ c. Stands c w) }
+    ensures word { D.keeps_word (device_of session.new) → D.keeps_word (device_of session.old) }
+{
+    let answer = session.query(alloc, count, query)?;
     write_report(query, &answer, out)
 }
 

@@ -13,23 +13,23 @@ use Rattle.object_store.specs.Store as stores
 use Rattle.warehouse_objects.specs.Warehouse.{Warehouse}
 use Rattle.warehouse_objects.specs.Stands.{Stands}
 use Rattle.warehouse.proofs.Outcomes.{if_ok_weaker}
-use Rattle.warehouse.proofs.querying.answer_of.Goals as goal
+use Rattle.warehouse.proofs.querying.answer_by.Goals as goal
 
-pub returns-in-Ok-fold_batches-clause-answer : goal.returns-in-Ok-fold_batches-clause-answer
-returns-in-Ok-fold_batches-clause-answer g c =
+pub returns-in-Ok-clause-answer : goal.returns-in-Ok-clause-answer
+returns-in-Ok-clause-answer g c =
     let dims = c.args.dims.now in
     let fold = c.fold_batches.new.fold in
     if_ok_weaker c.finish.result (λ (found : Answer). (rows : List LineOrder) → StandsFor dims fold rows → found ≡ answer fold.query dims rows)
     (λ (found : Answer). g.D.Sectors.keeps_word (stores.device_of c.fold_batches.new.store) → (w : Warehouse) → Stands (stores.content_of g.D.Sectors c.args.store.now) w
-    → found ≡ answer c.args.query.now dims (all_rows (take c.args.as_of w.batches)))
-    (λ found same k w stands. same (all_rows (take c.args.as_of w.batches)) (c.in-Ok-fold_batches.ensures.ok k w stands)
-    ∙ ap (λ (q : Query). answer q dims (all_rows (take c.args.as_of w.batches))) (c.in-Ok-fold_batches.ensures.query ∙ c.in-Ok.ensures.ok.query_is))
+    → found ≡ answer c.args.fold.now.query dims (all_rows (take c.args.as_of w.batches)))
+    (λ found same k w stands. same (all_rows (take c.args.as_of w.batches)) (c.in-Ok.ensures.ok k w stands)
+    ∙ ap (λ (q : Query). answer q dims (all_rows (take c.args.as_of w.batches))) (c.in-Ok.ensures.query))
     c.finish.ensures.answer
 
-pub returns-in-Ok-fold_batches-clause-refused : goal.returns-in-Ok-fold_batches-clause-refused
-returns-in-Ok-fold_batches-clause-refused g c is k w stands rooted same =
+pub returns-in-Ok-clause-refused : goal.returns-in-Ok-clause-refused
+returns-in-Ok-clause-refused g c is k w stands rooted same =
     let dims = c.args.dims.now in
     let rows = all_rows (take c.args.as_of w.batches) in
     let within : c.args.as_of ≤ length w.batches = omega (arith, c.requires.few, ap (λ r. length r.batches) rooted, length-map w.batches length) in
     let all : AreFoldable dims rows = subst (λ (d : DimRows). AreFoldable d rows) (sym same) (foldable w.rows w.batches stands.batches c.args.as_of within) in
-    c.finish.ensures.refused is (rows, (c.in-Ok-fold_batches.ensures.ok k w stands, all))
+    c.finish.ensures.refused is (rows, (c.in-Ok.ensures.ok k w stands, all))
