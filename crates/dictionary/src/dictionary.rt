@@ -1,9 +1,10 @@
 //! The texts that were seen, and their codes.
-ghost use Rattle.std.specs.Prelude.{◌≡◌, ◌⊎◌, ◌<◌, ◌≤◌, ◌^◌, ◌++◌, [], length, slice_get, Some, IfOk, IfSome, IfErr, IsOkUnless, OnErr, OnOk};
+ghost use Rattle.std.specs.Prelude.{◌≡◌, ◌⊎◌, ◌<◌, ◌≤◌, ◌^◌, ◌++◌, [], length, slice_get, Some, IfOk, IfSome, IfErr, IsOkUnless, IsTrue, OnErr, OnOk};
 ghost use Rattle.std.specs.Option.{option_map};
 ghost use Rattle.dictionary.specs.Dictionary.{code_of, Adds};
 ghost use Rattle.dictionary.specs.Spelling.{AreShort, BeginsWithNone, ReadsTexts, texts_spelling};
 
+use crate::memo::Memo;
 use crate::reading::read_texts;
 use crate::writing::push_texts;
 use cube_model::Fault;
@@ -19,6 +20,7 @@ use wire::{Cursor, push_u32};
 pub struct Dictionary {
     texts: IndexSet<Vec<u8>>,
     limit: u32,
+    memo: Memo,
 }
 
 impl Model for Dictionary {
@@ -41,6 +43,7 @@ impl Dictionary {
         Dictionary {
             texts: IndexSet::new(alloc),
             limit,
+            memo: Memo::new(alloc),
         }
     }
 
@@ -83,7 +86,12 @@ impl Dictionary {
         ensures err { OnErr result (self.new ≡ self.old) }
         ensures memory { IfErr result (λ fault. fault ≡ Fault.Memory) }
     {
+        let guess = self.memo.guess(text);
+        if self.stands_at(text, guess) {
+            return Ok(Some(guess as u32));
+        }
         if let Some(place) = self.texts.get_index_of(text) {
+            self.memo.keep(text, place);
             return Ok(Some(place as u32));
         }
         let next = self.texts.len();
@@ -93,6 +101,18 @@ impl Dictionary {
         let text = Vec::from_slice(alloc, text)?;
         self.texts.insert(text)?;
         Ok(Some(next as u32))
+    }
+
+    // Whether a text is the one at a place.
+    #[inline]
+    fn stands_at(&self, text: &[u8], place: usize) -> bool
+        ensures seen { IsTrue result → code_of self.now.texts text.now ≡ Some place }
+        ensures within { IsTrue result → place < self.now.limit }
+    {
+        match self.texts.get_index(place) {
+            None => false,
+            Some(own) => own.as_slice() == text,
+        }
     }
 
     /// Adds the texts to bytes, as they stand on disk: their number in four bytes, then each with its length in one byte

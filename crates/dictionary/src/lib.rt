@@ -3,6 +3,7 @@
 
 mod codes;
 mod dictionary;
+mod memo;
 mod reading;
 mod writing;
 

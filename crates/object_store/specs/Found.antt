@@ -1,5 +1,5 @@
 -- What was found on a device, and what stands nowhere. Our own.
-use Rattle.std.specs.Prelude.{ℕ, Bool, true, false, List}
+use Rattle.std.specs.Prelude.{◌≡◌, ◌≢◌, ◌⊎◌, ◌<◌, ℕ, ⊤, Bool, true, false, List}
 use Rattle.sector_device.specs.Device.{Image, DeviceState, IsSettled}
 use Rattle.extents.specs.Extents.{AreLaidOut}
 use Rattle.superblock.specs.declared.superblock.Super.{Super}
@@ -10,7 +10,7 @@ use Rattle.cube_model.specs.declared.fault.Fault.TheVariants.{NotFormatted, BadL
 use Rattle.object_store.specs.Content.{Content}
 use Rattle.object_store.specs.Places.{bytes_at, used_by}
 use Rattle.object_store.specs.Reading.{IsNewest}
-use Rattle.object_store.specs.Shows.{Shows}
+use Rattle.object_store.specs.Shows.{HasNone, Shows}
 
 -- each sector has one candidate, and the newest superblock names this catalogue
 pub record IsFound (s : DeviceState) (super : Super) (entries : List Entry) (root : List ℕ) : Type 0 where
@@ -31,3 +31,11 @@ is_of_layout NotFormatted = true
 is_of_layout BadLayout = true
 is_of_layout DeviceSize = true
 is_of_layout fault = false
+
+-- What a refusal of the layout says of an image of so many sectors: it has no valid superblock, or its newest one is of a
+-- device of this size, or it is of another, or the device is too small.
+abbrev pub Explains : Fault → ℕ → Image → Type 0
+Explains NotFormatted size image = HasNone image
+Explains BadLayout size image = (super : Super) × IsNewest image super × (super.sectors ≡ size)
+Explains DeviceSize size image = (size < 64) ⊎ ((super : Super) × IsNewest image super × (super.sectors ≢ size))
+Explains fault size image = ⊤

@@ -1,7 +1,7 @@
 // What stands on a device.
 ghost use Rattle.std.specs.Prelude.{◌≡◌, ◌⊎◌, ◌+◌, ◌-◌, ◌^◌, ◌%◌, ◌<◌, ◌≤◌, ℕ, min, true, IfOk, IfErr, IfSome, OnOk, MatchOption};
 ghost use Rattle.cube_model.specs.declared.fault.Fault.{Fault};
-ghost use Rattle.sector_device.specs.Device.{CountsFailure, IsSettled};
+ghost use Rattle.sector_device.specs.Device.{CountsFailure, IsSettled, Syncs};
 ghost use Rattle.superblock.specs.Superblock.{IsProper};
 ghost use Rattle.object_store.specs.Shows.{HasNone};
 ghost use Rattle.object_store.specs.Reading.{IsOnlyRead, IsNewest, two};
@@ -10,7 +10,7 @@ ghost use Rattle.extents.specs.Extents.{AreLaidOut};
 ghost use Rattle.catalogue.specs.Catalogue as catalogues;
 ghost use Rattle.catalogue.specs.Catalogue.{IsCatalogue};
 ghost use Rattle.object_store.specs.Places.{bytes_at, used_by};
-ghost use Rattle.object_store.specs.Found.{ShowsNothing, SpellNone, is_of_layout};
+ghost use Rattle.object_store.specs.Found.{Explains, ShowsNothing, SpellNone, is_of_layout};
 
 use crate::layout::check_extents;
 use crate::read::read_range;
@@ -40,6 +40,7 @@ pub(crate) fn find<D: Sectors>(alloc: Global, device: &mut D) -> Result<Found, F
     ensures device { IfErr result (λ fault. fault ≡ Fault.Device → D.failed device.new ≡ min (D.failed device.old + 1) (2 ^ 64 - 1)) }
     ensures nothing { IfErr result (λ fault. is_of_layout fault ≡ true → D.keeps_word device.new
         → ShowsNothing (D.state device.old).size (D.state device.old).reads) }
+    ensures explained { IfErr result (λ fault. D.keeps_word device.new → Explains fault (D.state device.old).size (D.state device.old).reads) }
     ensures causes { IfErr result (λ fault. (fault ≡ Fault.Memory) ⊎ (fault ≡ Fault.Device) ⊎ (is_of_layout fault ≡ true)) }
 {
     let superblock = match newest(device) {
@@ -71,12 +72,23 @@ pub(crate) fn newest<D: Sectors>(device: &mut D) -> Result<Option<Super>, Device
     ensures found { IfOk result (λ found. D.keeps_word device.new
         → MatchOption found (HasNone (D.state device.new).reads) (IsNewest (D.state device.new).reads)) }
 {
-    device.sync()?;
+    settle(device)?;
     let mut even = [0; 512];
     device.read(0, &mut even)?;
     let mut odd = [0; 512];
     device.read(1, &mut odd)?;
     Ok(chosen(&even, &odd))
+}
+
+// Makes each sector one that has a single candidate, also where a stop left it several.
+fn settle<D: Sectors>(device: &mut D) -> Result<(), DeviceError>
+    ensures size { (D.state device.new).size ≡ (D.state device.old).size }
+    ensures failures { CountsFailure result (D.failed device.old) (D.failed device.new) }
+    ensures word { D.keeps_word device.new → D.keeps_word device.old }
+    ensures settled { OnOk result (D.keeps_word device.new → IsSettled (D.state device.new)) }
+    ensures syncs { D.keeps_word device.new → Syncs (D.state device.old) (D.state device.new) }
+{
+    device.sync()
 }
 
 // The superblock of the greater generation in two slots.

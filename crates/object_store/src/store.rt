@@ -7,7 +7,7 @@ ghost use Rattle.object_store.specs.Commit.{ArePuts, IsFew, IsLayout, IsRoot, co
 ghost use Rattle.object_store.specs.Ready.{IsKept, IsReady};
 ghost use Rattle.object_store.specs.Room.{LacksRoom, empty_room};
 ghost use Rattle.object_store.specs.Disk.{disk, IsBlank, AllShow, Leaves, LeavesOrNone, Each, OnlyImagesOf, IsShown, MayShowNothing, HasOneImage};
-ghost use Rattle.object_store.specs.Found.{is_of_layout};
+ghost use Rattle.object_store.specs.Found.{Explains, is_of_layout};
 ghost use Rattle.object_store.specs.Shows.{HasNone};
 
 use crate::create::create;
@@ -110,6 +110,7 @@ impl<D: Sectors> Store<D> {
 
         // When each error comes.
         ensures nothing { IfErr result (λ e. is_of_layout e.0 ≡ true → D.keeps_word e.1 → MayShowNothing (disk D.Sectors device)) }
+        ensures explained { IfErr result (λ e. D.keeps_word e.1 → Explains e.0 (D.state device).size (D.state device).reads) }
         ensures device { IfErr result (λ e. e.0 ≡ Device → D.failed e.1 ≡ min (D.failed device + 1) (2 ^ 64 - 1)) }
         ensures causes { IfErr result (λ e. (e.0 ≡ Memory) ⊎ ((e.0 ≡ Device) ⊎ (is_of_layout e.0 ≡ true))) }
     {

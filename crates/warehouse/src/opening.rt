@@ -1,10 +1,11 @@
 //! Opening what stands on a device.
 ghost use Rattle.std.specs.Prelude.{◌≡◌, ◌⊎◌, ◌+◌, ◌-◌, ◌^◌, min, true, false, List, Option, IfOk, IfErr, IsErrOf, OnOk};
-ghost use Rattle.cube_model.specs.declared.fault.Fault.TheVariants.{BadLayout, Device, Memory};
+ghost use Rattle.cube_model.specs.declared.fault.Fault.TheVariants.{BadLayout, Device, Memory, NotFormatted};
 ghost use Rattle.cube_model.specs.declared.rows.DimRows.{DimRows};
 ghost use Rattle.cube_model.specs.declared.rows.LineOrder.{LineOrder};
 ghost use Rattle.object_store.specs.Disk.{disk, AllShow, Leaves};
 ghost use Rattle.object_store.specs.Found.{is_of_layout};
+ghost use Rattle.object_store.specs.Shows.{HasNone};
 ghost use Rattle.object_store.specs.Store as stores;
 ghost use Rattle.warehouse_root.specs.declared.layout.Layout.TheVariants.{First};
 ghost use Rattle.warehouse_root.specs.Layouts.{number_of};
@@ -43,6 +44,7 @@ pub fn open<D: Sectors>(alloc: Global, device: D) -> Result<Session<D>, (Fault, 
     ensures never { IfErr result (λ e. (rows : DimRows) (batches : List (List LineOrder)) (last : Option (List LineOrder)) →
         AllShow (disk D.Sectors device) (MayStand rows batches last) → D.keeps_word e.1 → (e.0 ≡ Memory) ⊎ (e.0 ≡ Device)) }
     ensures device { IfErr result (λ e. e.0 ≡ Device → D.failed e.1 ≡ min (D.failed device + 1) (2 ^ 64 - 1)) }
+    ensures unformatted { IfErr result (λ e. e.0 ≡ NotFormatted → D.keeps_word e.1 → HasNone (D.state device).reads) }
     ensures causes { IfErr result (λ e. (e.0 ≡ Memory) ⊎ ((e.0 ≡ Device) ⊎ (is_of_layout e.0 ≡ true))) }
 {
     let store = match Store::open(alloc, device) {

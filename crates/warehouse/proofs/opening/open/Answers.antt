@@ -1,5 +1,7 @@
-use Rattle.std.proofs.Common.{⊎_elim, inl, inr}
+use Rattle.std.proofs.Common.{⊎_elim, inl, inr, subst}
+use Rattle.cube_model.specs.declared.fault.Fault.{Fault}
 use Rattle.object_store.specs.Disk.{disk}
+use Rattle.object_store.specs.Found.{Explains}
 use Rattle.warehouse.specs.Found.{MayStand}
 use Rattle.warehouse.specs.Session.{disk_of}
 use Rattle.warehouse.proofs.Finding.{read_leaves, session_may, never_loaded, never_none}
@@ -31,3 +33,8 @@ returns-in-Err-load-clause-never g c rows batches last all k =
     (λ bad. absurd (never_loaded g.D.Sectors c.args.device c.in-Ok.store rows batches last all c.in-Ok.ensures.only c.in-Ok.ensures.found (disk g.D.Sectors c.in-Err-load.e.1) c.in-Err-load.ensures.leaves_err k
     (c.in-Err-load.ensures.readable bad k))))
     c.in-Err-load.ensures.causes
+
+pub returns-in-Err-clause-unformatted : goal.returns-in-Err-clause-unformatted
+returns-in-Err-clause-unformatted g c is k =
+    let s = g.D.Sectors.state c.args.device in
+    subst (λ (f : Fault). Explains f s.size s.reads) is (c.in-Err.ensures.explained k)
