@@ -23,17 +23,14 @@ pub no_part : {X : Type 0} (f : X → List ℕ) (s : List ℕ) → s ≡ s ++ fl
 no_part f s = sym (append-nil s)
 
 -- a batch is its header, its keys, its figures and its texts
-pub batch_put : (number count : ℕ) (rows : List LineOrder) (s0 s1 s2 s3 s4 : List ℕ) → s0 ≡ [] → count ≡ length rows → s1 ≡ s0 ++ header_of number count
+pub batch_put : (number : ℕ) (rows : List LineOrder) (s0 s1 s2 s3 s4 : List ℕ) → s1 ≡ s0 ++ header_of number (length rows)
     → s2 ≡ s1 ++ flat_map (number_column rows) key_columns → s3 ≡ s2 ++ flat_map (number_column rows) figure_columns
-    → s4 ≡ s3 ++ flat_map (text_column rows) text_columns → s4 ≡ segment_of number rows
-batch_put number count rows s0 s1 s2 s3 s4 empty count_is header keys figures texts =
-    let head : List ℕ = header_of number count in
+    → s4 ≡ s3 ++ flat_map (text_column rows) text_columns → s4 ≡ s0 ++ segment_of number rows
+batch_put number rows s0 s1 s2 s3 s4 header keys figures texts =
+    let head : List ℕ = header_of number (length rows) in
     let key : List ℕ = flat_map (number_column rows) key_columns in
     let figure : List ℕ = flat_map (number_column rows) figure_columns in
     let text : List ℕ = flat_map (text_column rows) text_columns in
-    let start : s1 ≡ head = header ∙ ap (λ (l : List ℕ). l ++ head) empty in
     let both : s3 ≡ s1 ++ flat_map (number_column rows) number_columns =
     then_part s1 s2 s3 key figure keys figures ∙ ap (λ (l : List ℕ). s1 ++ l) (sym (flat_map-append (number_column rows) key_columns figure_columns)) in
-    then_part s1 s3 s4 (flat_map (number_column rows) number_columns) text both texts
-    ∙ ap (λ (l : List ℕ). l ++ (flat_map (number_column rows) number_columns ++ text)) start
-    ∙ ap (λ (n : ℕ). header_of number n ++ (flat_map (number_column rows) number_columns ++ text)) count_is
+    then_part s0 s1 s4 head (flat_map (number_column rows) number_columns ++ text) header (then_part s1 s3 s4 (flat_map (number_column rows) number_columns) text both texts)

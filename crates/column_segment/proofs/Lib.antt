@@ -1,5 +1,6 @@
 pub mod CallerLemmas
 mod Behind
+mod Gathered
 mod Chunked
 mod Coded
 mod Header

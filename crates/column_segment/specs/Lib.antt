@@ -2,5 +2,6 @@ pub mod Batch
 pub mod Coding
 pub mod Columns
 pub mod Decoded
+pub mod Encoding
 pub mod Reading
 pub mod Segment

@@ -1,70 +1,126 @@
-//! Spelling a column of texts.
-ghost use Rattle.std.specs.Prelude.{◌≡◌, ◌<◌, ◌≤◌, ◌∷◌, ◌++◌, [], ℕ, List, length, map, IsOkUnless, OnOk};
-ghost use Rattle.cube_model.specs.Limits.{most_batch_rows};
-ghost use Rattle.column_segment.specs.Coding.{AreCoded};
-ghost use Rattle.column_segment.specs.Columns.{text_of};
-ghost use Rattle.column_segment.specs.Segment.{HaveShort, text_column};
+//! The columns of texts of a batch while its rows are added: the texts that were seen, and the code of each row's.
+#![tactic(auto, unfolding(wire::specs::Spelling::spelling))]
+
+ghost use Rattle.std.specs.Prelude.{◌≡◌, ◌∷◌, ◌++◌, [], ℕ, List, IfErr, IfOk, IsOkUnless, OnOk};
+ghost use Rattle.std.specs.List.{flat_map};
+ghost use Rattle.cube_model.specs.declared.rows.LineOrder.{LineOrder};
+ghost use Rattle.wire.specs.Spelling.{spelling};
+ghost use Rattle.dictionary.specs.Columns.{column_spelling};
+ghost use Rattle.dictionary.specs.Spelling.{AreShort};
+ghost use Rattle.column_segment.specs.Columns.{text_columns};
+ghost use Rattle.column_segment.specs.Segment.{text_column};
 
 use crate::columns::TextColumn;
+use crate::gathering::push_column;
 use cube_model::limits::MOST_BATCH_ROWS;
 use cube_model::{Fault, LineOrder};
 use dictionary::Dictionary;
 use std::alloc::Global;
-use wire::{push_bytes, push_u16};
 
-// Adds a column of texts to bytes: its dictionary, then a code a row.
-pub(crate) fn push_text_column(
-    alloc: Global,
-    out: &mut Vec<u8>,
-    rows: &[LineOrder],
-    column: TextColumn,
-) -> Result<(), Fault>
-    requires few { length rows.now ≤ most_batch_rows }
-    requires short { HaveShort rows.now column }
-    ensures ok { OnOk result (out.new.items ≡ out.old.items ++ text_column rows.now column) }
-    ensures memory { IsOkUnless result Fault.Memory }
-{
-    let mut texts = Dictionary::new(alloc, MOST_BATCH_ROWS as u32);
-    let mut codes = Vec::with_capacity(alloc, 2 * rows.len())?;
-    push_codes(alloc, &mut texts, &mut codes, rows, column)?;
-    texts.push_to(out)?;
-    push_bytes(out, &codes)
+/// A column of texts.
+#[derive(Drop)]
+pub(crate) struct Coding {
+    texts: Dictionary,
+    codes: Vec<[u8; 2]>,
 }
 
-// Adds the code of each row's text to bytes.
-fn push_codes(
-    alloc: Global,
-    texts: &mut Dictionary,
-    codes: &mut Vec<u8>,
-    rows: &[LineOrder],
-    column: TextColumn,
-) -> Result<(), Fault>
-    requires few { length rows.now ≤ most_batch_rows }
-    requires empty { AreCoded [] texts.old codes.old.items }
-    ensures ok { OnOk result (AreCoded (map (text_of column) rows.now) texts.new codes.new.items) }
+impl Coding {
+    ghost use Rattle.column_segment.specs.Encoding.{HasRoom, IsCoding};
+
+    // That of no row, with room for the codes of so many.
+    fn new(alloc: Global, rows: usize) -> Result<Coding, Fault>
+        ensures ok { IfOk result (IsCoding []) }
+        ensures memory { IfErr result (λ fault. fault ≡ Fault.Memory) }
+    {
+        Ok(Coding {
+            texts: Dictionary::new(alloc, MOST_BATCH_ROWS as u32),
+            codes: Vec::with_capacity(alloc, rows)?,
+        })
+    }
+
+    // Adds a row's text. There is room for one text more.
+    #[inline]
+    fn push(&mut self, alloc: Global, text: &[u8]) -> Result<(), Fault>
+        requires room { HasRoom self.old }
+        ensures ok { OnOk result ((column : List (List ℕ)) → IsCoding column self.old → IsCoding (column ++ text.now ∷ []) self.new) }
+        ensures memory { IsOkUnless result Fault.Memory }
+    {
+        match self.texts.add(alloc, text)? {
+            Some(code) => put_code(&mut self.codes, code as u16),
+            None => unreachable!(),
+        }
+    }
+
+    // Adds the column to bytes: its dictionary, then a code a row.
+    fn push_to(&self, out: &mut Vec<u8>) -> Result<(), Fault>
+        requires short { AreShort self.now.texts.texts }
+        ensures ok { OnOk result ((column : List (List ℕ)) → IsCoding column self.now → out.new.items ≡ out.old.items ++ column_spelling column) }
+        ensures memory { IsOkUnless result Fault.Memory }
+    {
+        self.texts.push_to(out)?;
+        push_column(out, &self.codes)
+    }
+}
+
+/// The texts of rows.
+#[derive(Drop)]
+pub(crate) struct Texts {
+    orderpriority: Coding,
+    shippriority: Coding,
+    commitdate: Coding,
+    shipmode: Coding,
+}
+
+impl Texts {
+    ghost use Rattle.column_segment.specs.Encoding.{AreOfBatch, HaveRoom, HaveTexts};
+
+    // Those of no row, with room for the codes of so many.
+    pub(crate) fn new(alloc: Global, rows: usize) -> Result<Texts, Fault>
+        ensures ok { IfOk result (HaveTexts []) }
+        ensures memory { IfErr result (λ fault. fault ≡ Fault.Memory) }
+    {
+        Ok(Texts {
+            orderpriority: Coding::new(alloc, rows)?,
+            shippriority: Coding::new(alloc, rows)?,
+            commitdate: Coding::new(alloc, rows)?,
+            shipmode: Coding::new(alloc, rows)?,
+        })
+    }
+
+    // Adds those of a row.
+    #[inline]
+    pub(crate) fn push(&mut self, alloc: Global, row: &LineOrder) -> Result<(), Fault>
+        requires room { HaveRoom self.old }
+        ensures ok { OnOk result ((rows : List LineOrder) → HaveTexts rows self.old → HaveTexts (rows ++ row.now ∷ []) self.new) }
+        ensures memory { IsOkUnless result Fault.Memory }
+    {
+        self.orderpriority
+            .push(alloc, TextColumn::OrderPriority.of(row))?;
+        self.shippriority
+            .push(alloc, TextColumn::ShipPriority.of(row))?;
+        self.commitdate.push(alloc, TextColumn::CommitDate.of(row))?;
+        self.shipmode.push(alloc, TextColumn::ShipMode.of(row))
+    }
+
+    // Adds the columns to bytes.
+    pub(crate) fn push_to(&self, out: &mut Vec<u8>) -> Result<(), Fault>
+        requires batch { AreOfBatch self.now }
+        ensures ok { OnOk result ((rows : List LineOrder) → HaveTexts rows self.now → out.new.items ≡ out.old.items ++ flat_map (text_column rows) text_columns) }
+        ensures memory { IsOkUnless result Fault.Memory }
+    {
+        self.orderpriority.push_to(out)?;
+        self.shippriority.push_to(out)?;
+        self.commitdate.push_to(out)?;
+        self.shipmode.push_to(out)
+    }
+}
+
+// Adds a code.
+#[inline(always)]
+fn put_code(to: &mut Vec<[u8; 2]>, code: u16) -> Result<(), Fault>
+    ensures ok { OnOk result (to.new.items ≡ to.old.items ++ spelling 2 code ∷ []) }
     ensures memory { IsOkUnless result Fault.Memory }
 {
-    for row in rows {
-        push_code(alloc, texts, codes, column.of(row))?;
-    }
+    to.push(u16::to_le_bytes(code))?;
     Ok(())
-}
-
-// Adds the code of a text to bytes. There is room for one text more.
-fn push_code(
-    alloc: Global,
-    texts: &mut Dictionary,
-    codes: &mut Vec<u8>,
-    text: &[u8],
-) -> Result<(), Fault>
-    requires room { length texts.old.texts < texts.old.limit }
-    requires limit { texts.old.limit ≤ most_batch_rows }
-    ensures ok { OnOk result ((column : List (List ℕ)) → AreCoded column texts.old codes.old.items
-        → AreCoded (column ++ text.now ∷ []) texts.new codes.new.items) }
-    ensures memory { IsOkUnless result Fault.Memory }
-{
-    match texts.add(alloc, text)? {
-        Some(code) => push_u16(codes, code as u16),
-        None => unreachable!(),
-    }
 }

@@ -1,22 +1,22 @@
 //! Spelling a batch.
-ghost use Rattle.std.specs.Prelude.{◌≡◌, ◌≤◌, ◌^◌, ◌<◌, ◌++◌, length, IfOk, IfErr, IsOkUnless, OnOk};
-ghost use Rattle.std.specs.List.{flat_map};
+ghost use Rattle.std.specs.Prelude.{◌≡◌, ◌≤◌, ◌++◌, ◌∷◌, [], List, length, IfOk, IfErr, IsOkUnless, OnOk};
 ghost use Rattle.cube_model.specs.Limits.{most_batch_rows};
-ghost use Rattle.column_segment.specs.Columns.{amounts, bytes, figure_columns, key_columns, numbers, text_columns};
-ghost use Rattle.column_segment.specs.Segment.{IsBatch, header_of, number_column, segment_of, text_column};
+ghost use Rattle.cube_model.specs.declared.rows.LineOrder.{LineOrder};
+ghost use Rattle.column_segment.specs.Segment.{IsBatch, header_of, segment_of};
 
-use crate::coding::push_text_column;
-use crate::columns::{AmountColumn, ByteColumn, NumberColumn, TextColumn};
+use crate::coding::Texts;
+use crate::gathering::{Figures, Keys};
 use cube_model::{Fault, LineOrder};
 use std::alloc::Global;
-use wire::{push_bytes, push_u8, push_u32, push_u64};
+use wire::{push_bytes, push_u32};
 
 // The first bytes of each segment.
 pub(crate) const NAME: &[u8] = b"SEG1";
 
-// How many bytes a row takes at least, and the header with the numbers of texts.
-const ROW_BYTES: usize = 71;
+// How many bytes a row takes: 71, and those of texts that were not seen before, in a batch of many rows seldom one a row.
+const ROW_BYTES: usize = 72;
 
+// The header, and the numbers of texts.
 const OTHER_BYTES: usize = 28;
 
 /// The bytes of a batch. It has at most 65,536 rows, and no text above 255 bytes.
@@ -28,11 +28,23 @@ pub fn encode(alloc: Global, number: u32, rows: &[LineOrder]) -> Result<Vec<u8>,
     ensures memory { IfErr result (λ fault. fault ≡ Fault.Memory) }
 {
     let mut out = Vec::with_capacity(alloc, OTHER_BYTES + ROW_BYTES * rows.len())?;
-    push_header(&mut out, number, rows.len() as u32)?;
-    push_keys(&mut out, rows)?;
-    push_figures(&mut out, rows)?;
-    push_texts(alloc, &mut out, rows)?;
+    push_batch(alloc, &mut out, number, rows)?;
     Ok(out)
+}
+
+// Adds a batch to bytes.
+fn push_batch(
+    alloc: Global,
+    out: &mut Vec<u8>,
+    number: u32,
+    rows: &[LineOrder],
+) -> Result<(), Fault>
+    requires batch { IsBatch rows.now }
+    ensures ok { OnOk result (out.new.items ≡ out.old.items ++ segment_of number rows.now) }
+    ensures memory { IsOkUnless result Fault.Memory }
+{
+    let mut columns = Columns::new(alloc, rows.len())?;
+    columns.spell(alloc, out, number, rows)
 }
 
 fn push_header(out: &mut Vec<u8>, number: u32, rows: u32) -> Result<(), Fault>
@@ -44,68 +56,71 @@ fn push_header(out: &mut Vec<u8>, number: u32, rows: u32) -> Result<(), Fault>
     push_u32(out, rows)
 }
 
-fn push_keys(out: &mut Vec<u8>, rows: &[LineOrder]) -> Result<(), Fault>
-    ensures ok { OnOk result (out.new.items ≡ out.old.items ++ flat_map (number_column rows.now) key_columns) }
-    ensures memory { IsOkUnless result Fault.Memory }
-{
-    push_amounts(out, rows, AmountColumn::OrderKey)?;
-    push_numbers(out, rows, NumberColumn::LineNumber)?;
-    push_numbers(out, rows, NumberColumn::CustKey)?;
-    push_numbers(out, rows, NumberColumn::PartKey)?;
-    push_numbers(out, rows, NumberColumn::SuppKey)?;
-    push_numbers(out, rows, NumberColumn::OrderDate)
+/// All columns of a batch while its rows are added.
+#[derive(Drop)]
+pub(crate) struct Columns {
+    keys: Keys,
+    figures: Figures,
+    texts: Texts,
 }
 
-fn push_figures(out: &mut Vec<u8>, rows: &[LineOrder]) -> Result<(), Fault>
-    ensures ok { OnOk result (out.new.items ≡ out.old.items ++ flat_map (number_column rows.now) figure_columns) }
-    ensures memory { IsOkUnless result Fault.Memory }
-{
-    push_figure_bytes(out, rows, ByteColumn::Quantity)?;
-    push_amounts(out, rows, AmountColumn::ExtendedPrice)?;
-    push_amounts(out, rows, AmountColumn::OrdTotalPrice)?;
-    push_figure_bytes(out, rows, ByteColumn::Discount)?;
-    push_amounts(out, rows, AmountColumn::Revenue)?;
-    push_amounts(out, rows, AmountColumn::SupplyCost)?;
-    push_figure_bytes(out, rows, ByteColumn::Tax)
-}
+impl Columns {
+    ghost use Rattle.column_segment.specs.Encoding.{HaveRoom, HaveRows};
 
-fn push_texts(alloc: Global, out: &mut Vec<u8>, rows: &[LineOrder]) -> Result<(), Fault>
-    requires batch { IsBatch rows.now }
-    ensures ok { OnOk result (out.new.items ≡ out.old.items ++ flat_map (text_column rows.now) text_columns) }
-    ensures memory { IsOkUnless result Fault.Memory }
-{
-    push_text_column(alloc, out, rows, TextColumn::OrderPriority)?;
-    push_text_column(alloc, out, rows, TextColumn::ShipPriority)?;
-    push_text_column(alloc, out, rows, TextColumn::CommitDate)?;
-    push_text_column(alloc, out, rows, TextColumn::ShipMode)
-}
-
-fn push_amounts(out: &mut Vec<u8>, rows: &[LineOrder], column: AmountColumn) -> Result<(), Fault>
-    ensures ok { OnOk result (out.new.items ≡ out.old.items ++ number_column rows.now (amounts column)) }
-    ensures memory { IsOkUnless result Fault.Memory }
-{
-    for row in rows {
-        push_u64(out, column.of(row))?;
+    // Those of no row, with room for so many.
+    fn new(alloc: Global, rows: usize) -> Result<Columns, Fault>
+        ensures ok { IfOk result (HaveRows []) }
+        ensures memory { IfErr result (λ fault. fault ≡ Fault.Memory) }
+    {
+        Ok(Columns {
+            keys: Keys::new(alloc, rows)?,
+            figures: Figures::new(alloc, rows)?,
+            texts: Texts::new(alloc, rows)?,
+        })
     }
-    Ok(())
-}
 
-fn push_numbers(out: &mut Vec<u8>, rows: &[LineOrder], column: NumberColumn) -> Result<(), Fault>
-    ensures ok { OnOk result (out.new.items ≡ out.old.items ++ number_column rows.now (numbers column)) }
-    ensures memory { IsOkUnless result Fault.Memory }
-{
-    for row in rows {
-        push_u32(out, column.of(row))?;
+    // Adds rows to none, and then all of it to bytes as a batch.
+    fn spell(
+        &mut self,
+        alloc: Global,
+        out: &mut Vec<u8>,
+        number: u32,
+        rows: &[LineOrder],
+    ) -> Result<(), Fault>
+        requires batch { IsBatch rows.now }
+        requires empty { HaveRows [] self.old }
+        ensures ok { OnOk result (out.new.items ≡ out.old.items ++ segment_of number rows.now) }
+        ensures memory { IsOkUnless result Fault.Memory }
+    {
+        self.push_rows(alloc, rows)?;
+        push_header(out, number, rows.len() as u32)?;
+        self.keys.push_to(out)?;
+        self.figures.push_to(out)?;
+        self.texts.push_to(out)
     }
-    Ok(())
-}
 
-fn push_figure_bytes(out: &mut Vec<u8>, rows: &[LineOrder], column: ByteColumn) -> Result<(), Fault>
-    ensures ok { OnOk result (out.new.items ≡ out.old.items ++ number_column rows.now (bytes column)) }
-    ensures memory { IsOkUnless result Fault.Memory }
-{
-    for row in rows {
-        push_u8(out, column.of(row))?;
+    // Adds a row.
+    #[inline]
+    fn push(&mut self, alloc: Global, row: &LineOrder) -> Result<(), Fault>
+        requires room { HaveRoom self.old.texts }
+        ensures ok { OnOk result ((rows : List LineOrder) → HaveRows rows self.old → HaveRows (rows ++ row.now ∷ []) self.new) }
+        ensures memory { IsOkUnless result Fault.Memory }
+    {
+        self.keys.push(row)?;
+        self.figures.push(row)?;
+        self.texts.push(alloc, row)
     }
-    Ok(())
+
+    // Adds rows to none. Each row is read once, and written to all columns.
+    fn push_rows(&mut self, alloc: Global, rows: &[LineOrder]) -> Result<(), Fault>
+        requires few { length rows.now ≤ most_batch_rows }
+        requires empty { HaveRows [] self.old }
+        ensures ok { OnOk result (HaveRows rows.now self.new) }
+        ensures memory { IsOkUnless result Fault.Memory }
+    {
+        for row in rows {
+            self.push(alloc, row)?;
+        }
+        Ok(())
+    }
 }

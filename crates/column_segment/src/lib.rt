@@ -5,6 +5,7 @@ mod batch;
 mod coding;
 mod columns;
 mod encoding;
+mod gathering;
 mod laws;
 mod layout;
 mod reading;

@@ -1,0 +1,58 @@
+-- Columns that were gathered row by row. Our own.
+use Rattle.std.proofs.Common.{◌≡◌, ◌<◌, ◌≤◌, ◌+◌, ◌∙◌, sym, ap, refl, subst, arith, ℕ, List, [], ◌∷◌, ◌++◌, map, length, take, get_or}
+use Rattle.std.specs.List.{flat_map}
+use Rattle.std.proofs.lemmas.List.{flat_map_more, take_more}
+use Rattle.cube_model.specs.Limits.{most_batch_rows}
+use Rattle.cube_model.specs.declared.rows.LineOrder.{LineOrder}
+use Rattle.wire.specs.Spelling.{spelling}
+use Rattle.column_segment.specs.Columns.{Column, text_of}
+use Rattle.column_segment.specs.Encoding.{HasRoom, HaveRoom, HaveRows, HaveTexts, IsCoding, number_chunks}
+use Rattle.column_segment.specs.Segment.{number_column}
+use Rattle.column_segment.specs.declared.coding.Coding.{Coding}
+use Rattle.column_segment.specs.declared.coding.Texts.{Texts}
+use Rattle.column_segment.specs.declared.columns.TextColumn.{TextColumn}
+use Rattle.column_segment.specs.declared.columns.TextColumn.TheVariants.{OrderPriority, ShipPriority, CommitDate, ShipMode}
+use Rattle.column_segment.specs.declared.encoding.Columns.{Columns}
+use Rattle.column_segment.proofs.Coded.{fewer, has_room}
+
+-- ---- numbers
+
+flat_chunks : (column : Column) (rows : List LineOrder) → flat_map (λ chunk. chunk) (number_chunks column rows) ≡ number_column rows column
+flat_chunks column [] = refl
+flat_chunks column (row ∷ rows) = ap (λ (l : List ℕ). spelling column.width (column.value row) ++ l) (flat_chunks column rows)
+
+-- the bytes of all rows, one after the other, are the column
+pub column_behind : (column : Column) (rows : List LineOrder) (items slice : List (List ℕ)) (s0 s1 : List ℕ) → items ≡ number_chunks column rows → slice ≡ items
+    → s1 ≡ s0 ++ flat_map (λ chunk. chunk) slice → s1 ≡ s0 ++ number_column rows column
+column_behind column rows items slice s0 s1 are same put =
+    put ∙ ap (λ (l : List (List ℕ)). s0 ++ flat_map (λ chunk. chunk) l) (same ∙ are) ∙ ap (λ (l : List ℕ). s0 ++ l) (flat_chunks column rows)
+
+-- ---- texts
+
+-- the bytes of one code more
+pub flat_more : (old new : List (List ℕ)) (chunk : List ℕ) → new ≡ old ++ chunk ∷ [] → flat_map (λ code. code) new ≡ flat_map (λ code. code) old ++ chunk
+flat_more old new chunk put = ap (flat_map (λ code. code)) put ∙ sym (flat_map_more (λ (code : List ℕ). code) [] old chunk)
+
+one_room : (column : TextColumn) (rows : List LineOrder) (i : ℕ) (coding : Coding) → IsCoding (map (text_of column) (take i rows)) coding → i < length rows
+    → length rows ≤ most_batch_rows → HasRoom coding
+one_room column rows i coding are lt few = record {
+  room = has_room (map (text_of column) (take i rows)) coding.texts (flat_map (λ code. code) coding.codes.items) are (fewer column rows i lt few);
+  limit = omega (arith, are.limit);
+}
+
+-- before the last row there is room for one more
+pub room_left : (rows : List LineOrder) (i : ℕ) (texts : Texts) → HaveTexts (take i rows) texts → i < length rows → length rows ≤ most_batch_rows → HaveRoom texts
+room_left rows i texts have lt few = record {
+  orderpriority = one_room OrderPriority rows i texts.orderpriority have.orderpriority lt few;
+  shippriority = one_room ShipPriority rows i texts.shippriority have.shippriority lt few;
+  commitdate = one_room CommitDate rows i texts.commitdate have.commitdate lt few;
+  shipmode = one_room ShipMode rows i texts.shipmode have.shipmode lt few;
+}
+
+-- ---- rows
+
+-- with the next row they are one more
+pub rows_more : (rows : List LineOrder) (i : ℕ) (row : LineOrder) (columns : Columns) → i < length rows → row ≡ get_or rows i row
+    → HaveRows (take i rows ++ row ∷ []) columns → HaveRows (take (i + 1) rows) columns
+rows_more rows i row columns lt is have =
+    subst (λ (rs : List LineOrder). HaveRows rs columns) (ap (λ (r : LineOrder). take i rows ++ r ∷ []) is ∙ sym (take_more rows i row lt)) have

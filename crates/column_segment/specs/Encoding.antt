@@ -1,0 +1,74 @@
+-- What was written of some rows while a batch is spelled, column by column. Our own.
+use Rattle.std.specs.Prelude.{◌≡◌, ◌<◌, ◌≤◌, ℕ, List, length, map}
+use Rattle.std.specs.List.{flat_map}
+use Rattle.cube_model.specs.Limits.{most_batch_rows}
+use Rattle.cube_model.specs.declared.rows.LineOrder.{LineOrder}
+use Rattle.wire.specs.Spelling.{spelling}
+use Rattle.column_segment.specs.declared.columns.AmountColumn.TheVariants.{OrderKey, ExtendedPrice, OrdTotalPrice, Revenue, SupplyCost}
+use Rattle.column_segment.specs.declared.columns.NumberColumn.TheVariants.{LineNumber, CustKey, PartKey, SuppKey, OrderDate}
+use Rattle.column_segment.specs.declared.columns.ByteColumn.TheVariants.{Quantity, Discount, Tax}
+use Rattle.column_segment.specs.declared.columns.TextColumn.TheVariants.{OrderPriority, ShipPriority, CommitDate, ShipMode}
+use Rattle.column_segment.specs.declared.gathering.Keys.{Keys}
+use Rattle.column_segment.specs.declared.gathering.Figures.{Figures}
+use Rattle.column_segment.specs.declared.coding.Coding.{Coding}
+use Rattle.column_segment.specs.declared.coding.Texts.{Texts}
+use Rattle.column_segment.specs.declared.encoding.Columns.{Columns}
+use Rattle.column_segment.specs.Coding.{AreCoded}
+use Rattle.column_segment.specs.Columns.{Column, amounts, bytes, numbers, text_of}
+use Rattle.column_segment.specs.Segment.{IsBatch}
+
+-- the bytes of each row's number in a column
+abbrev pub number_chunks : Column → List LineOrder → List (List ℕ)
+number_chunks column rows = map (λ row. spelling column.width (column.value row)) rows
+
+-- the columns of keys are those of the rows
+pub record HaveKeys (rows : List LineOrder) (keys : Keys) : Type 0 where
+  pub orderkey : keys.orderkey.items ≡ number_chunks (amounts OrderKey) rows
+  pub linenumber : keys.linenumber.items ≡ number_chunks (numbers LineNumber) rows
+  pub custkey : keys.custkey.items ≡ number_chunks (numbers CustKey) rows
+  pub partkey : keys.partkey.items ≡ number_chunks (numbers PartKey) rows
+  pub suppkey : keys.suppkey.items ≡ number_chunks (numbers SuppKey) rows
+  pub orderdate : keys.orderdate.items ≡ number_chunks (numbers OrderDate) rows
+
+-- the columns of figures are those of the rows
+pub record HaveFigures (rows : List LineOrder) (figures : Figures) : Type 0 where
+  pub quantity : figures.quantity.items ≡ number_chunks (bytes Quantity) rows
+  pub extendedprice : figures.extendedprice.items ≡ number_chunks (amounts ExtendedPrice) rows
+  pub ordtotalprice : figures.ordtotalprice.items ≡ number_chunks (amounts OrdTotalPrice) rows
+  pub discount : figures.discount.items ≡ number_chunks (bytes Discount) rows
+  pub revenue : figures.revenue.items ≡ number_chunks (amounts Revenue) rows
+  pub supplycost : figures.supplycost.items ≡ number_chunks (amounts SupplyCost) rows
+  pub tax : figures.tax.items ≡ number_chunks (bytes Tax) rows
+
+-- a dictionary and codes are those of a column of texts
+abbrev pub IsCoding : List (List ℕ) → Coding → Type 0
+IsCoding column coding = AreCoded column coding.texts (flat_map (λ code. code) coding.codes.items)
+
+-- the columns of texts are those of the rows
+pub record HaveTexts (rows : List LineOrder) (texts : Texts) : Type 0 where
+  pub orderpriority : IsCoding (map (text_of OrderPriority) rows) texts.orderpriority
+  pub shippriority : IsCoding (map (text_of ShipPriority) rows) texts.shippriority
+  pub commitdate : IsCoding (map (text_of CommitDate) rows) texts.commitdate
+  pub shipmode : IsCoding (map (text_of ShipMode) rows) texts.shipmode
+
+-- all columns are those of the rows
+pub record HaveRows (rows : List LineOrder) (columns : Columns) : Type 0 where
+  pub keys : HaveKeys rows columns.keys
+  pub figures : HaveFigures rows columns.figures
+  pub texts : HaveTexts rows columns.texts
+
+-- a dictionary takes one more text, whose code fits two bytes
+pub record HasRoom (coding : Coding) : Type 0 where
+  pub room : length coding.texts.texts < coding.texts.limit
+  pub limit : coding.texts.limit ≤ most_batch_rows
+
+-- each of the dictionaries does
+pub record HaveRoom (texts : Texts) : Type 0 where
+  pub orderpriority : HasRoom texts.orderpriority
+  pub shippriority : HasRoom texts.shippriority
+  pub commitdate : HasRoom texts.commitdate
+  pub shipmode : HasRoom texts.shipmode
+
+-- the columns of texts are those of some batch
+abbrev pub AreOfBatch : Texts → Type 0
+AreOfBatch texts = (rows : List LineOrder) × HaveTexts rows texts × IsBatch rows
