@@ -1,5 +1,6 @@
 -- Names and words that tell values apart.
-use Rattle.std.proofs.Common.{◌≡◌, ℕ, cond, List, [], ◌∷◌, take, drop, map, codes, refl, sym, ap, ◌∙◌}
+use Rattle.std.proofs.Common.{◌≡◌, inl, inr, ℕ, cond, List, [], ◌∷◌, take, drop, map, codes, refl, sym, ap, ◌∙◌}
+use Rattle.std.specs.List.{AllZip}
 use Rattle.std.specs.Str.{bytes_eq}
 use Rattle.cube_model.specs.declared.attr.Attr.{Attr}
 use Rattle.cube_model.specs.declared.attr.Attr.TheVariants.{CustomerCity, CustomerNation, CustomerRegion, SupplierCity, SupplierNation, SupplierRegion, PartBrand1, PartCategory, PartMfgr, DateKey, DateYearmonthnum, DateYear, DateYearmonth, DateWeeknuminyear}
@@ -9,11 +10,11 @@ use Rattle.cube_model.specs.declared.measure.Measure.{Measure}
 use Rattle.cube_model.specs.declared.measure.Measure.TheVariants.{Quantity, ExtendedPrice, Revenue, SupplyCost, Discounted, Profit}
 use Rattle.cube_model.specs.declared.query.Kind.{Kind}
 use Rattle.cube_model.specs.declared.query.Kind.TheVariants.{Plain, Rollup, Cube}
-use Rattle.cube_model.specs.Names.{attr_name}
+use Rattle.cube_model.specs.Names.{attr_name, agg_name}
 use Rattle.ssb_reports.specs.declared.number.QNumber.{QNumber}
 use Rattle.ssb_reports.specs.declared.number.QNumber.TheVariants.{Q11, Q12, Q13, Q21, Q22, Q23, Q31, Q32, Q33, Q34, Q41, Q42, Q43}
 use Rattle.ssb_reports.specs.Benchmark.{number_text}
-use Rattle.query_words.specs.Words.{agg_word, kind_name}
+use Rattle.query_words.specs.Words.{SpellsAggregate, agg_word, kind_name}
 
 attr_of : List ℕ → Attr
 attr_of text =
@@ -108,34 +109,47 @@ kind_back value = elim value as (λ one. kind_of (kind_name one) ≡ one) [
 pub kind_once : (one other : Kind) → kind_name one ≡ kind_name other → one ≡ other
 kind_once one other same = sym (kind_back one) ∙ ap kind_of same ∙ kind_back other
 
+-- the measure whose name begins so
 measure_of : List ℕ → Measure
-measure_of text =
-    cond (bytes_eq text (codes "quantity")) Quantity (
-    cond (bytes_eq text (codes "extendedprice")) ExtendedPrice (
-    cond (bytes_eq text (codes "revenue")) Revenue (
-    cond (bytes_eq text (codes "supplycost")) SupplyCost (
-    cond (bytes_eq text (codes "discounted")) Discounted (
+measure_of front =
+    cond (bytes_eq front (codes "qua")) Quantity (
+    cond (bytes_eq front (codes "ext")) ExtendedPrice (
+    cond (bytes_eq front (codes "rev")) Revenue (
+    cond (bytes_eq front (codes "sup")) SupplyCost (
+    cond (bytes_eq front (codes "dis")) Discounted (
     Profit)))))
 
 taken_of : List ℕ → Measure → Agg
 taken_of front measure =
-    cond (bytes_eq front (codes "sum:")) (Sum measure) (
-    cond (bytes_eq front (codes "min:")) (Min measure) (
-    cond (bytes_eq front (codes "max:")) (Max measure) (Avg measure)))
+    cond (bytes_eq front (codes "sum")) (Sum measure) (
+    cond (bytes_eq front (codes "min")) (Min measure) (
+    cond (bytes_eq front (codes "max")) (Max measure) (Avg measure)))
 
 agg_of : List ℕ → Agg
-agg_of text = cond (bytes_eq text (codes "count")) Count (taken_of (take 4 text) (measure_of (drop 4 text)))
+agg_of text = cond (bytes_eq text (codes "count")) Count (taken_of (take 3 text) (measure_of (take 3 (drop 4 text))))
 
-agg_back : (value : Agg) → agg_of (agg_word value) ≡ value
+word_back : (value : Agg) → agg_of (agg_word value) ≡ value
 unfolding agg_of taken_of measure_of
-agg_back Count = refl
-agg_back (Sum measure) = elim measure as (λ one. agg_of (agg_word (Sum one)) ≡ Sum one) [ Quantity ↦ refl | ExtendedPrice ↦ refl | Revenue ↦ refl | SupplyCost ↦ refl | Discounted ↦ refl | Profit ↦ refl ]
-agg_back (Min measure) = elim measure as (λ one. agg_of (agg_word (Min one)) ≡ Min one) [ Quantity ↦ refl | ExtendedPrice ↦ refl | Revenue ↦ refl | SupplyCost ↦ refl | Discounted ↦ refl | Profit ↦ refl ]
-agg_back (Max measure) = elim measure as (λ one. agg_of (agg_word (Max one)) ≡ Max one) [ Quantity ↦ refl | ExtendedPrice ↦ refl | Revenue ↦ refl | SupplyCost ↦ refl | Discounted ↦ refl | Profit ↦ refl ]
-agg_back (Avg measure) = elim measure as (λ one. agg_of (agg_word (Avg one)) ≡ Avg one) [ Quantity ↦ refl | ExtendedPrice ↦ refl | Revenue ↦ refl | SupplyCost ↦ refl | Discounted ↦ refl | Profit ↦ refl ]
+word_back Count = refl
+word_back (Sum measure) = elim measure as (λ one. agg_of (agg_word (Sum one)) ≡ Sum one) [ Quantity ↦ refl | ExtendedPrice ↦ refl | Revenue ↦ refl | SupplyCost ↦ refl | Discounted ↦ refl | Profit ↦ refl ]
+word_back (Min measure) = elim measure as (λ one. agg_of (agg_word (Min one)) ≡ Min one) [ Quantity ↦ refl | ExtendedPrice ↦ refl | Revenue ↦ refl | SupplyCost ↦ refl | Discounted ↦ refl | Profit ↦ refl ]
+word_back (Max measure) = elim measure as (λ one. agg_of (agg_word (Max one)) ≡ Max one) [ Quantity ↦ refl | ExtendedPrice ↦ refl | Revenue ↦ refl | SupplyCost ↦ refl | Discounted ↦ refl | Profit ↦ refl ]
+word_back (Avg measure) = elim measure as (λ one. agg_of (agg_word (Avg one)) ≡ Avg one) [ Quantity ↦ refl | ExtendedPrice ↦ refl | Revenue ↦ refl | SupplyCost ↦ refl | Discounted ↦ refl | Profit ↦ refl ]
 
-pub agg_once : (one other : Agg) → agg_word one ≡ agg_word other → one ≡ other
-agg_once one other same = sym (agg_back one) ∙ ap agg_of same ∙ agg_back other
+name_back : (value : Agg) → agg_of (agg_name value) ≡ value
+unfolding agg_of taken_of measure_of
+name_back Count = refl
+name_back (Sum measure) = elim measure as (λ one. agg_of (agg_name (Sum one)) ≡ Sum one) [ Quantity ↦ refl | ExtendedPrice ↦ refl | Revenue ↦ refl | SupplyCost ↦ refl | Discounted ↦ refl | Profit ↦ refl ]
+name_back (Min measure) = elim measure as (λ one. agg_of (agg_name (Min one)) ≡ Min one) [ Quantity ↦ refl | ExtendedPrice ↦ refl | Revenue ↦ refl | SupplyCost ↦ refl | Discounted ↦ refl | Profit ↦ refl ]
+name_back (Max measure) = elim measure as (λ one. agg_of (agg_name (Max one)) ≡ Max one) [ Quantity ↦ refl | ExtendedPrice ↦ refl | Revenue ↦ refl | SupplyCost ↦ refl | Discounted ↦ refl | Profit ↦ refl ]
+name_back (Avg measure) = elim measure as (λ one. agg_of (agg_name (Avg one)) ≡ Avg one) [ Quantity ↦ refl | ExtendedPrice ↦ refl | Revenue ↦ refl | SupplyCost ↦ refl | Discounted ↦ refl | Profit ↦ refl ]
+
+spelled_back : (word : List ℕ) (value : Agg) → SpellsAggregate word value → agg_of word ≡ value
+spelled_back word value (inl same) = ap agg_of same ∙ word_back value
+spelled_back word value (inr same) = ap agg_of same ∙ name_back value
+
+pub agg_once : (word : List ℕ) (one other : Agg) → SpellsAggregate word one → SpellsAggregate word other → one ≡ other
+agg_once word one other spells spelled = sym (spelled_back word one spells) ∙ spelled_back word other spelled
 
 -- lists whose names are the same
 pub map_once : {A : Type 0} (name : A → List ℕ) → ((one other : A) → name one ≡ name other → one ≡ other) → (values others : List A) → map name values ≡ map name others → values ≡ others
@@ -146,3 +160,15 @@ map_once name once (value ∷ values) (other ∷ others) same =
     let first : value ≡ other = once value other (cc) in
     let rest : values ≡ others = map_once name once values others (cc) in
     cc
+
+-- lists that the same words spell
+pub zip_once : {A : Type 0} (Spells : List ℕ → A → Type 0) → ((word : List ℕ) (one other : A) → Spells word one → Spells word other → one ≡ other) → (words : List (List ℕ)) (values others : List A) → AllZip Spells words values → AllZip Spells words others → values ≡ others
+zip_once Spells once [] [] [] spells spelled = refl
+zip_once Spells once [] [] (other ∷ others) spells spelled = absurd spelled
+zip_once Spells once [] (value ∷ values) others spells spelled = absurd spells
+zip_once Spells once (word ∷ words) [] others spells spelled = absurd spells
+zip_once Spells once (word ∷ words) (value ∷ values) [] spells spelled = absurd spelled
+zip_once Spells once (word ∷ words) (value ∷ values) (other ∷ others) spells spelled =
+    let first : value ≡ other = once word value other spells.0 spelled.0 in
+    let rest : values ≡ others = zip_once Spells once words values others spells.1 spelled.1 in
+    cc (first, rest)

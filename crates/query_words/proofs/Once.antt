@@ -11,8 +11,8 @@ use Rattle.cube_model.specs.declared.query.Kind.{Kind}
 use Rattle.cube_model.specs.declared.query.Query.{Query}
 use Rattle.cube_model.specs.Names.{attr_name}
 use Rattle.ssb_reports.specs.Benchmark.{benchmark_query, number_text}
-use Rattle.query_words.specs.Words.{AreBounds, SpellsAggregates, SpellsBenchmark, SpellsColumns, SpellsCondition, SpellsCube, SpellsKind, SpellsMembers, SpellsQuery, Words, agg_word, condition_name, condition_sign}
-use Rattle.query_words.proofs.Apart.{agg_once, attr_once, kind_once, map_once, number_once}
+use Rattle.query_words.specs.Words.{AreBounds, SpellsAggregate, SpellsAggregates, SpellsBenchmark, SpellsColumns, SpellsCondition, SpellsCube, SpellsKind, SpellsMembers, SpellsQuery, Words, condition_name, condition_sign, parts_by}
+use Rattle.query_words.proofs.Apart.{agg_once, attr_once, kind_once, map_once, number_once, zip_once}
 use Rattle.query_words.proofs.Ends.{apart, no_number}
 use Rattle.query_words.proofs.Signs.{none_behind}
 
@@ -108,15 +108,7 @@ condition_once word one other spells spelled =
     members_once spelled.members one other cut.names cut.signs (subst (λ (members : List ℕ). SpellsMembers members one) cut.rests spells.spelled) spelled.spelled
 
 conditions_once : (words : List (List ℕ)) (values others : List Cond) → AllZip SpellsCondition words values → AllZip SpellsCondition words others → values ≡ others
-conditions_once [] [] [] spells spelled = refl
-conditions_once [] [] (other ∷ others) spells spelled = absurd spelled
-conditions_once [] (value ∷ values) others spells spelled = absurd spells
-conditions_once (word ∷ words) [] others spells spelled = absurd spells
-conditions_once (word ∷ words) (value ∷ values) [] spells spelled = absurd spelled
-conditions_once (word ∷ words) (value ∷ values) (other ∷ others) spells spelled =
-    let first : value ≡ other = condition_once word value other spells.0 spelled.0 in
-    let rest : values ≡ others = conditions_once words values others spells.1 spelled.1 in
-    cc (first, rest)
+conditions_once = zip_once SpellsCondition condition_once
 
 kinds_once : (set : Option (List ℕ)) (one other : Kind) → SpellsKind set one → SpellsKind set other → one ≡ other
 kinds_once None one other spells spelled = spells ∙ sym spelled
@@ -128,7 +120,7 @@ columns_once (Some text) one other spells spelled = map_once attr_name attr_once
 
 aggregates_once : (agg : Option (List ℕ)) (one other : List Agg) → SpellsAggregates agg one → SpellsAggregates agg other → one ≡ other
 aggregates_once None one other spells spelled = absurd spells
-aggregates_once (Some text) one other spells spelled = map_once agg_word agg_once one other (spells ∙ sym spelled)
+aggregates_once (Some text) one other spells spelled = zip_once SpellsAggregate agg_once (parts_by 44 text) one other spells spelled
 
 cube_once : (words : Words) (one other : Query) → SpellsCube words one → SpellsCube words other → one ≡ other
 cube_once words one other spells spelled =

@@ -1,13 +1,16 @@
 -- Where the sign of a condition stands.
-use Rattle.std.proofs.Common.{◌≡◌, inl, inr, ℕ, zero, suc, ◌<◌, Bool, true, false, cond, eqb, eq-eqb, List, [], ◌∷◌, ◌++◌, length, get_or, None, Some, Result, Ok, Err, refl, sym, ap, ◌∙◌, subst, arith, Bor, lit<}
+use Rattle.std.proofs.Common.{◌≡◌, ◌≢◌, inl, inr, ℕ, zero, suc, ◌<◌, Bool, true, false, cond, eqb, eq-eqb, List, [], ◌∷◌, ◌++◌, length, get_or, None, Some, Result, Ok, Err, refl, sym, ap, ◌∙◌, subst, arith, codes, Bor, lit<}
+use Rattle.std.specs.List.{position_or_len}
 use Rattle.std.proofs.lemmas.Bool.{false≢true}
-use Rattle.std.proofs.lemmas.Str.Pattern.{IsSplitOnceResult, split_after, split_parts}
+use Rattle.std.proofs.lemmas.Str.Pattern.{IsSplitOnceResult, split_after, split_once_first, split_parts}
 use Rattle.cube_model.specs.declared.fault.Fault.{Fault}
 use Rattle.cube_model.specs.declared.attr.Attr.{Attr}
 use Rattle.cube_model.specs.declared.attr.Attr.TheVariants.{CustomerCity, CustomerNation, CustomerRegion, SupplierCity, SupplierNation, SupplierRegion, PartBrand1, PartCategory, PartMfgr, DateKey, DateYearmonthnum, DateYear, DateYearmonth, DateWeeknuminyear}
 use Rattle.cube_model.specs.declared.query.Cond.{Cond}
 use Rattle.cube_model.specs.declared.query.Cond.TheVariants.{OneOf, Between, Quantity, Discount}
-use Rattle.cube_model.specs.Names.{attr_name}
+use Rattle.cube_model.specs.declared.measure.Agg.{Agg}
+use Rattle.cube_model.specs.declared.measure.Agg.TheVariants.{Count, Sum, Min, Max, Avg}
+use Rattle.cube_model.specs.Names.{attr_name, agg_name, measure_name}
 use Rattle.query_words.specs.Reading.{Reads}
 use Rattle.query_words.specs.Spelled.{SpellsRange}
 use Rattle.query_words.specs.Words.{SpellsCondition, SpellsMembers, condition_name, condition_sign}
@@ -25,6 +28,23 @@ free : (sign : ℕ) (text : List ℕ) → has_no sign text ≡ true → (i : ℕ
 free sign [] e i below is = absurd (omega arith)
 free sign (byte ∷ text) e zero below is = let same : eqb byte sign ≡ true = eq-eqb byte sign is in false≢true (rw same at e)
 free sign (byte ∷ text) e (suc i) below is = free sign text (none_behind (eqb byte sign) (has_no sign text) e) i (omega arith) is
+
+-- behind the first opening bracket (40) of an aggregate's name stands a closing one (41) at the end
+closed_by : (front : List ℕ) → has_no 40 front ≡ true → (word measure : List ℕ) (taken closed : Bor (List ℕ)) → IsSplitOnceResult 40 word (Some (taken, closed)) → ((name : List ℕ) → closed.now ≢ name ++ 41 ∷ []) → word ≡ front ++ 40 ∷ (measure ++ 41 ∷ []) → ⊥
+closed_by front plain word measure taken closed is unclosed e = unclosed measure (split_after 40 word front (measure ++ 41 ∷ []) (Some (taken, closed)) is (lit< tt) e (free 40 front plain)).1
+
+count_is_plain : (word : List ℕ) (taken closed : Bor (List ℕ)) → IsSplitOnceResult 40 word (Some (taken, closed)) → word ≡ codes "count" → ⊥
+count_is_plain word taken closed is e =
+    let below = (split_once_first 40 word (Some (taken, closed)) is (lit< tt)).0 in
+    let no : 5 < 5 = subst (λ (text : List ℕ). position_or_len (λ byte. eqb byte 40) text < length text) e below in
+    omega (arith, no)
+
+pub not_closed : (word : List ℕ) (taken closed : Bor (List ℕ)) → IsSplitOnceResult 40 word (Some (taken, closed)) → ((name : List ℕ) → closed.now ≢ name ++ 41 ∷ []) → (agg : Agg) → word ≡ agg_name agg → ⊥
+not_closed word taken closed is unclosed Count e = count_is_plain word taken closed is e
+not_closed word taken closed is unclosed (Sum measure) e = closed_by (codes "sum") refl word (measure_name measure) taken closed is unclosed e
+not_closed word taken closed is unclosed (Min measure) e = closed_by (codes "min") refl word (measure_name measure) taken closed is unclosed e
+not_closed word taken closed is unclosed (Max measure) e = closed_by (codes "max") refl word (measure_name measure) taken closed is unclosed e
+not_closed word taken closed is unclosed (Avg measure) e = closed_by (codes "avg") refl word (measure_name measure) taken closed is unclosed e
 
 -- no attribute has a sign in its name
 plain_names : (attr : Attr) → (has_no 61 (attr_name attr) ≡ true) × (has_no 58 (attr_name attr) ≡ true)

@@ -10,7 +10,7 @@ use Rattle.cube_model.specs.declared.query.Cond.TheVariants.{OneOf, Between, Qua
 use Rattle.cube_model.specs.declared.query.Kind.{Kind}
 use Rattle.cube_model.specs.declared.query.Kind.TheVariants.{Plain, Rollup, Cube}
 use Rattle.cube_model.specs.declared.query.Query.{Query}
-use Rattle.cube_model.specs.Names.{attr_name, measure_name}
+use Rattle.cube_model.specs.Names.{attr_name, measure_name, agg_name}
 use Rattle.ssb_reports.specs.declared.number.QNumber.{QNumber}
 use Rattle.ssb_reports.specs.Benchmark.{benchmark_query, number_text}
 
@@ -41,7 +41,7 @@ abbrev pub SpellsColumns : Option (List ℕ) → List Attr → Type 0
 SpellsColumns None columns = columns ≡ []
 SpellsColumns (Some text) columns = map attr_name columns ≡ parts_by 44 text
 
--- aggregates: count, or what is taken of a measure, a colon and the measure's name; parted by commas
+-- an aggregate: count, or what is taken of a measure, a colon and the measure's name
 abbrev pub agg_word : Agg → List ℕ
 agg_word Count = codes "count"
 agg_word (Sum measure) = codes "sum:" ++ measure_name measure
@@ -49,9 +49,14 @@ agg_word (Min measure) = codes "min:" ++ measure_name measure
 agg_word (Max measure) = codes "max:" ++ measure_name measure
 agg_word (Avg measure) = codes "avg:" ++ measure_name measure
 
+-- or as the header of a report names it, such as sum(revenue)
+abbrev pub SpellsAggregate : List ℕ → Agg → Type 0
+SpellsAggregate word agg = (word ≡ agg_word agg) ⊎ (word ≡ agg_name agg)
+
+-- aggregates: parted by commas
 abbrev pub SpellsAggregates : Option (List ℕ) → List Agg → Type 0
 SpellsAggregates None aggregates = ⊥
-SpellsAggregates (Some text) aggregates = map agg_word aggregates ≡ parts_by 44 text
+SpellsAggregates (Some text) aggregates = AllZip SpellsAggregate (parts_by 44 text) aggregates
 
 -- a condition: the name of what it is on, a sign, and its texts or its two ends, parted by bars (124). No name has a sign in
 -- it, so the first one ends the name

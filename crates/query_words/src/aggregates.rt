@@ -1,8 +1,9 @@
 //! The words of columns and aggregates.
 ghost use Rattle.std.specs.Prelude.{◌≡◌, Some, map};
 ghost use Rattle.std.specs.Option.{option_map};
+ghost use Rattle.cube_model.specs.Names.{agg_name};
 ghost use Rattle.query_words.specs.Reading.{Finds, Reads};
-ghost use Rattle.query_words.specs.Words.{SpellsColumns, SpellsAggregates, agg_word};
+ghost use Rattle.query_words.specs.Words.{SpellsColumns, SpellsAggregate, SpellsAggregates, agg_word};
 
 use crate::names::{attribute, measure};
 use crate::parts::parts;
@@ -33,7 +34,7 @@ fn columns_named(alloc: Global, text: &str) -> Result<Items<Attr>, Fault>
     Ok(columns)
 }
 
-/// Reads aggregates that are parted by commas, such as `count,sum:revenue`.
+/// Reads aggregates that are parted by commas, such as `count,sum:revenue`, or as a header has them, `count,sum(revenue)`.
 pub fn read_aggregates(alloc: Global, text: &str) -> Result<Items<Agg>, Fault>
     ensures { Reads (SpellsAggregates (Some text.now)) result }
 {
@@ -49,6 +50,16 @@ pub fn read_aggregates(alloc: Global, text: &str) -> Result<Items<Agg>, Fault>
 }
 
 fn aggregate(word: &str) -> Option<Agg>
+    ensures { Finds (SpellsAggregate word.now) result }
+{
+    match behind_colon(word) {
+        Some(agg) => Some(agg),
+        None => in_header(word),
+    }
+}
+
+// Count, or a measure behind a colon, such as `sum:revenue`.
+fn behind_colon(word: &str) -> Option<Agg>
     ensures { Finds (λ agg. word.now ≡ agg_word agg) result }
 {
     match word.split_once(':') {
@@ -67,6 +78,31 @@ fn aggregate(word: &str) -> Option<Agg>
                 "max" => Some(Agg::Max(measure)),
                 "avg" => Some(Agg::Avg(measure)),
                 _ => None,
+            },
+        },
+    }
+}
+
+// An aggregate as the header of a report has it, such as `sum(revenue)`.
+fn in_header(word: &str) -> Option<Agg>
+    ensures { Finds (λ agg. word.now ≡ agg_name agg) result }
+{
+    match word.split_once('(') {
+        None => match word {
+            "count" => Some(Agg::Count),
+            _ => None,
+        },
+        Some((taken, closed)) => match closed.strip_suffix(')') {
+            None => None,
+            Some(name) => match measure(name) {
+                None => None,
+                Some(of) => match taken {
+                    "sum" => Some(Agg::Sum(of)),
+                    "min" => Some(Agg::Min(of)),
+                    "max" => Some(Agg::Max(of)),
+                    "avg" => Some(Agg::Avg(of)),
+                    _ => None,
+                },
             },
         },
     }

@@ -62,30 +62,38 @@ fn aggregates_hint(alloc: Global, agg: &str) -> Result<Option<WordHint<'_>>, All
 }
 
 fn aggregate_hint(alloc: Global, word: &str) -> Result<Option<WordHint<'_>>, AllocError> {
-    let Some((taken, measure)) = word.split_once(':') else {
-        if word == "count" {
-            return Ok(None);
-        }
-        return Ok(Some(bare_hint(alloc, word)?));
-    };
+    if word == "count" {
+        return Ok(None);
+    }
+    match word.split_once(|sign| sign == ':' || sign == '(') {
+        None => Ok(Some(bare_hint(alloc, word)?)),
+        Some((taken, _)) if taken == "count" => Ok(Some(WordHint::CountAlone { word })),
+        Some((taken, rest)) => taken_hint(alloc, word, taken, rest),
+    }
+}
+
+// What is wrong with a word that takes something of what stands behind its sign.
+fn taken_hint<'a>(
+    alloc: Global,
+    word: &'a str,
+    taken: &'a str,
+    rest: &'a str,
+) -> Result<Option<WordHint<'a>>, AllocError> {
     let found = unknown(alloc, taken, Known::Aggregate)?;
     if found.is_some() {
         return Ok(found);
     }
-    unknown(alloc, measure, Known::Measure)
+    if word.as_bytes().get(taken.len()) == Some(&b':') {
+        return unknown(alloc, rest, Known::Measure);
+    }
+    match rest.strip_suffix(')') {
+        None => Ok(Some(WordHint::NotClosed { word })),
+        Some(measure) => unknown(alloc, measure, Known::Measure),
+    }
 }
 
-// What is wrong with a word without a colon that is not count.
+// What is wrong with a word without a sign that is not count.
 fn bare_hint(alloc: Global, word: &str) -> Result<WordHint<'_>, AllocError> {
-    if let Some((taken, rest)) = word.split_once('(') {
-        if let Some(measure) = rest.strip_suffix(')') {
-            return Ok(WordHint::AsInHeader {
-                word,
-                taken,
-                measure,
-            });
-        }
-    }
     let found = unknown(alloc, word, Known::Aggregate)?;
     Ok(found.unwrap_or(WordHint::NoMeasure { word }))
 }

@@ -53,15 +53,17 @@ pub enum WordHint<'a> {
     NoNumber {
         word: &'a str,
     },
-    /// An aggregate has no measure behind a colon.
+    /// An aggregate has no measure.
     NoMeasure {
         word: &'a str,
     },
-    /// An aggregate is written as the header of a report has it.
-    AsInHeader {
+    /// A measure stands behind an opening bracket and before no closing one.
+    NotClosed {
         word: &'a str,
-        taken: &'a str,
-        measure: &'a str,
+    },
+    /// Something stands behind count.
+    CountAlone {
+        word: &'a str,
     },
     /// A group column stands twice.
     Twice {
@@ -100,11 +102,8 @@ impl fmt::Display for WordHint<'_> {
             WordHint::NoMeasure { word } => {
                 write!(f, "{word}: a measure is wanted, as in {word}:revenue")
             }
-            WordHint::AsInHeader {
-                word,
-                taken,
-                measure,
-            } => write!(f, "{word}: write {taken}:{measure}"),
+            WordHint::NotClosed { word } => write!(f, "{word}: a closing bracket is wanted"),
+            WordHint::CountAlone { word } => write!(f, "{word}: count stands without a measure"),
             WordHint::Twice { word } => write!(f, "{word}: a group column stands once"),
             WordHint::TooMany {
                 counted,
