@@ -1,9 +1,10 @@
 -- Rows that a mask leaves out change nothing that a fold stands for. Our own.
-use Rattle.std.proofs.Common.{◌≡◌, ◌∙◌, sym, ap, refl, subst, ℕ, zero, suc, ◌+◌, ◌<◌, ◌≤◌, ◌&&◌, Bool, true, false, cond, Option, Some, None, List, [], ◌∷◌, ◌++◌, Result, Ok, Err, length, map, drop, slice_get, arith, append_assoc}
-use Rattle.std.specs.Prelude.{nat_abs, nat_le, unwrap_or, OnOk}
-use Rattle.std.specs.List.{All, filter, sum_by}
-use Rattle.std.proofs.lemmas.List.{length-append, length-map}
-use Rattle.std.proofs.lemmas.List.Elements.{filter-append}
+use Rattle.std.proofs.Common.{◌≡◌, ◌∙◌, sym, ap, refl, subst, ℕ, zero, suc, ◌+◌, ◌<◌, ◌≤◌, ◌&&◌, Bool, true, false, cond, Option, Some, None, List, [], ◌∷◌, ◌++◌, Result, Ok, Err, length, map, take, drop, slice_get, arith, append_assoc}
+use Rattle.std.specs.Prelude.{nat_abs, nat_le, slice_set, unwrap_or, IfOk, OnOk}
+use Rattle.std.specs.Int.{from_bool}
+use Rattle.std.specs.List.{All, filter, range_with_len, sum_by}
+use Rattle.std.proofs.lemmas.List.{length-append, length-map, take_more_set, take-set}
+use Rattle.std.proofs.lemmas.List.Elements.{All-filter, filter-append}
 use Rattle.std.proofs.lemmas.List.Sums.{sum_by-append, sum_by-cons}
 use Rattle.cube_model.specs.declared.fault.Fault.{Fault}
 use Rattle.cube_model.specs.declared.fault.Fault.TheVariants.{UnknownCustomer, UnknownSupplier, UnknownPart, UnknownDate}
@@ -19,7 +20,8 @@ use Rattle.cube_model.specs.Measures.{measure_of}
 use Rattle.cube_model.specs.Selection.{is_selected, selected as selected_by}
 use Rattle.column_kernels.specs.Masks.{selected}
 use Rattle.column_segment.specs.Segment.{FitColumns}
-use Rattle.group_plan.specs.Numbers.{key_at}
+use Rattle.group_plan.specs.Kept.{ArePlaces, KeepPlaces}
+use Rattle.group_plan.specs.Numbers.{Asked, key_at}
 use Rattle.group_plan.specs.Plans.{AreBounds, is_within}
 use Rattle.group_plan.specs.Rows.{row_at}
 use Rattle.group_plan.specs.declared.bounds.Bounds.{Bounds}
@@ -28,6 +30,9 @@ use Rattle.cube_query.specs.Chosen.{KeepSelected, lies_within, places_from}
 use Rattle.cube_query.specs.Groups.{CanTake, FoldState, StandsFor, Takes, finest}
 use Rattle.cube_query.specs.Limits.{AreFoldable}
 use Rattle.cube_query.specs.Tallies.{tallies_of}
+
+from_nought : (k : ℕ) → 0 + k ≡ k
+from_nought k = omega arith
 
 -- ---- the places of a mask's rows
 next_rows : (f : ℕ → LineOrder) (place : ℕ) (row : LineOrder) (rows : List LineOrder)
@@ -106,26 +111,153 @@ left_out p marks Fine out (row ∷ rows) fine =
       | false ↦ λ is. rest ∙ sym (ap (λ (b : Bool). cond b (row ∷ filter p rows) (filter p rows)) (out row (fine 0 row (omega arith)) is))
     ]) refl
 
-pub keeps : (bounds : Bounds) (rows : List LineOrder) → All (λ row. row.quantity < 256) rows → All (λ row. row.discount < 256) rows → (conditions : List Cond) → AreBounds conditions bounds
-    → KeepSelected conditions (selected (map (lies_within bounds) rows) rows) rows
-keeps bounds rows quantities discounts conditions are = record {
+pub keeps : (bounds : Bounds) (rows : List LineOrder) → All (λ row. row.quantity < 256) rows → All (λ row. row.discount < 256) rows → (dimensions : DimRows) (conditions : List Cond)
+    → AreBounds conditions bounds → KeepSelected dimensions conditions (selected (map (lies_within bounds) rows) rows) rows
+keeps bounds rows quantities discounts dimensions conditions are = record {
   part = (map (lies_within bounds) rows, refl);
-  same = λ dimensions. left_out (is_selected dimensions conditions) (lies_within bounds) (λ row. (row.quantity < 256) × (row.discount < 256))
+  same = left_out (is_selected dimensions conditions) (lies_within bounds) (λ row. (row.quantity < 256) × (row.discount < 256))
       (λ row fine out. out_of dimensions conditions bounds are row fine.0 fine.1 out) rows (λ k d h. (quantities k d h, discounts k d h));
 }
 
-from_nought : (k : ℕ) → 0 + k ≡ k
-from_nought k = omega arith
-
 pub chosen_keep : (bounds : Bounds) (rows kept : List LineOrder) (marks : List Bool) (places : List ℕ) → FitColumns rows → kept ≡ rows → marks ≡ map (lies_within bounds) rows
-    → places ≡ places_from 0 marks → (conditions : List Cond) → AreBounds conditions bounds → KeepSelected conditions (map (row_at kept) places) rows
-chosen_keep bounds rows kept marks places fit own tell are conditions bound =
+    → places ≡ places_from 0 marks → (dimensions : DimRows) (conditions : List Cond) → AreBounds conditions bounds
+    → KeepSelected dimensions conditions (map (row_at kept) places) rows
+chosen_keep bounds rows kept marks places fit own tell are dimensions conditions bound =
     let many : length (map (lies_within bounds) rows) ≡ length rows = length-map rows (lies_within bounds) in
     let chosen : map (row_at rows) (places_from 0 (map (lies_within bounds) rows)) ≡ selected (map (lies_within bounds) rows) rows =
     rows_at_places (row_at rows) 0 (map (lies_within bounds) rows) rows many (λ k h. ap (row_at rows) (from_nought k)) in
     let same : map (row_at kept) places ≡ selected (map (lies_within bounds) rows) rows =
     ap (λ (l : List LineOrder). map (row_at l) places) own ∙ ap (map (row_at rows)) (are ∙ ap (places_from 0) tell) ∙ chosen in
-    subst (λ (l : List LineOrder). KeepSelected conditions l rows) (sym same) (keeps bounds rows fit.1.1.1.1.1.1.0 fit.1.1.1.1.1.1.1.1.1.0 conditions bound)
+    subst (λ (l : List LineOrder). KeepSelected dimensions conditions l rows) (sym same) (keeps bounds rows fit.1.1.1.1.1.1.0 fit.1.1.1.1.1.1.1.1.1.0 dimensions conditions bound)
+
+-- ---- all rows
+pub range_more : (place count : ℕ) → range_with_len place (count + 1) ≡ range_with_len place count ++ (place + count) ∷ []
+range_more place zero =
+    let here : place ≡ place + 0 = omega arith in
+    ap (λ (n : ℕ). n ∷ []) here
+range_more place (suc count) =
+    let longer : suc count + 1 ≡ suc (count + 1) = omega arith in
+    let moved : place + 1 + count ≡ place + suc count = omega arith in
+    ap (range_with_len place) longer ∙ ap (λ (l : List ℕ). place ∷ l) (range_more (place + 1) count ∙ ap (λ (n : ℕ). range_with_len (place + 1) count ++ n ∷ []) moved)
+
+pub range_next : (count : ℕ) → range_with_len 0 (count + 1) ≡ range_with_len 0 count ++ count ∷ []
+range_next count = range_more 0 count ∙ ap (λ (n : ℕ). range_with_len 0 count ++ n ∷ []) (from_nought count)
+
+pub rows_at_range : (f : ℕ → LineOrder) (place : ℕ) (rows : List LineOrder) → ((k : ℕ) → k < length rows → f (place + k) ≡ row_at rows k)
+    → map f (range_with_len place (length rows)) ≡ rows
+rows_at_range f place [] are = refl
+rows_at_range f place (row ∷ rows) are =
+    let here : place ≡ place + 0 = omega arith in
+    let first : f place ≡ row = ap f here ∙ are 0 (omega arith) in
+    let rest = rows_at_range f (place + 1) rows (next_rows f place row rows are) in
+    (λ i. first i ∷ rest i)
+
+pub range_below : (place count : ℕ) → All (λ p. p < place + count) (range_with_len place count)
+range_below place zero k d h = absurd (omega (arith, h))
+range_below place (suc count) zero d h = omega arith
+range_below place (suc count) (suc k) d h = omega (arith, range_below (place + 1) count k d (omega (arith, h)))
+
+pub all_rows : (rows kept : List LineOrder) (places : List ℕ) (count : ℕ) → kept ≡ rows → count ≡ length rows → places ≡ range_with_len 0 count → map (row_at kept) places ≡ rows
+all_rows rows kept places count own many are =
+    ap (λ (l : List LineOrder). map (row_at l) places) own
+    ∙ ap (map (row_at rows)) (are ∙ ap (range_with_len 0) many)
+    ∙ rows_at_range (row_at rows) 0 rows (λ k h. ap (row_at rows) (from_nought k))
+
+pub all_places_below : (places : List ℕ) (count : ℕ) → places ≡ range_with_len 0 count → All (λ place. place < count) places
+all_places_below places count are =
+    subst (λ (l : List ℕ). All (λ place. place < count) l) (sym are) (λ k d h. omega (arith, range_below 0 count k d h))
+
+all_marked : (rows : List LineOrder) → rows ≡ selected (map (λ row. true) rows) rows
+all_marked [] = refl
+all_marked (row ∷ rows) = ap (λ (l : List LineOrder). row ∷ l) (all_marked rows)
+
+pub keep_whole : (dimensions : DimRows) (conditions : List Cond) (some all : List LineOrder) → some ≡ all → KeepSelected dimensions conditions some all
+keep_whole dimensions conditions some all same = record {
+  part = (map (λ row. true) all, same ∙ all_marked all);
+  same = ap (selected_by dimensions conditions) same;
+}
+
+pub whole_if_ok : (result : Result (List LineOrder) Fault) (bounds : Bounds) (rows : List LineOrder) → IfOk result (λ chosen. chosen ≡ rows)
+    → IfOk result (λ chosen. (dimensions : DimRows) (conditions : List Cond) → AreBounds conditions bounds → KeepSelected dimensions conditions chosen rows)
+whole_if_ok (Ok chosen) bounds rows same = λ dimensions conditions are. keep_whole dimensions conditions chosen rows same
+whole_if_ok (Err fault) bounds rows same = tt
+
+-- ---- a pass over places
+pub bit_small : (b : Bool) (one : ℕ) → one ≡ from_bool b → one ≤ 1
+bit_small true one is = omega (arith, is)
+bit_small false one is = omega (arith, is)
+
+-- one place more, written first and counted only where it is chosen
+pub one_more : (marks : List Bool) (places : List ℕ) (kept place one : ℕ) (mark : Bool) (all : List ℕ) → kept < length places → place < length marks
+    → mark ≡ unwrap_or (slice_get marks place) false → one ≡ from_bool mark → take kept places ++ places_from place (drop place marks) ≡ all
+    → take (kept + one) (slice_set places kept place) ++ places_from (place + 1) (drop (place + 1) marks) ≡ all
+one_more marks places kept place one true all room within is counted before =
+    let behind = places_from (place + 1) (drop (place + 1) marks) in
+    let more : one ≡ 1 = omega (arith, counted) in
+    ap (λ (n : ℕ). take (kept + n) (slice_set places kept place) ++ behind) more
+    ∙ ap (λ (l : List ℕ). l ++ behind) (take_more_set places kept place room)
+    ∙ one_chosen marks (take kept places) place all within is before
+one_more marks places kept place one false all room within is counted before =
+    let behind = places_from (place + 1) (drop (place + 1) marks) in
+    let same : kept + one ≡ kept = omega (arith, counted) in
+    ap (λ (n : ℕ). take n (slice_set places kept place) ++ behind) same
+    ∙ ap (λ (l : List ℕ). l ++ behind) (take-set places kept place)
+    ∙ one_left_out marks (take kept places) place all within is before
+
+rows_of_test : (test : LineOrder → Bool) (f : ℕ → LineOrder) (places : List ℕ) → map f (filter (λ place. test (f place)) places) ≡ selected (map test (map f places)) (map f places)
+rows_of_test test f [] = refl
+rows_of_test test f (place ∷ places) =
+    let rest : map f (filter (λ p. test (f p)) places) ≡ selected (map test (map f places)) (map f places) = rows_of_test test f places in
+    elim (test (f place)) as (λ b. map f (cond b (place ∷ filter (λ p. test (f p)) places) (filter (λ p. test (f p)) places)) ≡ selected (b ∷ map test (map f places)) (f place ∷ map f places)) [
+      | true ↦ ap (λ (l : List LineOrder). f place ∷ l) rest
+      | false ↦ rest
+    ]
+
+pub kept_places : (dimensions : DimRows) (conditions : List Cond) (rows : List LineOrder) (all some : List ℕ) → KeepPlaces dimensions conditions rows all some
+    → KeepSelected dimensions conditions (map (row_at rows) some) (map (row_at rows) all)
+kept_places dimensions conditions rows all some keep =
+    let is : map (row_at rows) some ≡ selected (map keep.test (map (row_at rows) all)) (map (row_at rows) all)
+    = ap (map (row_at rows)) keep.kept ∙ rows_of_test keep.test (row_at rows) all in
+    record {
+      part = (map keep.test (map (row_at rows) all), is);
+      same = ap (selected_by dimensions conditions) is
+          ∙ left_out (is_selected dimensions conditions) keep.test (λ row. Unit {0}) (λ row fine. keep.fails row) (map (row_at rows) all) (λ k d h. tt);
+    }
+
+pub kept_below : (dimensions : DimRows) (conditions : List Cond) (rows : List LineOrder) (all some : List ℕ) → KeepPlaces dimensions conditions rows all some
+    → ArePlaces rows all → ArePlaces rows some
+kept_below dimensions conditions rows all some keep are =
+    subst (λ (l : List ℕ). ArePlaces rows l) (sym keep.kept) (All-filter (λ place. keep.test (row_at rows place)) (λ place. place < length rows) all are)
+
+-- marks of what is left after others
+abbrev compose : List Bool → List Bool → List Bool
+compose [] outer = []
+compose (mark ∷ inner) [] = []
+compose (mark ∷ inner) (true ∷ outer) = mark ∷ compose inner outer
+compose (mark ∷ inner) (false ∷ outer) = false ∷ compose (mark ∷ inner) outer
+
+composed : (inner outer : List Bool) (rows : List LineOrder) → selected inner (selected outer rows) ≡ selected (compose inner outer) rows
+composed [] outer rows = refl
+composed (mark ∷ inner) [] rows = refl
+composed (mark ∷ inner) (true ∷ outer) [] = refl
+composed (mark ∷ inner) (false ∷ outer) [] = refl
+composed (true ∷ inner) (true ∷ outer) (row ∷ rows) = ap (λ (l : List LineOrder). row ∷ l) (composed inner outer rows)
+composed (false ∷ inner) (true ∷ outer) (row ∷ rows) = composed inner outer rows
+composed (mark ∷ inner) (false ∷ outer) (row ∷ rows) = composed (mark ∷ inner) outer rows
+
+pub keep_on : (dimensions : DimRows) (conditions : List Cond) (some more all : List LineOrder) → KeepSelected dimensions conditions some more
+    → KeepSelected dimensions conditions more all → KeepSelected dimensions conditions some all
+keep_on dimensions conditions some more all inner outer = record {
+  part = (compose inner.part.0 outer.part.0, inner.part.1 ∙ ap (selected inner.part.0) outer.part.1 ∙ composed inner.part.0 outer.part.0 all);
+  same = inner.same ∙ outer.same;
+}
+
+-- the query of a plan is that of the fold
+pub keep_over : (asked : Asked) (dimensions : DimRows) (query old : Query) (some all : List LineOrder) → asked ≡ record { dimensions = dimensions; query = query }
+    → query.conditions ≡ old.conditions → KeepSelected asked.dimensions asked.query.conditions some all → KeepSelected dimensions old.conditions some all
+keep_over asked dimensions query old some all is same keep =
+    subst (λ (conditions : List Cond). KeepSelected dimensions conditions some all) same
+    (subst (λ (a : Asked). KeepSelected a.dimensions a.query.conditions some all) is keep)
 
 -- ---- what a fold stands for
 pub stands_for_all : (dimensions : DimRows) (fold : FoldState) (some all : List LineOrder)
@@ -137,18 +269,18 @@ stands_for_all dimensions fold some all same stands = record {
   others = λ key none. sym (ap (λ (chosen : List LineOrder). rows_of_key dimensions (finest fold.query) key chosen) same) ∙ stands.others key none;
 }
 
-takes : (dimensions : DimRows) (old : FoldState) (some all : List LineOrder) (new : FoldState) → KeepSelected old.query.conditions some all
+takes : (dimensions : DimRows) (old : FoldState) (some all : List LineOrder) (new : FoldState) → KeepSelected dimensions old.query.conditions some all
     → Takes dimensions old some new → Takes dimensions old all new
 takes dimensions old some all new keep taken = record {
   query = taken.query;
   stands = λ so_far stands.
       let p = is_selected dimensions new.query.conditions in
-      let same : filter p some ≡ filter p all = subst (λ (q : Query). selected_by dimensions q.conditions some ≡ selected_by dimensions q.conditions all) (sym taken.query) (keep.same dimensions) in
+      let same : filter p some ≡ filter p all = subst (λ (q : Query). selected_by dimensions q.conditions some ≡ selected_by dimensions q.conditions all) (sym taken.query) keep.same in
       stands_for_all dimensions new (so_far ++ some) (so_far ++ all)
       (filter-append p so_far some ∙ ap (λ (l : List LineOrder). filter p so_far ++ l) same ∙ sym (filter-append p so_far all)) (taken.stands so_far stands);
 }
 
-pub takes_all : {T : Type 0} (result : Result T Fault) (dimensions : DimRows) (old : FoldState) (some all : List LineOrder) (new : FoldState) → KeepSelected old.query.conditions some all
+pub takes_all : {T : Type 0} (result : Result T Fault) (dimensions : DimRows) (old : FoldState) (some all : List LineOrder) (new : FoldState) → KeepSelected dimensions old.query.conditions some all
     → OnOk result (Takes dimensions old some new) → OnOk result (Takes dimensions old all new)
 takes_all (Ok value) dimensions old some all new keep taken = takes dimensions old some all new keep taken
 takes_all (Err fault) dimensions old some all new keep taken = tt
@@ -218,7 +350,7 @@ foldable_some dimensions so_far marks rows foldable = record {
       omega (arith, foldable.in_range measure, sum_by-append size so_far rows, sum_by-append size so_far (selected marks rows), smaller size marks rows);
 }
 
-pub can_take_some : (dimensions : DimRows) (old : FoldState) (some all : List LineOrder) → KeepSelected old.query.conditions some all → CanTake dimensions old all → CanTake dimensions old some
+pub can_take_some : (dimensions : DimRows) (old : FoldState) (some all : List LineOrder) → KeepSelected dimensions old.query.conditions some all → CanTake dimensions old all → CanTake dimensions old some
 can_take_some dimensions old some all keep can =
     let so_far = can.0 in
     (so_far, (can.1.0, subst (λ (rows : List LineOrder). AreFoldable dimensions (so_far ++ rows)) (sym keep.part.1) (foldable_some dimensions so_far keep.part.0 all can.1.1)))

@@ -19,6 +19,6 @@ places_from place (true ∷ marks) = place ∷ places_from (place + 1) marks
 places_from place (false ∷ marks) = places_from (place + 1) marks
 
 -- some of the rows, in their order, and among them all that conditions select
-pub record KeepSelected (conditions : List Cond) (some all : List LineOrder) : Type 0 where
+pub record KeepSelected (dimensions : DimRows) (conditions : List Cond) (some all : List LineOrder) : Type 0 where
   pub part : (marks : List Bool) × (some ≡ masked marks all)
-  pub same : (dimensions : DimRows) → selected dimensions conditions some ≡ selected dimensions conditions all
+  pub same : selected dimensions conditions some ≡ selected dimensions conditions all

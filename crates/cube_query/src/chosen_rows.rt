@@ -1,7 +1,9 @@
 //! The rows of a batch that lie within bounds.
-ghost use Rattle.std.specs.Prelude.{◌≡◌, ℕ, List, length, IfErr, IfOk};
+ghost use Rattle.std.specs.Prelude.{◌≡◌, ◌<◌, ◌^◌, ℕ, List, length, IfErr, IfOk};
+ghost use Rattle.std.specs.List.{range_with_len};
 ghost use Rattle.cube_model.specs.declared.fault.Fault.{Fault};
 ghost use Rattle.cube_model.specs.declared.query.Cond.{Cond};
+ghost use Rattle.cube_model.specs.declared.rows.DimRows.{DimRows};
 ghost use Rattle.group_plan.specs.Plans.{AreBounds};
 ghost use Rattle.cube_query.specs.Chosen.{KeepSelected, places_from};
 
@@ -9,7 +11,7 @@ use crate::segment_rows::SegmentRows;
 use column_kernels::Mask;
 use column_segment::Segment;
 use cube_model::{Axis, Fault, Measure};
-use group_plan::{Bounds, FactRows};
+use group_plan::{Bounds, FactRows, PlanOver};
 use std::alloc::{AllocError, Global};
 use std::marker::Model;
 
@@ -17,7 +19,7 @@ use std::marker::Model;
 #[derive(Drop)]
 pub struct ChosenRows<'a> {
     rows: SegmentRows<'a>,
-    places: Vec<usize>,
+    places: Vec<u32>,
 }
 
 impl<'a> Model for ChosenRows<'a> {
@@ -34,14 +36,47 @@ impl<'a> Model for ChosenRows<'a> {
 }
 
 impl<'a> ChosenRows<'a> {
-    /// The rows of a batch whose quantity and discount lie within bounds. It can only fail for want of memory.
-    pub fn within(
-        alloc: Global,
-        segment: &'a Segment,
-        bounds: Bounds,
-    ) -> Result<ChosenRows<'a>, Fault>
-        ensures ok { IfOk result (λ chosen. (conditions : List Cond) → AreBounds conditions bounds
-            → KeepSelected conditions chosen segment.now.rows) }
+    /// Rows of a batch, and among them all that a query selects: those whose quantity and discount lie within its bounds
+    /// and whose keys pass its tables. It can only fail for want of memory.
+    pub fn of(alloc: Global, plan: &PlanOver, segment: &'a Segment) -> Result<ChosenRows<'a>, Fault>
+        ensures ok { IfOk result (λ chosen. KeepSelected plan.now.dimensions plan.now.query.conditions chosen segment.now.rows) }
+        ensures memory { IfErr result (λ fault. fault ≡ Fault.Memory) }
+    {
+        let chosen = ChosenRows::bounded(alloc, segment, plan.bounds())?;
+        let chosen = chosen.without(plan, Axis::Supplier);
+        let chosen = chosen.without(plan, Axis::Customer);
+        let chosen = chosen.without(plan, Axis::Part);
+        Ok(chosen.without(plan, Axis::Date))
+    }
+
+    // The rows of a batch whose quantity and discount lie within bounds.
+    fn bounded(alloc: Global, segment: &'a Segment, bounds: Bounds) -> Result<ChosenRows<'a>, Fault>
+        ensures ok { IfOk result (λ chosen. (dimensions : DimRows) (conditions : List Cond) → AreBounds conditions bounds
+            → KeepSelected dimensions conditions chosen segment.now.rows) }
+        ensures memory { IfErr result (λ fault. fault ≡ Fault.Memory) }
+    {
+        if are_open(bounds) {
+            return ChosenRows::all(alloc, segment);
+        }
+        ChosenRows::within(alloc, segment, bounds)
+    }
+
+    // All rows of a batch.
+    fn all(alloc: Global, segment: &'a Segment) -> Result<ChosenRows<'a>, Fault>
+        ensures ok { IfOk result (λ chosen. chosen ≡ segment.now.rows) }
+        ensures memory { IfErr result (λ fault. fault ≡ Fault.Memory) }
+    {
+        let places = all_places(alloc, segment.len())?;
+        Ok(ChosenRows {
+            rows: SegmentRows::of(segment),
+            places,
+        })
+    }
+
+    // The rows of a batch whose quantity and discount lie within bounds, by the mask of these columns.
+    fn within(alloc: Global, segment: &'a Segment, bounds: Bounds) -> Result<ChosenRows<'a>, Fault>
+        ensures ok { IfOk result (λ chosen. (dimensions : DimRows) (conditions : List Cond) → AreBounds conditions bounds
+            → KeepSelected dimensions conditions chosen segment.now.rows) }
         ensures memory { IfErr result (λ fault. fault ≡ Fault.Memory) }
     {
         let quantity = (bounds.least_quantity, bounds.greatest_quantity);
@@ -53,6 +88,16 @@ impl<'a> ChosenRows<'a> {
             places,
         })
     }
+
+    // The rows without those that fail a condition on a dimension, as far as a table of its keys tells.
+    fn without(self, plan: &PlanOver, axis: Axis) -> ChosenRows<'a>
+        ensures { KeepSelected plan.now.dimensions plan.now.query.conditions result self.entry }
+    {
+        let ChosenRows { rows, mut places } = self;
+        let kept = plan.keep(&rows, axis, places.as_mut_slice());
+        places.truncate(kept);
+        ChosenRows { rows, places }
+    }
 }
 
 impl<'a> FactRows for ChosenRows<'a> {
@@ -63,32 +108,54 @@ impl<'a> FactRows for ChosenRows<'a> {
     }
 
     fn key(&self, place: usize, axis: Axis) -> u32 {
-        self.rows.key(self.places[place], axis)
+        self.rows.key(self.places[place] as usize, axis)
     }
 
     fn quantity(&self, place: usize) -> u8 {
-        self.rows.quantity(self.places[place])
+        self.rows.quantity(self.places[place] as usize)
     }
 
     fn discount(&self, place: usize) -> u8 {
-        self.rows.discount(self.places[place])
+        self.rows.discount(self.places[place] as usize)
     }
 
     fn measure(&self, place: usize, measure: Measure) -> i128 {
-        self.rows.measure(self.places[place], measure)
+        self.rows.measure(self.places[place] as usize, measure)
     }
 }
 
+// Whether no quantity and no discount lies out of bounds.
+fn are_open(bounds: Bounds) -> bool {
+    bounds.least_quantity == 0
+        && bounds.greatest_quantity == u8::MAX
+        && bounds.least_discount == 0
+        && bounds.greatest_discount == u8::MAX
+}
+
+// The places of so many rows.
+fn all_places(alloc: Global, count: usize) -> Result<Vec<u32>, AllocError>
+    requires { count < 2 ^ 32 }
+    ensures { IfOk result (λ places. places.items ≡ range_with_len 0 count) }
+{
+    let mut places = vec![in alloc; 0; count]?;
+    for place in 0..count {
+        places[place] = place as u32;
+    }
+    Ok(places)
+}
+
 // The places of the rows that a mask of so many selects.
-fn chosen_places(alloc: Global, mask: &Mask, count: usize) -> Result<Vec<usize>, AllocError>
-    requires { count ≡ length mask.now }
+fn chosen_places(alloc: Global, mask: &Mask, count: usize) -> Result<Vec<u32>, AllocError>
+    requires count { count ≡ length mask.now }
+    requires few { count < 2 ^ 32 }
     ensures { IfOk result (λ places. places.items ≡ places_from 0 mask.now) }
 {
-    let mut places = Vec::with_capacity(alloc, mask.count() as usize)?;
+    let mut places = vec![in alloc; 0; count]?;
+    let mut kept = 0;
     for place in 0..count {
-        if mask.get(place).unwrap_or(false) {
-            places.push(place)?;
-        }
+        places[kept] = place as u32;
+        kept += usize::from(mask.get(place).unwrap_or(false));
     }
+    places.truncate(kept);
     Ok(places)
 }

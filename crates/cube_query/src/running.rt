@@ -20,9 +20,9 @@ use crate::segment_rows::SegmentRows;
 use crate::slots::Slots;
 use crate::tally::Tally;
 use column_segment::Segment;
-use cube_model::{Answer, Cond, Fault, LineOrder, Query};
+use cube_model::{Answer, Fault, LineOrder, Query};
 use dimensions::Dims;
-use group_plan::{Bounds, FactRows, Plan, RowSlice};
+use group_plan::{FactRows, Plan, RowSlice};
 use std::alloc::{AllocError, Global};
 use std::marker::Model;
 
@@ -90,8 +90,8 @@ impl Fold {
 
     /// Counts the rows of a batch in. A refusal leaves the fold as it was.
     ///
-    /// It asks nothing of the rows, and refuses them as `add_rows` does. Where the query has a condition on quantities or
-    /// discounts, only the rows that keep it are looked at further.
+    /// It asks nothing of the rows, and refuses them as `add_rows` does. Rows that fail a condition are left out column by
+    /// column, and only the others are looked at further.
     pub fn add_segment(&mut self, dims: &Dims, segment: &Segment) -> Result<(), Fault>
         requires { IsOver dims.now self.old }
         ensures ok { OnOk result (Takes dims.now self.old segment.now.rows self.new) }
@@ -99,11 +99,10 @@ impl Fold {
         ensures refused { result ≡ Err Fault.BadLayout → CanTake dims.now self.old segment.now.rows → ⊥ }
         ensures only { IfErr result (λ fault. (fault ≡ Fault.Memory) ⊎ (fault ≡ Fault.BadLayout)) }
     {
-        let conditions = self.plan.query().conditions.as_slice();
-        if !conditions.iter().any(|condition| is_bound(condition)) {
+        if self.plan.query().conditions.is_empty() {
             return self.add(dims, &SegmentRows::of(segment));
         }
-        let rows = ChosenRows::within(self.alloc, segment, Bounds::of(conditions))?;
+        let rows = ChosenRows::of(self.alloc, &self.plan.over(dims), segment)?;
         self.add(dims, &rows)
     }
 
@@ -155,11 +154,6 @@ impl Fold {
             Err(fault) => Err(fault),
         }
     }
-}
-
-// Whether a condition is on the quantity or the discount of a row.
-fn is_bound(condition: &Cond) -> bool {
-    matches!(condition, Cond::Quantity(_, _) | Cond::Discount(_, _))
 }
 
 // A fold of a proper query, with no row yet.

@@ -1,6 +1,7 @@
 pub mod AtPlaces
 pub mod EachDigit
 pub mod Extending
+pub mod Filtering
 pub mod MemberPlaces
 pub mod Members
 pub mod Numbers

@@ -1,5 +1,7 @@
 pub mod Beginnings
 pub mod Columns
+pub mod Filters
+pub mod Kept
 pub mod MemberRows
 pub mod Numbers
 pub mod Parts

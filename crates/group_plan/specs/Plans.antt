@@ -8,15 +8,17 @@ use Rattle.cube_model.specs.declared.query.Cond.TheVariants.{OneOf, Between, Qua
 use Rattle.cube_model.specs.declared.query.Query.{Query}
 use Rattle.cube_model.specs.declared.rows.DimRows.{DimRows}
 use Rattle.cube_model.specs.declared.rows.LineOrder.{LineOrder}
-use Rattle.cube_model.specs.Places.{row_count_of}
+use Rattle.cube_model.specs.Places.{row_index_of, row_count_of}
 use Rattle.group_plan.specs.Beginnings.{AreThoseOf}
 use Rattle.group_plan.specs.Columns.{AreColumns}
+use Rattle.group_plan.specs.Filters.{AreFilters}
 use Rattle.group_plan.specs.Numbers.{group_count, KeysRise}
 use Rattle.group_plan.specs.Parts.{given_at, holds_in, is_used}
 use Rattle.group_plan.specs.declared.bounds.Bounds.{Bounds}
 use Rattle.group_plan.specs.declared.plan.Plan.{Plan}
 use Rattle.group_plan.specs.declared.side.Side.{Side}
 use Rattle.group_plan.specs.declared.side.Side.TheVariants.{Unused, Narrow, Wide}
+use Rattle.group_plan.specs.declared.sides.Sides.{Sides}
 
 -- what a side gives at a place
 abbrev pub gives : Side → ℕ → Option ℕ
@@ -27,6 +29,11 @@ gives (Wide parts) place = unwrap_or (slice_get parts.items place) None
 -- a side gives at each place of its dimension what the row there does
 abbrev pub IsSide : DimRows → Query → Axis → Side → Type 0
 IsSide dimensions query axis side = (place : ℕ) → place < row_count_of dimensions axis → gives side place ≡ given_at dimensions query axis place
+
+-- a key is that of a row that gives nothing
+abbrev pub IsShut : DimRows → Axis → Side → ℕ → Type 0
+IsShut dimensions axis side key = (row_index_of dimensions axis key < row_count_of dimensions axis)
+    × (gives side (row_index_of dimensions axis key) ≡ None)
 
 -- bounds with those of one condition more
 abbrev pub bounds_with : Bounds → Cond → Bounds
@@ -55,12 +62,21 @@ abbrev pub AreBounds : List Cond → Bounds → Type 0
 AreBounds conditions bounds = (row : LineOrder) → row.quantity < 256 → row.discount < 256
     → is_within bounds row.quantity row.discount ≡ list_all (holds_in row) conditions
 
+-- what is kept of a dimension
+abbrev pub side_in : Sides → Axis → Side
+side_in sides Customer = sides.customers
+side_in sides Supplier = sides.suppliers
+side_in sides Part = sides.parts
+side_in sides Date = sides.dates
+
+-- what is kept of each dimension is what its rows give, and one that is not looked at is not used
+pub record AreSides (dimensions : DimRows) (query : Query) (sides : Sides) : Type 0 where
+  pub each : (axis : Axis) → IsSide dimensions query axis (side_in sides axis)
+  pub unused : (axis : Axis) → side_in sides axis ≡ Unused → is_used query axis ≡ false
+
 -- what a plan keeps of a dimension
 abbrev pub side_of : Plan → Axis → Side
-side_of plan Customer = plan.customers
-side_of plan Supplier = plan.suppliers
-side_of plan Part = plan.parts
-side_of plan Date = plan.dates
+side_of plan axis = side_in plan.sides axis
 
 -- the query of a plan
 abbrev pub query_of : Plan → Query
@@ -74,8 +90,8 @@ count_of plan = plan.count
 pub record IsPlanOf (dimensions : DimRows) (plan : Plan) : Type 0 where
   pub few : length plan.query.columns ≤ 6
   pub within : AreBounds plan.query.conditions plan.bounds
-  pub sides : (axis : Axis) → IsSide dimensions plan.query axis (side_of plan axis)
-  pub unused : (axis : Axis) → side_of plan axis ≡ Unused → is_used plan.query axis ≡ false
+  pub sides : AreSides dimensions plan.query plan.sides
+  pub filters : AreFilters dimensions plan.query plan.filters
   pub columns : AreColumns dimensions plan.query.columns (length plan.query.columns) plan.columns.items
   pub rising : KeysRise dimensions plan.query.columns
   pub counted : plan.count ≡ group_count dimensions plan.query.columns

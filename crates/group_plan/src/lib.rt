@@ -5,12 +5,15 @@ mod bounds;
 mod column;
 mod copies;
 mod digits;
+mod filter;
+mod filters;
 mod member_rows;
 mod over;
 mod places;
 mod plan;
 mod rows;
 mod side;
+mod sides;
 
 pub use bounds::Bounds;
 pub use over::PlanOver;

@@ -1,12 +1,14 @@
 //! A plan with its dimensions.
-ghost use Rattle.std.specs.Prelude.{◌≡◌, ◌<◌, true, length, slice_index_or, slice_set, IfOk, OnOk, OnErr};
+ghost use Rattle.std.specs.Prelude.{◌≡◌, ◌<◌, ◌≤◌, true, length, take, slice_index_or, slice_set, IfOk, OnOk, OnErr};
 ghost use Rattle.cube_model.specs.declared.answer.Member.TheVariants.{All};
 ghost use Rattle.group_plan.specs.Columns.{attr_at, is_all};
+ghost use Rattle.group_plan.specs.Kept.{ArePlaces, KeepPlaces};
 ghost use Rattle.group_plan.specs.Numbers.{IsKnown, IsKnownOn, IsNumber, digit_count, group_count, key_at, member_at};
 ghost use Rattle.group_plan.specs.Parts.{given_on, is_used};
-ghost use Rattle.group_plan.specs.Plans.{IsPlanOf, query_of};
+ghost use Rattle.group_plan.specs.Plans.{AreBounds, IsPlanOf, query_of};
 ghost use Rattle.group_plan.specs.Rows.{row_at};
 
+use crate::bounds::Bounds;
 use crate::plan::Plan;
 use crate::rows::FactRows;
 use crate::side::UnknownKey;
@@ -78,6 +80,31 @@ impl<'a> PlanOver<'a> {
             Err(error) => return Err(error),
         };
         Ok(Some(customer + (supplier + (part + date))))
+    }
+
+    /// The bounds that the query puts on the quantity and the discount of a fact row.
+    pub fn bounds(&self) -> Bounds
+        ensures { AreBounds self.now.query.conditions result }
+    {
+        self.plan.bounds
+    }
+
+    /// Moves some of the places of fact rows to the front, in their order, and says how many they are. Each row that is
+    /// left out fails a condition on a dimension.
+    ///
+    /// It reads no dimension row, and leaves out what a table of the dimension's keys tells: not each row that fails.
+    pub fn keep<F: FactRows>(&self, rows: &F, axis: Axis, places: &mut [u32]) -> usize
+        requires { ArePlaces (F.rows rows.now) places.old }
+        ensures kept { KeepPlaces self.now.dimensions self.now.query.conditions (F.rows rows.now) places.old
+            (take result places.new) }
+        ensures few { result ≤ length places.old }
+        ensures length { length places.new ≡ length places.old }
+    {
+        let filter = self.plan.filters.on(axis);
+        if filter.is_open() {
+            return places.len();
+        }
+        filter.keep(rows, axis, places)
     }
 
     // What the dimension row with the key of a fact row gives to the number of its group. A dimension that the query does

@@ -7,8 +7,10 @@ use crate::bounds::Bounds;
 use crate::column::Column;
 use crate::copies::copied_query;
 use crate::digits::group_count;
+use crate::filters::Filters;
 use crate::over::PlanOver;
 use crate::side::Side;
+use crate::sides::Sides;
 use cube_model::{Axis, Query};
 use dimensions::Dims;
 use std::alloc::{AllocError, Global};
@@ -22,10 +24,8 @@ pub struct Plan {
     pub(crate) query: Query,
     pub(crate) bounds: Bounds,
     pub(crate) columns: Vec<Column>,
-    pub(crate) customers: Side,
-    pub(crate) suppliers: Side,
-    pub(crate) parts: Side,
-    pub(crate) dates: Side,
+    pub(crate) sides: Sides,
+    pub(crate) filters: Filters,
     pub(crate) count: u128,
 }
 
@@ -37,14 +37,14 @@ impl Plan {
         ensures query { IfOk result (λ plan. query_of plan ≡ query.now) }
     {
         let count = group_count(dims, query.columns.as_slice());
+        let sides = Sides::of(alloc, dims, query, count)?;
+        let filters = Filters::of(alloc, dims, query, &sides)?;
         Ok(Plan {
             query: copied_query(alloc, query)?,
             bounds: Bounds::of(query.conditions.as_slice()),
             columns: Column::all(alloc, dims, query.columns.as_slice())?,
-            customers: Side::of(alloc, dims, query, Axis::Customer, count)?,
-            suppliers: Side::of(alloc, dims, query, Axis::Supplier, count)?,
-            parts: Side::of(alloc, dims, query, Axis::Part, count)?,
-            dates: Side::of(alloc, dims, query, Axis::Date, count)?,
+            sides,
+            filters,
             count,
         })
     }
@@ -60,12 +60,7 @@ impl Plan {
     pub(crate) fn side(&self, axis: Axis) -> &Side
         ensures { result.now ≡ side_of self.now axis }
     {
-        match axis {
-            Axis::Customer => &self.customers,
-            Axis::Supplier => &self.suppliers,
-            Axis::Part => &self.parts,
-            Axis::Date => &self.dates,
-        }
+        self.sides.on(axis)
     }
 
     /// How many groups there can be. Numbers of groups are below it.

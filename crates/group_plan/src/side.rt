@@ -5,7 +5,7 @@ ghost use Rattle.cube_model.specs.Attributes.{axis_of};
 ghost use Rattle.cube_model.specs.Places.{row_index_of, row_count_of};
 ghost use Rattle.group_plan.specs.Numbers.{group_count};
 ghost use Rattle.group_plan.specs.Parts.{given_at, is_on, is_same, is_used};
-ghost use Rattle.group_plan.specs.Plans.{IsSide, gives};
+ghost use Rattle.group_plan.specs.Plans.{IsShut, IsSide, gives};
 
 use crate::digits::Digits;
 use crate::places::{all_hold_at, is_same};
@@ -68,6 +68,14 @@ impl Side {
             return Err(UnknownKey);
         }
         Ok(self.at(place))
+    }
+
+    /// Whether fact rows with a key may be selected, as far as the dimension tells: the row with the key gives something,
+    /// or no row has it.
+    pub fn lets_pass(&self, dims: &Dims, axis: Axis, key: u32) -> bool
+        ensures { result ≡ false → IsShut dims.now axis self.now key }
+    {
+        !matches!(self.given(dims, axis, key), Ok(None))
     }
 
     /// Whether no condition and no column is on the dimension.
@@ -156,7 +164,8 @@ fn has_column(columns: &[Attr], axis: Axis) -> bool
     columns.iter().any(|column| is_same(column.axis(), axis))
 }
 
-fn has_condition(conditions: &[Cond], axis: Axis) -> bool
+/// Whether a condition is on a dimension.
+pub fn has_condition(conditions: &[Cond], axis: Axis) -> bool
     ensures { result ≡ list_any (is_on axis) conditions.now }
 {
     conditions.iter().any(|condition| is_on(condition, axis))

@@ -15,14 +15,14 @@ returns-then-is_unused-clause-ok g c =
     let axis = c.args.axis in
     let row = row_at (g.F.FactRows.rows c.args.rows.now) c.args.place in
     let unused = c.is_unused.ensures.0 c.if-is_unused.true in
-    let off : is_used query axis ≡ false = c.self.invariant.unused axis (sym c.side-side.ensures ∙ unused) in
+    let off : is_used query axis ≡ false = c.self.invariant.sides.unused axis (sym c.side-side.ensures ∙ unused) in
     rw (← c.self.view_is) (sym (given_unused dims axis (row_index_of dims axis (key_on axis row)) query off))
 
 pub returns-then-is_unused-clause-known : goal.returns-then-is_unused-clause-known
 returns-then-is_unused-clause-known g c =
     let query = c.self.inside.plan.now.query in
     let unused = c.is_unused.ensures.0 c.if-is_unused.true in
-    let off : is_used query c.args.axis ≡ false = c.self.invariant.unused c.args.axis (sym c.side-side.ensures ∙ unused) in
+    let off : is_used query c.args.axis ≡ false = c.self.invariant.sides.unused c.args.axis (sym c.side-side.ensures ∙ unused) in
     rw (← c.self.view_is) (not_used query c.args.axis off)
 
 pub returns-clause-ok : goal.returns-clause-ok
@@ -33,5 +33,5 @@ returns-clause-ok g c =
     let key = ap (row_index_of dims axis) c.key-key.ensures in
     rw (← c.self.view_is)
     (given_is c.given.result _ _ _ c.given.ensures.ok c.given.ensures.known (λ known.
-    ap (λ side. gives side (row_index_of dims axis c.key-key.result)) c.side-side.ensures ∙ c.self.invariant.sides axis _ known
+    ap (λ side. gives side (row_index_of dims axis c.key-key.result)) c.side-side.ensures ∙ c.self.invariant.sides.each axis _ known
     ∙ ap (given_at dims c.self.inside.plan.now.query axis) key))
