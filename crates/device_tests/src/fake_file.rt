@@ -74,6 +74,41 @@ impl OpenFile for Numbered<'_> {
     }
 }
 
+/// A file that takes all that is written, and counts the calls.
+#[derive(Drop)]
+pub(crate) struct Counting<'a> {
+    pub(crate) writes: &'a Cell<u64>,
+}
+
+impl FileExt for Counting<'_> {
+    fn read_at(&self, buf: &mut [u8], _offset: u64) -> io::Result<usize> {
+        Ok(buf.len())
+    }
+
+    fn write_at(&self, buf: &[u8], _offset: u64) -> io::Result<usize> {
+        self.writes.set(self.writes.get().wrapping_add(1));
+        Ok(buf.len())
+    }
+}
+
+impl OpenFile for Counting<'_> {
+    fn metadata(&self) -> io::Result<Metadata> {
+        Err(failure())
+    }
+
+    fn set_len(&self, _size: u64) -> io::Result<()> {
+        Err(failure())
+    }
+
+    fn sync_all(&self) -> io::Result<()> {
+        Ok(())
+    }
+
+    fn sync_data(&self) -> io::Result<()> {
+        Ok(())
+    }
+}
+
 /// A file whose syncs fail, and whose writes fail too unless it says that they go well.
 #[derive(Drop)]
 pub(crate) struct Torn {

@@ -178,6 +178,6 @@ fn torn(rt: &HostRuntime, writes: bool) -> ([bool; 5], u64) {
 
 #[test]
 fn fails_each_call_after_a_failed_write_or_sync(rt: HostRuntime) {
-    assert_eq!(rt; torn(&rt, false), ([true, false, false, false, false], 4));
+    assert_eq!(rt; torn(&rt, false), ([true, true, false, false, false], 3));
     assert_eq!(rt; torn(&rt, true), ([true, true, false, false, false], 3));
 }

@@ -1,6 +1,6 @@
-// Which sectors a device over a file reads at once.
+// Which sectors a device over a file reads at once, and which it writes.
 use crate::bytes::{get, put};
-use crate::fake_file::Numbered;
+use crate::fake_file::{Counting, Numbered};
 use file_device::{FileDisk, Host, Unread};
 use sector_device::{DeviceError, Sectors};
 use std::cell::Cell;
@@ -101,6 +101,60 @@ fn over_a_write(rt: &HostRuntime) -> Result<(Option<u8>, Option<u8>, u64), Fail>
 
 #[test]
 fn gives_what_was_written_over_a_sector_read_ahead(rt: HostRuntime) -> Result<(), Fail> {
-    assert_eq!(rt; over_a_write(&rt)?, (Some(200), Some(9), 2));
+    assert_eq!(rt; over_a_write(&rt)?, (Some(200), Some(9), 4));
+    Ok(())
+}
+
+// Sectors in the order in which they are written, and the calls of the system that this takes with a sync behind them.
+const WRITTEN: [([u32; 5], u64); 6] = [
+    ([5, 9, 13, 2, 700], 5),
+    ([5, 6, 7, 8, 9], 1),
+    ([5, 6, 3, 4, 8], 3),
+    ([5, 5, 5, 6, 7], 3),
+    ([9, 8, 7, 6, 5], 5),
+    ([998, 999, 0, 1, 2], 2),
+];
+
+// The calls of the system before a sync and after it, where so many sectors are written.
+fn writes_for(rt: &HostRuntime, order: &[u32]) -> Result<(u64, u64), Fail> {
+    let writes = Cell::new(0);
+    let mut disk: FileDisk<Host<Counting<'_>>, Unread> = FileDisk::over(
+        rt.alloc(),
+        Host::new(Counting { writes: &writes }),
+        1000,
+    );
+    for i in order {
+        put(&mut disk, *i, 1)?;
+    }
+    let before = writes.get();
+    disk.sync()?;
+    Ok((before, writes.get()))
+}
+
+#[test]
+fn writes_neighbours_at_once_and_others_alone(rt: HostRuntime) -> Result<(), Fail> {
+    for (order, calls) in WRITTEN {
+        let (before, after) = writes_for(&rt, &order)?;
+        assert_eq!(rt;
+            (before.wrapping_add(1), after),
+            (calls, calls),
+            "{order:?}"
+        );
+    }
+    Ok(())
+}
+
+// How many of the first 300 sectors are written in how many calls before the sync, and with it.
+fn fill(rt: &HostRuntime) -> Result<(u64, u64), Fail> {
+    let mut order = Vec::new(rt.alloc());
+    for i in 0..300 {
+        order.push(i)?;
+    }
+    writes_for(rt, &order)
+}
+
+#[test]
+fn writes_a_long_run_by_128(rt: HostRuntime) -> Result<(), Fail> {
+    assert_eq!(rt; fill(&rt)?, (2, 3));
     Ok(())
 }

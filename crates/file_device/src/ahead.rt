@@ -49,17 +49,11 @@ impl Ahead {
         Some(&self.sectors[place])
     }
 
-    /// A sector was written with these bytes, with success or not. After a failure none is there.
-    pub(crate) fn written(&mut self, i: u32, bytes: &[u8; 512], ok: bool)
-        ensures { (start : Image) (calls : List Event) → AreReads (reads_after start calls) self.old.first self.old.sectors.items → AreReads (reads_after start (Event.Written i bytes.now ok ∷ calls)) self.new.first self.new.sectors.items }
+    /// Keeps none.
+    pub(crate) fn clear(&mut self)
+        ensures { self.new.sectors.items ≡ [] }
     {
-        if !ok {
-            self.sectors.clear();
-            return;
-        }
-        if let Some(place) = self.place(i) {
-            self.sectors[place] = *bytes;
-        }
+        self.sectors.clear();
     }
 
     /// Reads so many neighbouring sectors at once, or none where there is no memory or the file fails.

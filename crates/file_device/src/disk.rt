@@ -1,18 +1,14 @@
 // A device over an open file.
-ghost use Rattle.std.specs.Prelude.{◌≡◌, ◌+◌, ◌<◌, ◌≤◌, ◌-◌, ◌^◌, false, min, is_ok, IsTrue, IsErr, OnOk, OnErr};
+ghost use Rattle.std.specs.Prelude.{◌≡◌, ◌+◌, ◌<◌, ◌-◌, ◌^◌, length, false, min, is_ok, IsTrue, IsErr, OnOk, OnErr};
+ghost use Rattle.file_device.specs.Runs.{IsNext};
 ghost use Rattle.sector_device.specs.Device.{IsSettled, Stays, Writes, Syncs, CountsFailure};
-ghost use Rattle.file_device.specs.History.{IsHonest, reads_after};
-ghost use Rattle.file_device.specs.Runs.{AreReads};
 
-use crate::ahead::Ahead;
+use crate::behind::Behind;
+use crate::direct::Direct;
 use crate::{RawFile, Start};
 use sector_device::{DeviceError, Sectors};
 use std::alloc::Global;
 use std::io;
-use std::marker::PhantomData;
-
-/// How many sectors are read at once where sectors are read one behind the other: 64 KiB.
-const RUN: u32 = 128;
 
 /// A file of whole sectors. It keeps its word as long as the record of its calls is that of an honest file:
 /// each read gave what was written there last. After a failed write or sync it fails each call until it is
@@ -21,21 +17,21 @@ const RUN: u32 = 128;
 /// Where a sector is read behind the one that was read last, those that follow are read with it in one call, and
 /// given from memory when they are asked for. It takes memory for them then; where there is none, and where the
 /// call fails, it reads one sector at a time.
+///
+/// A sector that is written is kept in memory as long as those that follow are written behind it, up to 128 of them, and
+/// they are written in one call: before any other sector is written or read, and before a sync. Where that call
+/// fails, it is the later write, read or sync that fails. Where there is no memory, a sector is written at once.
 #[derive(Drop)]
 pub struct FileDisk<F: RawFile, S: Start> {
-    file: F,
+    direct: Direct<F, S>,
+    behind: Behind,
     count: u32,
     failures: u64,
     is_broken: bool,
-    start: PhantomData<S>,
-    ahead: Ahead,
-    // The sector behind the one that was read last; at first none.
-    next: u32,
-    ghost agrees: { IsHonest S.reads (F.history file) → AreReads (reads_after S.reads (F.history file)) ahead.first ahead.sectors.items },
 }
 
 impl<F: RawFile, S: Start> FileDisk<F, S> {
-    ghost use Rattle.file_device.specs.FileDisk.{file_of, count_of, failures_of, has_broken, ReadsOn};
+    ghost use Rattle.file_device.specs.FileDisk.{file_of, count_of, failures_of, has_broken, IsUnseen, TakesSector, Settles};
 
     /// A device over an open file of so many sectors.
     pub fn over(alloc: Global, file: F, count: u32) -> FileDisk<F, S>
@@ -45,13 +41,11 @@ impl<F: RawFile, S: Start> FileDisk<F, S> {
         ensures whole { has_broken result ≡ false }
     {
         FileDisk {
-            file,
+            direct: Direct::new(alloc, file),
+            behind: Behind::new(alloc),
             count,
             failures: 0,
             is_broken: false,
-            start: PhantomData,
-            ahead: Ahead::new(alloc),
-            next: u32::MAX,
         }
     }
 
@@ -59,27 +53,56 @@ impl<F: RawFile, S: Start> FileDisk<F, S> {
     pub fn file(&self) -> &F
         ensures { result.now ≡ file_of self.now }
     {
-        &self.file
+        &self.direct.file
     }
 
-    // Reads ahead, if the sector is not there and stands behind the one that was read last.
-    fn look_ahead(&mut self, i: u32)
-        requires { i < self.old.count }
-        ensures { ReadsOn F.RawFile S.Start self.old self.new }
+    // Writes what is still to be written. Where that fails, it is so still.
+    fn flush(&mut self) -> io::Result<()>
+        ensures none { OnOk result (length self.new.behind.sectors.items ≡ 0) }
+        ensures unseen { IsUnseen F.RawFile S.Start self.old self.new }
     {
-        if self.next == i && self.ahead.sector(i).is_none() {
-            self.begin_run(i);
+        if self.behind.is_empty() {
+            return Ok(());
         }
-        self.next = i + 1;
+        self.behind.write(&mut self.direct)
     }
 
-    // Reads a sector and those behind it, if that can be.
-    fn begin_run(&mut self, i: u32)
-        requires { i < self.old.count }
-        ensures { ReadsOn F.RawFile S.Start self.old self.new }
+    // Takes a sector to be written. Where that fails, it may have been written or not.
+    fn take(&mut self, i: u32, from: &[u8; 512]) -> io::Result<()>
+        ensures { TakesSector F.RawFile S.Start i from.now result self.old self.new }
     {
-        let wanted = RUN.min(self.count - i) as usize;
-        self.ahead.fill(&mut self.file, i, wanted);
+        self.make_way(i)?;
+        if self.behind.put(i, from) {
+            return Ok(());
+        }
+        self.write_now(i, from)
+    }
+
+    // Writes what is still to be written, unless a sector can be put behind it.
+    fn make_way(&mut self, i: u32) -> io::Result<()>
+        ensures next { OnOk result (IsNext self.new.behind.first self.new.behind.sectors.items i) }
+        ensures unseen { IsUnseen F.RawFile S.Start self.old self.new }
+    {
+        if self.behind.takes(i) {
+            return Ok(());
+        }
+        self.flush()
+    }
+
+    // Writes a sector behind all that is still to be written.
+    fn write_now(&mut self, i: u32, from: &[u8; 512]) -> io::Result<()>
+        ensures { TakesSector F.RawFile S.Start i from.now result self.old self.new }
+    {
+        self.flush()?;
+        self.direct.write(i, from)
+    }
+
+    // Makes all that was written lasting.
+    fn settle(&mut self) -> io::Result<()>
+        ensures { Settles F.RawFile S.Start result self.old self.new }
+    {
+        self.flush()?;
+        self.direct.sync()
     }
 }
 
@@ -102,7 +125,7 @@ fn refused(failures: &mut u64) -> DeviceError
 }
 
 impl<F: RawFile, S: Start> Sectors for FileDisk<F, S> {
-    ghost use Rattle.file_device.specs.FileDisk.{failures_of, has_broken, state_of, KeepsWord, Breaks};
+    ghost use Rattle.file_device.specs.FileDisk.{calls_of, failures_of, has_broken, state_of, KeepsWord, Breaks};
     ghost use Rattle.file_device.specs.Laws.{read_may_stay, whole, counts_now, only_now};
 
     ghost state = { λ f. state_of F.RawFile S.Start f };
@@ -113,13 +136,13 @@ impl<F: RawFile, S: Start> Sectors for FileDisk<F, S> {
 
     ghost failed = { λ f. f.failures };
 
-    ghost read_may_stay = { λ f i word. read_may_stay S.Start.reads S.Start.may_hold S.Start.stays (F.RawFile.history f.file) i };
+    ghost read_may_stay = { λ f i word. read_may_stay S.Start.reads S.Start.may_hold S.Start.stays (calls_of F.RawFile S.Start f) i };
 
-    ghost whole = { λ f i b word lt. whole S.Start.reads S.Start.may_hold S.Start.stays S.Start.whole (F.RawFile.history f.file) i b word };
+    ghost whole = { λ f i b word lt. whole S.Start.reads S.Start.may_hold S.Start.stays S.Start.whole (calls_of F.RawFile S.Start f) i b word };
 
-    ghost counts_now = { λ f t image word le. counts_now S.Start.reads S.Start.may_hold (F.RawFile.history f.file) t image };
+    ghost counts_now = { λ f t image word le. counts_now S.Start.reads S.Start.may_hold (calls_of F.RawFile S.Start f) t image };
 
-    ghost only_now = { λ f image word. only_now S.Start.reads S.Start.may_hold (F.RawFile.history f.file) image };
+    ghost only_now = { λ f image word. only_now S.Start.reads S.Start.may_hold (calls_of F.RawFile S.Start f) image };
 
     fn count(&self) -> u32 {
         self.count
@@ -143,12 +166,11 @@ impl<F: RawFile, S: Start> Sectors for FileDisk<F, S> {
         if self.is_broken {
             return Err(refused(&mut self.failures));
         }
-        self.look_ahead(i);
-        if let Some(bytes) = self.ahead.sector(i) {
-            *to = *bytes;
-            return Ok(());
+        if self.flush().is_err() {
+            return Err(refused(&mut self.failures));
         }
-        counted(self.file.read_sector(i, to), &mut self.failures)
+        let outcome = self.direct.read(self.count, i, to);
+        counted(outcome, &mut self.failures)
     }
 
     fn write(&mut self, i: u32, from: &[u8; 512]) -> Result<(), DeviceError>
@@ -164,9 +186,8 @@ impl<F: RawFile, S: Start> Sectors for FileDisk<F, S> {
         if self.is_broken {
             return Err(refused(&mut self.failures));
         }
-        let outcome = self.file.write_sector(i, from);
+        let outcome = self.take(i, from);
         self.is_broken = outcome.is_err();
-        self.ahead.written(i, from, outcome.is_ok());
         counted(outcome, &mut self.failures)
     }
 
@@ -183,7 +204,7 @@ impl<F: RawFile, S: Start> Sectors for FileDisk<F, S> {
         if self.is_broken {
             return Err(refused(&mut self.failures));
         }
-        let outcome = self.file.sync();
+        let outcome = self.settle();
         self.is_broken = outcome.is_err();
         counted(outcome, &mut self.failures)
     }

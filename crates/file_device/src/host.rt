@@ -83,8 +83,21 @@ impl<F: FileExt + OpenFile + Drop> RawFile for Host<F> {
         noted(answer, &mut self.failure)
     }
 
+    fn write_run(&mut self, first: u32, from: &[[u8; 512]]) -> io::Result<()> {
+        let offset = u64::from(first) * 512;
+        let answer = self.file.write_all_at(from.as_flattened(), offset);
+        let ok = answer.is_ok();
+        for k in 0..from.len() {
+            self.calls = self
+                .calls
+                .then(&Event::Written(first + k as u32, from[k], ok));
+        }
+        noted(answer, &mut self.failure)
+    }
+
+    // What reads need lasts then, the length too, and not when the file was changed.
     fn sync(&mut self) -> io::Result<()> {
-        let answer = self.file.sync_all();
+        let answer = self.file.sync_data();
         self.calls = self.calls.then(&Event::Synced(answer.is_ok()));
         noted(answer, &mut self.failure)
     }

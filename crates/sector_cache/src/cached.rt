@@ -3,7 +3,7 @@ ghost use Rattle.std.specs.Prelude.{◌≡◌, ◌+◌, ◌-◌, ◌^◌, ◌<�
 ghost use Rattle.sector_device.specs.Device.{CountsFailure, IsSettled, Stays, Writes, Syncs};
 ghost use Rattle.sector_cache.specs.Kept.{Agrees};
 
-use crate::kept::{Kept, copy_kept, forget, keep};
+use crate::kept::{Kept, copy_kept, forget, keep, renew};
 use crate::run::Run;
 use cube_model::Fault;
 use lru::LruCache;
@@ -15,12 +15,14 @@ use std::num::NonZeroUsize;
 ///
 /// Reads fill the cache, and a write goes through to the device. Where there is no memory for a sector, it is
 /// not kept. Of sectors read one behind the other the first 64 that were not kept are, and those behind them
-/// pass by the cache until a read is not the next.
+/// pass by the cache until a read is not the next. It is the same with sectors written one behind the other, but
+/// one that is kept is kept with what was written.
 #[derive(Drop)]
 pub struct Cached<D: Sectors> {
     inner: D,
     kept: Kept,
     run: Run,
+    written: Run,
     ghost agrees: { D.keeps_word inner → Agrees (D.state inner).reads kept.entries },
 }
 
@@ -44,6 +46,7 @@ impl<D: Sectors> Cached<D> {
                 inner,
                 kept,
                 run: Run::new(),
+                written: Run::new(),
             }),
             Err(_) => Err((Fault::Memory, inner)),
         }
@@ -130,7 +133,12 @@ impl<D: Sectors> Sectors for Cached<D> {
             forget(&mut self.kept, i);
             return Err(DeviceError);
         }
-        keep(&mut self.kept, i, from);
+        self.written.follow(i);
+        if self.written.miss() {
+            keep(&mut self.kept, i, from);
+        } else {
+            renew(&mut self.kept, i, from);
+        }
         Ok(())
     }
 

@@ -33,6 +33,25 @@ pub(crate) fn keep(kept: &mut Kept, i: u32, bytes: &[u8; 512])
     }
 }
 
+/// Keeps the bytes of a sector of which something is kept, and nothing of another.
+pub(crate) fn renew(kept: &mut Kept, i: u32, bytes: &[u8; 512])
+    ensures { Keeps i bytes.now kept.old.entries kept.new.entries }
+{
+    if is_kept(kept, i) {
+        keep(kept, i, bytes);
+    }
+}
+
+// Whether something is kept of a sector.
+fn is_kept(kept: &Kept, i: u32) -> bool
+    ensures { OnFalse result (kept_at kept.now.entries i ≡ None) }
+{
+    match kept.peek(&i) {
+        Some(_) => true,
+        None => false,
+    }
+}
+
 /// Keeps nothing of a sector.
 pub(crate) fn forget(kept: &mut Kept, i: u32)
     ensures { Forgets i kept.old.entries kept.new.entries }

@@ -1,10 +1,10 @@
-// How long sectors have been read one behind the other.
+// How long sectors have been read, or written, one behind the other.
 ghost use Rattle.std.specs.Prelude.{◌≡◌, ◌≢◌, ◌+◌, ◌≤◌, ◌^◌, min};
 
-/// How many sectors read one behind the other are kept. Those behind them pass by the cache.
+/// How many sectors read or written one behind the other are kept. Those behind them pass by the cache.
 const KEPT: u32 = 64;
 
-/// Sectors that were read one behind the other.
+/// Sectors that were read, or written, one behind the other.
 #[derive(Clone, Copy)]
 pub(crate) struct Run {
     next: u32,
@@ -12,12 +12,12 @@ pub(crate) struct Run {
 }
 
 impl Run {
-    /// No sector was read yet.
+    /// No sector yet.
     pub(crate) fn new() -> Run {
         Run { next: 0, missed: 0 }
     }
 
-    /// A sector is read. One that is not the next begins another run.
+    /// A sector follows. One that is not the next begins another run.
     pub(crate) fn follow(&mut self, i: u32) {
         if i != self.next {
             self.missed = 0;
