@@ -2,6 +2,8 @@
 #![tactic(auto)]
 
 #[cfg(test)]
+mod all_names;
+#[cfg(test)]
 mod limits;
 #[cfg(test)]
 mod loads;
