@@ -9,8 +9,11 @@ const ROW: &str = "1|1|1|1|1|19930105|1-URGENT|0|17|1000|1000|2|980|600|0|199302
 
 const STRANGER: &str = "1|1|77|1|1|19930105|1-URGENT|0|17|1000|1000|2|980|600|0|19930201|AIR|\n";
 
+const DAY: &str =
+    "19930105|January 5, 1993|Tuesday|January|1993|199301|Jan1993|3|5|5|1|1|Winter|0|0|0|1|\n";
+
 /// A table, the parts of its text, each so many times, and what is said.
-static CASES: [(Table, &[(usize, &str)], &str); 5] = [
+static CASES: [(Table, &[(usize, &str)], &str); 6] = [
     // The rows of a batch count from 1, and lines from the beginning of the file.
     (
         Table::Lineorder,
@@ -32,6 +35,12 @@ static CASES: [(Table, &[(usize, &str)], &str); 5] = [
         Table::Customer,
         &[(1, "1|C1|a|A|"), (256, "b"), (1, "|C|p|M|\n")],
         "fault 11 FieldTooLong line 1 field 5\ncustomer.tbl line 1: nation has 256 bytes, and a text has at most 255",
+    ),
+    // The rows are counted before their keys are looked at.
+    (
+        Table::Date,
+        &[(65_536, DAY)],
+        "fault 20 TooManyRows\na customer, supplier or part table has at most 4194304 rows, and a date table 65535",
     ),
     // Of a long text the beginning is shown.
     (
@@ -70,5 +79,32 @@ fn first_other(alloc: Global) -> Result<Option<usize>, Fault> {
 #[test]
 fn each_refusal_of_a_long_text_has_its_lines(rt: HostRuntime) -> Result<(), Fail> {
     assert_eq!(rt; first_other(rt.alloc())?, None);
+    Ok(())
+}
+
+// So many customers, each of a city of its own.
+fn cities(alloc: Global, count: u32) -> Result<String, Fault> {
+    let mut text = String::new(alloc);
+    for key in 0..count {
+        let line = format!(in alloc; "{key}|C|a|{key}|UNITED KINGDOM|EUROPE|p|M|\n")?;
+        text.push_str(line.as_str())?;
+    }
+    Ok(text)
+}
+
+#[test]
+fn a_city_too_many_has_its_lines(rt: HostRuntime) -> Result<(), Fail> {
+    let text = cities(rt.alloc(), 65_536)?;
+    let found = said(
+        rt.alloc(),
+        &Texts {
+            table: Table::Customer,
+            text: text.as_bytes(),
+        },
+    )?;
+    assert_eq!(rt;
+        found.as_str(),
+        "fault 27 TooManyMembers customer row 65536\ncustomer.tbl line 65536: the 65536th member of a column, and there may be 65535"
+    );
     Ok(())
 }

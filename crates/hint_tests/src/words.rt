@@ -18,7 +18,7 @@ const COUNT: QueryWords<'static> = QueryWords {
     ..NONE
 };
 
-static CASES: [(QueryWords<'static>, &str); 26] = [
+static CASES: [(QueryWords<'static>, &str); 32] = [
     (
         NONE,
         "nothing is asked: give --query Q, or --agg G,G with --set, --by and conditions",
@@ -50,7 +50,7 @@ static CASES: [(QueryWords<'static>, &str); 26] = [
             q: Some("1.4"),
             ..NONE
         },
-        "1.4: no such query of the benchmark; 1.1?",
+        "1.4: no such query of the benchmark; there are 1.1 1.2 1.3 2.1 2.2 2.3 3.1 3.2 3.3 3.4 4.1 4.2 4.3",
     ),
     (
         QueryWords {
@@ -96,10 +96,52 @@ static CASES: [(QueryWords<'static>, &str); 26] = [
     ),
     (
         QueryWords {
-            agg: Some("count,sum(revenue)"),
+            agg: Some("count,sum(revenue"),
             ..NONE
         },
-        "sum(revenue): write sum:revenue",
+        "sum(revenue: a closing bracket is wanted",
+    ),
+    (
+        QueryWords {
+            agg: Some("sum(revenu)"),
+            ..NONE
+        },
+        "revenu: no such measure; revenue?",
+    ),
+    (
+        QueryWords {
+            agg: Some("total(revenue)"),
+            ..NONE
+        },
+        "total: no such aggregate; there are count sum min max avg",
+    ),
+    (
+        QueryWords {
+            agg: Some("sum:(revenue)"),
+            ..NONE
+        },
+        "(revenue): no such measure; revenue?",
+    ),
+    (
+        QueryWords {
+            agg: Some("sum(revenue),count(*)"),
+            ..NONE
+        },
+        "count(*): count stands without a measure",
+    ),
+    (
+        QueryWords {
+            agg: Some("count:revenue"),
+            ..NONE
+        },
+        "count:revenue: count stands without a measure",
+    ),
+    (
+        QueryWords {
+            agg: Some("count,sum(revenue),avg:profit"),
+            ..NONE
+        },
+        "nothing",
     ),
     (
         QueryWords {

@@ -60,6 +60,10 @@ pub fn unknown<'a>(
     if names.iter().any(|name| *name == word) {
         return Ok(None);
     }
-    let near = nearest(alloc, word, names)?;
+    let near = match known {
+        // Each number is near to another, and says nothing.
+        Known::Query => None,
+        _ => nearest(alloc, word, names)?,
+    };
     Ok(Some(WordHint::Unknown { word, known, near }))
 }

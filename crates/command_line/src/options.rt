@@ -11,7 +11,7 @@ pub const CUBE_HELP: &str = "Sets:
   ALL stands in a column by which a line is not grouped.
 
 Aggregates, with a measure M:
-  count sum:M min:M max:M avg:M
+  count sum:M min:M max:M avg:M, or as a header has it: 'sum(M)', quoted
   An average is a fraction in lowest terms, such as 1475/2.
 
 Measures:

@@ -19,16 +19,34 @@ known. Status 2 says that the words were not understood. 'ssbcube COMMAND
 
 /// The commands of the program, and their words.
 pub fn command<'a>(alloc: Global) -> Result<Command<'a>, AllocError> {
-    Command::new(alloc, "ssbcube")
+    let program = Command::new(alloc, "ssbcube")
         .version("0.1.0")
         .about(ABOUT)
         .after_help(HELP)
         .subcommand_required(true)
-        .arg_required_else_help(true)
-        .subcommand(eval::words(alloc)?)?
-        .subcommand(create::words(alloc)?)?
-        .subcommand(load::words(alloc)?)?
-        .subcommand(report::words(alloc)?)?
-        .subcommand(cube::words(alloc)?)?
-        .subcommand(status::words(alloc)?)
+        .arg_required_else_help(true);
+    let program = with_tables(alloc, program)?;
+    with_answers(alloc, program)
+}
+
+// The program with the commands that read tables.
+fn with_tables<'a>(alloc: Global, program: Command<'a>) -> Result<Command<'a>, AllocError> {
+    let program = with(program, eval::words(alloc))?;
+    let program = with(program, create::words(alloc))?;
+    with(program, load::words(alloc))
+}
+
+// The program with the commands that ask a warehouse.
+fn with_answers<'a>(alloc: Global, program: Command<'a>) -> Result<Command<'a>, AllocError> {
+    let program = with(program, report::words(alloc))?;
+    let program = with(program, cube::words(alloc))?;
+    with(program, status::words(alloc))
+}
+
+// The program with a further command.
+fn with<'a>(
+    program: Command<'a>,
+    command: Result<Command<'a>, AllocError>,
+) -> Result<Command<'a>, AllocError> {
+    program.subcommand(command?)
 }

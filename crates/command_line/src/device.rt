@@ -59,8 +59,15 @@ where
     R::File: FileExt,
 {
     let disk = FileDisk::open(rt, path_of(given))?;
-    let device = cached(rt.alloc(), disk)?;
-    match warehouse::open(rt.alloc(), device) {
+    session_on(rt.alloc(), disk)
+}
+
+// Opens the warehouse on a disk, behind a cache.
+fn session_on<F: FileExt + OpenFile + Drop>(
+    alloc: Global,
+    disk: FileDisk<Host<F>, Unread>,
+) -> Result<Session<Device<F>>, Met> {
+    match warehouse::open(alloc, cached(alloc, disk)?) {
         Ok(session) => Ok(session),
         Err((fault, device)) => Err(met_by(fault, &device)),
     }

@@ -42,12 +42,38 @@ where
         Ok(session) => session,
         Err(met) => return Err(explained(rt, given, met)),
     };
+    done_in(rt, given, &mut session, job, lineorder)
+}
+
+// Does a job to an open warehouse, and gives the status of the program.
+fn done_in<R: Files + AllocGlobal + Print, L: Read + Drop>(
+    rt: &R,
+    given: &ArgMatches<'_>,
+    session: &mut Session<Device<R::File>>,
+    job: Job,
+    lineorder: L,
+) -> Result<u8, Refusal>
+where
+    R::File: FileExt,
+{
     let mut out = output(rt)?;
-    match perform(rt.alloc(), &mut session, job, lineorder, &mut out) {
+    match perform(rt.alloc(), session, job, lineorder, &mut out) {
         Ok(done) => Ok(exit_of(&Ok(done))),
-        Err(Fault::Output) if is_closed(out.failure()) => Ok(status_of_closed(given)),
-        Err(Fault::Output) => Err(unwritten(rt.alloc(), out.failure())),
-        Err(fault) => Err(explained(rt, given, met_in(fault, &session))),
+        Err(Fault::Output) => not_written(rt, given, out.failure()),
+        Err(fault) => Err(explained(rt, given, met_in(fault, session))),
+    }
+}
+
+// The status where standard output took no more, or the refusal of the write.
+fn not_written<R: AllocGlobal>(
+    rt: &R,
+    given: &ArgMatches<'_>,
+    failure: Option<io::Error>,
+) -> Result<u8, Refusal> {
+    if is_closed(failure) {
+        Ok(status_of_closed(given))
+    } else {
+        Err(unwritten(rt.alloc(), failure))
     }
 }
 

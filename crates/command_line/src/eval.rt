@@ -48,9 +48,21 @@ pub fn eval<R: Files + AllocGlobal + Print + Eprint + Clock>(
     let mut out = output(rt)?;
     match report(rt.alloc(), &query, dimensions, lineorder, &mut out) {
         Ok(()) => Ok(DONE),
-        Err(Fault::Output) if is_closed(out.failure()) => Ok(DONE),
-        Err(Fault::Output) => Err(unwritten(rt.alloc(), out.failure())),
-        Err(fault) => Err(explained(rt, given, Met::from(fault))),
+        Err(fault) => not_done(rt, given, fault, out.failure()),
+    }
+}
+
+// The status of a report that was not written whole, or its refusal.
+fn not_done<R: Files + AllocGlobal>(
+    rt: &R,
+    given: &ArgMatches<'_>,
+    fault: Fault,
+    failure: Option<io::Error>,
+) -> Result<u8, Refusal> {
+    match fault {
+        Fault::Output if is_closed(failure) => Ok(DONE),
+        Fault::Output => Err(unwritten(rt.alloc(), failure)),
+        fault => Err(explained(rt, given, Met::from(fault))),
     }
 }
 

@@ -1,0 +1,93 @@
+//! What the program does with its words.
+use crate::exit::{DONE, NO_COMMAND};
+use crate::refusal::Refusal;
+use crate::screens::Screens;
+use crate::{command, create, eval, job, load};
+use clap::ArgMatches;
+use clap::error::{Error, ErrorKind};
+use cube_model::Fault;
+use ssb_eval::exit_of;
+use std::io;
+use std::os::unix::fs::FileExt;
+use std::rt::{Clock, Files};
+use warehouse_jobs::Job;
+
+/// Does what words say, of which the first is the program's name, and gives the status to end with: 0 done, 1 refused, 2 no
+/// command. The report goes to standard output, and a refusal to standard error: its fault, and behind it what is known of it.
+///
+/// It fails where standard error cannot be written.
+pub fn run<R: Files + AllocGlobal + Print + Eprint + Clock>(
+    rt: &R,
+    words: &[String],
+    screens: Screens,
+) -> io::Result<u8>
+where
+    R::File: FileExt,
+{
+    match matched(rt, words, screens) {
+        Ok(status) => Ok(status),
+        Err(refusal) => refuse(rt, refusal),
+    }
+}
+
+/// Prints a refusal, and gives the status to end with.
+pub fn refuse<R: Eprint>(rt: &R, refusal: Refusal) -> io::Result<u8> {
+    let Refusal { fault, hint } = refusal;
+    eprintln!(rt; "{fault}")?;
+    if let Some(hint) = &hint {
+        eprintln!(rt; "{hint}")?;
+    }
+    Ok(exit_of(&Err(fault)))
+}
+
+fn matched<R: Files + AllocGlobal + Print + Eprint + Clock>(
+    rt: &R,
+    words: &[String],
+    screens: Screens,
+) -> Result<u8, Refusal>
+where
+    R::File: FileExt,
+{
+    let command = command::command(rt.alloc())?;
+    match command.try_get_matches_from(words) {
+        Ok(matches) => perform(rt, &matches, screens),
+        Err(error) => Ok(explain(rt, &error)?),
+    }
+}
+
+// The status of the command that the words name.
+fn perform<R: Files + AllocGlobal + Print + Eprint + Clock>(
+    rt: &R,
+    matches: &ArgMatches<'_>,
+    screens: Screens,
+) -> Result<u8, Refusal>
+where
+    R::File: FileExt,
+{
+    match matches.subcommand() {
+        Some(("eval", given)) => eval::eval(rt, given, screens),
+        Some(("create", given)) => create::create(rt, given),
+        Some(("load", given)) => load::load(rt, given, screens),
+        Some(("report", given)) => job::ask(rt, given),
+        Some(("cube", given)) => job::ask(rt, given),
+        Some(("status", given)) => job::perform_job(rt, given, Job::Status, io::empty()),
+        _ => Ok(NO_COMMAND),
+    }
+}
+
+// Prints what is wrong with the words, or the help that they ask for. A reader that closes early has read enough.
+fn explain<R: Print + Eprint>(rt: &R, error: &Error) -> Result<u8, Fault> {
+    if error.kind() == ErrorKind::OutOfMemory {
+        return Err(Fault::Memory);
+    }
+    if let Err(failure) = error.print(rt) {
+        if failure.kind() != io::ErrorKind::BrokenPipe {
+            return Err(Fault::Output);
+        }
+    }
+    Ok(if error.exit_code() == 0 {
+        DONE
+    } else {
+        NO_COMMAND
+    })
+}
