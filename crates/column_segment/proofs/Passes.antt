@@ -22,7 +22,7 @@ use Rattle.column_segment.specs.declared.columns.TextColumn.TheVariants.{OrderPr
 use Rattle.column_segment.specs.declared.layout.Coded.{Coded}
 use Rattle.column_segment.specs.Columns.{Column, FitsColumn, amount_of, amounts, number_columns, text_columns, text_of}
 use Rattle.column_segment.specs.Decoded.{amounts_in, column_bytes, texts_in}
-use Rattle.column_segment.specs.Reading.{BeginsWithCodes, BeginsWithNoColumn, HasColumn, HasHeader, HasNumbers, SpellNoTexts}
+use Rattle.column_segment.specs.Reading.{BeginsWithCodes, BeginsWithNoColumn, HasColumn, HasHeader, HasNumbers, SpellNoTexts, SpellNone}
 use Rattle.column_segment.specs.Segment.{IsBatch, IsSegment, header_of, number_column, text_column}
 use Rattle.column_segment.proofs.CallerLemmas.{header-one, shorts, texts-one}
 use Rattle.column_segment.proofs.Chunked.{AreBytes, chunks_of, length-parts, read_2, read_8}
@@ -237,21 +237,24 @@ module _ (text : List ℕ) (n from : ℕ) (are : AreBytes text) (few : n ≤ mos
           → drop (two.at + 2 * n) text ≡ flat_map (text_column rows) (CommitDate ∷ ShipMode ∷ [])
       after_two rows many batch is = behind rows ShipPriority (CommitDate ∷ ShipMode ∷ []) (one.at + 2 * n) two many batch second (after_one rows many batch is)
 
-      pub none_third : BeginsWithNoColumn n (drop (two.at + 2 * n) text) → SpellNoTexts n (drop from text)
-      none_third missing = λ rows many batch is. none rows CommitDate (ShipMode ∷ []) (two.at + 2 * n) many batch missing (after_two rows many batch is)
+      pub none_last : SpellNone (CommitDate ∷ ShipMode ∷ []) n (drop (two.at + 2 * n) text) → SpellNoTexts n (drop from text)
+      none_last missing = λ rows many batch is. missing rows many batch (after_two rows many batch is)
 
-      module _ (three : Coded) (third : HasColumn text n (two.at + 2 * n) three) where
-        after_three : (rows : List LineOrder) → length rows ≡ n → IsBatch rows → drop from text ≡ flat_map (text_column rows) text_columns
-            → drop (three.at + 2 * n) text ≡ flat_map (text_column rows) (ShipMode ∷ [])
-        after_three rows many batch is = behind rows CommitDate (ShipMode ∷ []) (two.at + 2 * n) three many batch third (after_two rows many batch is)
+  pub none_third : BeginsWithNoColumn n (drop from text) → SpellNone (CommitDate ∷ ShipMode ∷ []) n (drop from text)
+  none_third missing = λ rows many batch is. none rows CommitDate (ShipMode ∷ []) from many batch missing is
 
-        pub none_fourth : BeginsWithNoColumn n (drop (three.at + 2 * n) text) → SpellNoTexts n (drop from text)
-        none_fourth missing = λ rows many batch is. none rows ShipMode [] (three.at + 2 * n) many batch missing (after_three rows many batch is)
+  module _ (three : Coded) (third : HasColumn text n from three) where
+    after_three : (rows : List LineOrder) → length rows ≡ n → IsBatch rows → drop from text ≡ flat_map (text_column rows) (CommitDate ∷ ShipMode ∷ [])
+        → drop (three.at + 2 * n) text ≡ flat_map (text_column rows) (ShipMode ∷ [])
+    after_three rows many batch is = behind rows CommitDate (ShipMode ∷ []) from three many batch third is
 
-        pub none_end : (four : Coded) → HasColumn text n (three.at + 2 * n) four → four.at + 2 * n ≢ length text → SpellNoTexts n (drop from text)
-        none_end four fourth more = λ rows many batch is.
-            let last : drop (four.at + 2 * n) text ≡ [] = behind rows ShipMode [] (three.at + 2 * n) four many batch fourth (after_three rows many batch is) in
-            more (omega (arith, ap length last, length-drop (four.at + 2 * n) text, fourth.room))
+    pub none_fourth : BeginsWithNoColumn n (drop (three.at + 2 * n) text) → SpellNone (CommitDate ∷ ShipMode ∷ []) n (drop from text)
+    none_fourth missing = λ rows many batch is. none rows ShipMode [] (three.at + 2 * n) many batch missing (after_three rows many batch is)
+
+    pub none_end : (four : Coded) → HasColumn text n (three.at + 2 * n) four → four.at + 2 * n ≢ length text → SpellNone (CommitDate ∷ ShipMode ∷ []) n (drop from text)
+    none_end four fourth more = λ rows many batch is.
+        let last : drop (four.at + 2 * n) text ≡ [] = behind rows ShipMode [] (three.at + 2 * n) four many batch fourth (after_three rows many batch is) in
+        more (omega (arith, ap length last, length-drop (four.at + 2 * n) text, fourth.room))
 
 -- ---- bytes of no batch
 

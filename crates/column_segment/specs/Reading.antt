@@ -9,6 +9,7 @@ use Rattle.column_kernels.specs.Checks.{all_below}
 use Rattle.dictionary.specs.Columns.{AreCodes, column_spelling}
 use Rattle.dictionary.specs.Spelling.{AreProper, AreShort, texts_spelling}
 use Rattle.column_segment.specs.declared.columns.AmountColumn.{AmountColumn}
+use Rattle.column_segment.specs.declared.columns.TextColumn.{TextColumn}
 use Rattle.column_segment.specs.declared.layout.Coded.{Coded}
 use Rattle.column_segment.specs.declared.layout.CodedTexts.{CodedTexts}
 use Rattle.column_segment.specs.Columns.{text_columns}
@@ -51,7 +52,16 @@ abbrev pub BeginsWithNoColumn : ℕ → List ℕ → Type 0
 BeginsWithNoColumn rows bytes = (column : List (List ℕ)) (rest : List ℕ) → length column ≡ rows → AreShort column
     → bytes ≢ column_spelling column ++ rest
 
--- the bytes are the columns of texts of no so many rows
+-- the bytes are these columns of texts of no so many rows
+abbrev pub SpellNone : List TextColumn → ℕ → List ℕ → Type 0
+SpellNone columns count bytes = (rows : List LineOrder) → length rows ≡ count → IsBatch rows → bytes ≢ flat_map (text_column rows) columns
+
+-- they are all columns of texts of none
 abbrev pub SpellNoTexts : ℕ → List ℕ → Type 0
-SpellNoTexts count bytes = (rows : List LineOrder) → length rows ≡ count → IsBatch rows
-    → bytes ≢ flat_map (text_column rows) text_columns
+SpellNoTexts count bytes = SpellNone text_columns count bytes
+
+-- the last two columns of texts stand from a place on, up to the end
+pub record HasLast (bytes : List ℕ) (rows from : ℕ) (date mode : Coded) : Type 0 where
+  pub commitdate : HasColumn bytes rows from date
+  pub shipmode : HasColumn bytes rows (date.at + 2 * rows) mode
+  pub end : mode.at + 2 * rows ≡ length bytes

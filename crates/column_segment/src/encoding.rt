@@ -13,8 +13,9 @@ use wire::{push_bytes, push_u32};
 // The first bytes of each segment.
 pub(crate) const NAME: &[u8] = b"SEG1";
 
-// How many bytes a row takes: 71, and those of texts that were not seen before, in a batch of many rows seldom one a row.
-const ROW_BYTES: usize = 72;
+// How much room a row is given: it takes 71 bytes, and more where its texts are seen for the first time. Room that is not
+// used costs nothing.
+const ROW_BYTES: usize = 96;
 
 // The header, and the numbers of texts.
 const OTHER_BYTES: usize = 28;

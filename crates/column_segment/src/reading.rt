@@ -1,11 +1,12 @@
 //! Checking the bytes of a batch.
-ghost use Rattle.std.specs.Prelude.{◌≡◌, ◌↔◌, ◌⊎◌, ◌+◌, ◌*◌, ◌≤◌, ◌<◌, ◌^◌, ℕ, List, length, drop, IfErr, IfOk, IsErr, IsOkUnless, IsTrue};
+ghost use Rattle.std.specs.Prelude.{◌≡◌, ◌↔◌, ◌⊎◌, ◌+◌, ◌*◌, ◌≤◌, ◌<◌, ◌^◌, ◌∷◌, [], ℕ, List, length, drop, IfErr, IfOk, IsErr, IsOkUnless, IsTrue};
 ghost use Rattle.cube_model.specs.Limits.{most_batch_rows};
 ghost use Rattle.cube_model.specs.declared.fault.Fault.{Fault};
 ghost use Rattle.cube_model.specs.declared.rows.LineOrder.{LineOrder};
 ghost use Rattle.column_kernels.specs.Checks.{all_below};
 ghost use Rattle.column_segment.specs.Decoded.{IsDecoded, amounts_in};
-ghost use Rattle.column_segment.specs.Reading.{BeginsWithCodes, BeginsWithNoColumn, HasColumn, HasHeader, HasNumbers, HasTexts, SpellNoTexts};
+ghost use Rattle.column_segment.specs.Reading.{BeginsWithCodes, BeginsWithNoColumn, HasColumn, HasHeader, HasLast, HasNumbers, HasTexts, SpellNoTexts, SpellNone};
+ghost use Rattle.column_segment.specs.declared.columns.TextColumn.TheVariants.{CommitDate, ShipMode};
 ghost use Rattle.column_segment.specs.Segment.{IsSegment};
 
 use crate::columns::AmountColumn;
@@ -93,20 +94,50 @@ fn read_texts(alloc: Global, bytes: &[u8], rows: usize) -> Result<CodedTexts, Fa
     ensures refused { IfErr result (λ fault. (fault ≡ Fault.Memory) ⊎ ((fault ≡ Fault.BadLayout)
         × SpellNoTexts rows (drop (12 + 63 * rows) bytes.now))) }
 {
-    let codes = 2 * rows;
-    let orderpriority = read_column(alloc, bytes, HEADER_BYTES + NUMBER_BYTES * rows, rows)?;
-    let shippriority = read_column(alloc, bytes, orderpriority.at + codes, rows)?;
-    let commitdate = read_column(alloc, bytes, shippriority.at + codes, rows)?;
-    let shipmode = read_column(alloc, bytes, commitdate.at + codes, rows)?;
-    if shipmode.at + codes != bytes.len() {
-        return Err(Fault::BadLayout);
-    }
+    let first = read_first_two(alloc, bytes, rows)?;
+    let last = read_last_two(alloc, bytes, first.1.at + 2 * rows, rows)?;
+    let (orderpriority, shippriority) = first;
+    let (commitdate, shipmode) = last;
     Ok(CodedTexts {
         orderpriority,
         shippriority,
         commitdate,
         shipmode,
     })
+}
+
+// Where the first two of them stand.
+fn read_first_two(alloc: Global, bytes: &[u8], rows: usize) -> Result<(Coded, Coded), Fault>
+    requires few { rows ≤ most_batch_rows }
+    requires room { 12 + 63 * rows ≤ length bytes.now }
+    ensures ok { IfOk result (λ two. HasColumn bytes.now rows (12 + 63 * rows) two.0 × HasColumn bytes.now rows (two.0.at + 2 * rows) two.1) }
+    ensures refused { IfErr result (λ fault. (fault ≡ Fault.Memory) ⊎ ((fault ≡ Fault.BadLayout)
+        × SpellNoTexts rows (drop (12 + 63 * rows) bytes.now))) }
+{
+    let orderpriority = read_column(alloc, bytes, HEADER_BYTES + NUMBER_BYTES * rows, rows)?;
+    let shippriority = read_column(alloc, bytes, orderpriority.at + 2 * rows, rows)?;
+    Ok((orderpriority, shippriority))
+}
+
+// Where the last two of them stand, which begin at a place and end with the bytes.
+fn read_last_two(
+    alloc: Global,
+    bytes: &[u8],
+    from: usize,
+    rows: usize,
+) -> Result<(Coded, Coded), Fault>
+    requires few { rows ≤ most_batch_rows }
+    requires within { from ≤ length bytes.now }
+    ensures ok { IfOk result (λ two. HasLast bytes.now rows from two.0 two.1) }
+    ensures refused { IfErr result (λ fault. (fault ≡ Fault.Memory) ⊎ ((fault ≡ Fault.BadLayout)
+        × SpellNone (CommitDate ∷ ShipMode ∷ []) rows (drop from bytes.now))) }
+{
+    let commitdate = read_column(alloc, bytes, from, rows)?;
+    let shipmode = read_column(alloc, bytes, commitdate.at + 2 * rows, rows)?;
+    if shipmode.at + 2 * rows != bytes.len() {
+        return Err(Fault::BadLayout);
+    }
+    Ok((commitdate, shipmode))
 }
 
 // Where a column of texts stands that begins at a place.
