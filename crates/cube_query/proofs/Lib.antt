@@ -27,3 +27,6 @@ pub mod Merging
 pub mod Targets
 pub mod Passes
 pub mod Ends
+mod CellMerges
+mod CellGroups
+mod CellFolds

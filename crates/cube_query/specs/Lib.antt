@@ -1,6 +1,8 @@
+pub mod CellTallies
 pub mod Chosen
 pub mod Coarser
 pub mod Columns
+pub mod FoldInvariant
 pub mod Groups
 pub mod Limits
 pub mod Numbered
@@ -8,5 +10,4 @@ pub mod Ranks
 pub mod Room
 pub mod SegmentRows
 pub mod Slots
-pub mod FoldInvariant
 pub mod Tallies

@@ -2,6 +2,7 @@
 #![tactic(auto)]
 
 mod answer;
+mod cell_columns;
 mod chosen_rows;
 mod coarser;
 mod columns;
@@ -20,4 +21,5 @@ mod tally;
 pub use answer::fold;
 pub use fraction::fraction_of;
 pub use running::Fold;
+pub use segment_rows::SegmentRows;
 pub use tally::Tally;

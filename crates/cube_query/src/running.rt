@@ -1,5 +1,5 @@
 //! A fold over fact rows that come in any number of calls.
-ghost use Rattle.std.specs.Prelude.{◌≡◌, ◌≢◌, ◌⊎◌, ◌≤◌, ℕ, List, length, Err, IfOk, IfErr, OnOk, OnErr};
+ghost use Rattle.std.specs.Prelude.{◌≡◌, ◌≢◌, ◌⊎◌, ◌≤◌, ℕ, List, false, length, Err, IfOk, IfErr, OnOk, OnErr};
 ghost use Rattle.std.specs.List.{All, AllByRecursion};
 ghost use Rattle.cube_model.specs.Answers.{answer};
 ghost use Rattle.cube_model.specs.Proper.{IsProper};
@@ -10,7 +10,10 @@ ghost use Rattle.group_plan.specs.Numbers.{group_count, IsKnown};
 ghost use Rattle.group_plan.specs.Plans.{IsPlanOver, query_of};
 ghost use Rattle.cube_query.specs.Slots.{entries_of, AreSlots, Cover, Grow};
 ghost use Rattle.cube_query.specs.FoldInvariant.{AreGroupSlots};
+ghost use Rattle.cuboid_upkeep.specs.Grouping.{StandFor};
+ghost use Rattle.lattice.specs.Determined.{Serves};
 
+use crate::cell_columns::with_cells;
 use crate::chosen_rows::ChosenRows;
 use crate::columns::{count_in_all, lengthen_all, no_columns};
 use crate::finish::answer_lines;
@@ -21,6 +24,8 @@ use crate::slots::Slots;
 use crate::tally::Tally;
 use column_segment::Segment;
 use cube_model::{Answer, Fault, LineOrder, Query};
+use cuboid_cells::Cells;
+use cuboid_upkeep::{one_key_one_group, stand_ins_of};
 use dimensions::Dims;
 use group_plan::{FactRows, Plan, RowSlice};
 use std::alloc::{AllocError, Global};
@@ -104,6 +109,49 @@ impl Fold {
         }
         let rows = ChosenRows::of(self.alloc, &self.plan.over(dims), segment)?;
         self.add(dims, &rows)
+    }
+
+    /// Counts the cells of a view of four axes in, in place of the rows that they stand for. A refusal leaves the fold as it
+    /// was.
+    ///
+    /// The view has to serve the query. `BadLayout` says that the cells stand for no rows that can be taken: a code is
+    /// that of no member, or the sums with them pass their limit. All memory is taken before the first cell is counted:
+    /// that of the columns once more, and for the time of the call some for each cell and each dimension row.
+    pub fn add_cells(&mut self, dims: &Dims, cells: &Cells) -> Result<(), Fault>
+        requires over { IsOver dims.now self.old }
+        requires four_axes { cells.now.view.ship_mode ≡ false }
+        requires serves { Serves cells.now.view self.old.query }
+        ensures ok { OnOk result ((rows : List LineOrder) → StandFor dims.now rows cells.now → Takes dims.now self.old rows self.new) }
+        ensures err { OnErr result (self.new ≡ self.old) }
+        ensures refused { result ≡ Err Fault.BadLayout → (rows : List LineOrder) → StandFor dims.now rows cells.now
+            → CanTake dims.now self.old rows → ⊥ }
+        ensures only { IfErr result (λ fault. (fault ≡ Fault.Memory) ⊎ (fault ≡ Fault.BadLayout)) }
+    {
+        one_key_one_group(dims);
+        let rows = match stand_ins_of(self.alloc, dims, cells) {
+            Ok(rows) => rows,
+            Err(fault) => return Err(fault),
+        };
+        let columns = &mut self.columns;
+        let slots = &mut self.slots;
+        let group_slots = match ready(self.alloc, dims, &self.plan, slots, columns, &rows) {
+            Ok(group_slots) => group_slots,
+            Err(fault) => return Err(fault),
+        };
+        let aggregates = self.plan.query().aggregates.as_slice();
+        match with_cells(
+            self.alloc,
+            columns.as_slice(),
+            aggregates,
+            cells.as_slice(),
+            group_slots.as_slice(),
+        ) {
+            Ok(merged) => {
+                self.columns = merged;
+                Ok(())
+            }
+            Err(fault) => Err(fault),
+        }
     }
 
     // Counts fact rows in, wherever they stand. A refusal leaves the fold as it was.

@@ -7,3 +7,6 @@ mod Added
 mod OneList
 mod Coded
 mod InRange
+mod Told
+mod OneGroup
+mod Standing

@@ -1,4 +1,5 @@
 pub mod Codes
 pub mod Grouping
 pub mod Lawful
+pub mod StandIns
 pub mod Steps

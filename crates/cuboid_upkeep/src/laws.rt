@@ -1,5 +1,8 @@
 //! Laws of the definitions: each function proves the statement that its contract names, and does nothing.
-ghost use Rattle.cuboid_upkeep.specs.Lawful.{CellsAreTheOne, MergesStandForBoth, RowsInRangeFit};
+ghost use Rattle.cuboid_upkeep.specs.Lawful.{CellsAreTheOne, MergesStandForBoth, OneKeyOneGroup, RowsInRangeFit};
+
+use cube_model::{Axis, valid_rows_keep_the_rules};
+use dimensions::Dims;
 
 /// The cells of fact rows put end to end are the merge of their cells.
 pub fn merges_stand_for_both()
@@ -15,3 +18,11 @@ pub fn cells_are_the_one()
 pub fn rows_in_range_fit()
     ensures { RowsInRangeFit }
 {}
+
+/// Fact rows of one key in a view are in one group of each query that the view serves.
+pub fn one_key_one_group(dims: &Dims)
+    ensures { OneKeyOneGroup dims.now }
+{
+    valid_rows_keep_the_rules();
+    dims.row_count(Axis::Customer);
+}

@@ -1,3 +1,4 @@
+//! Free sectors: the first fit, what is joined, what is refused.
 ghost use Rattle.std.specs.Prelude.{◌≡◌, ℕ, ◌<◌, IfSome};
 ghost use Rattle.extents.specs.Extents.{Holds, IsInRange};
 ghost use Rattle.extents.specs.Runs.{IsFree};
@@ -27,117 +28,179 @@ fn taken(free: &mut Free, len: u32) -> Option<Extent>
     }
 }
 
-// Why the extents are refused of a device of 64 sectors.
-fn refusal(alloc: Global, used: &[Extent]) -> Option<Fault> {
-    match Free::from_used(alloc, 64, used) {
+// A device of 64 sectors, of which the sector 2, and 5 and 6, are in use.
+fn in_part_used(alloc: Global) -> Result<Free, Fault> {
+    Free::from_used(alloc, 64, &[extent(2, 1), extent(5, 2)])
+}
+
+// What is answered to calls for so many sectors.
+fn answers(free: &mut Free) -> [Option<Extent>; 5] {
+    [
+        taken(free, 2),
+        taken(free, 1),
+        taken(free, 57),
+        taken(free, 56),
+        taken(free, 1),
+    ]
+}
+
+#[test]
+fn takes_the_first_fit(rt: HostRuntime) -> Result<(), Fail> {
+    let mut free = in_part_used(rt.alloc())?;
+    let want = [
+        Some(extent(3, 2)),
+        Some(extent(7, 1)),
+        None,
+        Some(extent(8, 56)),
+        None,
+    ];
+    assert_eq!(rt; answers(&mut free), want);
+    Ok(())
+}
+
+#[test]
+fn a_copy_stays_as_it_was(rt: HostRuntime) -> Result<(), Fail> {
+    let mut free = in_part_used(rt.alloc())?;
+    let mut copied = free.copy()?;
+    answers(&mut free);
+    assert_eq!(rt; taken(&mut copied, 2), Some(extent(3, 2)));
+    Ok(())
+}
+
+// The first two sectors, and those of a call for two when all were taken and these given back.
+fn taken_twice(free: &mut Free) -> Result<[Option<Extent>; 2], Fault> {
+    let first = free.take(2)?;
+    taken(free, 1);
+    taken(free, 56);
+    free.give_back(first)?;
+    Ok([Some(first), taken(free, 2)])
+}
+
+#[test]
+fn takes_what_was_given_back(rt: HostRuntime) -> Result<(), Fail> {
+    let mut free = in_part_used(rt.alloc())?;
+    assert_eq!(rt; taken_twice(&mut free), Ok([Some(extent(3, 2)); 2]));
+    Ok(())
+}
+
+// Why the extents are refused of a device of so many sectors.
+fn refusal(alloc: Global, count: u32, used: &[Extent]) -> Option<Fault> {
+    match Free::from_used(alloc, count, used) {
         Ok(_) => None,
         Err(fault) => Some(fault),
     }
 }
 
-#[test]
-fn takes_the_first_fit(rt: HostRuntime) -> Result<(), Fail> {
-    let used = [extent(2, 1), extent(5, 2)];
-    let mut free = Free::from_used(rt.alloc(), 64, &used)?;
-    let mut copied = free.copy()?;
-    let Some(first) = taken(&mut free, 2) else {
-        return Err(Fail::from(Fault::Full));
-    };
-    assert_eq!(rt; first, extent(3, 2));
-    assert_eq!(rt; taken(&mut free, 1), Some(extent(7, 1)));
-    assert_eq!(rt; taken(&mut free, 57), None);
-    assert_eq!(rt; taken(&mut free, 56), Some(extent(8, 56)));
-    assert_eq!(rt; taken(&mut free, 1), None);
-    free.give_back(first)?;
-    assert_eq!(rt; taken(&mut free, 2), Some(extent(3, 2)));
-    assert_eq!(rt; taken(&mut copied, 2), Some(extent(3, 2)));
-    Ok(())
-}
+// First sectors and lengths of extents that a device of 64 sectors does not have.
+static REFUSED: [(u32, u32); 8] = [
+    (0, 1),
+    (1, 1),
+    (1, 2),
+    (63, 2),
+    (64, 1),
+    (4_294_967_295, 1),
+    (9, 0),
+    (2, 4_294_967_295),
+];
 
 #[test]
 fn refuses_what_is_not_laid_out(rt: HostRuntime) {
-    for bad in [
-        extent(0, 1),
-        extent(1, 1),
-        extent(1, 2),
-        extent(63, 2),
-        extent(64, 1),
-        extent(4294967295, 1),
-        extent(9, 0),
-        extent(2, 4294967295),
-    ] {
-        assert_eq!(rt;
-            refusal(rt.alloc(), &[bad]),
-            Some(Fault::BadLayout),
-            "at {bad:?}"
-        );
+    for (first, len) in REFUSED {
+        let found = refusal(rt.alloc(), 64, &[extent(first, len)]);
+        assert_eq!(rt; found, Some(Fault::BadLayout), "{len} at {first}");
     }
-    assert_eq!(rt;
-        refusal(rt.alloc(), &[extent(7, 3), extent(5, 3)]),
-        Some(Fault::BadLayout)
-    );
-    assert_eq!(rt; refusal(rt.alloc(), &[extent(8, 2), extent(5, 3)]), None);
-    assert_eq!(rt; refusal(rt.alloc(), &[extent(2, 62)]), None);
+}
+
+#[test]
+fn refuses_extents_that_share_a_sector(rt: HostRuntime) {
+    let found = [
+        refusal(rt.alloc(), 64, &[extent(7, 3), extent(5, 3)]),
+        refusal(rt.alloc(), 64, &[extent(8, 2), extent(5, 3)]),
+        refusal(rt.alloc(), 64, &[extent(2, 62)]),
+    ];
+    assert_eq!(rt; found, [Some(Fault::BadLayout), None, None]);
+}
+
+// Takes extents of three, two, two, two and nine sectors, each the first fit, and gives back the second, the fourth and the
+// third. Then it asks for seven sectors, gives back the first extent, and asks for nine and for one.
+fn joined(free: &mut Free) -> Result<[Option<Extent>; 3], Fault> {
+    let (Some(first), Some(second), Some(third), Some(fourth), Some(_)) = (
+        taken(free, 3),
+        taken(free, 2),
+        taken(free, 2),
+        taken(free, 2),
+        taken(free, 9),
+    ) else {
+        return Err(Fault::Full);
+    };
+    let are_first_fits = first == extent(2, 3)
+        && second == extent(5, 2)
+        && third == extent(7, 2)
+        && fourth == extent(9, 2);
+    if !are_first_fits {
+        return Err(Fault::BadLayout);
+    }
+    free.give_back(second)?;
+    free.give_back(fourth)?;
+    free.give_back(third)?;
+    let seven = taken(free, 7);
+    free.give_back(first)?;
+    let nine = taken(free, 9);
+    Ok([seven, nine, taken(free, 1)])
 }
 
 #[test]
 fn joins_what_is_given_back(rt: HostRuntime) -> Result<(), Fail> {
     let mut free = Free::from_used(rt.alloc(), 20, &[])?;
-    let (Some(a), Some(b), Some(c), Some(d), Some(_)) = (
-        taken(&mut free, 3),
-        taken(&mut free, 2),
-        taken(&mut free, 2),
-        taken(&mut free, 2),
-        taken(&mut free, 9),
-    ) else {
-        return Err(Fail::from(Fault::Full));
-    };
-    assert_eq!(rt; b, extent(5, 2));
-    assert_eq!(rt; c, extent(7, 2));
-    assert_eq!(rt; d, extent(9, 2));
-    free.give_back(b)?;
-    free.give_back(d)?;
-    free.give_back(c)?;
-    assert_eq!(rt; taken(&mut free, 7), None);
-    assert_eq!(rt; a, extent(2, 3));
-    free.give_back(a)?;
-    assert_eq!(rt; taken(&mut free, 9), Some(extent(2, 9)));
-    assert_eq!(rt; taken(&mut free, 1), None);
+    let want = [None, Some(extent(2, 9)), None];
+    assert_eq!(rt; joined(&mut free), Ok(want));
     Ok(())
+}
+
+// What comes of giving back one sector, and the sector that is taken then.
+fn given_back(alloc: Global) -> Result<(Option<Extent>, Result<(), Fault>, Option<Extent>), Fault> {
+    let mut free = in_part_used(alloc)?;
+    let first = free.take(1)?;
+    let second = taken(&mut free, 1);
+    let mut free = free.copy()?;
+    let given = free.give_back(first);
+    Ok((second, given, taken(&mut free, 1)))
 }
 
 #[test]
 fn keeps_its_sectors_where_memory_is_refused(rt: HostRuntime) {
-    let used = [extent(2, 1), extent(5, 2)];
-    let Ok(mut free) = Free::from_used(rt.alloc(), 64, &used) else {
-        return;
-    };
-    let Some(first) = taken(&mut free, 1) else {
-        return;
-    };
-    assert_eq!(rt; taken(&mut free, 1), Some(extent(4, 1)));
-    let Ok(mut free) = free.copy() else {
-        return;
-    };
-    match free.give_back(first) {
-        Ok(()) => assert_eq!(rt; taken(&mut free, 1), Some(extent(3, 1))),
-        Err(fault) => {
-            assert_eq!(rt; fault, Fault::Memory);
-            assert_eq!(rt; taken(&mut free, 1), Some(extent(7, 1)));
-        }
+    if let Ok((second, given, third)) = given_back(rt.alloc()) {
+        let want = match given {
+            Ok(()) => (Ok(()), Some(extent(3, 1))),
+            Err(_) => (Err(Fault::Memory), Some(extent(7, 1))),
+        };
+        assert_eq!(rt; second, Some(extent(4, 1)));
+        assert_eq!(rt; (given, third), want);
     }
+}
+
+// Every other one of so many sectors.
+fn every_other(alloc: Global) -> Result<Vec<Extent>, Fault> {
+    let mut used = Vec::new(alloc);
+    for i in 0..65_536 {
+        used.push(extent(131_072 - 2 * i, 1))?;
+    }
+    Ok(used)
 }
 
 #[test]
 fn holds_many_extents(rt: HostRuntime) -> Result<(), Fail> {
-    let mut used = Vec::new(rt.alloc());
-    for i in 0..65536 {
-        used.push(extent(131072 - 2 * i, 1))?;
-    }
-    let mut free = Free::from_used(rt.alloc(), 131074, &used)?;
-    assert_eq!(rt; taken(&mut free, 2), None);
-    assert_eq!(rt; taken(&mut free, 1), Some(extent(3, 1)));
-    used.push(extent(70000, 1))?;
-    assert_eq!(rt; Free::from_used(rt.alloc(), 131074, &used).is_err(), true);
+    let used = every_other(rt.alloc())?;
+    let mut free = Free::from_used(rt.alloc(), 131_074, &used)?;
+    let found = [taken(&mut free, 2), taken(&mut free, 1)];
+    assert_eq!(rt; found, [None, Some(extent(3, 1))]);
+    Ok(())
+}
+
+#[test]
+fn refuses_one_of_many_extents(rt: HostRuntime) -> Result<(), Fail> {
+    let mut used = every_other(rt.alloc())?;
+    used.push(extent(70_000, 1))?;
+    assert_eq!(rt; refusal(rt.alloc(), 131_074, &used), Some(Fault::BadLayout));
     Ok(())
 }

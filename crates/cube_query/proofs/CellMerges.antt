@@ -1,0 +1,244 @@
+-- Cells that are merged into the tallies of a column.
+use Rattle.std.proofs.Common.{◌≡◌, ◌≢◌, ◌∙◌, sym, ap, refl, subst, ℕ, zero, suc, ◌+◌, ◌<◌, ◌≤◌, ◌^◌, ℤ, pos, ◌+ℤ◌, Bool, true, false, cond, List, [], ◌∷◌, ◌++◌, map, length, length-set, drop, take, get_or, Option, Some, None, arith, FitsSigned, w64, slice_set, get_or-set_same, get_or-set_other}
+use Rattle.std.specs.Prelude.{◌==◌, nat_abs, slice_get}
+use Rattle.std.specs.Int.{int_min, int_max}
+use Rattle.std.proofs.lemmas.Bool.Decides.{nat_tests}
+use Rattle.std.proofs.lemmas.Option.{slice_get-get_or}
+use Rattle.std.specs.declared.alloc.Global.{Global}
+use Rattle.std.specs.declared.vec.Vec.{Vec}
+use Rattle.std.proofs.lemmas.List.{take_more, map-append, length-map}
+use Rattle.cube_model.specs.declared.measure.Agg.{Agg}
+use Rattle.cube_model.specs.declared.measure.Agg.TheVariants.{Count, Sum, Min, Max, Avg}
+use Rattle.cube_model.specs.declared.rows.LineOrder.{LineOrder}
+use Rattle.cuboid_cells.specs.declared.cell.Cell.{Cell}
+use Rattle.cuboid_cells.specs.declared.summary.Summary.{Summary}
+use Rattle.cube_query.specs.CellTallies.{AreBelow, HasCellRoom, HaveCellRoom, after_cells, cell_tally, with_cell, with_cells}
+use Rattle.cube_query.specs.Columns.{no_tally, tallies_at, tally_at}
+use Rattle.cube_query.specs.Tallies.{merged, number_of, tallies_of, tally_of}
+use Rattle.cube_query.specs.declared.tally.Tally.{Tally}
+use Rattle.cube_query.proofs.Sums.{FitsSigned-small, nat_abs-+ℤ}
+
+-- no cell, and nothing of a measure
+abbrev pub nothing : Summary
+nothing = record { sum = pos 0; least = pos 0; greatest = pos 0 }
+
+abbrev pub no_cell : Cell
+no_cell = record {
+  key = record { customer = 0; supplier = 0; part = 0; date = 0; ship_mode = 0 };
+  count = 0;
+  measures = record { quantity = nothing; extendedprice = nothing; revenue = nothing; supplycost = nothing; discounted = nothing; profit = nothing };
+}
+
+-- ---- one cell after another
+module _ (agg : Agg) where
+  -- a cell that is merged in first
+  pub one_first : (slot : ℕ) (cell : Cell) (cells : List Cell) (group_slot : Option ℕ) (group_slots : List (Option ℕ)) (column : List Tally)
+      → ((own : ℕ) → group_slot ≡ Some own → own < length column)
+      → after_cells agg slot (cell ∷ cells) (group_slot ∷ group_slots) (tally_at column slot)
+      ≡ after_cells agg slot cells group_slots (tally_at (with_cell agg cell group_slot column) slot)
+  one_first slot cell cells None group_slots column within = refl
+  one_first slot cell cells (Some own) group_slots column within =
+      let new = merged (tally_at column own) (cell_tally agg cell) in
+      ap (after_cells agg slot cells group_slots)
+      ((elim (own == slot) as (λ b. (own == slot) ≡ b → cond b (merged (tally_at column slot) (cell_tally agg cell)) (tally_at column slot) ≡ tally_at (slice_set column own new) slot) [
+        | true ↦ λ e.
+            (let same : slot ≡ own = grind (arith, nat_tests) in
+            ap (λ (n : ℕ). merged (tally_at column n) (cell_tally agg cell)) same
+            ∙ sym (ap (tally_at (slice_set column own new)) same ∙ get_or-set_same column own new no_tally (within own refl)))
+        | false ↦ λ e.
+            (let apart : slot ≢ own = grind (arith, nat_tests) in
+            sym (get_or-set_other column own slot new no_tally apart))
+      ]) refl)
+
+  -- ---- in the loop
+  abbrev pub IsUnderway : List Cell → List (Option ℕ) → List Tally → ℕ → List Tally → Type 0
+  IsUnderway cells group_slots old count now = (length now ≡ length old)
+      × ((slot : ℕ) → after_cells agg slot (drop count cells) (drop count group_slots) (tally_at now slot) ≡ after_cells agg slot cells group_slots (tally_at old slot))
+      × (HaveCellRoom agg cells group_slots old → HaveCellRoom agg (drop count cells) (drop count group_slots) now)
+
+-- what is left behind one more
+pub drop-one : {X : Type 0} (xs : List X) (n : ℕ) (d : X) → n < length xs → drop n xs ≡ get_or xs n d ∷ drop (n + 1) xs
+drop-one xs n d h =
+    let next : suc n ≡ n + 1 = omega arith in
+    drop-next xs n d h ∙ ap (λ (m : ℕ). get_or xs n d ∷ drop m xs) next
+  where
+    drop-next : {X : Type 0} (xs : List X) (n : ℕ) (d : X) → n < length xs → drop n xs ≡ get_or xs n d ∷ drop (suc n) xs
+    drop-next [] n d h = absurd (omega (arith, h))
+    drop-next (x ∷ xs) zero d h = refl
+    drop-next (x ∷ xs) (suc n) d h = drop-next xs n d (omega (arith, h))
+
+pub drop-past : {X : Type 0} (xs : List X) (n : ℕ) → length xs ≤ n → drop n xs ≡ []
+drop-past [] zero h = refl
+drop-past [] (suc n) h = refl
+drop-past (x ∷ xs) zero h = absurd (omega (arith, h))
+drop-past (x ∷ xs) (suc n) h = drop-past xs n (omega (arith, h))
+
+module _ (agg : Agg) (cells : List Cell) (group_slots : List (Option ℕ)) (same : length group_slots ≡ length cells) (old now : List Tally) (count : ℕ) (h : count < length cells)
+    (underway : IsUnderway agg cells group_slots old count now) where
+  abbrev cell : Cell
+  cell = get_or cells count no_cell
+
+  abbrev group_slot : Option ℕ
+  group_slot = get_or group_slots count None
+
+  left_cells : drop count cells ≡ cell ∷ drop (count + 1) cells
+  left_cells = drop-one cells count no_cell h
+
+  left_slots : drop count group_slots ≡ group_slot ∷ drop (count + 1) group_slots
+  left_slots = drop-one group_slots count None (omega (arith, h, same))
+
+  pub room_here : HaveCellRoom agg cells group_slots old → HaveCellRoom agg (cell ∷ drop (count + 1) cells) (group_slot ∷ drop (count + 1) group_slots) now
+  room_here room =
+      subst (λ (cs : List Cell). HaveCellRoom agg cs (group_slot ∷ drop (count + 1) group_slots) now) left_cells
+      (subst (λ (gs : List (Option ℕ)). HaveCellRoom agg (drop count cells) gs now) left_slots (underway.2 room))
+
+  pub one_merged : (new : List Tally) → length new ≡ length now → ((own : ℕ) → group_slot ≡ Some own → own < length now) → new ≡ with_cell agg cell group_slot now → IsUnderway agg cells group_slots old (count + 1) new
+  one_merged new long within is = (
+    long ∙ underway.0,
+    λ slot.
+        ap (λ (column : List Tally). after_cells agg slot (drop (count + 1) cells) (drop (count + 1) group_slots) (tally_at column slot)) is
+        ∙ sym (one_first agg slot cell (drop (count + 1) cells) group_slot (drop (count + 1) group_slots) now within)
+        ∙ (λ i. after_cells agg slot (sym left_cells i) (sym left_slots i) (tally_at now slot))
+        ∙ underway.1 slot,
+    λ room. subst (HaveCellRoom agg (drop (count + 1) cells) (drop (count + 1) group_slots)) (sym is) (room_here room).1,
+  )
+
+pub all_merged : (agg : Agg) (cells : List Cell) (group_slots : List (Option ℕ)) (old now : List Tally) (count : ℕ) → length cells ≤ count → IsUnderway agg cells group_slots old count now
+    → (slot : ℕ) → tally_at now slot ≡ after_cells agg slot cells group_slots (tally_at old slot)
+all_merged agg cells group_slots old now count h underway slot =
+    sym (ap (λ (cs : List Cell). after_cells agg slot cs (drop count group_slots) (tally_at now slot)) (drop-past cells count h)) ∙ underway.1 slot
+
+-- ---- all columns
+with_cells-append : (slot : ℕ) (cells : List Cell) (group_slots : List (Option ℕ)) (aggs : List Agg) (agg : Agg) (tallies : List Tally) (tally : Tally) → length tallies ≡ length aggs
+    → with_cells (aggs ++ agg ∷ []) slot cells group_slots (tallies ++ tally ∷ []) ≡ with_cells aggs slot cells group_slots tallies ++ after_cells agg slot cells group_slots tally ∷ []
+with_cells-append slot cells group_slots [] agg [] tally same = refl
+with_cells-append slot cells group_slots [] agg (first ∷ tallies) tally same = absurd (omega (arith, same))
+with_cells-append slot cells group_slots (one ∷ aggs) agg [] tally same = absurd (omega (arith, same))
+with_cells-append slot cells group_slots (one ∷ aggs) agg (first ∷ tallies) tally same =
+    ap (λ (more : List Tally). after_cells one slot cells group_slots first ∷ more) (with_cells-append slot cells group_slots aggs agg tallies tally (omega (arith, same)))
+
+pub length-take-below : {X : Type 0} (xs : List X) (n : ℕ) → n ≤ length xs → length (take n xs) ≡ n
+length-take-below xs zero h = refl
+length-take-below [] (suc n) h = absurd (omega (arith, h))
+length-take-below (x ∷ xs) (suc n) h = ap suc (length-take-below xs n (omega (arith, h)))
+
+-- one column more
+pub one_column : (slot : ℕ) (cells : List Cell) (group_slots : List (Option ℕ)) (aggs : List Agg) (columns merged : List (Vec Tally Global)) (count : ℕ) (agg : Agg) (column new : Vec Tally Global)
+    → length columns ≡ length aggs → count < length columns
+    → tallies_at merged slot ≡ with_cells (take count aggs) slot cells group_slots (tallies_at (take count columns) slot)
+    → tally_at new.items slot ≡ after_cells (get_or aggs count agg) slot cells group_slots (tally_at (get_or columns count column).items slot)
+    → tallies_at (merged ++ new ∷ []) slot ≡ with_cells (take (count + 1) aggs) slot cells group_slots (tallies_at (take (count + 1) columns) slot)
+one_column slot cells group_slots aggs columns merged count agg column new same h so_far is =
+    let read = λ (v : Vec Tally Global). tally_at v.items slot in
+    map-append read merged (new ∷ [])
+    ∙ (λ i. so_far i ++ is i ∷ [])
+    ∙ sym (with_cells-append slot cells group_slots (take count aggs) (get_or aggs count agg) (tallies_at (take count columns) slot) (read (get_or columns count column))
+    (length-map (take count columns) read ∙ length-take-below columns count (omega (arith, h)) ∙ sym (length-take-below aggs count (omega (arith, h, same)))))
+    ∙ (λ i. with_cells (sym (take_more aggs count agg (omega (arith, h, same))) i) slot cells group_slots
+    (sym (ap (map read) (take_more columns count column h) ∙ map-append read (take count columns) (get_or columns count column ∷ [])) i))
+
+-- ---- how far a merge goes
+abbrev joined : Tally → Tally → Tally
+joined left right = record {
+  count = left.count + right.count;
+  sum = left.sum +ℤ right.sum;
+  least = int_min left.least right.least;
+  greatest = int_max left.greatest right.greatest;
+}
+
+merged-count : (a b : Tally) → (merged a b).count ≤ a.count + b.count
+merged-count a b =
+    elim (a.count == 0) as (λ t. (cond t b (cond (b.count == 0) a (joined a b))).count ≤ a.count + b.count) [
+      | true ↦ omega arith
+      | false ↦ elim (b.count == 0) as (λ t. (cond t a (joined a b)).count ≤ a.count + b.count) [
+        | true ↦ omega arith
+        | false ↦ omega arith
+      ]
+    ]
+
+merged-sum : (a b : Tally) → nat_abs (merged a b).sum ≤ nat_abs a.sum + nat_abs b.sum
+merged-sum a b =
+    elim (a.count == 0) as (λ t. nat_abs (cond t b (cond (b.count == 0) a (joined a b))).sum ≤ nat_abs a.sum + nat_abs b.sum) [
+      | true ↦ omega arith
+      | false ↦ elim (b.count == 0) as (λ t. nat_abs (cond t a (joined a b)).sum ≤ nat_abs a.sum + nat_abs b.sum) [
+        | true ↦ omega arith
+        | false ↦ nat_abs-+ℤ a.sum b.sum
+      ]
+    ]
+
+cell_count : (agg : Agg) (cell : Cell) → (cell_tally agg cell).count ≡ cell.count
+cell_count Count cell = refl
+cell_count (Sum measure) cell = refl
+cell_count (Min measure) cell = refl
+cell_count (Max measure) cell = refl
+cell_count (Avg measure) cell = refl
+
+-- ---- the sums of all cells
+abbrev pub count_total : List Cell → ℕ
+count_total [] = 0
+count_total (cell ∷ cells) = cell.count + count_total cells
+
+abbrev pub size_total : Agg → List Cell → ℕ
+size_total agg [] = 0
+size_total agg (cell ∷ cells) = nat_abs (cell_tally agg cell).sum + size_total agg cells
+
+-- each slot lies in the column, and its tally can take all cells
+abbrev pub CanTakeAll : Agg → List Cell → List (Option ℕ) → List Tally → Type 0
+CanTakeAll agg cells group_slots column = (place slot : ℕ) → slice_get group_slots place ≡ Some (Some slot)
+    → (slot < length column) × ((tally_at column slot).count + count_total cells < 2 ^ 63) × (nat_abs (tally_at column slot).sum + size_total agg cells < 2 ^ 63)
+
+pub cell_room : (agg : Agg) (cells : List Cell) (group_slots : List (Option ℕ)) (column : List Tally) → CanTakeAll agg cells group_slots column → HaveCellRoom agg cells group_slots column
+cell_room agg [] group_slots column can = tt
+cell_room agg (cell ∷ cells) [] column can = tt
+cell_room agg (cell ∷ cells) (None ∷ group_slots) column can = (
+  tt,
+  cell_room agg cells group_slots column (λ place slot at. let low = can (suc place) slot at in (low.0, omega (arith, low.1), omega (arith, low.2))),
+)
+cell_room agg (cell ∷ cells) (Some own ∷ group_slots) column can =
+    let here = can 0 own refl in
+    let tally = cell_tally agg cell in
+    let before = tally_at column own in
+    let new = merged before tally in
+    let count = merged-count before tally in
+    let sum = merged-sum before tally in
+    let counted = cell_count agg cell in (
+      (omega (arith, here.1), FitsSigned-small (before.sum +ℤ tally.sum) (omega (arith, here.2, nat_abs-+ℤ before.sum tally.sum))),
+      cell_room agg cells group_slots (slice_set column own new) (λ place slot at.
+          let low = can (suc place) slot at in
+          let long = length-set column own new in
+          (elim (own == slot) as (λ b. (own == slot) ≡ b → (slot < length (slice_set column own new)) × ((tally_at (slice_set column own new) slot).count + count_total cells < 2 ^ 63) × (nat_abs (tally_at (slice_set column own new) slot).sum + size_total agg cells < 2 ^ 63)) [
+            | true ↦ λ e.
+                (let same : slot ≡ own = grind (arith, nat_tests) in
+                let is : tally_at (slice_set column own new) slot ≡ new = ap (tally_at (slice_set column own new)) same ∙ get_or-set_same column own new no_tally here.0 in (
+                  omega (arith, low.0, long),
+                  omega (arith, here.1, count, counted, ap (λ (t : Tally). t.count) is),
+                  omega (arith, here.2, sum, ap (λ (t : Tally). nat_abs t.sum) is),
+                ))
+            | false ↦ λ e.
+                (let apart : slot ≢ own = grind (arith, nat_tests) in
+                let is : tally_at (slice_set column own new) slot ≡ tally_at column slot = get_or-set_other column own slot new no_tally apart in (
+                  omega (arith, low.0, long),
+                  omega (arith, low.1, ap (λ (t : Tally). t.count) is),
+                  omega (arith, low.2, ap (λ (t : Tally). nat_abs t.sum) is),
+                ))
+          ]) refl),
+    )
+
+-- ---- a slot of no cell
+untouched : (agg : Agg) (slot bound : ℕ) (cells : List Cell) (group_slots : List (Option ℕ)) (tally : Tally) → AreBelow bound group_slots → bound ≤ slot
+    → after_cells agg slot cells group_slots tally ≡ tally
+untouched agg slot bound [] group_slots tally below h = refl
+untouched agg slot bound (cell ∷ cells) [] tally below h = refl
+untouched agg slot bound (cell ∷ cells) (None ∷ group_slots) tally below h = untouched agg slot bound cells group_slots tally (λ place own at. below (suc place) own at) h
+untouched agg slot bound (cell ∷ cells) (Some other ∷ group_slots) tally below h =
+    let low = below 0 other refl in
+    let apart : other ≢ slot = omega (arith, low, h) in
+    let test : (other == slot) ≡ false = grind (arith, nat_tests) in
+    ap (λ (b : Bool). after_cells agg slot cells group_slots (cond b (merged tally (cell_tally agg cell)) tally)) test
+    ∙ untouched agg slot bound cells group_slots tally (λ place own at. below (suc place) own at) h
+
+pub all_untouched : (aggs : List Agg) (slot bound : ℕ) (cells : List Cell) (group_slots : List (Option ℕ)) (rows : List LineOrder) → AreBelow bound group_slots → bound ≤ slot
+    → with_cells aggs slot cells group_slots (tallies_of aggs rows) ≡ tallies_of aggs rows
+all_untouched [] slot bound cells group_slots rows below h = refl
+all_untouched (agg ∷ aggs) slot bound cells group_slots rows below h =
+    λ i. untouched agg slot bound cells group_slots (tally_of (map (number_of agg) rows)) below h i ∷ all_untouched aggs slot bound cells group_slots rows below h i

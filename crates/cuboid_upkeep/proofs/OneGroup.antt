@@ -1,0 +1,166 @@
+-- Fact rows of one key in a view are in one group of each query that the view serves.
+use Rattle.std.proofs.Common.{◌≡◌, ◌∙◌, sym, ap, refl, subst, ℕ, ◌+◌, ◌*◌, ◌<◌, ◌≤◌, true, false, List, [], ◌∷◌, map, Option, Some, None, arith}
+use Rattle.std.specs.Prelude.{◌&&◌}
+use Rattle.std.specs.List.{AllByRecursion, list_any, list_all}
+use Rattle.std.specs.Str.{bytes_eq}
+use Rattle.cube_model.specs.declared.answer.Member.TheVariants.{Text}
+use Rattle.cube_model.specs.declared.attr.Attr.{Attr}
+use Rattle.cube_model.specs.declared.attr.Attr.TheVariants.{CustomerCity, CustomerNation, CustomerRegion, SupplierCity, SupplierNation, SupplierRegion, PartBrand1, PartCategory, PartMfgr, DateKey, DateYearmonthnum, DateYear, DateYearmonth, DateWeeknuminyear}
+use Rattle.cube_model.specs.declared.attr.Axis.{Axis}
+use Rattle.cube_model.specs.declared.attr.Axis.TheVariants.{Customer, Supplier, Part, Date}
+use Rattle.cube_model.specs.declared.query.Cond.{Cond}
+use Rattle.cube_model.specs.declared.query.Cond.TheVariants.{OneOf, Between, Quantity, Discount}
+use Rattle.cube_model.specs.declared.query.Query.{Query}
+use Rattle.cube_model.specs.declared.rows.DimRows.{DimRows}
+use Rattle.cube_model.specs.declared.rows.LineOrder.{LineOrder}
+use Rattle.cube_model.specs.Attributes.{attribute_of, axis_of, key_on}
+use Rattle.cube_model.specs.Keys.{key_under}
+use Rattle.cube_model.specs.Lawful.{ValidRowsKeepTheRules}
+use Rattle.cube_model.specs.Places.{row_count_of, row_index_of}
+use Rattle.cube_model.specs.Selection.{holds_of, is_selected, text_le}
+use Rattle.cube_model.specs.Validity.{HaveShortTexts, IsValid}
+use Rattle.dimensions.specs.Shown.{rows_on}
+use Rattle.dimensions.proofs.AttributeLaws.{count_on}
+use Rattle.group_plan.specs.Numbers.{IsNumber}
+use Rattle.group_plan.proofs.AtPlaces.{attribute_at_place}
+use Rattle.lattice.specs.declared.level.Level.{Level}
+use Rattle.lattice.specs.declared.level.Level.TheVariants as level
+use Rattle.lattice.specs.declared.view.View.{View}
+use Rattle.lattice.specs.Determined.{Decides, Determines, Serves, highest_level}
+use Rattle.lattice.specs.Levels.{height, level_attribute}
+use Rattle.lattice.specs.Views.{level_on}
+use Rattle.cuboid_cells.specs.declared.key.Key.{Key}
+use Rattle.cuboid_cells.specs.Cells.{number_of}
+use Rattle.cuboid_upkeep.specs.Grouping.{HasMembers, code_on, key_of}
+use Rattle.cuboid_upkeep.specs.Codes.{level_column, member_code}
+use Rattle.cuboid_upkeep.specs.Lawful.{OneKeyOneGroup}
+use Rattle.cuboid_upkeep.proofs.Coded.{code_below, few_days, good_on, in_level_column, in_no_column}
+use Rattle.cuboid_upkeep.proofs.Told.{tells}
+
+below_all : (attr : Attr) → height (highest_level attr) ≤ 2
+below_all CustomerCity = omega arith
+below_all CustomerNation = omega arith
+below_all CustomerRegion = omega arith
+below_all SupplierCity = omega arith
+below_all SupplierNation = omega arith
+below_all SupplierRegion = omega arith
+below_all PartBrand1 = omega arith
+below_all PartCategory = omega arith
+below_all PartMfgr = omega arith
+below_all DateKey = omega arith
+below_all DateYearmonthnum = omega arith
+below_all DateYear = omega arith
+below_all DateYearmonth = omega arith
+below_all DateWeeknuminyear = omega arith
+
+-- what is determined is grouped
+grouped : (view : View) (attr : Attr) → Determines view attr → level_on (axis_of attr) view ≡ level.All → ⊥
+grouped view attr low is = absurd (omega (arith, low, below_all attr, ap height is))
+
+module _ (dimensions : DimRows) (law : ValidRowsKeepTheRules) (valid : IsValid dimensions) (short : HaveShortTexts dimensions) (view : View) (row other : LineOrder)
+    (members : HasMembers dimensions view row) (others : HasMembers dimensions view other) (same : key_of dimensions view row ≡ key_of dimensions view other) where
+  one_code : (axis : Axis) → code_on dimensions axis (level_on axis view) row ≡ code_on dimensions axis (level_on axis view) other
+  one_code Customer = ap (λ (k : Key). k.customer) same
+  one_code Supplier = ap (λ (k : Key). k.supplier) same
+  one_code Part = ap (λ (k : Key). k.part) same
+  one_code Date = ap (λ (k : Key). k.date) same
+
+  one_text : (attr : Attr) → Determines view attr → attribute_of dimensions attr row ≡ attribute_of dimensions attr other
+  one_text attr low =
+      let axis = axis_of attr in
+      let apart = grouped view attr low in
+      attribute_at_place dimensions attr row
+      ∙ tells dimensions law valid short (row_index_of dimensions axis (key_on axis row)) (row_index_of dimensions axis (key_on axis other)) attr (level_on axis view) low
+      (members axis apart) (others axis apart) (one_code axis)
+      ∙ sym (attribute_at_place dimensions attr other)
+
+  one_key : (columns : List Attr) → AllByRecursion (Determines view) columns
+      → key_under dimensions row columns (map (λ _. true) columns) ≡ key_under dimensions other columns (map (λ _. true) columns)
+  one_key [] all = refl
+  one_key (column ∷ columns) all = λ i. Text (one_text column all.0 i) ∷ one_key columns all.1 i
+
+  one_answer : (condition : Cond) → Decides view condition → holds_of dimensions condition row ≡ holds_of dimensions condition other
+  one_answer (OneOf attr texts) low = ap (λ (own : List ℕ). list_any (λ text. bytes_eq text own) texts) (one_text attr low)
+  one_answer (Between attr low high) is = ap (λ (own : List ℕ). text_le low own && text_le own high) (one_text attr is)
+  one_answer (Quantity low high) is = absurd is
+  one_answer (Discount low high) is = absurd is
+
+  one_choice : (conditions : List Cond) → AllByRecursion (Decides view) conditions → is_selected dimensions conditions row ≡ is_selected dimensions conditions other
+  one_choice [] all = refl
+  one_choice (condition ∷ conditions) all = λ i. one_answer condition all.0 i && one_choice conditions all.1 i
+
+  one_number : (query : Query) → Serves view query → (number : Option ℕ) → IsNumber dimensions query row number → IsNumber dimensions query other number
+  one_number query serves None is = sym (one_choice query.conditions serves.conditions) ∙ is
+  one_number query serves (Some number) is = (
+    sym (one_choice query.conditions serves.conditions) ∙ is.0,
+    is.1,
+    is.2 ∙ one_key query.columns serves.columns,
+  )
+
+-- ---- a number is that of one key
+module _ (dimensions : DimRows) (law : ValidRowsKeepTheRules) (valid : IsValid dimensions) (short : HaveShortTexts dimensions) where
+  -- codes fit their fields
+  code_fits : (axis : Axis) (grouped : Level) (place : ℕ) → ((grouped ≡ level.All → ⊥) → place < row_count_of dimensions axis) → member_code dimensions axis grouped place < 65536
+  code_fits axis grouped place within =
+      let rows = rows_on dimensions axis in
+      let good = good_on dimensions law valid short axis in
+      (elim (level_column (level_attribute axis grouped)) as (λ o. level_column (level_attribute axis grouped) ≡ o → member_code dimensions axis grouped place < 65536) [
+        | None ↦ λ e. day_fits axis grouped place within e
+        | Some column ↦ λ e.
+            (let stand = in_level_column dimensions place column axis grouped e in
+            let there = within (λ is. absurd (cc (e, ap (λ (l : Level). level_column (level_attribute axis l)) is, no_column axis))) in
+            let low = code_below axis rows good column place (omega (arith, there, count_on dimensions axis)) stand.0 in
+            omega (arith, low, stand.1))
+      ]) refl
+    where
+      no_column : (axis : Axis) → level_column (level_attribute axis level.All) ≡ None
+      no_column Customer = refl
+      no_column Supplier = refl
+      no_column Part = refl
+      no_column Date = refl
+
+      every : (axis : Axis) (place : ℕ) → member_code dimensions axis level.All place < 65536
+      every Customer place = omega arith
+      every Supplier place = omega arith
+      every Part place = omega arith
+      every Date place = omega arith
+
+      day : (axis : Axis) (grouped : Level) (place : ℕ) → place < row_count_of dimensions axis → level_column (level_attribute axis grouped) ≡ None → (grouped ≡ level.All → ⊥)
+          → member_code dimensions axis grouped place < 65536
+      day axis grouped place there e apart =
+          let is = in_no_column dimensions place axis grouped e apart in
+          let few = few_days axis (rows_on dimensions axis) (good_on dimensions law valid short axis) is.0 in
+          omega (arith, there, few, count_on dimensions axis, is.1)
+
+      day_fits : (axis : Axis) (grouped : Level) (place : ℕ) → ((grouped ≡ level.All → ⊥) → place < row_count_of dimensions axis) → level_column (level_attribute axis grouped) ≡ None
+          → member_code dimensions axis grouped place < 65536
+      day_fits axis level.All place within e = every axis place
+      day_fits axis level.Lowest place within e = day axis level.Lowest place (within (λ is. absurd (cc is))) e (λ is. absurd (cc is))
+      day_fits axis level.Middle place within e = day axis level.Middle place (within (λ is. absurd (cc is))) e (λ is. absurd (cc is))
+      day_fits axis level.Highest place within e = day axis level.Highest place (within (λ is. absurd (cc is))) e (λ is. absurd (cc is))
+
+  fits_on : (view : View) (row : LineOrder) → HasMembers dimensions view row → (axis : Axis) → code_on dimensions axis (level_on axis view) row < 65536
+  fits_on view row members axis = code_fits axis (level_on axis view) (row_index_of dimensions axis (key_on axis row)) (members axis)
+
+-- digits to the base 65,536
+last_digit : (a b x y : ℕ) → x < 65536 → y < 65536 → a * 65536 + x ≡ b * 65536 + y → (a ≡ b) × (x ≡ y)
+last_digit a b x y small few same = (omega (arith, small, few, same), omega (arith, small, few, same))
+
+one_key_of : (one other : Key) → one.customer < 65536 → one.supplier < 65536 → one.part < 65536 → one.date < 65536 → one.ship_mode < 65536
+    → other.customer < 65536 → other.supplier < 65536 → other.part < 65536 → other.date < 65536 → other.ship_mode < 65536
+    → number_of one ≡ number_of other → one ≡ other
+one_key_of one other a b c d e p q r s t same =
+    let fifth = last_digit (((one.customer * 65536 + one.supplier) * 65536 + one.part) * 65536 + one.date) (((other.customer * 65536 + other.supplier) * 65536 + other.part) * 65536 + other.date) one.ship_mode other.ship_mode e t same in
+    let fourth = last_digit ((one.customer * 65536 + one.supplier) * 65536 + one.part) ((other.customer * 65536 + other.supplier) * 65536 + other.part) one.date other.date d s fifth.0 in
+    let third = last_digit (one.customer * 65536 + one.supplier) (other.customer * 65536 + other.supplier) one.part other.part c r fourth.0 in
+    let second = last_digit one.customer other.customer one.supplier other.supplier b q third.0 in
+    λ i. record { customer = second.0 i; supplier = second.1 i; part = third.1 i; date = fourth.1 i; ship_mode = fifth.1 i }
+
+pub one_group : (dimensions : DimRows) → ValidRowsKeepTheRules → IsValid dimensions → HaveShortTexts dimensions → OneKeyOneGroup dimensions
+one_group dimensions law valid short view query row other number serves members others same is =
+    let fits = fits_on dimensions law valid short view row members in
+    let also = fits_on dimensions law valid short view other others in
+    let key : key_of dimensions view row ≡ key_of dimensions view other =
+    one_key_of (key_of dimensions view row) (key_of dimensions view other) (fits Customer) (fits Supplier) (fits Part) (fits Date) (omega arith)
+    (also Customer) (also Supplier) (also Part) (also Date) (omega arith) same in
+    one_number dimensions law valid short view row other members others key query serves number is

@@ -1,0 +1,241 @@
+-- Rows that stand in for cells.
+use Rattle.std.proofs.Common.{◌≡◌, ◌∙◌, sym, ap, refl, subst, ℕ, zero, suc, ◌+◌, ◌==◌, ◌<◌, ◌≤◌, ◌⊎◌, inl, inr, Bool, true, false, cond, List, [], ◌∷◌, map, length, get_or, slice_get, Option, Some, None, ℤ, pos, arith, All}
+use Rattle.std.specs.Prelude.{◌&&◌, unwrap_or}
+use Rattle.std.specs.List.{Contains, filter, list_all, position_or_len}
+use Rattle.std.specs.Option.{is_some}
+use Rattle.std.proofs.lemmas.Bool.{cases_lt}
+use Rattle.std.proofs.lemmas.List.Elements.{All-filter, All-head, All-tail}
+use Rattle.std.proofs.lemmas.List.Sums.{passes_at_first}
+use Rattle.cube_model.specs.declared.attr.Axis.{Axis}
+use Rattle.cube_model.specs.declared.attr.Axis.TheVariants.{Customer, Supplier, Part, Date}
+use Rattle.cube_model.specs.declared.measure.Measure.{Measure}
+use Rattle.cube_model.specs.declared.measure.Measure.TheVariants.{Quantity, ExtendedPrice, Revenue, SupplyCost, Discounted, Profit}
+use Rattle.cube_model.specs.declared.rows.DimRows.{DimRows}
+use Rattle.cube_model.specs.declared.rows.LineOrder.{LineOrder}
+use Rattle.cube_model.specs.Attributes.{key_on}
+use Rattle.cube_model.specs.Measures.{measure_of}
+use Rattle.cube_model.specs.Places.{row_count_of, row_index_of}
+use Rattle.dimensions.specs.Shown.{rows_on}
+use Rattle.dimensions.specs.TextRows.{TextRow}
+use Rattle.dimensions.proofs.AttributeLaws.{count_on, index_on}
+use Rattle.group_plan.specs.Numbers.{IsKnown}
+use Rattle.group_plan.specs.Rows.{no_row}
+use Rattle.lattice.specs.declared.level.Level.{Level}
+use Rattle.lattice.specs.declared.view.View.{View}
+use Rattle.lattice.specs.Views.{level_on}
+use Rattle.cuboid_cells.specs.declared.cell.Cell.{Cell}
+use Rattle.cuboid_cells.specs.declared.key.Key.{Key}
+use Rattle.cuboid_cells.specs.Cells.{AreProper, IsCellOf, IsModeCode, PlainCells, cell_at, number_of}
+use Rattle.cuboid_cells.specs.Limits.{all_code}
+use Rattle.cuboid_upkeep.specs.Codes.{member_code}
+use Rattle.cuboid_upkeep.specs.Grouping.{StandFor, cell_over, key_of, rows_of}
+use Rattle.cuboid_upkeep.specs.StandIns.{AreKeysOf, AreStandIns, HasCode, HaveAllCodes, IsStandIn, PutsKey, has_keys, key_at, stand_in, stood_in}
+use Rattle.cuboid_upkeep.specs.declared.stand_ins.StandIns.{StandIns}
+use Rattle.cuboid_upkeep.proofs.Found.{own_key, same_key}
+use Rattle.cuboid_upkeep.proofs.Sorted.{ascending_apart, only_one}
+
+-- ---- keys by codes
+
+-- the keys so far are at their codes
+abbrev pub AreSoFar : DimRows → Axis → Level → List ℕ → ℕ → List (Option ℕ) → Type 0
+AreSoFar dimensions axis level all count keys = AreKeysOf dimensions axis level keys
+    × ((place code : ℕ) → place < count → HasCode dimensions axis level (get_or all place 0) code → key_at keys code ≡ None → ⊥)
+
+none_yet : (code : ℕ) → key_at [] code ≡ None
+none_yet code = refl
+
+some_none : {X : Type 0} (x : X) (o : Option X) → o ≡ Some x → o ≡ None → ⊥
+some_none x o is none = absurd (cc (is, none))
+
+module _ (dimensions : DimRows) (axis : Axis) (level : Level) (all : List ℕ) where
+  pub at_first : AreSoFar dimensions axis level all 0 []
+  at_first = (λ code key at. absurd (cc at), λ place code before has none. absurd (omega (arith, before)))
+
+  module _ (count : ℕ) (keys : List (Option ℕ)) (so_far : AreSoFar dimensions axis level all count keys) where
+    pub one_put : (key own : ℕ) (new : List (Option ℕ)) → get_or all count 0 ≡ key → HasCode dimensions axis level key own → PutsKey keys own key new
+        → AreSoFar dimensions axis level all (count + 1) new
+    one_put key own new here has puts = (
+      λ code other at.
+          (elim (own == code) as (λ b. (own == code) ≡ b → HasCode dimensions axis level other code) [
+            | true ↦ λ e.
+                (let is : Some key ≡ Some other = sym (ap (λ (b : Bool). cond b (Some key) (key_at keys code)) e) ∙ sym (puts code) ∙ at in
+                let same : key ≡ other = cc is in
+                subst (λ (k : ℕ). HasCode dimensions axis level k code) same (subst (HasCode dimensions axis level key) (same_key own code e) has))
+            | false ↦ λ e. so_far.0 code other (sym (ap (λ (b : Bool). cond b (Some key) (key_at keys code)) e) ∙ sym (puts code) ∙ at)
+          ]) refl,
+      λ place code before is none.
+          (elim (own == code) as (λ b. (own == code) ≡ b → ⊥) [
+            | true ↦ λ e. some_none key (key_at new code) (puts code ∙ ap (λ (b : Bool). cond b (Some key) (key_at keys code)) e) none
+            | false ↦ λ e.
+                (let still : key_at keys code ≡ None = sym (ap (λ (b : Bool). cond b (Some key) (key_at keys code)) e) ∙ sym (puts code) ∙ none in
+                elim (cases_lt place count) [
+                  | inl low ↦ so_far.1 place code low is still
+                  | inr high ↦
+                      (let there : place ≡ count = omega (arith, before, high) in
+                      let own_code : own ≡ code = sym has.code_is ∙ ap (λ (k : ℕ). member_code dimensions axis level (row_index_of dimensions axis k)) (sym here ∙ ap (λ (n : ℕ). get_or all n 0) (sym there)) ∙ is.code_is in
+                      absurd (cc (own_key own code own_code, e)))
+                ])
+          ]) refl,
+    )
+
+    pub one_passed : (key : ℕ) → get_or all count 0 ≡ key → row_count_of dimensions axis ≤ row_index_of dimensions axis key → AreSoFar dimensions axis level all (count + 1) keys
+    one_passed key here past = (
+      so_far.0,
+      λ place code before is none.
+          elim (cases_lt place count) [
+            | inl low ↦ so_far.1 place code low is none
+            | inr high ↦
+                (let there : place ≡ count = omega (arith, before, high) in
+                let same : row_index_of dimensions axis (get_or all place 0) ≡ row_index_of dimensions axis key = ap (row_index_of dimensions axis) (ap (λ (n : ℕ). get_or all n 0) there ∙ here) in
+                absurd (omega (arith, is.known, past, same)))
+          ],
+    )
+
+  -- each known key stands at its place
+  pub all_put : (count : ℕ) (keys : List (Option ℕ)) → all ≡ map (λ (row : TextRow). row.key) (rows_on dimensions axis) → length all ≤ count
+      → AreSoFar dimensions axis level all count keys → HaveAllCodes dimensions axis level keys
+  all_put count keys is whole so_far key code has none =
+      let place : ℕ = position_or_len (λ other. other == key) all in
+      let index : position_or_len (λ other. other == key) all ≡ row_index_of dimensions axis key = ap (position_or_len (λ other. other == key)) is ∙ index_on dimensions axis key in
+      let many : length all ≡ row_count_of dimensions axis = ap length is ∙ length_keys (rows_on dimensions axis) ∙ count_on dimensions axis in
+      let within : position_or_len (λ other. other == key) all < length all = omega (arith, index, many, has.known) in
+      let there : get_or all place 0 ≡ key = same_key (get_or all place 0) key (passes_at_first (λ other. other == key) all 0 within) in
+      so_far.1 place code (omega (arith, within, whole)) (subst (λ (k : ℕ). HasCode dimensions axis level k code) (sym there) has) none
+    where
+      length_keys : (rows : List TextRow) → length (map (λ (row : TextRow). row.key) rows) ≡ length rows
+      length_keys [] = refl
+      length_keys (row ∷ rows) = ap suc (length_keys rows)
+
+-- ---- the rows of a cell
+
+-- a row of each cell
+pub row_of_cell : (dimensions : DimRows) (plain : PlainCells) (rows : List LineOrder) (P : LineOrder → Type 0) (cell : Cell) → StandFor dimensions rows plain → All P rows → Contains plain.cells cell
+    → (row : LineOrder) × P row × (key_of dimensions plain.view row ≡ cell.key)
+row_of_cell dimensions plain rows P cell stand all in_cells =
+    let number = number_of cell.key in
+    let is : cell_over dimensions plain.view (rows_of dimensions plain.view number rows) ≡ Some cell =
+    sym (stand.group number) ∙ only_one plain.cells cell (ascending_apart plain.cells stand.ascending) in_cells in
+    first (rows_of dimensions plain.view number rows) (All-filter (λ row. number_of (key_of dimensions plain.view row) == number) P rows all) is
+  where
+    first : (own : List LineOrder) → All P own → cell_over dimensions plain.view own ≡ Some cell → (row : LineOrder) × P row × (key_of dimensions plain.view row ≡ cell.key)
+    first [] all is = absurd (cc is)
+    first (row ∷ own) all is = (row, All-head P row own all, (let same : key_of dimensions plain.view row ≡ cell.key = cc is in same))
+
+-- ---- all codes have keys
+some_where : (o : Option ℕ) → (o ≡ None → ⊥) → is_some o ≡ true
+some_where None some = absurd (some refl)
+some_where (Some n) some = refl
+
+all_pass : {X : Type 0} (p : X → Bool) (xs : List X) → ((x : X) → Contains xs x → p x ≡ true) → list_all p xs ≡ true
+all_pass p [] pass = refl
+all_pass p (x ∷ xs) pass = λ i. pass x (zero, omega arith, refl) i && all_pass p xs (λ y there. pass y (suc there.0, omega (arith, there.1), there.2)) i
+
+module _ (dimensions : DimRows) (plain : PlainCells) (customers suppliers parts dates : List (Option ℕ)) where
+  module _ (customers_whole : HaveAllCodes dimensions Customer plain.view.customer customers) (suppliers_whole : HaveAllCodes dimensions Supplier plain.view.supplier suppliers)
+      (parts_whole : HaveAllCodes dimensions Part plain.view.part parts) (dates_whole : HaveAllCodes dimensions Date plain.view.date dates) where
+    pub have_keys_where : (rows : List LineOrder) → StandFor dimensions rows plain → All (IsKnown dimensions) rows → list_all (has_keys customers suppliers parts dates) plain.cells ≡ true
+    have_keys_where rows stand known = all_pass (has_keys customers suppliers parts dates) plain.cells (λ cell there.
+        let own = row_of_cell dimensions plain rows (IsKnown dimensions) cell stand known there in
+        let row = own.0 in
+        let first = some_where (key_at customers cell.key.customer) (customers_whole row.custkey cell.key.customer (record { known = own.1 Customer; code_is = ap (λ (k : Key). k.customer) own.2 })) in
+        let second = some_where (key_at suppliers cell.key.supplier) (suppliers_whole row.suppkey cell.key.supplier (record { known = own.1 Supplier; code_is = ap (λ (k : Key). k.supplier) own.2 })) in
+        let third = some_where (key_at parts cell.key.part) (parts_whole row.partkey cell.key.part (record { known = own.1 Part; code_is = ap (λ (k : Key). k.part) own.2 })) in
+        let fourth = some_where (key_at dates cell.key.date) (dates_whole row.orderdate cell.key.date (record { known = own.1 Date; code_is = ap (λ (k : Key). k.date) own.2 })) in
+        λ i. first i && (second i && (third i && fourth i)))
+
+  -- ---- rows with the keys at the codes
+  module _ (customers_sound : AreKeysOf dimensions Customer plain.view.customer customers) (suppliers_sound : AreKeysOf dimensions Supplier plain.view.supplier suppliers)
+      (parts_sound : AreKeysOf dimensions Part plain.view.part parts) (dates_sound : AreKeysOf dimensions Date plain.view.date dates) (four : plain.view.ship_mode ≡ false) where
+    found : (axis : Axis) (level : Level) (keys : List (Option ℕ)) (code : ℕ) → AreKeysOf dimensions axis level keys → is_some (key_at keys code) ≡ true
+        → HasCode dimensions axis level (unwrap_or (key_at keys code) 0) code
+    found axis level keys code sound some =
+        (elim (key_at keys code) as (λ o. key_at keys code ≡ o → is_some o ≡ true → HasCode dimensions axis level (unwrap_or o 0) code) [
+          | None ↦ λ e is. absurd (cc is)
+          | Some key ↦ λ e is. sound code key e
+        ]) refl some
+
+    left : (a b : Bool) → (a && b) ≡ true → a ≡ true
+    left true b is = refl
+    left false b is = is
+
+    right : (a b : Bool) → (a && b) ≡ true → b ≡ true
+    right true b is = is
+    right false b is = absurd (cc is)
+
+    one_stands : (cell : Cell) → IsCellOf plain.view cell → has_keys customers suppliers parts dates cell ≡ true → IsStandIn dimensions plain.view cell (stand_in customers suppliers parts dates cell)
+    one_stands cell of_view has =
+        let a = is_some (key_at customers cell.key.customer) in
+        let b = is_some (key_at suppliers cell.key.supplier) in
+        let c = is_some (key_at parts cell.key.part) in
+        let d = is_some (key_at dates cell.key.date) in
+        let rest = right a (b && (c && d)) has in
+        let last = right b (c && d) rest in
+        let first = found Customer plain.view.customer customers cell.key.customer customers_sound (left a (b && (c && d)) has) in
+        let second = found Supplier plain.view.supplier suppliers cell.key.supplier suppliers_sound (left b (c && d) rest) in
+        let third = found Part plain.view.part parts cell.key.part parts_sound (left c d last) in
+        let fourth = found Date plain.view.date dates cell.key.date dates_sound (right c d last) in
+        let mode : IsModeCode false cell.key.ship_mode = subst (λ (g : Bool). IsModeCode g cell.key.ship_mode) four of_view.key.ship_mode in
+        let fifth : all_code ≡ cell.key.ship_mode = sym (mode.1 refl) in
+        record {
+          known = λ axis. known_on axis first.known second.known third.known fourth.known;
+          key_is = λ i. record { customer = first.code_is i; supplier = second.code_is i; part = third.code_is i; date = fourth.code_is i; ship_mode = fifth i };
+        }
+      where
+        known_on : (axis : Axis)
+            → row_index_of dimensions Customer (unwrap_or (key_at customers cell.key.customer) 0) < row_count_of dimensions Customer
+            → row_index_of dimensions Supplier (unwrap_or (key_at suppliers cell.key.supplier) 0) < row_count_of dimensions Supplier
+            → row_index_of dimensions Part (unwrap_or (key_at parts cell.key.part) 0) < row_count_of dimensions Part
+            → row_index_of dimensions Date (unwrap_or (key_at dates cell.key.date) 0) < row_count_of dimensions Date
+            → row_index_of dimensions axis (key_on axis (stand_in customers suppliers parts dates cell)) < row_count_of dimensions axis
+        known_on Customer p q r s = p
+        known_on Supplier p q r s = q
+        known_on Part p q r s = r
+        known_on Date p q r s = s
+
+    all_stand : (cells : List Cell) → All (IsCellOf plain.view) cells → list_all (has_keys customers suppliers parts dates) cells ≡ true
+        → AreStandIns dimensions plain.view cells (map (stand_in customers suppliers parts dates) cells)
+    all_stand [] each has = tt
+    all_stand (cell ∷ cells) each has =
+        let p = has_keys customers suppliers parts dates cell in
+        let rest = list_all (has_keys customers suppliers parts dates) cells in (
+          one_stands cell (All-head (IsCellOf plain.view) cell cells each) (left p rest has),
+          all_stand cells (All-tail (IsCellOf plain.view) cell cells each) (right p rest has),
+        )
+
+    pub they_stand : AreProper plain → list_all (has_keys customers suppliers parts dates) plain.cells ≡ true
+        → AreStandIns dimensions plain.view plain.cells (map (stand_in customers suppliers parts dates) plain.cells)
+    they_stand proper has = all_stand plain.cells proper.rules.each has
+
+-- ---- all else is nought
+
+pub same_else : {X : Type 0} (f : Cell → LineOrder) (g : LineOrder → X) (x : X) → ((cell : Cell) → x ≡ g (f cell)) → x ≡ g no_row
+    → (cells : List Cell) (place : ℕ) → x ≡ g (get_or (map f cells) place no_row)
+same_else f g x each none [] place = none
+same_else f g x each none (cell ∷ cells) zero = each cell
+same_else f g x each none (cell ∷ cells) (suc place) = same_else f g x each none cells place
+
+pub no_quantity : (rows : StandIns) (place : ℕ) → 0 ≡ (get_or (stood_in rows) place no_row).quantity
+no_quantity rows place = same_else (stand_in rows.customers.items rows.suppliers.items rows.parts.items rows.dates.items) (λ (row : LineOrder). row.quantity) 0 (λ cell. refl) refl rows.cells.now place
+
+pub no_discount : (rows : StandIns) (place : ℕ) → 0 ≡ (get_or (stood_in rows) place no_row).discount
+no_discount rows place = same_else (stand_in rows.customers.items rows.suppliers.items rows.parts.items rows.dates.items) (λ (row : LineOrder). row.discount) 0 (λ cell. refl) refl rows.cells.now place
+
+no_measures : (measure : Measure) (customers suppliers parts dates : List (Option ℕ)) (cell : Cell) → pos 0 ≡ measure_of measure (stand_in customers suppliers parts dates cell)
+no_measures Quantity customers suppliers parts dates cell = refl
+no_measures ExtendedPrice customers suppliers parts dates cell = refl
+no_measures Revenue customers suppliers parts dates cell = refl
+no_measures SupplyCost customers suppliers parts dates cell = refl
+no_measures Discounted customers suppliers parts dates cell = refl
+no_measures Profit customers suppliers parts dates cell = refl
+
+none_behind : (measure : Measure) → pos 0 ≡ measure_of measure no_row
+none_behind Quantity = refl
+none_behind ExtendedPrice = refl
+none_behind Revenue = refl
+none_behind SupplyCost = refl
+none_behind Discounted = refl
+none_behind Profit = refl
+
+pub no_measure : (measure : Measure) (rows : StandIns) (place : ℕ) → pos 0 ≡ measure_of measure (get_or (stood_in rows) place no_row)
+no_measure measure rows place = same_else (stand_in rows.customers.items rows.suppliers.items rows.parts.items rows.dates.items) (measure_of measure) (pos 0)
+    (no_measures measure rows.customers.items rows.suppliers.items rows.parts.items rows.dates.items) (none_behind measure) rows.cells.now place

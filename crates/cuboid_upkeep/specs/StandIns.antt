@@ -1,0 +1,80 @@
+-- Rows that stand in for cells: each has the members of its cell, and nothing else is looked at. Our own.
+use Rattle.std.specs.Prelude.{◌≡◌, ℕ, ◌<◌, ◌&&◌, ◌==◌, cond, Bool, Option, Some, None, List, [], ◌∷◌, map, slice_get, unwrap_or}
+use Rattle.std.specs.Option.{is_some}
+use Rattle.cube_model.specs.declared.attr.Axis.{Axis}
+use Rattle.cube_model.specs.declared.rows.DimRows.{DimRows}
+use Rattle.cube_model.specs.declared.rows.LineOrder.{LineOrder}
+use Rattle.cube_model.specs.Places.{row_count_of, row_index_of}
+use Rattle.group_plan.specs.Numbers.{IsKnown}
+use Rattle.lattice.specs.declared.level.Level.{Level}
+use Rattle.lattice.specs.declared.view.View.{View}
+use Rattle.cuboid_cells.specs.declared.cell.Cell.{Cell}
+use Rattle.cuboid_cells.specs.declared.key.Key.{Key}
+use Rattle.cuboid_upkeep.specs.Codes.{member_code}
+use Rattle.cuboid_upkeep.specs.Grouping.{key_of}
+use Rattle.cuboid_upkeep.specs.declared.stand_ins.StandIns.{StandIns}
+
+-- the key that stands at a code, if there is one
+abbrev pub key_at : List (Option ℕ) → ℕ → Option ℕ
+key_at keys code = unwrap_or (slice_get keys code) None
+
+-- a key stands at a code, and all else as before
+abbrev pub PutsKey : List (Option ℕ) → ℕ → ℕ → List (Option ℕ) → Type 0
+PutsKey old code key new = (other : ℕ) → key_at new other ≡ cond (code == other) (Some key) (key_at old other)
+
+-- a row of a dimension has a key, and its member has a code
+pub record HasCode (dimensions : DimRows) (axis : Axis) (level : Level) (key code : ℕ) : Type 0 where
+  pub known : row_index_of dimensions axis key < row_count_of dimensions axis
+  pub code_is : member_code dimensions axis level (row_index_of dimensions axis key) ≡ code
+
+-- the key at a code is that of a row with its member
+abbrev pub AreKeysOf : DimRows → Axis → Level → List (Option ℕ) → Type 0
+AreKeysOf dimensions axis level keys = (code key : ℕ) → key_at keys code ≡ Some key → HasCode dimensions axis level key code
+
+-- there is a key at the code of each member
+abbrev pub HaveAllCodes : DimRows → Axis → Level → List (Option ℕ) → Type 0
+HaveAllCodes dimensions axis level keys = (key code : ℕ) → HasCode dimensions axis level key code → key_at keys code ≡ None → ⊥
+
+-- there are keys at all codes of a cell
+abbrev pub has_keys : List (Option ℕ) → List (Option ℕ) → List (Option ℕ) → List (Option ℕ) → Cell → Bool
+has_keys customers suppliers parts dates cell =
+    is_some (key_at customers cell.key.customer) && (is_some (key_at suppliers cell.key.supplier)
+    && (is_some (key_at parts cell.key.part) && is_some (key_at dates cell.key.date)))
+
+-- a fact row of the keys at the codes of a cell, and of noughts
+abbrev pub stand_in : List (Option ℕ) → List (Option ℕ) → List (Option ℕ) → List (Option ℕ) → Cell → LineOrder
+stand_in customers suppliers parts dates cell = record {
+  orderkey = 0;
+  linenumber = 0;
+  custkey = unwrap_or (key_at customers cell.key.customer) 0;
+  partkey = unwrap_or (key_at parts cell.key.part) 0;
+  suppkey = unwrap_or (key_at suppliers cell.key.supplier) 0;
+  orderdate = unwrap_or (key_at dates cell.key.date) 0;
+  orderpriority = [];
+  shippriority = [];
+  quantity = 0;
+  extendedprice = 0;
+  ordtotalprice = 0;
+  discount = 0;
+  revenue = 0;
+  supplycost = 0;
+  tax = 0;
+  commitdate = [];
+  shipmode = [];
+}
+
+-- the rows that stand in for cells
+abbrev pub stood_in : StandIns → List LineOrder
+stood_in rows = map (stand_in rows.customers.items rows.suppliers.items rows.parts.items rows.dates.items) rows.cells.now
+
+-- a row has known keys, and the key of a cell
+pub record IsStandIn (dimensions : DimRows) (view : View) (cell : Cell) (row : LineOrder) : Type 0 where
+  pub known : IsKnown dimensions row
+  pub key_is : key_of dimensions view row ≡ cell.key
+
+-- rows stand in for cells, one for each
+abbrev pub AreStandIns : DimRows → View → List Cell → List LineOrder → Type 0
+AreStandIns dimensions view [] [] = Unit {0}
+AreStandIns dimensions view [] (row ∷ rows) = ⊥
+AreStandIns dimensions view (cell ∷ cells) [] = ⊥
+AreStandIns dimensions view (cell ∷ cells) (row ∷ rows) = IsStandIn dimensions view cell row × AreStandIns dimensions view cells rows

@@ -1,0 +1,101 @@
+//! Rows that stand in for cells.
+ghost use Rattle.std.specs.Prelude.{◌≡◌, ◌⊎◌, List, false, IfErr, IfOk, map};
+ghost use Rattle.std.specs.List.{All, list_all};
+ghost use Rattle.cube_model.specs.declared.rows.LineOrder.{LineOrder};
+ghost use Rattle.group_plan.specs.Numbers.{IsKnown};
+ghost use Rattle.cuboid_upkeep.specs.Grouping.{StandFor};
+ghost use Rattle.cuboid_upkeep.specs.StandIns.{AreStandIns, has_keys, stood_in};
+
+use crate::member_keys::{key_at, keys_of_members};
+use cube_model::{Axis, Fault, Measure};
+use cuboid_cells::{Cell, Cells};
+use dimensions::Dims;
+use group_plan::FactRows;
+use std::alloc::Global;
+
+/// Rows that stand in for cells, of which no row is made: each has the members of its cell, and is of noughts else.
+#[derive(Drop)]
+pub struct StandIns<'a> {
+    cells: &'a [Cell],
+    customers: Vec<Option<u32>>,
+    suppliers: Vec<Option<u32>>,
+    parts: Vec<Option<u32>>,
+    dates: Vec<Option<u32>>,
+}
+
+/// A row for each cell of a view of four axes, with the members of the cell.
+///
+/// `BadLayout` where a code is that of no member: then the cells stand for no rows of known keys. It can also fail for
+/// want of memory.
+pub fn stand_ins_of<'a>(alloc: Global, dims: &Dims, cells: &'a Cells) -> Result<StandIns<'a>, Fault>
+    requires four_axes { cells.now.view.ship_mode ≡ false }
+    ensures ok { IfOk result (λ rows. AreStandIns dims.now cells.now.view cells.now.cells (stood_in rows)) }
+    ensures refused { IfErr result (λ fault. (fault ≡ Fault.Memory) ⊎ ((fault ≡ Fault.BadLayout)
+        × ((rows : List LineOrder) → StandFor dims.now rows cells.now → All (IsKnown dims.now) rows → ⊥))) }
+{
+    let view = cells.view();
+    let customers = keys_of_members(alloc, dims, Axis::Customer, view.customer)?;
+    let suppliers = keys_of_members(alloc, dims, Axis::Supplier, view.supplier)?;
+    let parts = keys_of_members(alloc, dims, Axis::Part, view.part)?;
+    let dates = keys_of_members(alloc, dims, Axis::Date, view.date)?;
+    let cells = cells.as_slice();
+    if !have_keys(cells, &customers, &suppliers, &parts, &dates) {
+        return Err(Fault::BadLayout);
+    }
+    Ok(StandIns {
+        cells,
+        customers,
+        suppliers,
+        parts,
+        dates,
+    })
+}
+
+// Whether there are keys at all codes of each cell.
+fn have_keys(
+    cells: &[Cell],
+    customers: &[Option<u32>],
+    suppliers: &[Option<u32>],
+    parts: &[Option<u32>],
+    dates: &[Option<u32>],
+) -> bool
+    ensures { result ≡ list_all (has_keys customers.now suppliers.now parts.now dates.now) cells.now }
+{
+    cells.iter().all(|cell| {
+        key_at(customers, cell.key.customer).is_some()
+            && key_at(suppliers, cell.key.supplier).is_some()
+            && key_at(parts, cell.key.part).is_some()
+            && key_at(dates, cell.key.date).is_some()
+    })
+}
+
+impl<'a> FactRows for StandIns<'a> {
+    ghost rows = { stood_in };
+
+    fn count(&self) -> usize {
+        self.cells.len()
+    }
+
+    fn key(&self, place: usize, axis: Axis) -> u32 {
+        let key = self.cells[place].key;
+        let found = match axis {
+            Axis::Customer => key_at(&self.customers, key.customer),
+            Axis::Supplier => key_at(&self.suppliers, key.supplier),
+            Axis::Part => key_at(&self.parts, key.part),
+            Axis::Date => key_at(&self.dates, key.date),
+        };
+        found.unwrap_or(0)
+    }
+
+    fn quantity(&self, _place: usize) -> u8 {
+        0
+    }
+
+    fn discount(&self, _place: usize) -> u8 {
+        0
+    }
+
+    fn measure(&self, _place: usize, _measure: Measure) -> i128 {
+        0
+    }
+}
