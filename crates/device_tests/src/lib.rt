@@ -19,3 +19,5 @@ mod liar;
 mod memory;
 #[cfg(test)]
 mod runs;
+#[cfg(test)]
+mod said;

@@ -7,7 +7,7 @@ use ssb_reports::{QNumber, query_of};
 use std::alloc::Global;
 use std::test::Fail;
 
-static RIGHT: [(Words, Asked<'static>); 13] = [
+static RIGHT: [(Words, Asked<'static>); 15] = [
     (
         Words {
             agg: Some("count"),
@@ -65,6 +65,47 @@ static RIGHT: [(Words, Asked<'static>); 13] = [
                 Agg::Count,
                 Agg::Sum(Measure::Revenue),
                 Agg::Avg(Measure::Revenue),
+            ],
+            order: None,
+        },
+    ),
+    (
+        Words {
+            set: Some("cube"),
+            by: Some("c_region,d_year"),
+            agg: Some("count,sum(revenue),avg(revenue)"),
+            ..NO_WORDS
+        },
+        Asked {
+            kind: Kind::Cube,
+            columns: &[Attr::CustomerRegion, Attr::DateYear],
+            conditions: &[],
+            aggregates: &[
+                Agg::Count,
+                Agg::Sum(Measure::Revenue),
+                Agg::Avg(Measure::Revenue),
+            ],
+            order: None,
+        },
+    ),
+    (
+        Words {
+            agg: Some(
+                "sum(quantity),min(extendedprice),max(revenue),avg(supplycost),min(discounted),max:profit",
+            ),
+            ..NO_WORDS
+        },
+        Asked {
+            kind: Kind::Plain,
+            columns: &[],
+            conditions: &[],
+            aggregates: &[
+                Agg::Sum(Measure::Quantity),
+                Agg::Min(Measure::ExtendedPrice),
+                Agg::Max(Measure::Revenue),
+                Agg::Avg(Measure::SupplyCost),
+                Agg::Min(Measure::Discounted),
+                Agg::Max(Measure::Profit),
             ],
             order: None,
         },

@@ -3,7 +3,7 @@ use crate::words::{NO_WORDS, Words};
 use cube_model::Fault;
 use std::alloc::Global;
 
-static WRONG: [Words; 58] = [
+static WRONG: [Words; 72] = [
     Words { ..NO_WORDS },
     Words {
         q: Some("1.1"),
@@ -139,7 +139,63 @@ static WRONG: [Words; 58] = [
         ..NO_WORDS
     },
     Words {
-        agg: Some("sum(revenue)"),
+        agg: Some("sum(revenue"),
+        ..NO_WORDS
+    },
+    Words {
+        agg: Some("sum revenue)"),
+        ..NO_WORDS
+    },
+    Words {
+        agg: Some("sum(revenue))"),
+        ..NO_WORDS
+    },
+    Words {
+        agg: Some("sum((revenue)"),
+        ..NO_WORDS
+    },
+    Words {
+        agg: Some("sum(revenue) "),
+        ..NO_WORDS
+    },
+    Words {
+        agg: Some("sum()"),
+        ..NO_WORDS
+    },
+    Words {
+        agg: Some("(revenue)"),
+        ..NO_WORDS
+    },
+    Words {
+        agg: Some("sum:revenue)"),
+        ..NO_WORDS
+    },
+    Words {
+        agg: Some("sum:(revenue)"),
+        ..NO_WORDS
+    },
+    Words {
+        agg: Some("count()"),
+        ..NO_WORDS
+    },
+    Words {
+        agg: Some("count(*)"),
+        ..NO_WORDS
+    },
+    Words {
+        agg: Some("count(revenue)"),
+        ..NO_WORDS
+    },
+    Words {
+        agg: Some("total(revenue)"),
+        ..NO_WORDS
+    },
+    Words {
+        agg: Some("sum(c_city)"),
+        ..NO_WORDS
+    },
+    Words {
+        agg: Some("SUM(revenue)"),
         ..NO_WORDS
     },
     Words {
