@@ -18,7 +18,6 @@ use Rattle.object_store.specs.Disk.{Disk, Leaves}
 use Rattle.object_store.specs.Ready.{content_from, IsReady}
 use Rattle.object_store.specs.Reading.{IsOnlyRead}
 use Rattle.object_store.proofs.Lists.{All-unmap}
-use Rattle.object_store.proofs.Pieces.{whole_is}
 use Rattle.object_store.specs.Frames.{objects_same, shows_same, ready_shows}
 
 -- what stands at an id is what its entry names
@@ -73,12 +72,6 @@ module _ (image : Image) (entries : List Entry) (id : ℕ) where
   pub gives_part : (e : Entry) (at n : ℕ) (part : List ℕ) → find_by (λ e. e.id) id entries ≡ Some e → length part ≡ n → part ≡ take n (drop at (bytes_at image e.first e.bytes)) → Gives (look_up id (objects_at image entries)) at part
   gives_part e at n part is long same =
       subst (λ (o : Option (List ℕ)). Gives o at part) (sym (bytes_some e is)) (same ∙ ap (λ (k : ℕ). take k (drop at (bytes_at image e.first e.bytes))) (sym long))
-
--- an object that was read whole
-pub got_whole : (image : Image) (entries : List Entry) (id : ℕ) (e : Entry) (part whole : List ℕ) → find_by (λ x. x.id) id entries ≡ Some e → length part ≡ e.bytes → Gives (look_up id (objects_at image entries)) 0 part → whole ≡ part → Some whole ≡ look_up id (objects_at image entries)
-got_whole image entries id e part whole is long gives same =
-    let is_part : part ≡ take (length part) (drop 0 (bytes_at image e.first e.bytes)) = subst (λ (o : Option (List ℕ)). Gives o 0 part) (bytes_some image entries id e is) gives in
-    ap (λ (l : List ℕ). Some l) (same ∙ is_part ∙ ap (λ (n : ℕ). take n (drop 0 (bytes_at image e.first e.bytes))) long ∙ whole_is image e.first e.bytes) ∙ sym (bytes_some image entries id e is)
 
 -- whether a range lies within an object
 module _ (image : Image) (entries : List Entry) (id at len : ℕ) where

@@ -1,5 +1,5 @@
 -- Pieces of bytes that lie in sectors.
-use Rattle.std.proofs.Common.{◌≡◌, ℕ, zero, suc, ◌+◌, ◌-◌, ◌*◌, ◌/◌, ◌%◌, ◌<◌, ◌≤◌, min, List, ◌++◌, length, take, drop, sym, ◌∙◌, ap, arith, length-append, length-drop, append_assoc}
+use Rattle.std.proofs.Common.{◌≡◌, ℕ, zero, suc, ◌+◌, ◌-◌, ◌*◌, ◌/◌, ◌%◌, ◌<◌, ◌≤◌, min, List, ◌++◌, length, take, drop, sym, ◌∙◌, ap, arith, length-append, length-drop, append_assoc, append-nil}
 use Rattle.std.proofs.lemmas.List.{length-take-le, drop-append-le, take-append-le, take-take, drop-take, drop-drop, take_at}
 use Rattle.std.proofs.Math.Seq.{drop-append-add, take-append-add, take-add}
 use borrow.Rule.Slice.PartMut.{put_mid, post_of}
@@ -85,6 +85,20 @@ part_within done n to part k less fits long =
 pub read_only : (first mid new : DeviceState) → IsOnlyRead first mid → Stays mid new → IsOnlyRead first new
 read_only first mid new so_far stays = synced_within (λ _. ⊥) first mid new so_far (record { reads = stays.reads; no_more = stays.no_more; time = stays.time })
 
--- the whole of so many bytes
-pub whole_is : (image : Image) (first n : ℕ) → take n (drop 0 (bytes_at image first n)) ≡ bytes_at image first n
-whole_is image first n = take-take n n (run_bytes image first (sectors_of n)) (omega arith)
+-- a sector more of a run
+run-last : (image : Image) (first k : ℕ) → run_bytes image first (suc k) ≡ run_bytes image first k ++ image (first + k)
+run-last image first zero =
+    let here : first + 0 ≡ first = omega arith in
+    append-nil (image first) ∙ ap image (sym here)
+run-last image first (suc k) =
+    let there : suc first + k ≡ first + suc k = omega arith in
+    ap (λ (l : List ℕ). image first ++ l) (run-last image (suc first) k ∙ ap (λ (i : ℕ). run_bytes image (suc first) k ++ image i) there)
+    ∙ sym (append_assoc (image first) (run_bytes image (suc first) k) (image (first + suc k)))
+
+pub run_step : (image : Image) (first k : ℕ) (before now new sector : List ℕ) → now ≡ before ++ run_bytes image first k → sector ≡ image (first + k) → new ≡ now ++ sector
+    → new ≡ before ++ run_bytes image first (k + 1)
+run_step image first k before now new sector is here grown =
+    let next : suc k ≡ k + 1 = omega arith in
+    grown ∙ ap (λ (l : List ℕ). l ++ sector) is ∙ ap (λ (l : List ℕ). (before ++ run_bytes image first k) ++ l) here
+    ∙ append_assoc before (run_bytes image first k) (image (first + k))
+    ∙ ap (λ (l : List ℕ). before ++ l) (sym (run-last image first k) ∙ ap (λ (n : ℕ). run_bytes image first n) next)

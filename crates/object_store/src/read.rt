@@ -1,8 +1,9 @@
 // Reading bytes that stand from a sector on.
-ghost use Rattle.std.specs.Prelude.{◌≡◌, ◌+◌, ◌-◌, ◌/◌, ◌%◌, ◌<◌, ◌≤◌, ◌^◌, ◌++◌, ℕ, length, take, drop, min, IfOk, OnOk};
-ghost use Rattle.sector_device.specs.Device.{CountsFailure};
+ghost use Rattle.std.specs.Prelude.{◌≡◌, ◌+◌, ◌-◌, ◌*◌, ◌/◌, ◌%◌, ◌<◌, ◌≤◌, ◌^◌, ◌++◌, ℕ, length, take, drop, min, IfOk, OnOk};
+ghost use Rattle.std.specs.Vec.{vec_capacity};
+ghost use Rattle.sector_device.specs.Device.{CountsFailure, Stays};
 ghost use Rattle.superblock.specs.Superblock.{sectors_of};
-ghost use Rattle.object_store.specs.Places.{bytes_at};
+ghost use Rattle.object_store.specs.Places.{bytes_at, run_bytes};
 ghost use Rattle.object_store.specs.Reading.{IsOnlyRead};
 
 use sector_device::{DeviceError, Sectors};
@@ -53,4 +54,50 @@ fn read_piece<D: Sectors>(
     let n = to.len().min(512 - from);
     to[..n].copy_from_slice(&block[from..from + n]);
     Ok(n)
+}
+
+/// Puts the bytes of so many sectors, from one on, behind others. There is to be room for them.
+pub(crate) fn push_sectors<D: Sectors>(
+    device: &mut D,
+    first: u32,
+    n: u32,
+    to: &mut Vec<u8>,
+) -> Result<(), DeviceError>
+    requires in_range { first + n ≤ (D.state device.old).size }
+    requires few { (D.state device.old).size < 2 ^ 32 }
+    requires room { length to.old.items + n * 512 ≤ vec_capacity to.old }
+    ensures size { (D.state device.new).size ≡ (D.state device.old).size }
+    ensures failures { CountsFailure result (D.failed device.old) (D.failed device.new) }
+    ensures word { D.keeps_word device.new → D.keeps_word device.old }
+    ensures only { D.keeps_word device.new → IsOnlyRead (D.state device.old) (D.state device.new) }
+    ensures bytes { OnOk result (D.keeps_word device.new
+        → to.new.items ≡ to.old.items ++ run_bytes (D.state device.old).reads first n) }
+{
+    let mut block = [0; 512];
+    for k in 0..n {
+        push_sector(device, first + k, &mut block, to)?;
+    }
+    Ok(())
+}
+
+// Puts the bytes of a sector behind others.
+fn push_sector<D: Sectors>(
+    device: &mut D,
+    i: u32,
+    block: &mut [u8; 512],
+    to: &mut Vec<u8>,
+) -> Result<(), DeviceError>
+    requires in_range { i < (D.state device.old).size }
+    requires room { length to.old.items + 512 ≤ vec_capacity to.old }
+    ensures size { (D.state device.new).size ≡ (D.state device.old).size }
+    ensures failures { CountsFailure result (D.failed device.old) (D.failed device.new) }
+    ensures word { D.keeps_word device.new → D.keeps_word device.old }
+    ensures stays { D.keeps_word device.new → Stays (D.state device.old) (D.state device.new) }
+    ensures bytes { OnOk result (D.keeps_word device.new → to.new.items ≡ to.old.items ++ (D.state device.old).reads i) }
+    ensures long { OnOk result (length to.new.items ≡ length to.old.items + 512) }
+    ensures room { vec_capacity to.old ≤ vec_capacity to.new }
+{
+    device.read(i, block)?;
+    to.extend_from_slice(block).unwrap();
+    Ok(())
 }

@@ -1,6 +1,8 @@
 // A store on a device.
-ghost use Rattle.std.specs.Prelude.{◌≡◌, ◌≢◌, ◌⊎◌, ◌+◌, ◌-◌, ◌^◌, ◌<◌, ◌≤◌, ◌↔◌, min, ℕ, true, false, [], Some, length, option_map, IfOk, IfErr, IsSomeAnd, IsTrue, OnOk, OnErr, IsErrOf};
+ghost use Rattle.std.specs.Prelude.{◌≡◌, ◌≢◌, ◌⊎◌, ◌+◌, ◌-◌, ◌*◌, ◌^◌, ◌<◌, ◌≤◌, ◌↔◌, min, ℕ, true, false, [], Some, length, option_map, IfOk, IfErr, IsSomeAnd, IsTrue, OnOk, OnErr, IsErrOf};
 ghost use Rattle.cube_model.specs.declared.fault.Fault.TheVariants.{Device, Failed, Full, Worn, Memory, AlreadyFormatted, DeviceSize};
+ghost use Rattle.std.specs.Vec.{vec_capacity};
+ghost use Rattle.superblock.specs.Superblock.{sectors_of};
 ghost use Rattle.wire.specs.Parts.{Gives};
 ghost use Rattle.object_store.specs.Content.{bytes_of};
 ghost use Rattle.object_store.specs.Commit.{ArePuts, IsFew, IsLayout, IsRoot, committed, created, puts_of, find_by};
@@ -15,7 +17,7 @@ use crate::entries::find as find_entry;
 use crate::find::find;
 use crate::plan::next_plan;
 use crate::publish::publish;
-use crate::read::read_range;
+use crate::read::{push_sectors, read_range};
 use catalogue::Entry;
 use cube_model::Fault;
 use sector_device::Sectors;
@@ -213,10 +215,10 @@ impl<D: Sectors> Store<D> {
         let Some(entry) = find_entry(&self.entries, id) else {
             return Ok(None);
         };
-        let Ok(mut bytes) = Vec::from_elem(alloc, 0u8, entry.bytes as usize) else {
+        let Ok(mut bytes) = Vec::with_capacity(alloc, self.room_for(id, entry)) else {
             return Err(Fault::Memory);
         };
-        match self.read_entry(id, entry, 0, &mut bytes) {
+        match self.read_object(id, entry, &mut bytes) {
             Ok(()) => Ok(Some(bytes)),
             Err(fault) => Err(fault),
         }
@@ -253,6 +255,40 @@ impl<D: Sectors> Store<D> {
         match self.read_entry(id, entry, at, to) {
             Ok(()) => Ok(true),
             Err(fault) => Err(fault),
+        }
+    }
+
+    // How many bytes the sectors of an object have.
+    fn room_for(&self, id: u32, entry: Entry) -> usize
+        requires found { find_by (λ e. e.id) id self.now.entries.items ≡ Some entry }
+        ensures { result ≡ sectors_of entry.bytes * 512 }
+    {
+        (entry.bytes as usize).div_ceil(512) * 512
+    }
+
+    // Reads an object. Where the device fails, the store has failed.
+    fn read_object(&mut self, id: u32, entry: Entry, to: &mut Vec<u8>) -> Result<(), Fault>
+        requires fine { has_failed self.old ≡ false }
+        requires found { find_by (λ e. e.id) id self.old.entries.items ≡ Some entry }
+        requires none { to.old.items ≡ [] }
+        requires room { sectors_of entry.bytes * 512 ≤ vec_capacity to.old }
+        ensures bytes { OnOk result (D.keeps_word (device_of self.new) → Some to.new.items ≡ bytes_of (content_of D.Sectors self.old) id) }
+        ensures leaves { Leaves (disk_of D.Sectors self.old) (disk_of D.Sectors self.new) (λ c. c ≡ content_of D.Sectors self.old) }
+        ensures stays { OnOk result (IsStill D.Sectors self.old self.new) }
+        ensures kept { KeepsObjects D.Sectors self.old self.new }
+        ensures device { OnErr result (Breaks D.Sectors self.old self.new) }
+        ensures cause { IfErr result (λ fault. fault ≡ Device) }
+    {
+        let sectors = entry.bytes.div_ceil(512) as u32;
+        match push_sectors(&mut self.device, entry.first, sectors, to) {
+            Ok(()) => {
+                to.truncate(entry.bytes as usize);
+                Ok(())
+            }
+            Err(_) => {
+                self.failed = true;
+                Err(Fault::Device)
+            }
         }
     }
 
