@@ -184,7 +184,7 @@ elapses_then old mid new images one two = record {
   keeps = λ t image le left. two.keeps t image (omega (arith, le, one.later)) (one.keeps t image le left);
 }
 
--- nothing that is seen changed, and then one sector was written, or a sync was made
+-- nothing that is seen changed, and then one sector was written
 pub writes_then : (i : ℕ) (bytes : List ℕ) (old mid new : DeviceState) → Stays old mid → Writes i bytes mid new → Writes i bytes old new
 writes_then i bytes old mid new one two = record {
   others = λ j ne. two.others j ne ∙ one.reads j;
@@ -192,17 +192,6 @@ writes_then i bytes old mid new one two = record {
   no_fewer = λ j x may. two.no_fewer j x (one.no_fewer j x may);
   time = elapses_then old mid new (λ image is j. two.no_fewer j (image j) (is j)) one.time two.time;
 }
-
-pub writes_none : (i : ℕ) (bytes : List ℕ) (old new : DeviceState) → Stays old new → Writes i bytes old new
-writes_none i bytes old new stays = record {
-  others = λ j ne. stays.reads j;
-  no_more = λ j x may. inl (stays.no_more j x may);
-  no_fewer = stays.no_fewer;
-  time = stays.time;
-}
-
-pub syncs_none : (old new : DeviceState) → Stays old new → Syncs old new
-syncs_none old new stays = record { reads = stays.reads; no_more = stays.no_more; time = stays.time }
 
 -- where none is still to be made, a record is that of the file, and grows as it does
 pub none_left : (first : ℕ) (sectors : List (List ℕ)) (events : List Event) → length sectors ≡ 0 → with_writes first sectors true events ≡ events

@@ -1,11 +1,10 @@
 -- Neighbouring sectors that were read at once change nothing, and are what reads give.
-use Rattle.std.proofs.lemmas.Bool.{ne_eqb}
 use Rattle.std.proofs.Common.{Bool, true, false, if◌then◌else◌, Result, Ok, Err, MatchResult, ◌≡◌, ℕ, zero, suc, ◌+◌, ◌<◌, List, [], ◌∷◌, length, take, get_or, refl, add-one, sym, ◌∙◌, ap, subst, ⊎_elim, inl, inr, arith}
 use Rattle.sector_device.specs.Device.{Image, DeviceState, IsImage, Stays}
 use Rattle.file_device.specs.History.{reads_after, IsHonest, file_state}
-use Rattle.file_device.specs.Runs.{with_reads, AreReads, IsOutside}
+use Rattle.file_device.specs.Runs.{with_reads, AreReads}
 use Rattle.file_device.specs.declared.event.Event.{Event}
-use Rattle.file_device.specs.declared.event.Event.TheVariants.{Read, Written}
+use Rattle.file_device.specs.declared.event.Event.TheVariants.{Read}
 use Rattle.file_device.proofs.SyncStep.{passes}
 
 -- one sector more in the record
@@ -58,13 +57,6 @@ module _ (start : Image) where
   pub was_honest : (first : ℕ) (sectors : List (List ℕ)) (old new : List Event)
       → new ≡ with_reads first sectors old → IsHonest start new → IsHonest start old
   was_honest first sectors old new is honest = honest-before first sectors old (subst (IsHonest start) is honest)
-
--- a write elsewhere changes none of them
-pub are_reads-outside : (start : Image) (calls : List Event) (first : ℕ) (sectors : List (List ℕ)) (i : ℕ) (bytes : List ℕ) (ok : Bool)
-    → IsOutside first (length sectors) i → AreReads (reads_after start calls) first sectors → AreReads (reads_after start (Written i bytes ok ∷ calls)) first sectors
-are_reads-outside start calls first sectors i bytes true outside are k lt =
-    are k lt ∙ ap (λ (b : Bool). if b then bytes else reads_after start calls (first + k)) (sym (ne_eqb (first + k) i (outside k lt)))
-are_reads-outside start calls first sectors i bytes false outside are k lt = are k lt
 
 pub stays_then : (old mid new : DeviceState) → Stays old mid → Stays mid new → Stays old new
 stays_then old mid new one two =
