@@ -1,7 +1,8 @@
 // What a cache reads of its device, and what it keeps over writes.
 use crate::bytes::{get, put};
-use crate::liar::{Liar, answers};
+use crate::calls::answers;
 use cube_model::Fault;
+use sample_star::Turning;
 use sector_cache::Cached;
 use sector_device::{DeviceError, Fuse, MemDisk, Sectors};
 use std::test::Fail;
@@ -154,8 +155,8 @@ fn writes_and_syncs_go_through(rt: HostRuntime) -> Result<(), Fail> {
 }
 
 // What a cache before a device that does not keep its word answers, and the failures in the end.
-fn answers_of_liar(rt: &HostRuntime) -> Result<([Result<(), DeviceError>; 6], u32, u64), Fail> {
-    match Cached::new(rt.alloc(), Liar::new(u64::MAX - 1), 3) {
+fn answers_behind_lies(rt: &HostRuntime) -> Result<([Result<(), DeviceError>; 6], u32, u64), Fail> {
+    match Cached::new(rt.alloc(), Turning::lying(u64::MAX - 1), 3) {
         Ok(mut cached) => Ok((
             answers(&mut cached),
             cached.count(),
@@ -170,6 +171,6 @@ fn answers_of_liar(rt: &HostRuntime) -> Result<([Result<(), DeviceError>; 6], u3
 fn goes_through_a_device_that_does_not_keep_its_word(rt: HostRuntime) -> Result<(), Fail> {
     let failed = Err(DeviceError);
     let expected = [failed, Ok(()), failed, Ok(()), Ok(()), failed];
-    assert_eq!(rt; answers_of_liar(&rt)?, (expected, 64, u64::MAX));
+    assert_eq!(rt; answers_behind_lies(&rt)?, (expected, 64, u64::MAX));
     Ok(())
 }

@@ -1,6 +1,7 @@
 // Which calls of a fuse fail, and what a failing write leaves.
 use crate::bytes::{first_three, get, put};
-use crate::liar::{Liar, answers};
+use crate::calls::answers;
+use sample_star::Turning;
 use sector_device::{DeviceError, Fuse, MemDisk, Sectors};
 use std::test::Fail;
 
@@ -89,7 +90,7 @@ fn lets_failing_writes_reach_the_disk(rt: HostRuntime) -> Result<(), Fail> {
 
 #[test]
 fn goes_through_a_device_that_does_not_keep_its_word(rt: HostRuntime) {
-    let mut fuse = Fuse::new(Liar::new(0), 4, false, true);
+    let mut fuse = Fuse::new(Turning::lying(0), 4, false, true);
     let found = answers(&mut fuse);
     let failed = Err(DeviceError);
     assert_eq!(rt; found, [failed, Ok(()), failed, failed, failed, Ok(())]);

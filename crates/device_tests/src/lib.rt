@@ -6,6 +6,8 @@ mod bytes;
 #[cfg(test)]
 mod cache;
 #[cfg(test)]
+mod calls;
+#[cfg(test)]
 mod fake_file;
 #[cfg(test)]
 mod file;
@@ -13,8 +15,6 @@ mod file;
 mod fuse;
 #[cfg(test)]
 mod length;
-#[cfg(test)]
-mod liar;
 #[cfg(test)]
 mod memory;
 #[cfg(test)]

@@ -1,10 +1,10 @@
 //! Random cases: dimensions, fact rows over them, and queries.
 
-use super::draw::Draw;
 use super::queries::{Reach, random_query};
 use super::running::agreed_answer;
 use super::tables::{random_dimensions, random_facts};
 use cube_model::{DimRows, Fault, LineOrder};
+use sample_star::Draw;
 use std::alloc::Global;
 
 /// How many queries are asked over the same rows.

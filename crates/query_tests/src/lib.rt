@@ -8,8 +8,6 @@ mod attributes;
 #[cfg(test)]
 mod cases;
 #[cfg(test)]
-mod draw;
-#[cfg(test)]
 mod examples;
 #[cfg(test)]
 mod groupings;

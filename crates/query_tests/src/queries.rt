@@ -2,9 +2,9 @@
 ghost use Rattle.std.specs.Prelude.{◌<◌};
 
 use super::attributes::attribute;
-use super::draw::Draw;
 use super::tables::some_keys;
 use cube_model::{Agg, Attr, Cond, DimRows, Fault, Items, Kind, Measure, Order, Query, Text};
+use sample_star::Draw;
 use std::alloc::Global;
 
 static COLUMNS: [Attr; 14] = [

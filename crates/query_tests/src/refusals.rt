@@ -1,6 +1,7 @@
 //! Batches that a fold refuses, and some that it takes.
 
-use column_segment::{decode, encode, is_batch};
+use super::running::segment_of;
+use column_segment::Segment;
 use cube_model::{Agg, Attr, Fault, Measure};
 use cube_query::Fold;
 use dimensions::{Dims, have_short_texts};
@@ -60,11 +61,17 @@ pub fn outcome_of(alloc: Global, facts: &[Fact<'_>]) -> Result<(), Fault> {
 }
 
 fn add_to_new(alloc: Global, dims: &Dims, facts: &[Fact<'_>]) -> Result<(), Fault> {
+    let segment = batch_of(alloc, facts)?;
+    add_segment_to_new(alloc, dims, &segment)
+}
+
+fn batch_of(alloc: Global, facts: &[Fact<'_>]) -> Result<Segment, Fault> {
     let rows = line_orders(alloc, facts)?;
-    if !is_batch(rows.as_slice()) {
-        return Err(Fault::TooManyRows);
-    }
-    let segment = decode(alloc, encode(alloc, 1, rows.as_slice())?)?;
-    let mut fold = Fold::new(alloc, dims, &query(alloc, &SUMS)?)?;
-    fold.add_segment(dims, &segment)
+    segment_of(alloc, rows.as_slice())
+}
+
+fn add_segment_to_new(alloc: Global, dims: &Dims, segment: &Segment) -> Result<(), Fault> {
+    let query = query(alloc, &SUMS)?;
+    let mut fold = Fold::new(alloc, dims, &query)?;
+    fold.add_segment(dims, segment)
 }

@@ -46,19 +46,24 @@ fn answer_over(
     fold.finish(dims)
 }
 
-// The answer over rows that are spelled as a batch and read back; none where they are no batch.
+/// The batch of rows, spelled and read back.
+pub fn segment_of(alloc: Global, rows: &[LineOrder]) -> Result<Segment, Fault> {
+    if !is_batch(rows) {
+        return Err(Fault::TooManyRows);
+    }
+    let bytes = encode(alloc, 1, rows)?;
+    decode(alloc, bytes)
+}
+
+// The answer over rows that are spelled as a batch and read back.
 fn answer_by_segment(
     alloc: Global,
     dims: &Dims,
     rows: &[LineOrder],
     query: &Query,
-) -> Result<Option<Answer>, Fault> {
-    if !is_batch(rows) {
-        return Ok(None);
-    }
-    let bytes = encode(alloc, 1, rows)?;
-    let segment = decode(alloc, bytes)?;
-    Ok(Some(answer_over(alloc, dims, &segment, query)?))
+) -> Result<Answer, Fault> {
+    let segment = segment_of(alloc, rows)?;
+    answer_over(alloc, dims, &segment, query)
 }
 
 /// The answer that the fold, in one call, row by row and over the columns of a batch, and the plain program agree on; none
@@ -74,10 +79,7 @@ pub fn agreed_answer(
     }
     let dims = Dims::build(alloc, dimensions)?;
     let answer = fold(alloc, &dims, rows, query)?;
-    let Some(by_segment) = answer_by_segment(alloc, &dims, rows, query)? else {
-        return Ok(None);
-    };
-    let is_agreed = answer == by_segment
+    let is_agreed = answer == answer_by_segment(alloc, &dims, rows, query)?
         && answer == plain_answer(alloc, dimensions, rows, query)?
         && answer == answer_row_by_row(alloc, dims, rows, query)?;
     Ok(if is_agreed { Some(answer) } else { None })

@@ -1,11 +1,10 @@
 //! Random dimension rows and fact rows.
 ghost use Rattle.std.specs.Prelude.{◌<◌};
 
-use super::draw::Draw;
 use cube_model::{
     CustomerRow, DateRow, DimRows, Fault, Items, LineOrder, PartRow, SupplierRow, Text,
 };
-use sample_star::{FIRST_FACT, Fact, line_order};
+use sample_star::{Draw, FIRST_FACT, Fact, line_order};
 use std::alloc::Global;
 
 /// A key of each dimension.

@@ -1,13 +1,17 @@
-//! The sample star of the tests: small tables as texts and as values, queries, and readers and writers that cut and fail.
+//! The sample star of the tests: small tables as texts and as values, queries, random choices, readers and writers that cut
+//! and fail, and a device that does not keep its word.
 #![tactic(auto)]
 
+mod draw;
 mod facts;
 mod queries;
 mod readers;
 mod stars;
 mod tables;
+mod turning;
 mod writers;
 
+pub use draw::Draw;
 pub use facts::{FACTS, FIRST_FACT, Fact, SECOND_FACT, THIRD_FACT, line_order, line_orders};
 pub use queries::{
     AVERAGES, Asked, CITIES, CUBE, Condition, DISCOUNTED, EVERY_ROW, PROFIT, ROLLUP, query,
@@ -18,4 +22,5 @@ pub use stars::{
     customer_row, date_row, dim_rows, no_rows, part_row, supplier_row, text,
 };
 pub use tables::{TABLES, Tables};
+pub use turning::Turning;
 pub use writers::{Taker, WhenFull};

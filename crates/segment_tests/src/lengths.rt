@@ -157,12 +157,26 @@ fn has_rows(alloc: Global, segment: &Segment, rows: &[LineOrder]) -> Result<bool
     Ok(found.as_slice() == rows)
 }
 
-// Whether a batch of so many rows has them, and how many of its masks' rows and sums are wrong.
-fn compared(alloc: Global, count: u64) -> Result<(bool, (u32, u32)), Fault> {
+// Whether a batch has rows, and no others, and how many of its masks' rows and sums are wrong.
+fn compared(
+    alloc: Global,
+    segment: &Segment,
+    rows: &[LineOrder],
+) -> Result<(bool, (u32, u32)), Fault> {
+    let same = has_rows(alloc, segment, rows)?;
+    Ok((same, wrong_ones(alloc, segment, rows)?))
+}
+
+// The same of the batch of rows.
+fn compared_batch(alloc: Global, rows: &[LineOrder]) -> Result<(bool, (u32, u32)), Fault> {
+    let segment = batch_of(alloc, rows)?;
+    compared(alloc, &segment, rows)
+}
+
+// The same of so many rows.
+fn compared_rows(alloc: Global, count: u64) -> Result<(bool, (u32, u32)), Fault> {
     let rows = rows_of(alloc, count)?;
-    let segment = batch_of(alloc, &rows)?;
-    let same = has_rows(alloc, &segment, &rows)?;
-    Ok((same, wrong_ones(alloc, &segment, &rows)?))
+    compared_batch(alloc, &rows)
 }
 
 static LENGTHS: [u64; 9] = [0, 1, 31, 32, 33, 63, 64, 65, 65_536];
@@ -171,7 +185,7 @@ static LENGTHS: [u64; 9] = [0, 1, 31, 32, 33, 63, 64, 65, 65_536];
 fn masks_and_sums_are_those_of_the_rows(rt: HostRuntime) -> Result<(), Fail> {
     for count in LENGTHS {
         assert_eq!(rt;
-            compared(rt.alloc(), count),
+            compared_rows(rt.alloc(), count),
             Ok((true, (0, 0))),
             "{count} rows"
         );

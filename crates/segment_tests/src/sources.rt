@@ -3,7 +3,7 @@
 use crate::batches::{SPELLED, spelled};
 use crate::decoding::pushed;
 use crate::lengths::rows_of;
-use column_segment::decode_from;
+use column_segment::{Segment, decode_from};
 use cube_model::{Fault, LineOrder};
 use sample_star::{FACTS, line_orders};
 use std::alloc::Global;
@@ -67,11 +67,16 @@ impl<'a> Source for Refusing<'a> {
     ghost fails_later = { λ fault old mid new first second. tt };
 }
 
-// The number and the rows of the batch that a source has.
+// The number and the rows of a batch.
+fn number_and_rows(alloc: Global, segment: &Segment) -> Result<(u32, Vec<LineOrder>), Fault> {
+    let rows = pushed(alloc, segment, 0, 65_536)?;
+    Ok((segment.number(), rows))
+}
+
+// The same of the batch that a source has.
 fn found<S: Source>(alloc: Global, source: &mut S) -> Result<(u32, Vec<LineOrder>), Fault> {
     let segment = decode_from(alloc, source, 9)?;
-    let rows = pushed(alloc, &segment, 0, 65_536)?;
-    Ok((segment.number(), rows))
+    number_and_rows(alloc, &segment)
 }
 
 #[test]

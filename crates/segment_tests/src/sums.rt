@@ -5,7 +5,6 @@ use crate::decoding::segment_of;
 use column_segment::{Segment, decode};
 use cube_model::{Amount, Fault, LineOrder, Measure};
 use std::alloc::Global;
-use std::test::Fail;
 
 // What ranges say of the rows at four places, and how many rows their mask speaks of.
 fn selected(
@@ -21,14 +20,16 @@ fn selected(
     ))
 }
 
+// The same of the rows of the sample, for quantities up to 24 and discounts from 1 to 3.
+fn selected_of_sample(alloc: Global) -> Result<([Option<bool>; 4], usize), Fault> {
+    let segment = segment_of(alloc, &SPELLED)?;
+    selected(alloc, &segment, (0, 24), (1, 3))
+}
+
 #[test]
-fn selects_rows_of_the_sample(rt: HostRuntime) -> Result<(), Fail> {
-    let segment = segment_of(rt.alloc(), &SPELLED)?;
-    assert_eq!(rt;
-        selected(rt.alloc(), &segment, (0, 24), (1, 3)),
-        Ok(([Some(true), Some(true), Some(false), None], 3))
-    );
-    Ok(())
+fn selects_rows_of_the_sample(rt: HostRuntime) {
+    let want = [Some(true), Some(true), Some(false), None];
+    assert_eq!(rt; selected_of_sample(rt.alloc()), Ok((want, 3)));
 }
 
 // The sum of a measure over the rows that ranges of quantities and of discounts select.
@@ -67,11 +68,15 @@ fn first_wrong(alloc: Global, segment: &Segment) -> Result<Option<(Measure, u8, 
     Ok(None)
 }
 
+// The same of the sample.
+fn first_wrong_of_sample(alloc: Global) -> Result<Option<(Measure, u8, u8)>, Fault> {
+    let segment = segment_of(alloc, &SPELLED)?;
+    first_wrong(alloc, &segment)
+}
+
 #[test]
-fn adds_up_the_sample(rt: HostRuntime) -> Result<(), Fail> {
-    let segment = segment_of(rt.alloc(), &SPELLED)?;
-    assert_eq!(rt; first_wrong(rt.alloc(), &segment), Ok(None));
-    Ok(())
+fn adds_up_the_sample(rt: HostRuntime) {
+    assert_eq!(rt; first_wrong_of_sample(rt.alloc()), Ok(None));
 }
 
 // As many rows as a batch may have, each with the greatest revenue.
@@ -91,12 +96,13 @@ fn dear_segment(alloc: Global) -> Result<Segment, Fault> {
     decode(alloc, spelled(alloc, 1, &rows)?)
 }
 
+// The sum of all their revenues.
+fn dear_sum(alloc: Global) -> Result<i128, Fault> {
+    let segment = dear_segment(alloc)?;
+    sum_of(alloc, &segment, Measure::Revenue, (0, 255), (0, 255))
+}
+
 #[test]
-fn adds_up_the_greatest_revenues(rt: HostRuntime) -> Result<(), Fail> {
-    let segment = dear_segment(rt.alloc())?;
-    assert_eq!(rt;
-        sum_of(rt.alloc(), &segment, Measure::Revenue, (0, 255), (0, 255)),
-        Ok(604462909807314587287552)
-    );
-    Ok(())
+fn adds_up_the_greatest_revenues(rt: HostRuntime) {
+    assert_eq!(rt; dear_sum(rt.alloc()), Ok(604462909807314587287552));
 }
