@@ -5,7 +5,9 @@ use column_segment::Segment;
 use cube_model::{Agg, Attr, Fault, Measure};
 use cube_query::Fold;
 use dimensions::{Dims, have_short_texts};
-use sample_star::{Asked, EVERY_ROW, FIRST_FACT, Fact, STAR, dim_rows, line_orders, query};
+use sample_star::{
+    Asked, Condition, EVERY_ROW, FIRST_FACT, Fact, STAR, dim_rows, line_orders, query,
+};
 use std::alloc::Global;
 
 /// The sums of prices and of discounts, by the regions of the customers.
@@ -16,6 +18,15 @@ const SUMS: Asked<'static> = Asked {
         Agg::Sum(Measure::Discounted),
     ],
     ..EVERY_ROW
+};
+
+/// The same for the customers of one region in one year.
+const CHOSEN_SUMS: Asked<'static> = Asked {
+    conditions: &[
+        Condition::OneOf(Attr::CustomerRegion, &["EUROPE"]),
+        Condition::Between(Attr::DateYear, "1993", "1993"),
+    ],
+    ..SUMS
 };
 
 /// A row with half of the least sum that passes the limit.
@@ -50,19 +61,53 @@ pub static TAKEN: [&[Fact<'static>]; 2] = [
     &[],
 ];
 
-/// What a fold over the sample dimensions says to a batch of fact rows.
+/// Rows with a key that no row has, in a dimension with a condition: before the keys of its rows, among them and behind.
+pub static UNKNOWN: [&[Fact<'static>]; 4] = [
+    &[Fact {
+        custkey: 0,
+        ..FIRST_FACT
+    }],
+    &[Fact {
+        custkey: 3,
+        ..FIRST_FACT
+    }],
+    &[Fact {
+        orderdate: 19950101,
+        ..FIRST_FACT
+    }],
+    &[Fact {
+        orderdate: 19971203,
+        ..FIRST_FACT
+    }],
+];
+
+/// What a fold of sums over the sample dimensions says to a batch of fact rows.
 pub fn outcome_of(alloc: Global, facts: &[Fact<'_>]) -> Result<(), Fault> {
+    outcome_of_asking(alloc, facts, &SUMS)
+}
+
+/// What a fold of sums over some customers and days says to it.
+pub fn outcome_of_choosing(alloc: Global, facts: &[Fact<'_>]) -> Result<(), Fault> {
+    outcome_of_asking(alloc, facts, &CHOSEN_SUMS)
+}
+
+fn outcome_of_asking(alloc: Global, facts: &[Fact<'_>], asked: &Asked<'_>) -> Result<(), Fault> {
     let dimensions = dim_rows(alloc, &STAR)?;
     if !have_short_texts(&dimensions) {
         return Err(Fault::BadQuery);
     }
     let dims = Dims::build(alloc, &dimensions)?;
-    add_to_new(alloc, &dims, facts)
+    add_to_new(alloc, &dims, facts, asked)
 }
 
-fn add_to_new(alloc: Global, dims: &Dims, facts: &[Fact<'_>]) -> Result<(), Fault> {
+fn add_to_new(
+    alloc: Global,
+    dims: &Dims,
+    facts: &[Fact<'_>],
+    asked: &Asked<'_>,
+) -> Result<(), Fault> {
     let segment = batch_of(alloc, facts)?;
-    add_segment_to_new(alloc, dims, &segment)
+    add_segment_to_new(alloc, dims, &segment, asked)
 }
 
 fn batch_of(alloc: Global, facts: &[Fact<'_>]) -> Result<Segment, Fault> {
@@ -70,8 +115,13 @@ fn batch_of(alloc: Global, facts: &[Fact<'_>]) -> Result<Segment, Fault> {
     segment_of(alloc, rows.as_slice())
 }
 
-fn add_segment_to_new(alloc: Global, dims: &Dims, segment: &Segment) -> Result<(), Fault> {
-    let query = query(alloc, &SUMS)?;
+fn add_segment_to_new(
+    alloc: Global,
+    dims: &Dims,
+    segment: &Segment,
+    asked: &Asked<'_>,
+) -> Result<(), Fault> {
+    let query = query(alloc, asked)?;
     let mut fold = Fold::new(alloc, dims, &query)?;
     fold.add_segment(dims, segment)
 }

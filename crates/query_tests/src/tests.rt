@@ -5,7 +5,9 @@ use super::examples::{
     AVERAGED, COARSER, Example, IMPROPER, ORDERED, OVER_SAMPLE, PLAIN, SIX_COLUMNS,
 };
 use super::queries::Reach;
-use super::refusals::{REFUSED, TAKEN, outcome_of as outcome_of_adding};
+use super::refusals::{
+    REFUSED, TAKEN, UNKNOWN, outcome_of as outcome_of_adding, outcome_of_choosing,
+};
 use super::running::{answer_of, is_as_worked};
 use cube_model::Fault;
 use std::alloc::Global;
@@ -61,6 +63,14 @@ fn improper_queries_are_refused(rt: HostRuntime) {
 fn batches_that_may_not_be_folded_are_refused(rt: HostRuntime) {
     for facts in &REFUSED {
         let outcome = outcome_of_adding(rt.alloc(), facts);
+        assert_eq!(rt; outcome, Err(Fault::BadLayout), "{facts:?}");
+    }
+}
+
+#[test]
+fn unknown_keys_are_refused_where_conditions_are(rt: HostRuntime) {
+    for facts in &UNKNOWN {
+        let outcome = outcome_of_choosing(rt.alloc(), facts);
         assert_eq!(rt; outcome, Err(Fault::BadLayout), "{facts:?}");
     }
 }
