@@ -6,6 +6,8 @@ mod grouped;
 #[cfg(test)]
 mod merges;
 #[cfg(test)]
+mod most_cells;
+#[cfg(test)]
 mod runs;
 #[cfg(test)]
 mod sample;

@@ -1,6 +1,6 @@
 //! Cases, and what comes of them.
 use crate::words::Words;
-use cube_model::Fault;
+use cube_model::{Fault, Query};
 use sample_star::{TABLES, Tables, in_sevens};
 use ssb_eval::eval_texts;
 use std::alloc::Global;
@@ -43,11 +43,13 @@ fn given_or(text: Option<&'static str>, sample: &'static [u8]) -> &'static [u8] 
     }
 }
 
-/// The report of a query over the texts of tables.
-pub fn report(alloc: Global, given: &Given, words: &Words) -> Result<Vec<u8>, Fault> {
-    let query = words.read(alloc)?;
-    let tables = given.tables();
-    let mut out = Vec::new(alloc);
+/// Writes the report of a query over the texts of tables.
+fn write_report(
+    alloc: Global,
+    tables: &Tables<'_>,
+    query: &Query,
+    out: &mut Vec<u8>,
+) -> Result<(), Fault> {
     eval_texts(
         alloc,
         in_sevens(tables.customer),
@@ -55,9 +57,16 @@ pub fn report(alloc: Global, given: &Given, words: &Words) -> Result<Vec<u8>, Fa
         in_sevens(tables.part),
         in_sevens(tables.date),
         in_sevens(tables.lineorder),
-        &query,
-        &mut out,
-    )?;
+        query,
+        out,
+    )
+}
+
+/// The report of a query over the texts of tables.
+pub fn report(alloc: Global, given: &Given, words: &Words) -> Result<Vec<u8>, Fault> {
+    let query = words.read(alloc)?;
+    let mut out = Vec::new(alloc);
+    write_report(alloc, &given.tables(), &query, &mut out)?;
     Ok(out)
 }
 

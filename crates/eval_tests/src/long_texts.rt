@@ -62,21 +62,26 @@ fn text_of(alloc: Global, lines: &[(usize, &str)]) -> Result<Vec<u8>, Fault> {
     Ok(text)
 }
 
-/// The report of query 1.1 over a text of facts.
-fn first_query(alloc: Global, lines: &[(usize, &str)]) -> Result<Vec<u8>, Fault> {
-    let text = text_of(alloc, lines)?;
+/// Writes the report of query 1.1 over a text of facts.
+fn write_first_query(alloc: Global, facts: &[u8], out: &mut Vec<u8>) -> Result<(), Fault> {
     let query = FIRST.read(alloc)?;
-    let mut out = Vec::new(alloc);
     eval_texts(
         alloc,
         whole(TABLES.customer),
         whole(TABLES.supplier),
         whole(TABLES.part),
         whole(TABLES.date),
-        whole(text.as_slice()),
+        whole(facts),
         &query,
-        &mut out,
-    )?;
+        out,
+    )
+}
+
+/// The report of query 1.1 over a text of facts.
+fn first_query(alloc: Global, lines: &[(usize, &str)]) -> Result<Vec<u8>, Fault> {
+    let text = text_of(alloc, lines)?;
+    let mut out = Vec::new(alloc);
+    write_first_query(alloc, text.as_slice(), &mut out)?;
     Ok(out)
 }
 

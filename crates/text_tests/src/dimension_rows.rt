@@ -1,44 +1,50 @@
 //! The rows of the four dimensions.
 use crate::joined::{LONGEST_TEXT, joined};
 use batch_loader::{Lines, read_customers, read_dates, read_parts, read_suppliers};
-use cube_model::{CustomerRow, DimRows, Fault, Items, Place, SupplierRow};
+use cube_model::{CustomerRow, DateRow, DimRows, Fault, Items, PartRow, Place, SupplierRow};
 use sample_star::{STAR, TABLES, Tables, dim_rows, in_sevens};
 use std::alloc::Global;
 use std::test::Fail;
 
-/// The rows of four texts.
-fn rows_of(alloc: Global, tables: &Tables<'_>) -> Result<DimRows, Fault> {
-    let mut customer = Lines::new(alloc, in_sevens(tables.customer))?;
-    let mut supplier = Lines::new(alloc, in_sevens(tables.supplier))?;
-    let customers = read_customers(alloc, &mut customer)?;
-    let suppliers = read_suppliers(alloc, &mut supplier)?;
-    rest_of(alloc, tables, customers, suppliers)
+fn customers_of(alloc: Global, text: &[u8]) -> Result<Items<CustomerRow>, Fault> {
+    let mut lines = Lines::new(alloc, in_sevens(text))?;
+    read_customers(alloc, &mut lines)
 }
 
-/// The same, where those of two are known.
-fn rest_of(
-    alloc: Global,
-    tables: &Tables<'_>,
-    customers: Items<CustomerRow>,
-    suppliers: Items<SupplierRow>,
-) -> Result<DimRows, Fault> {
-    let mut part = Lines::new(alloc, in_sevens(tables.part))?;
-    let mut date = Lines::new(alloc, in_sevens(tables.date))?;
-    let parts = read_parts(alloc, &mut part)?;
-    let dates = read_dates(alloc, &mut date)?;
+fn suppliers_of(alloc: Global, text: &[u8]) -> Result<Items<SupplierRow>, Fault> {
+    let mut lines = Lines::new(alloc, in_sevens(text))?;
+    read_suppliers(alloc, &mut lines)
+}
+
+fn parts_of(alloc: Global, text: &[u8]) -> Result<Items<PartRow>, Fault> {
+    let mut lines = Lines::new(alloc, in_sevens(text))?;
+    read_parts(alloc, &mut lines)
+}
+
+fn dates_of(alloc: Global, text: &[u8]) -> Result<Items<DateRow>, Fault> {
+    let mut lines = Lines::new(alloc, in_sevens(text))?;
+    read_dates(alloc, &mut lines)
+}
+
+/// The rows of four texts.
+fn rows_of(alloc: Global, tables: &Tables<'_>) -> Result<DimRows, Fault> {
     Ok(DimRows {
-        customers,
-        suppliers,
-        parts,
-        dates,
+        customers: customers_of(alloc, tables.customer)?,
+        suppliers: suppliers_of(alloc, tables.supplier)?,
+        parts: parts_of(alloc, tables.part)?,
+        dates: dates_of(alloc, tables.date)?,
     })
+}
+
+/// Whether the sample tables have the sample rows.
+fn are_read(alloc: Global) -> Result<bool, Fault> {
+    let rows = rows_of(alloc, &TABLES)?;
+    Ok(rows == dim_rows(alloc, &STAR)?)
 }
 
 #[test]
 fn sample_tables_are_read(rt: HostRuntime) -> Result<(), Fail> {
-    let rows = rows_of(rt.alloc(), &TABLES)?;
-    let want = dim_rows(rt.alloc(), &STAR)?;
-    assert!(rt; rows == want);
+    assert!(rt; are_read(rt.alloc())?);
     Ok(())
 }
 

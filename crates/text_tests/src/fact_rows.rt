@@ -3,7 +3,9 @@ use crate::joined::{FRONT, LONGEST_TEXT, ROW, ZEROS, joined};
 use crate::outcomes::{has_rows, rows_in};
 use batch_loader::{Lines, read_batch};
 use cube_model::{Fault, LineOrder, RowText};
-use sample_star::{FACTS, FIRST_FACT, Fact, TABLES, in_sevens, line_order, line_orders, whole};
+use sample_star::{
+    FACTS, FIRST_FACT, Fact, Pieces, TABLES, in_sevens, line_order, line_orders, whole,
+};
 use std::alloc::Global;
 use std::test::Fail;
 
@@ -181,53 +183,67 @@ fn fields_stand_anywhere_in_a_line(rt: HostRuntime) -> Result<(), Fail> {
     Ok(())
 }
 
+/// How many rows a batch may have, and from where to where those that come lie among the sample rows.
+static BATCHES: [(usize, usize, usize); 4] = [(2, 0, 2), (0, 0, 0), (2, 2, 3), (2, 3, 3)];
+
+/// The first batch that has other rows, by its place from 0.
+fn first_other(
+    alloc: Global,
+    lines: &mut Lines<Pieces<'_>>,
+    rows: &[LineOrder],
+) -> Result<Option<usize>, Fault> {
+    for (place, (most, first, end)) in BATCHES.iter().enumerate() {
+        let batch = read_batch(alloc, lines, *most)?;
+        if rows.get(*first..*end) != Some(batch.as_slice()) {
+            return Ok(Some(place));
+        }
+    }
+    Ok(None)
+}
+
 #[test]
 fn batches_follow_each_other(rt: HostRuntime) -> Result<(), Fail> {
+    let rows = line_orders(rt.alloc(), &FACTS)?;
     let mut lines = Lines::new(rt.alloc(), in_sevens(TABLES.lineorder))?;
-    let want = line_orders(rt.alloc(), &FACTS)?;
-    for (most, batch) in [
-        (2, &want[..2]),
-        (0, &want[..0]),
-        (2, &want[2..]),
-        (2, &want[3..]),
-    ] {
-        let rows = read_batch(rt.alloc(), &mut lines, most)?;
-        assert!(rt;
-            rows.as_slice() == batch && lines.fault() == None,
-            "{most} rows"
-        );
-    }
-    assert_eq!(rt; lines.number(), 3);
+    let other = first_other(rt.alloc(), &mut lines, rows.as_slice());
+    assert_eq!(rt; (other, lines.fault(), lines.number()), (Ok(None), None, 3));
     Ok(())
+}
+
+/// How three calls for rows are refused, what the lines say then, and the number of the last line.
+fn refusals(alloc: Global, text: &[u8]) -> Result<([Option<Fault>; 3], Option<Fault>, u64), Fault> {
+    let mut lines = Lines::new(alloc, whole(text))?;
+    let refused = [
+        read_batch(alloc, &mut lines, 2).err(),
+        read_batch(alloc, &mut lines, 0).err(),
+        read_batch(alloc, &mut lines, 9).err(),
+    ];
+    Ok((refused, lines.fault(), lines.number()))
 }
 
 #[test]
 fn a_refused_text_stays_refused(rt: HostRuntime) -> Result<(), Fail> {
     let text = joined(rt.alloc(), &[ROW, b"\n1|\n", ROW])?;
-    let mut lines = Lines::new(rt.alloc(), whole(text.as_slice()))?;
-    let fault = Fault::FieldCount { line: 2 };
-    for most in [2, 0, 9] {
-        assert_eq!(rt;
-            read_batch(rt.alloc(), &mut lines, most),
-            Err(fault),
-            "{most} rows"
-        );
-    }
-    assert_eq!(rt; (lines.fault(), lines.number()), (Some(fault), 2));
+    let fault = Some(Fault::FieldCount { line: 2 });
+    assert_eq!(rt;
+        refusals(rt.alloc(), text.as_slice()),
+        Ok(([fault; 3], fault, 2))
+    );
     Ok(())
+}
+
+/// How many rows are read in a batch of one.
+fn count_of_one(alloc: Global, text: &[u8]) -> Result<usize, Fault> {
+    let mut lines = Lines::new(alloc, whole(text))?;
+    let rows = read_batch(alloc, &mut lines, 1)?;
+    Ok(rows.len())
 }
 
 #[test]
 fn rows_before_a_refused_line_are_taken_alone(rt: HostRuntime) -> Result<(), Fail> {
     let text = joined(rt.alloc(), &[ROW, b"\n1|\n"])?;
-    let mut lines = Lines::new(rt.alloc(), whole(text.as_slice()))?;
-    assert_eq!(rt;
-        read_batch(rt.alloc(), &mut lines, 1).map(|rows| rows.len()),
-        Ok(1)
-    );
-    assert_eq!(rt;
-        rows_in(rt.alloc(), whole(text.as_slice())),
-        Err(Fault::FieldCount { line: 2 })
-    );
+    let one = count_of_one(rt.alloc(), text.as_slice());
+    let all = rows_in(rt.alloc(), whole(text.as_slice())).err();
+    assert_eq!(rt; (one, all), (Ok(1), Some(Fault::FieldCount { line: 2 })));
     Ok(())
 }

@@ -4,8 +4,6 @@
 #[cfg(test)]
 mod dimension_rows;
 #[cfg(test)]
-mod draw;
-#[cfg(test)]
 mod fact_rows;
 #[cfg(test)]
 mod joined;

@@ -1,7 +1,7 @@
 //! Texts of a few lines of facts, with faults of every kind among them.
-use crate::draw::Draw;
 use crate::joined::LONGEST_TEXT;
 use cube_model::Fault;
+use sample_star::Draw;
 use std::alloc::Global;
 
 /// What is in a number field now and then: numbers at the limits of the columns, and what is no number.
@@ -58,6 +58,14 @@ static ENDS: [&[u8]; 16] = [
     b"|\r\n", b"|\n", b"||\n", b"\r\r\n", b"\n\n",
 ];
 
+/// One of some texts, if there are any.
+fn one_of<'a>(draw: &mut Draw, texts: &[&'a [u8]]) -> &'a [u8] {
+    match draw.pick(texts) {
+        Some(text) => text,
+        None => b"",
+    }
+}
+
 /// The text of a number.
 pub fn random_text(alloc: Global, seed: u64) -> Result<Vec<u8>, Fault> {
     let mut draw = Draw::new(seed);
@@ -84,7 +92,7 @@ fn push_line(alloc: Global, text: &mut Vec<u8>, draw: &mut Draw) -> Result<(), F
         }
         push_field(alloc, text, draw, place)?;
     }
-    text.extend_from_slice(draw.pick(&ENDS))?;
+    text.extend_from_slice(one_of(draw, &ENDS))?;
     Ok(())
 }
 
@@ -106,7 +114,7 @@ fn push_number(
     limit: u64,
 ) -> Result<(), Fault> {
     if draw.below(50) == 0 {
-        text.extend_from_slice(draw.pick(&NUMBERS))?;
+        text.extend_from_slice(one_of(draw, &NUMBERS))?;
         return Ok(());
     }
     let number = draw.amount().min(limit);
@@ -128,7 +136,7 @@ fn push_words(text: &mut Vec<u8>, draw: &mut Draw) -> Result<(), Fault> {
                 text.extend_from_slice(LONGEST_TEXT)?;
             }
         }
-        _ => text.extend_from_slice(draw.pick(&TEXTS))?,
+        _ => text.extend_from_slice(one_of(draw, &TEXTS))?,
     }
     Ok(())
 }
