@@ -34,8 +34,23 @@ pub fn answer_facts<R: Read + Drop>(
     ensures { (text : List ℕ) → R.remaining lineorder ≡ Some text → Gives (answer_of query.now dims.now text) result }
 {
     let mut lines = Lines::new(alloc, lineorder)?;
+    answer_lines(alloc, dims, query, &mut lines)
+}
+
+/// The answer over all batches of lines of which none was read.
+fn answer_lines<R: Read>(
+    alloc: Global,
+    dims: &Dims,
+    query: &Query,
+    lines: &mut Lines<R>,
+) -> Result<Answer, Fault>
+    requires proper { IsProper query.now }
+    requires number { lines.old.number ≡ 0 }
+    requires fault { lines.old.fault ≡ None }
+    ensures { (text : List ℕ) → lines.old.left ≡ Some text → Gives (answer_of query.now dims.now text) result }
+{
     let mut fold = Fold::new(alloc, dims, query)?;
-    fold_lines(alloc, dims, &mut lines, &mut fold)
+    fold_lines(alloc, dims, lines, &mut fold)
 }
 
 /// The answer of a fold that begins, over all batches of some lines.
