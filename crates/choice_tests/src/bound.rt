@@ -55,24 +55,35 @@ fn greatest(alloc: Global, before: &[View]) -> Result<u64, Fault> {
     Ok(greatest)
 }
 
+// The benefit of the greedy choice of so many views.
+fn greedy_total(alloc: Global, count: u8) -> Result<u64, Fault> {
+    total(alloc, greedy(alloc, ROWS, &COUNTS, count)?.as_slice())
+}
+
+// The benefit of the pair of two views, and the greatest of a triple with both.
+fn with_both(alloc: Global, one: u16, other: u16) -> Result<(u64, u64), Fault> {
+    let (Some(one), Some(other)) = (View::new(one), View::new(other)) else {
+        return Err(Fault::BadLayout);
+    };
+    Ok((
+        total(alloc, &[one, other])?,
+        greatest(alloc, &[one, other])?,
+    ))
+}
+
 #[test]
 fn no_other_choice_passes_the_bound(rt: HostRuntime) -> Result<(), Fail> {
-    let pair = total(rt.alloc(), greedy(rt.alloc(), ROWS, &COUNTS, 2)?.as_slice())?;
-    let triple = total(rt.alloc(), greedy(rt.alloc(), ROWS, &COUNTS, 3)?.as_slice())?;
+    let (pair, triple) = (greedy_total(rt.alloc(), 2)?, greedy_total(rt.alloc(), 3)?);
     for one in 240..256 {
         for other in 240..256 {
-            let (Some(one), Some(other)) = (View::new(one), View::new(other)) else {
-                return Err(Fail::from(Fault::BadLayout));
-            };
-            let pairs = total(rt.alloc(), &[one, other])?;
+            let (pairs, triples) = with_both(rt.alloc(), one, other)?;
             assert!(rt;
                 pairs.saturating_mul(3) <= pair.saturating_mul(4),
-                "{one:?} {other:?}"
+                "{one} {other}"
             );
-            let triples = greatest(rt.alloc(), &[one, other])?;
             assert!(rt;
                 triples.saturating_mul(19) <= triple.saturating_mul(27),
-                "{one:?} {other:?}"
+                "{one} {other}"
             );
         }
     }

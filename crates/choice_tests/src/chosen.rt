@@ -1,7 +1,4 @@
 //! Greedy lists that were worked out apart from the code, from the definitions.
-ghost use Rattle.std.specs.Prelude.{◌≤◌};
-ghost use Rattle.view_choice.specs.Cuboids.{most_fact_rows};
-
 use cube_model::Fault;
 use lattice::{Counts, LevelCounts};
 use std::alloc::Global;
@@ -76,7 +73,7 @@ const MANY: Counts = Counts {
 };
 
 // Fact rows, members, how many views are asked for, those chosen and their benefits.
-const CHOICES: [(u64, Counts, u8, &[u16], &[u64]); 7] = [
+static CHOICES: [(u64, Counts, u8, &[u16], &[u64]); 7] = [
     (3, FEW, 3, &[59, 203, 248], &[8, 6, 6]),
     (3, FEW, 16, &[59, 203, 248, 243, 251], &[8, 6, 6, 2, 2]),
     (
@@ -114,9 +111,10 @@ const CHOICES: [(u64, Counts, u8, &[u16], &[u64]); 7] = [
 ];
 
 // The numbers of the views that are chosen, and their benefits.
-fn chosen(alloc: Global, rows: u64, counts: &Counts, k: u8) -> Result<(Vec<u16>, Vec<u64>), Fault>
-    requires { rows ≤ most_fact_rows }
-{
+fn chosen(alloc: Global, rows: u64, counts: &Counts, k: u8) -> Result<(Vec<u16>, Vec<u64>), Fault> {
+    if rows > 268_435_456 {
+        return Err(Fault::TooManyRows);
+    }
     let views = greedy(alloc, rows, counts, k)?;
     let mut indexes = Vec::new(alloc);
     for view in views.as_slice() {
@@ -127,11 +125,13 @@ fn chosen(alloc: Global, rows: u64, counts: &Counts, k: u8) -> Result<(Vec<u16>,
 
 #[test]
 fn chooses_the_greedy_list(rt: HostRuntime) -> Result<(), Fail> {
-    for (rows, counts, k, indexes, gained) in CHOICES {
-        assert!(rt; rows <= 268_435_456);
-        let found = chosen(rt.alloc(), rows, &counts, k)?;
-        assert_eq!(rt; found.0.as_slice(), indexes, "{k} of {rows} rows");
-        assert_eq!(rt; found.1.as_slice(), gained, "{k} of {rows} rows");
+    for (rows, counts, k, indexes, gained) in &CHOICES {
+        let found = chosen(rt.alloc(), *rows, counts, *k)?;
+        assert_eq!(rt;
+            (found.0.as_slice(), found.1.as_slice()),
+            (*indexes, *gained),
+            "{k} of {rows} rows"
+        );
     }
     Ok(())
 }

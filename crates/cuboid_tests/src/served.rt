@@ -132,18 +132,28 @@ fn the_chosen_views_serve_these_queries(rt: HostRuntime) -> Result<(), Fail> {
     Ok(())
 }
 
+// The numbers of the views that serve such a query wrongly.
+fn wrong_for(
+    alloc: Global,
+    columns: &[Attr],
+    conditions: &[Condition<'_>],
+    coarsest: Option<u16>,
+) -> Result<Vec<u16>, Fault> {
+    let asked = Asked {
+        kind: Kind::Plain,
+        columns,
+        conditions,
+        aggregates: &[Agg::Count],
+        order: None,
+    };
+    let query = query(alloc, &asked)?;
+    wrong(alloc, &query, coarsest)
+}
+
 #[test]
 fn other_queries_are_served_so_too(rt: HostRuntime) -> Result<(), Fail> {
     for (columns, conditions, coarsest) in &OTHERS {
-        let asked = Asked {
-            kind: Kind::Plain,
-            columns,
-            conditions,
-            aggregates: &[Agg::Count],
-            order: None,
-        };
-        let query = query(rt.alloc(), &asked)?;
-        let wrong = wrong(rt.alloc(), &query, *coarsest)?;
+        let wrong = wrong_for(rt.alloc(), columns, conditions, *coarsest)?;
         assert_eq!(rt; wrong.as_slice(), [0u16; 0].as_slice());
     }
     Ok(())

@@ -1,6 +1,7 @@
 //! Rows, texts, members and lists, each call once.
-use cube_model::{Items, Measure, Member, RowText};
+use cube_model::{Fault, Items, Measure, Member, RowText};
 use sample_star::{FIRST_FACT, Fact, line_order, text};
+use std::alloc::Global;
 use std::test::Fail;
 
 /// The first sample row at a loss.
@@ -37,15 +38,18 @@ static ROW_TEXTS: [(&str, &str, bool); 5] = [
     ("seventeen bytes .", "seventeen bytes .", true),
 ];
 
+/// Whether a kept text has the bytes of a text, and whether it is equal to that of another.
+fn kept(alloc: Global, left: &str, right: &str) -> Result<(bool, bool), Fault> {
+    let kept = RowText::from_slice(alloc, left.as_bytes())?;
+    let other = RowText::from_slice(alloc, right.as_bytes())?;
+    Ok((kept.as_slice() == left.as_bytes(), kept == other))
+}
+
 #[test]
-fn row_texts_are_their_bytes_at_any_length(rt: HostRuntime) -> Result<(), Fail> {
+fn row_texts_are_their_bytes_at_any_length(rt: HostRuntime) {
     for (left, right, same) in &ROW_TEXTS {
-        let kept = RowText::from_slice(rt.alloc(), left.as_bytes())?;
-        let other = RowText::from_slice(rt.alloc(), right.as_bytes())?;
-        assert!(rt; kept.as_slice() == left.as_bytes());
-        assert_eq!(rt; kept == other, *same);
+        assert_eq!(rt; kept(rt.alloc(), left, right), Ok((true, *same)));
     }
-    Ok(())
 }
 
 #[test]
