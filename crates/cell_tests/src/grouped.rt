@@ -68,10 +68,15 @@ fn take_in(alloc: Global, dims: &Dims, facts: &[Fact<'_>], cells: &mut Cells) ->
     add_rows(cells, alloc, dims, &RowSlice(&rows))
 }
 
+// The dimensions of the sample star.
+fn sample_dims(alloc: Global) -> Result<Dims, Fault> {
+    let rows = dim_rows(alloc, &STAR)?;
+    Dims::build(alloc, &rows)
+}
+
 // The cells of batches of facts under a view.
 fn grouped(alloc: Global, index: u16, batches: &[&[Fact<'_>]]) -> Result<Cells, Fault> {
-    let rows = dim_rows(alloc, &STAR)?;
-    let dims = Dims::build(alloc, &rows)?;
+    let dims = sample_dims(alloc)?;
     let Some(view) = View::new(index) else {
         return Err(Fault::BadQuery);
     };
@@ -122,7 +127,7 @@ fn groups_batches_as_their_rows(rt: HostRuntime) -> Result<(), Fail> {
 }
 
 // Batches, the view, and its cell or none, where there is at most one.
-const SINGLE: [(&[Fact<'static>], u16, Option<([u16; 4], Summaries)>); 4] = [
+static SINGLE: [(&[Fact<'static>], u16, Option<([u16; 4], Summaries)>); 4] = [
     (&[], 248, None),
     (&[THIRD_FACT], 0, Some(([0, 0, 1, 1], THIRD))),
     (&[THIRD_FACT], 85, Some(([0, 0, 1, 1], THIRD))),
@@ -162,7 +167,7 @@ const STRANGER: Fact<'static> = Fact {
 };
 
 // A view, a batch behind the sample rows, and whether it is taken.
-const BEHIND: [(u16, &[Fact<'static>], bool); 6] = [
+static BEHIND: [(u16, &[Fact<'static>], bool); 6] = [
     (255, &[RICH], false),
     (0, &[RICH], false),
     (255, &[REDUCED], false),
@@ -171,17 +176,29 @@ const BEHIND: [(u16, &[Fact<'static>], bool); 6] = [
     (203, &[FIRST_FACT, STRANGER], false),
 ];
 
+// What comes of a batch behind the sample rows, and whether the cells stay as they were.
+fn taken_behind(
+    alloc: Global,
+    dims: &Dims,
+    index: u16,
+    facts: &[Fact<'_>],
+) -> Result<(Result<(), Fault>, bool), Fault> {
+    let mut cells = grouped(alloc, index, &[&FACTS])?;
+    let before = Vec::from_slice(alloc, cells.as_slice())?;
+    let found = take_in(alloc, dims, facts, &mut cells);
+    Ok((found, before.as_slice() == cells.as_slice()))
+}
+
 #[test]
 fn refuses_rows_and_stays_as_it_was(rt: HostRuntime) -> Result<(), Fail> {
-    let rows = dim_rows(rt.alloc(), &STAR)?;
-    let dims = Dims::build(rt.alloc(), &rows)?;
+    let dims = sample_dims(rt.alloc())?;
     for (view, facts, taken) in BEHIND {
-        let mut cells = grouped(rt.alloc(), view, &[&FACTS])?;
-        let before = Vec::from_slice(rt.alloc(), cells.as_slice())?;
-        let found = take_in(rt.alloc(), &dims, facts, &mut cells);
-        let stays = before.as_slice() == cells.as_slice();
         let want = if taken { Ok(()) } else { Err(Fault::BadLayout) };
-        assert_eq!(rt; (found, stays), (want, !taken), "view {view}");
+        assert_eq!(rt;
+            taken_behind(rt.alloc(), &dims, view, facts),
+            Ok((want, !taken)),
+            "view {view}"
+        );
     }
     Ok(())
 }

@@ -15,15 +15,18 @@ fn take_in(alloc: Global, cells: &mut Cells, other: &Cells) -> Result<(), Fault>
     cells.merge(alloc, other)
 }
 
+// The cells of view 248 with others taken in.
+fn merged(alloc: Global, cells: &[Cell], other: &[Cell]) -> Result<Cells, Fault> {
+    let mut cells = cells_of(alloc, 248, cells)?;
+    let other = cells_of(alloc, 248, other)?;
+    take_in(alloc, &mut cells, &other)?;
+    Ok(cells)
+}
+
 #[test]
 fn merges_the_cells_of_one_key(rt: HostRuntime) -> Result<(), Fail> {
-    let mut cells = cells_of(
-        rt.alloc(),
-        248,
-        &[at_day(0, 1, FIRST), at_day(1, 1, SECOND)],
-    )?;
-    let other = cells_of(rt.alloc(), 248, &[at_day(1, 1, THIRD)])?;
-    take_in(rt.alloc(), &mut cells, &other)?;
+    let cells = [at_day(0, 1, FIRST), at_day(1, 1, SECOND)];
+    let cells = merged(rt.alloc(), &cells, &[at_day(1, 1, THIRD)])?;
     let bytes = cells.encode(rt.alloc(), Span { from: 0, to: 1 })?;
     assert_eq!(rt; bytes.as_slice(), SPELLED.as_slice());
     Ok(())
@@ -31,37 +34,30 @@ fn merges_the_cells_of_one_key(rt: HostRuntime) -> Result<(), Fail> {
 
 #[test]
 fn merges_by_ascending_keys(rt: HostRuntime) -> Result<(), Fail> {
-    let mut cells = cells_of(
-        rt.alloc(),
-        248,
-        &[at_day(1, 1, SECOND), at_day(4, 1, THIRD)],
-    )?;
+    let cells = [at_day(1, 1, SECOND), at_day(4, 1, THIRD)];
     let other = [
         at_day(0, 1, FIRST),
         at_day(1, 1, THIRD),
         at_day(3, 1, FIRST),
     ];
-    let other = cells_of(rt.alloc(), 248, &other)?;
-    take_in(rt.alloc(), &mut cells, &other)?;
     let want = [
         at_day(0, 1, FIRST),
         at_day(1, 2, LAST_TWO),
         at_day(3, 1, FIRST),
         at_day(4, 1, THIRD),
     ];
-    assert_eq!(rt; cells.as_slice(), want.as_slice());
+    let found = merged(rt.alloc(), &cells, &other)?;
+    assert_eq!(rt; found.as_slice(), want.as_slice());
     Ok(())
 }
 
 #[test]
 fn merges_with_no_cell(rt: HostRuntime) -> Result<(), Fail> {
-    let none = cells_of(rt.alloc(), 248, &[])?;
-    let mut cells = cells_of(rt.alloc(), 248, &[at_day(0, 1, FIRST)])?;
-    take_in(rt.alloc(), &mut cells, &none)?;
-    assert_eq!(rt; cells.as_slice(), [at_day(0, 1, FIRST)].as_slice());
-    let mut empty = none;
-    take_in(rt.alloc(), &mut empty, &cells)?;
-    assert_eq!(rt; empty.as_slice(), cells.as_slice());
+    let one = [at_day(0, 1, FIRST)];
+    for (cells, other) in [(one.as_slice(), [].as_slice()), (&[], &one)] {
+        let found = merged(rt.alloc(), cells, other)?;
+        assert_eq!(rt; found.as_slice(), one.as_slice());
+    }
     Ok(())
 }
 
@@ -97,23 +93,31 @@ const LIMITS: [(u64, i64, u64, i64, bool); 6] = [
     (1, i64::MIN, 1, i64::MAX, false),
 ];
 
+// What comes of a merge with a cell, and whether the cells stay as they were.
+fn merge_of(
+    alloc: Global,
+    view: u32,
+    before: &[Cell],
+    more: Cell,
+) -> Result<(Result<(), Fault>, bool), Fault> {
+    let mut cells = cells_of(alloc, view, before)?;
+    let other = cells_of(alloc, view, &[more])?;
+    let found = take_in(alloc, &mut cells, &other);
+    Ok((found, cells.as_slice() == before))
+}
+
 #[test]
-fn refuses_numbers_that_pass_their_types(rt: HostRuntime) -> Result<(), Fail> {
+fn refuses_numbers_that_pass_their_types(rt: HostRuntime) {
     for (count, sum, more, plus, refused) in LIMITS {
         let before = [at_day(0, 1, FIRST), at_day(1, count, profit(sum))];
-        let mut cells = cells_of(rt.alloc(), 248, &before)?;
-        let other = cells_of(rt.alloc(), 248, &[at_day(1, more, profit(plus))])?;
-        let found = take_in(rt.alloc(), &mut cells, &other);
-        if refused {
-            assert_eq!(rt;
-                (found, cells.as_slice()),
-                (Err(Fault::BadLayout), before.as_slice())
-            );
+        let found = merge_of(rt.alloc(), 248, &before, at_day(1, more, profit(plus)));
+        let done = if refused {
+            Err(Fault::BadLayout)
         } else {
-            assert_eq!(rt; found, Ok(()), "{count} {sum}");
-        }
+            Ok(())
+        };
+        assert_eq!(rt; found, Ok((done, refused)), "{count} {sum}");
     }
-    Ok(())
 }
 
 // A cell of a city of customers and a brand.
@@ -152,10 +156,8 @@ fn most_pairs(alloc: Global) -> Result<Vec<Cell>, Fault> {
 #[test]
 fn refuses_one_cell_too_many(rt: HostRuntime) -> Result<(), Fail> {
     let most = most_pairs(rt.alloc())?;
-    let mut cells = cells_of(rt.alloc(), 51, &most)?;
-    let further = cells_of(rt.alloc(), 51, &[pair(511, 1)])?;
-    let refused = take_in(rt.alloc(), &mut cells, &further);
-    assert_eq!(rt; refused, Err(Fault::TooManyCells { view: 51 }));
-    assert_eq!(rt; cells.as_slice() == most.as_slice(), true);
+    let found = merge_of(rt.alloc(), 51, most.as_slice(), pair(511, 1));
+    let refused = Err(Fault::TooManyCells { view: 51 });
+    assert_eq!(rt; found, Ok((refused, true)));
     Ok(())
 }
