@@ -22,8 +22,6 @@ pub fn fold(alloc: Global, dims: &Dims, rows: &[LineOrder], query: &Query) -> Re
     ensures only { IfErr result (λ fault. fault ≢ Fault.BadQuery → (fault ≡ Fault.Memory) ⊎ (fault ≡ Fault.BadLayout)) }
 {
     let mut state = Fold::new(alloc, dims, query)?;
-    match state.add_rows(dims, rows) {
-        Ok(()) => state.finish(dims),
-        Err(fault) => Err(fault),
-    }
+    state.add_rows(dims, rows)?;
+    state.finish(dims)
 }

@@ -195,8 +195,6 @@ pub fn coarsen_all(
     if count == 0 {
         return Ok(());
     }
-    match coarsen(alloc, plan, kind, count - 1, slots, columns) {
-        Ok(()) => coarsen_all(alloc, plan, kind, count - 1, slots, columns),
-        Err(fault) => Err(fault),
-    }
+    coarsen(alloc, plan, kind, count - 1, slots, columns)?;
+    coarsen_all(alloc, plan, kind, count - 1, slots, columns)
 }

@@ -40,10 +40,8 @@ fn coarser_lines(
     let mut slots = slots.copy()?;
     let mut columns = copy_columns(alloc, columns)?;
     let count = query.columns.len();
-    match coarsen_all(alloc, plan, query.kind, count, &mut slots, &mut columns) {
-        Ok(()) => finest_lines(alloc, plan, query, columns.as_slice(), &slots),
-        Err(fault) => Err(fault),
-    }
+    coarsen_all(alloc, plan, query.kind, count, &mut slots, &mut columns)?;
+    finest_lines(alloc, plan, query, columns.as_slice(), &slots)
 }
 
 // The lines of the groups that there are.
@@ -64,10 +62,7 @@ fn finest_lines(
         → lines ≡ (answer plan.now.query plan.now.dimensions rows).lines) }
     ensures only { IfErr result (λ fault. fault ≡ Fault.Memory) }
 {
-    match lines_of(alloc, plan, query, columns, slots) {
-        Ok(lines) => Ok(lines),
-        Err(_) => Err(Fault::Memory),
-    }
+    Ok(lines_of(alloc, plan, query, columns, slots)?)
 }
 
 /// The lines of the answer over the rows of the groups by all columns.

@@ -32,10 +32,10 @@ fn group_slot_of<F: FactRows>(
         → Grow (group_count plan.now.dimensions plan.now.query.columns) first (entries_of slots.new) }
 {
     match plan.number(rows, place) {
-        Ok(Some(number)) => match slots.place(number) {
-            Ok(slot) => Ok(Some(slot)),
-            Err(_) => Err(Fault::Memory),
-        },
+        Ok(Some(number)) => {
+            let slot = slots.place(number)?;
+            Ok(Some(slot))
+        }
         Ok(None) => Ok(None),
         Err(_) => Err(Fault::BadLayout),
     }
@@ -60,19 +60,10 @@ pub fn group_slots_of<F: FactRows>(
     ensures grow { Grow (group_count plan.now.dimensions plan.now.query.columns) (entries_of slots.old)
         (entries_of slots.new) }
 {
-    let mut group_slots = match Vec::with_capacity(alloc, rows.count()) {
-        Ok(group_slots) => group_slots,
-        Err(_) => return Err(Fault::Memory),
-    };
+    let mut group_slots = Vec::with_capacity(alloc, rows.count())?;
     for place in 0..rows.count() {
-        let group_slot = match group_slot_of(plan, slots, rows, place) {
-            Ok(group_slot) => group_slot,
-            Err(fault) => return Err(fault),
-        };
-        match group_slots.push(group_slot) {
-            Ok(()) => {}
-            Err(_) => return Err(Fault::Memory),
-        }
+        let group_slot = group_slot_of(plan, slots, rows, place)?;
+        group_slots.push(group_slot)?;
     }
     Ok(group_slots)
 }

@@ -49,10 +49,7 @@ pub(crate) fn create<D: Sectors>(
         Ok(Some(_)) => return Err(Fault::AlreadyFormatted),
         Err(_) => return Err(Fault::Device),
     }
-    let plan = match first_plan(alloc, device.count(), puts, root, layout) {
-        Ok(plan) => plan,
-        Err(fault) => return Err(fault),
-    };
+    let plan = first_plan(alloc, device.count(), puts, root, layout)?;
     match publish(device, puts, &plan) {
         Ok(()) => Ok(plan),
         Err(_) => Err(Fault::Device),

@@ -51,13 +51,11 @@ pub(crate) fn find<D: Sectors>(alloc: Global, device: &mut D) -> Result<Found, F
     if superblock.sectors != device.count() {
         return Err(Fault::DeviceSize);
     }
-    match read_catalogue(alloc, device, &superblock) {
-        Ok(catalogue) => Ok(Found {
-            superblock,
-            catalogue,
-        }),
-        Err(fault) => Err(fault),
-    }
+    let catalogue = read_catalogue(alloc, device, &superblock)?;
+    Ok(Found {
+        superblock,
+        catalogue,
+    })
 }
 
 // The superblock of the greater generation, after a sync.
@@ -132,12 +130,7 @@ fn parse(alloc: Global, superblock: &Super, bytes: &[u8]) -> Result<Catalogue, F
     ensures laid_out { IfOk result (λ c. AreLaidOut superblock.now.sectors (used_by superblock.now c.entries.items)) }
     ensures refused { IfErr result (λ fault. (fault ≡ Fault.Memory) ⊎ ((fault ≡ Fault.BadLayout) × SpellNone superblock.now bytes.now)) }
 {
-    let catalogue = match decode_catalogue(alloc, bytes) {
-        Ok(catalogue) => catalogue,
-        Err(fault) => return Err(fault),
-    };
-    match check_extents(alloc, superblock, &catalogue.entries) {
-        Ok(()) => Ok(catalogue),
-        Err(fault) => Err(fault),
-    }
+    let catalogue = decode_catalogue(alloc, bytes)?;
+    check_extents(alloc, superblock, &catalogue.entries)?;
+    Ok(catalogue)
 }

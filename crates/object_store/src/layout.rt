@@ -44,10 +44,8 @@ pub(crate) fn check_extents(
         × (¬ AreLaidOut superblock.now.sectors (used_by superblock.now entries.now)))) }
 {
     let used = used_extents(alloc, superblock, entries)?;
-    match Free::from_used(alloc, superblock.sectors, &used) {
-        Ok(_) => Ok(()),
-        Err(fault) => Err(fault),
-    }
+    Free::from_used(alloc, superblock.sectors, &used)?;
+    Ok(())
 }
 
 // The sectors of so many bytes.

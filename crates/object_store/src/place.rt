@@ -35,10 +35,7 @@ pub(crate) fn place(
     let mut placed = Vec::with_capacity(alloc, puts.len())?;
     for k in 0..puts.len() {
         let (id, bytes) = puts[k];
-        let extent = match free.take(bytes.len().div_ceil(512) as u32) {
-            Ok(extent) => extent,
-            Err(fault) => return Err(fault),
-        };
+        let extent = free.take(bytes.len().div_ceil(512) as u32)?;
         placed.push(entry(id, extent.first, bytes))?;
     }
     Ok(placed)

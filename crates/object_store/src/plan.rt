@@ -68,18 +68,12 @@ pub(crate) fn prepare(
         (LacksMemoryOr (LacksPlaces stamp.sectors used.now (asked_for (sizes_at kept.items) (puts_of puts.now) root.now))) }
 {
     let mut free = free_beside(alloc, stamp.sectors, used)?;
-    let placed = match place(alloc, &mut free, puts) {
-        Ok(placed) => placed,
-        Err(fault) => return Err(fault),
-    };
+    let placed = place(alloc, &mut free, puts)?;
     let mut entries = kept;
     put_entries(&mut entries, &placed)?;
     let catalogue = encode(alloc, &entries, root)?;
     let root = Vec::from_slice(alloc, root)?;
-    let extent = match free.take(catalogue.len().div_ceil(512) as u32) {
-        Ok(extent) => extent,
-        Err(fault) => return Err(fault),
-    };
+    let extent = free.take(catalogue.len().div_ceil(512) as u32)?;
     let superblock = Super {
         layout: stamp.layout,
         sectors: stamp.sectors,

@@ -28,10 +28,8 @@ impl<D: Sectors> Source for Store<D> {
     }
 
     fn read_part(&mut self, id: u32, at: u64, to: &mut [u8]) -> Result<(), Fault> {
-        match self.read_at(id, at, to) {
-            Ok(_) => Ok(()),
-            Err(fault) => Err(fault),
-        }
+        self.read_at(id, at, to)?;
+        Ok(())
     }
 
     ghost none_read = { λ store. none_read _ D.Sectors.only_now store };

@@ -218,10 +218,8 @@ impl<D: Sectors> Store<D> {
         let Ok(mut bytes) = Vec::with_capacity(alloc, self.room_for(id, entry)) else {
             return Err(Fault::Memory);
         };
-        match self.read_object(id, entry, &mut bytes) {
-            Ok(()) => Ok(Some(bytes)),
-            Err(fault) => Err(fault),
-        }
+        self.read_object(id, entry, &mut bytes)?;
+        Ok(Some(bytes))
     }
 
     /// Reads bytes of an object from a place on, and the sectors that they lie in alone. It answers false, and reads
@@ -252,10 +250,8 @@ impl<D: Sectors> Store<D> {
         if at > entry.bytes || to.len() as u64 > entry.bytes - at {
             return Ok(false);
         }
-        match self.read_entry(id, entry, at, to) {
-            Ok(()) => Ok(true),
-            Err(fault) => Err(fault),
-        }
+        self.read_entry(id, entry, at, to)?;
+        Ok(true)
     }
 
     // How many bytes the sectors of an object have.
@@ -352,7 +348,7 @@ impl<D: Sectors> Store<D> {
         if self.superblock.generation == u64::MAX {
             return Err(Fault::Worn);
         }
-        let plan = match next_plan(
+        let plan = next_plan(
             alloc,
             &self.superblock,
             &self.entries,
@@ -360,10 +356,7 @@ impl<D: Sectors> Store<D> {
             drops,
             root,
             layout,
-        ) {
-            Ok(plan) => plan,
-            Err(fault) => return Err(fault),
-        };
+        )?;
         match publish(&mut self.device, puts, &plan) {
             Ok(()) => {
                 self.superblock = plan.superblock;

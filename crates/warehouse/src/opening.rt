@@ -86,14 +86,9 @@ fn read<D: Sectors>(alloc: Global, store: &mut Store<D>) -> Result<(Dims, Root),
     ensures causes { IfErr result (λ fault. (fault ≡ Memory) ⊎ ((fault ≡ Device) ⊎ (fault ≡ BadLayout))) }
 {
     let _broken = store.is_broken();
-    let root = match known_root(alloc, store) {
-        Ok(root) => root,
-        Err(fault) => return Err(fault),
-    };
-    match read_dims(alloc, store) {
-        Ok(dims) => Ok((dims, root)),
-        Err(fault) => Err(fault),
-    }
+    let root = known_root(alloc, store)?;
+    let dims = read_dims(alloc, store)?;
+    Ok((dims, root))
 }
 
 // The root of a store that has just the objects that it asks for.
@@ -104,13 +99,10 @@ fn known_root<D: Sectors>(alloc: Global, store: &Store<D>) -> Result<Root, Fault
         → (w : Warehouse) → Stands (stores.content_of D.Sectors store.now) w → ⊥ }
     ensures causes { IfErr result (λ fault. (fault ≡ Memory) ⊎ (fault ≡ BadLayout)) }
 {
-    let root = match read_root(alloc, store) {
-        Ok(root) => root,
-        Err(fault) => return Err(fault),
-    };
-    match has_its_objects(alloc, store, &root) {
-        Ok(true) => Ok(root),
-        Ok(false) => Err(Fault::BadLayout),
-        Err(fault) => Err(fault),
+    let root = read_root(alloc, store)?;
+    if has_its_objects(alloc, store, &root)? {
+        Ok(root)
+    } else {
+        Err(Fault::BadLayout)
     }
 }

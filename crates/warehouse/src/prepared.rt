@@ -48,10 +48,8 @@ impl Prepared {
         ensures model { (w : Warehouse) → w.rows ≡ dims.now → root_of w ≡ root.now → Prepares w number rows.now result }
         ensures apart { IfErr result (λ fault. is_of_device fault ≡ false) }
     {
-        match Prepared::admitted(dims, root, number, rows) {
-            Ok(totals) => Prepared::with_totals(alloc, root, number, rows, totals),
-            Err(fault) => Err(fault),
-        }
+        let totals = Prepared::admitted(dims, root, number, rows)?;
+        Prepared::with_totals(alloc, root, number, rows, totals)
     }
 
     // The segment of a batch, and the root with it and its totals.

@@ -111,10 +111,8 @@ fn answer_by<D: Sectors>(
     ensures causes { IfErr result (λ fault. (fault ≡ Memory) ⊎ ((fault ≡ Device) ⊎ (fault ≡ BadLayout))) }
 {
     let _broken = store.is_broken();
-    match fold_batches(alloc, store, root, dims, fold, as_of) {
-        Ok(()) => fold.finish(dims),
-        Err(fault) => Err(fault),
-    }
+    fold_batches(alloc, store, root, dims, fold, as_of)?;
+    fold.finish(dims)
 }
 
 // Says whether a query may be asked over the first of so many batches.

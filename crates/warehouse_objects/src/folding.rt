@@ -59,10 +59,7 @@ pub fn fold_batches<D: Sectors>(
     let batches = root.batches();
     for before in 0..as_of {
         let count = batches[before as usize];
-        match add_batch(alloc, store, dims, fold, before, count) {
-            Ok(()) => {}
-            Err(fault) => return Err(fault),
-        }
+        add_batch(alloc, store, dims, fold, before, count)?;
     }
     Ok(())
 }
@@ -92,13 +89,9 @@ fn add_batch<D: Sectors>(
     ensures causes { IfErr result (λ fault. (fault ≡ Memory) ⊎ ((fault ≡ Device) ⊎ (fault ≡ BadLayout))) }
 {
     let number = before + 1;
-    match read_object(alloc, store, segment_id(number)) {
-        Ok(bytes) => match decoded_batch(alloc, bytes, number, count) {
-            Ok(segment) => take_in(dims, fold, &segment),
-            Err(fault) => Err(fault),
-        },
-        Err(fault) => Err(fault),
-    }
+    let bytes = read_object(alloc, store, segment_id(number))?;
+    let segment = decoded_batch(alloc, bytes, number, count)?;
+    take_in(dims, fold, &segment)
 }
 
 // The batch that has these bytes. `BadLayout` where it has another number, or another count of rows.
@@ -107,10 +100,7 @@ fn decoded_batch(alloc: Global, bytes: Vec<u8>, number: u32, count: u32) -> Resu
     ensures refused { IfErr result (λ fault. (fault ≡ Memory) ⊎ ((fault ≡ BadLayout)
         × ((rows : List LineOrder) → length rows ≡ count → IsSegment bytes.items number rows → ⊥))) }
 {
-    let segment = match decode(alloc, bytes) {
-        Ok(segment) => segment,
-        Err(fault) => return Err(fault),
-    };
+    let segment = decode(alloc, bytes)?;
     if !is_batch(&segment, number, count) {
         return Err(Fault::BadLayout);
     }

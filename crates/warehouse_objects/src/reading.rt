@@ -54,13 +54,9 @@ pub fn read_dims<D: Sectors>(alloc: Global, store: &mut Store<D>) -> Result<Dims
     ensures causes { IfErr result (λ fault. (fault ≡ Memory) ⊎ ((fault ≡ Device) ⊎ (fault ≡ BadLayout))) }
 {
     rows_are_one();
-    match read_two(alloc, store, 1) {
-        Ok((customers, suppliers)) => match read_two(alloc, store, 3) {
-            Ok((parts, dates)) => decoded(alloc, &customers, &suppliers, &parts, &dates),
-            Err(fault) => Err(fault),
-        },
-        Err(fault) => Err(fault),
-    }
+    let (customers, suppliers) = read_two(alloc, store, 1)?;
+    let (parts, dates) = read_two(alloc, store, 3)?;
+    decoded(alloc, &customers, &suppliers, &parts, &dates)
 }
 
 // Objects with the ids from one on.
@@ -80,13 +76,9 @@ fn read_two<D: Sectors>(
     ensures device { IsErrOf result Device → Breaks D.Sectors store.old store.new }
     ensures causes { IfErr result (λ fault. (fault ≡ Memory) ⊎ ((fault ≡ Device) ⊎ (fault ≡ BadLayout))) }
 {
-    match read_object(alloc, store, first) {
-        Ok(one) => match read_object(alloc, store, first + 1) {
-            Ok(other) => Ok((one, other)),
-            Err(fault) => Err(fault),
-        },
-        Err(fault) => Err(fault),
-    }
+    let one = read_object(alloc, store, first)?;
+    let other = read_object(alloc, store, first + 1)?;
+    Ok((one, other))
 }
 
 /// The bytes of an object. `BadLayout` where there is none of that id.
@@ -105,10 +97,9 @@ pub(crate) fn read_object<D: Sectors>(
     ensures device { IsErrOf result Device → Breaks D.Sectors store.old store.new }
     ensures causes { IfErr result (λ fault. (fault ≡ Memory) ⊎ ((fault ≡ Device) ⊎ (fault ≡ BadLayout))) }
 {
-    match store.get(alloc, id) {
-        Ok(Some(bytes)) => Ok(bytes),
-        Ok(None) => Err(Fault::BadLayout),
-        Err(fault) => Err(fault),
+    match store.get(alloc, id)? {
+        Some(bytes) => Ok(bytes),
+        None => Err(Fault::BadLayout),
     }
 }
 

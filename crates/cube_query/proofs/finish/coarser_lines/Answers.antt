@@ -1,6 +1,6 @@
 use Rattle.cube_model.specs.declared.fault.Fault.TheVariants.{BadLayout}
 use Rattle.std.proofs.Common.{◌≡◌, ◌∙◌, Err, [], sym, ap, subst, arith, length}
-use Rattle.std.proofs.lemmas.Result.{IfOk-weaker}
+use Rattle.std.proofs.lemmas.Result.{IfOk-weaker, err_from_is_err_and}
 use Rattle.cube_query.specs.Coarser.{AreTalliedFrom, CanCoarsen}
 use Rattle.cube_query.specs.Columns.{seen_groups, tallies_at}
 use Rattle.cube_query.specs.Groups.{groups_of}
@@ -35,12 +35,12 @@ coarsen_all-requires-clause-can c =
 pub finest_lines-requires-clause-columns : goal.finest_lines-requires-clause-columns
 finest_lines-requires-clause-columns c =
     let q = c.args.plan.now.query in
-    let can = c.in-Ok.ensures.can in
+    let can = c.in_ok-coarsen_all.ensures.can in
     let entries = entries_of c.coarsen_all.new.slots in
     ap length c.as_slice.ensures.value ∙ tallies-length q.aggregates c.coarsen_all.new.columns.items (length entries) [] (can.tallied.1.fresh (length entries) (omega arith))
 
-pub returns-in-Ok-clause-lines : goal.returns-in-Ok-clause-lines
-returns-in-Ok-clause-lines c =
+pub returns-clause-lines : goal.returns-clause-lines
+returns-clause-lines c =
     let d = c.args.plan.now.dimensions in
     let q = c.args.plan.now.query in
     let fold = c.requires.fold in
@@ -49,7 +49,7 @@ returns-in-Ok-clause-lines c =
     let copy = c.in_ok-columns.columns.items in
     let same_entries : entries_of c.in_ok-slots.slots ≡ entries = c.in_ok-slots.ensures.entries in
     let count : c.len-count.result ≡ length q.columns = c.len-count.ensures ∙ ap (λ query. length query.columns) c.requires.query in
-    let can = c.in-Ok.ensures.can in
+    let can = c.in_ok-coarsen_all.ensures.can in
     let new = entries_of c.coarsen_all.new.slots in
     let all = c.coarsen_all.new.columns.items in
     IfOk-weaker c.finest_lines.result _ _
@@ -57,13 +57,15 @@ returns-in-Ok-clause-lines c =
     let begun : AreTalliedFrom d q c.len-count.result (entries_of c.in_ok-slots.slots) copy rows =
     subst (λ n. AreTalliedFrom d q n (entries_of c.in_ok-slots.slots) copy rows) (sym count)
     (subst (λ es. AreTalliedFrom d q (length q.columns) es copy rows) (sym same_entries) (start d q entries columns copy rows c.in_ok-columns.ensures first)) in
-    let ended : AreTallied d q new all rows = all_groups d q new all rows (c.in-Ok.ensures.tallied rows begun) in
+    let ended : AreTallied d q new all rows = all_groups d q new all rows (c.in_ok-coarsen_all.ensures.tallied rows begun) in
     is rows (subst (λ cs. seen_groups (key_at d q.columns) (tallies_at cs) new ≡ groups_of d q rows) (sym c.as_slice.ensures.value)
     (seen_are d q new all rows can.proper.some_aggregate can.rising can.numbers ended)))
     c.finest_lines.ensures.lines
 
-pub returns-clause-refused : goal.returns-clause-refused
-returns-clause-refused c = λ bad rows first foldable.
+pub returns-in_err-coarsen_all-clause-refused : goal.returns-in_err-coarsen_all-clause-refused
+returns-in_err-coarsen_all-clause-refused c =
+    let p = err_from_is_err_and c.from_residual-in_err-coarsen_all.result c.from_residual-in_err-coarsen_all.ensures.1 in
+    rw (p.1, p.2) (λ bad rows first foldable.
     let d = c.args.plan.now.dimensions in
     let q = c.args.plan.now.query in
     let entries = entries_of c.args.slots.now in
@@ -74,5 +76,5 @@ returns-clause-refused c = λ bad rows first foldable.
     let begun : AreTalliedFrom d q c.len-count.result (entries_of c.in_ok-slots.slots) copy rows =
     subst (λ n. AreTalliedFrom d q n (entries_of c.in_ok-slots.slots) copy rows) (sym count)
     (subst (λ es. AreTalliedFrom d q (length q.columns) es copy rows) (sym same_entries) (start d q entries columns copy rows c.in_ok-columns.ensures first)) in
-    let fault : c.in-Err.fault ≡ BadLayout = cc bad in
-    c.in-Err.ensures.refused (ap (λ f. Err f) fault) rows begun foldable
+    let fault : c.in_err-coarsen_all.field-0.0 ≡ BadLayout = cc bad in
+    c.in_err-coarsen_all.ensures.refused (ap (λ f. Err f) fault) rows begun foldable)

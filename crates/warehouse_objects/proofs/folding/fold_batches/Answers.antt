@@ -1,5 +1,6 @@
 use Rattle.std.proofs.Common.{◌≡◌, ◌<◌, ℕ, List, [], ◌∷◌, ◌++◌, length, take, get_or, sym, ◌∙◌, ap, subst, add-one, arith}
 use Rattle.std.proofs.lemmas.List.{length-map}
+use Rattle.std.proofs.lemmas.Result.{err_from_is_err_and}
 use Rattle.cube_model.specs.Admission.{all_rows}
 use Rattle.cube_model.specs.declared.rows.LineOrder.{LineOrder}
 use Rattle.batch_admission.proofs.CallerLemmas.{all_rows-last}
@@ -21,13 +22,13 @@ loop-before-preserved g c =
     let was = c.loop-before.store in
     let now = c.add_batch.new.store in
     let so_far = c.loop-before.invariant in
-    let still : IsStill g.D.Sectors c.loop-before.store c.add_batch.new.store = c.in-Ok.ensures.stays (λ is. cc) in
-    let next = c.in-Ok.ensures.ok in
+    let still : IsStill g.D.Sectors c.loop-before.store c.add_batch.new.store = c.in_ok-add_batch.ensures.stays (λ is. cc) in
+    let next = c.in_ok-add_batch.ensures.ok in
     let before : ℕ = c.loop-before.before in record {
       fine = still.failed ∙ so_far.fine;
       still = still_then g.D.Sectors first was now so_far.still still;
-      leaves = reads_more g.D.Sectors first was now so_far.still so_far.leaves c.in-Ok.ensures.leaves;
-      query = c.in-Ok.ensures.query ∙ so_far.query;
+      leaves = reads_more g.D.Sectors first was now so_far.still so_far.leaves c.in_ok-add_batch.ensures.leaves;
+      query = c.in_ok-add_batch.ensures.query ∙ so_far.query;
       folded = (
         so_far.folded.0 ++ next.0 ∷ [],
         subst (λ (l : List LineOrder). StandsFor c.args.dims.now c.add_batch.new.fold l) (sym (all_rows-last so_far.folded.0 next.0))
@@ -40,22 +41,24 @@ loop-before-preserved g c =
       );
     }
 
-pub returns-in-Err-clause-refused : goal.returns-in-Err-clause-refused
-returns-in-Err-clause-refused g c is k w stands rooted same =
-    let so_far = c.loop-before.invariant in
-    let word = c.in-Err.ensures.leaves.word k in
-    let lengths : length c.args.root.now.batches ≡ length w.batches = ap (λ r. length r.batches) rooted ∙ length-map w.batches length in
-    let lt : c.loop-before.before < length w.batches = omega (arith, c.loop-before-test.true, c.requires.few, lengths) in
-    let got = get_within w.batches c.loop-before.before lt in
-    let many = ap (λ (l : List ℕ). get_or l c.loop-before.before 0) (c.batches-batches.ensures ∙ ap (λ r. r.batches) rooted)
-    ∙ count_there (content_of g.D.Sectors c.args.store.now) w stands c.loop-before.before got.0 got.1 in
-    c.in-Err.ensures.refused is k w (subst (λ (x : Content). Stands x w) (sym (so_far.still.content word)) stands) same got.0 got.1 many
-    (subst (λ (bs : List (List LineOrder)). StandsFor c.args.dims.now c.loop-before.fold (all_rows bs)) (so_far.folded.2 word w stands) so_far.folded.1)
+pub returns-in_err-add_batch-clause-refused : goal.returns-in_err-add_batch-clause-refused
+returns-in_err-add_batch-clause-refused g c =
+    let p = err_from_is_err_and c.from_residual.result c.from_residual.ensures.1 in
+    rw (p.1, p.2) (λ is k w stands rooted same.
+        let so_far = c.loop-before.invariant in
+        let word = c.in_err-add_batch.ensures.leaves.word k in
+        let lengths : length c.args.root.now.batches ≡ length w.batches = ap (λ r. length r.batches) rooted ∙ length-map w.batches length in
+        let lt : c.loop-before.before < length w.batches = omega (arith, c.loop-before-test.true, c.requires.few, lengths) in
+        let got = get_within w.batches c.loop-before.before lt in
+        let many = ap (λ (l : List ℕ). get_or l c.loop-before.before 0) (c.batches-batches.ensures ∙ ap (λ r. r.batches) rooted)
+        ∙ count_there (content_of g.D.Sectors c.args.store.now) w stands c.loop-before.before got.0 got.1 in
+        c.in_err-add_batch.ensures.refused is k w (subst (λ (x : Content). Stands x w) (sym (so_far.still.content word)) stands) same got.0 got.1 many
+        (subst (λ (bs : List (List LineOrder)). StandsFor c.args.dims.now c.loop-before.fold (all_rows bs)) (so_far.folded.2 word w stands) so_far.folded.1))
 
-pub returns-in-Err-clause-leaves : goal.returns-in-Err-clause-leaves
-returns-in-Err-clause-leaves g c =
+pub returns-in_err-add_batch-clause-leaves : goal.returns-in_err-add_batch-clause-leaves
+returns-in_err-add_batch-clause-leaves g c =
     let so_far = c.loop-before.invariant in
-    reads_more g.D.Sectors c.args.store.now c.loop-before.store c.add_batch.new.store so_far.still so_far.leaves c.in-Err.ensures.leaves
+    reads_more g.D.Sectors c.args.store.now c.loop-before.store c.add_batch.new.store so_far.still so_far.leaves c.in_err-add_batch.ensures.leaves
 
 pub returns-clause-ok : goal.returns-clause-ok
 returns-clause-ok g c k w stands =

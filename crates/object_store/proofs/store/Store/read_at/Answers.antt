@@ -26,12 +26,12 @@ returns-then-at-entry-clause-within g c w =
           elim c.then-at-entry.branch [ then-at-entry-via-then-at-entry w ↦ absurd (omega (arith, le, w.if-at-entry.true)) | then-at-entry-via-else-at-entry+then-to-entry w ↦ absurd (omega (arith, le, w.if-at-entry.false, w.if-to-entry.true)) ],
     )
 
-pub returns-in-Ok-clause-within : goal.returns-in-Ok-clause-within
-returns-in-Ok-clause-within g c w =
+pub returns-clause-within : goal.returns-clause-within
+returns-clause-within g c w =
     let store = c.args.self.now in
     let s = g.D.Sectors.state store.device in
     let e = c.in-Some.entry in
-    let w0 = c.in-Ok.ensures.stays.word w in
+    let w0 = c.in_ok-read_entry.ensures.stays.word w in
     let found : find_by (λ (x : Entry). x.id) c.args.id store.entries.items ≡ Some e = ap (λ (l : List Entry). find_by (λ x. x.id) c.args.id l) (sym c.deref.ensures.value) ∙ sym c.find.ensures ∙ c.in-Some.is in
     let long = length_bytes_at s.reads e.first e.bytes s.size (found_range s.size c.args.id store.superblock store.entries.items e found store.kept.laid_out)
     (λ i lt. g.met.D.Sectors.whole store.device i (s.reads i) w0 lt (g.met.D.Sectors.read_may_stay store.device i w0)) in
