@@ -139,8 +139,6 @@ fn look_at_piece(
     if more.cause().is_some() {
         return Ok(more);
     }
-    match fold.add_rows(dims, rows) {
-        Ok(()) => Ok(more),
-        Err(fault) => Err(fault),
-    }
+    fold.add_rows(dims, rows)?;
+    Ok(more)
 }

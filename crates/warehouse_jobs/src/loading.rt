@@ -96,8 +96,6 @@ fn take_in<D: Sectors>(
     if number <= session.status()?.batches {
         return Ok(Taken::Skipped);
     }
-    match session.submit(alloc, number, rows) {
-        Ok(()) => Ok(Taken::Added),
-        Err(fault) => Err(fault),
-    }
+    session.submit(alloc, number, rows)?;
+    Ok(Taken::Added)
 }

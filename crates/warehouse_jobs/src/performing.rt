@@ -54,8 +54,6 @@ pub fn perform<D: Sectors, R: Read + Drop, W: Write>(
 fn yes(done: Result<(), Fault>) -> Result<bool, Fault>
     ensures { MatchResult done (λ _. result ≡ Ok true) (λ fault. result ≡ Err fault) }
 {
-    match done {
-        Ok(()) => Ok(true),
-        Err(fault) => Err(fault),
-    }
+    done?;
+    Ok(true)
 }

@@ -1,4 +1,5 @@
 use Rattle.std.proofs.Common.{◌≡◌, Err, true, false, is_some, rules}
+use Rattle.std.proofs.lemmas.Result.{err_from_is_err_and}
 use Rattle.batch_admission.specs.Found.{cause_of}
 use Rattle.batch_admission.specs.Totals.{totals_of}
 use Rattle.cube_query.specs.Groups.{CanTake}
@@ -11,20 +12,22 @@ add_rows-requires c =
     let no : is_some (cause_of c.more-more.result) ≡ false = search rules in
     (can_add_behind c.args.dims.now c.args.rows.now c.args.found c.more-more.result c.args.fold.now c.requires.begun c.more-more.ensures no c.requires.few).1.0.over
 
-pub returns-in-Err-clause-only : goal.returns-in-Err-clause-only
-returns-in-Err-clause-only c =
-    let no : is_some (cause_of c.more-more.result) ≡ false = search rules in
-    memory_alone (Err c.in-Err.fault) (CanTake c.args.dims.now c.args.fold.now c.args.rows.now)
-    (can_add_behind c.args.dims.now c.args.rows.now c.args.found c.more-more.result c.args.fold.now c.requires.begun c.more-more.ensures no c.requires.few)
-    c.in-Err.ensures.refused c.in-Err.ensures.only
+pub returns-in_err-add_rows-clause-only : goal.returns-in_err-add_rows-clause-only
+returns-in_err-add_rows-clause-only c =
+    let p = err_from_is_err_and c.from_residual.result c.from_residual.ensures.1 in
+    rw (p.1, p.2) (
+        let no : is_some (cause_of c.more-more.result) ≡ false = search rules in
+        memory_alone (Err c.in_err-add_rows.field-0.0) (CanTake c.args.dims.now c.args.fold.now c.args.rows.now)
+        (can_add_behind c.args.dims.now c.args.rows.now c.args.found c.more-more.result c.args.fold.now c.requires.begun c.more-more.ensures no c.requires.few)
+        c.in_err-add_rows.ensures.refused c.in_err-add_rows.ensures.only)
 
 pub returns-then-is_some-clause-ok : goal.returns-then-is_some-clause-ok
 returns-then-is_some-clause-ok c = λ before earlier begun.
     let yes : is_some (cause_of c.more-more.result) ≡ true = search rules in
     IsBegun-refused c.args.dims.now c.args.fold.now.query before earlier c.args.rows.now c.args.found c.more-more.result c.args.fold.now begun (c.more-more.ensures (totals_of before) earlier begun.found_is) yes
 
-pub returns-in-Ok-clause-ok : goal.returns-in-Ok-clause-ok
-returns-in-Ok-clause-ok c = λ before earlier begun.
+pub returns-clause-ok : goal.returns-clause-ok
+returns-clause-ok c = λ before earlier begun.
     let no : is_some (cause_of c.more-more.result) ≡ false = search rules in
     IsBegun-added c.args.dims.now c.args.fold.now.query before earlier c.args.rows.now c.args.found c.more-more.result c.args.fold.now begun (c.more-more.ensures (totals_of before) earlier begun.found_is)
-    c.add_rows.new.self (no_cause (cause_of c.more-more.result) no) c.in-Ok.ensures.ok
+    c.add_rows.new.self (no_cause (cause_of c.more-more.result) no) c.in_ok-add_rows.ensures.ok
