@@ -8,14 +8,14 @@ use Rattle.std.proofs.lemmas.Grind.{common_steps}
 use Rattle.std.proofs.lemmas.List.{drop-drop}
 use Rattle.std.proofs.lemmas.List.Sums.{position_or_len_is}
 use Rattle.std.proofs.Math.ListN.{drop_of_length-le}
-use Rattle.batch_loader.specs.Fields.{parts_of, first_parts, parts_at, bar_from, start_of}
+use Rattle.batch_loader.specs.Fields.{between_bars, first_parts, parts_at, bar_from, start_of}
 
 abbrev is_bar : ℕ → Bool
 is_bar byte = byte == 124
 
 -- the parts behind a place, of which there are none past the end
 abbrev pub parts_left : List ℕ → ℕ → List (List ℕ)
-parts_left line from = cond (nat_le from (length line)) (parts_of (drop from line)) []
+parts_left line from = cond (nat_le from (length line)) (between_bars (drop from line)) []
 
 begin : ℕ → List ℕ → ℕ → ℕ
 begin from ends zero = from
@@ -69,16 +69,16 @@ fails : (a b : ℕ) → b < a → nat_le a b ≡ false
 fails a b above = grind (arith, nat_tests)
 
 pub parts_left-past : (line : List ℕ) (from : ℕ) → length line < from → parts_left line from ≡ []
-parts_left-past line from past = ap (λ b. cond b (parts_of (drop from line)) []) (fails from (length line) past)
+parts_left-past line from past = ap (λ b. cond b (between_bars (drop from line)) []) (fails from (length line) past)
 
-parts_left-within : (line : List ℕ) (from : ℕ) → from ≤ length line → parts_left line from ≡ parts_of (drop from line)
-parts_left-within line from within = ap (λ b. cond b (parts_of (drop from line)) []) (holds from (length line) within)
+parts_left-within : (line : List ℕ) (from : ℕ) → from ≤ length line → parts_left line from ≡ between_bars (drop from line)
+parts_left-within line from within = ap (λ b. cond b (between_bars (drop from line)) []) (holds from (length line) within)
 
 le-suc : (a b : ℕ) → nat_le (suc a) (suc b) ≡ nat_le a b
 le-suc a b = grind (arith, nat_tests)
 
 parts_left-cons : (byte : ℕ) (text : List ℕ) (n : ℕ) → parts_left (byte ∷ text) (suc n) ≡ parts_left text n
-parts_left-cons byte text n = ap (λ b. cond b (parts_of (drop n text)) []) (le-suc n (length text))
+parts_left-cons byte text n = ap (λ b. cond b (between_bars (drop n text)) []) (le-suc n (length text))
 
 one_more : (n : ℕ) → 1 + n ≡ suc n
 one_more n = omega arith
@@ -87,10 +87,10 @@ next_suc : (n : ℕ) → 1 + n + 1 ≡ suc (n + 1)
 next_suc n = omega arith
 
 -- a text's first part ends at its first bar
-parts-step : (text : List ℕ) → parts_of text ≡ take (position_or_len is_bar text) text ∷ parts_left text (position_or_len is_bar text + 1)
+parts-step : (text : List ℕ) → between_bars text ≡ take (position_or_len is_bar text) text ∷ parts_left text (position_or_len is_bar text + 1)
 parts-step [] = refl
 parts-step (byte ∷ text) =
-    elim (is_bar byte) as (λ b. cond b ([] ∷ parts_of text) (onto_first byte (parts_of text))
+    elim (is_bar byte) as (λ b. cond b ([] ∷ between_bars text) (onto_first byte (between_bars text))
     ≡ take (cond (not b) (1 + position_or_len is_bar text) 0) (byte ∷ text) ∷ parts_left (byte ∷ text) (cond (not b) (1 + position_or_len is_bar text) 0 + 1)) [
       | true ↦ ap (λ rest. [] ∷ rest) (sym (parts_left-within (byte ∷ text) 1 (omega arith)))
       | false ↦ ap (onto_first byte) (parts-step text)
@@ -111,7 +111,7 @@ missed a b is = grind (arith, nat_tests)
 parts_left-behind : (line : List ℕ) (from n : ℕ) → from ≤ length line → parts_left (drop from line) n ≡ parts_left line (from + n)
 parts_left-behind line from n within =
     (elim (nat_le n (length (drop from line))) as (λ b. nat_le n (length (drop from line)) ≡ b → parts_left (drop from line) n ≡ parts_left line (from + n)) [
-      | true ↦ λ is. parts_left-within (drop from line) n (reached n (length (drop from line)) is) ∙ ap parts_of (drops from n line)
+      | true ↦ λ is. parts_left-within (drop from line) n (reached n (length (drop from line)) is) ∙ ap between_bars (drops from n line)
           ∙ sym (parts_left-within line (from + n) (omega (arith, length-drop from line, reached n (length (drop from line)) is)))
       | false ↦ λ is. parts_left-past (drop from line) n (missed n (length (drop from line)) is)
           ∙ sym (parts_left-past line (from + n) (omega (arith, length-drop from line, missed n (length (drop from line)) is)))
@@ -158,16 +158,16 @@ pub first_parts-all : (n from : ℕ) (line : List ℕ) (front : List (List ℕ))
     → option_map (λ others. front ++ others) (first_parts n (parts_left line from)) ≡ Some front
 first_parts-all n from line front is past =
     ap (λ n. option_map (λ others. front ++ others) (first_parts n (parts_left line from))) is
-    ∙ (elim (nat_le from (length line)) as (λ b. option_map (λ others. front ++ others) (first_parts 0 (cond b (parts_of (drop from line)) [])) ≡ Some front) [
-      | true ↦ ap (λ rest. option_map (λ others. front ++ others) (first_parts 0 (parts_of rest))) (drop_of_length-le line past) ∙ ap Some (append-nil front)
+    ∙ (elim (nat_le from (length line)) as (λ b. option_map (λ others. front ++ others) (first_parts 0 (cond b (between_bars (drop from line)) [])) ≡ Some front) [
+      | true ↦ ap (λ rest. option_map (λ others. front ++ others) (first_parts 0 (between_bars rest))) (drop_of_length-le line past) ∙ ap Some (append-nil front)
       | false ↦ ap Some (append-nil front)
     ])
 
 -- bytes are no single empty part
-first_parts-bytes : (text : List ℕ) → 0 < length text → first_parts 0 (parts_of text) ≡ None
+first_parts-bytes : (text : List ℕ) → 0 < length text → first_parts 0 (between_bars text) ≡ None
 first_parts-bytes [] some = absurd (omega arith)
 first_parts-bytes (byte ∷ text) some =
-    elim (is_bar byte) as (λ b. first_parts 0 (cond b ([] ∷ parts_of text) (onto_first byte (parts_of text))) ≡ None) [
+    elim (is_bar byte) as (λ b. first_parts 0 (cond b ([] ∷ between_bars text) (onto_first byte (between_bars text))) ≡ None) [
       | true ↦ ap (λ parts. first_parts 0 ([] ∷ parts)) (parts-step text)
       | false ↦ ap (λ parts. first_parts 0 (onto_first byte parts)) (parts-step text)
     ]

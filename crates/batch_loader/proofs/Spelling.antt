@@ -4,7 +4,7 @@ use Rattle.std.specs.Prelude.{◌==◌, ◌⊎◌, suc, zero, Option}
 use Rattle.std.specs.List.{AllByRecursion, All, join_with_byte, onto_first}
 use Rattle.std.specs.Option.{option_map}
 use Rattle.std.proofs.lemmas.List.Splits.{slice_split_at, slice_split_none, join_with_byte-slice_split}
-use Rattle.batch_loader.specs.Fields.{parts_of, first_parts, without_cr, fields_of}
+use Rattle.batch_loader.specs.Fields.{between_bars, first_parts, without_cr, fields_of}
 use Rattle.batch_loader.specs.Grammar.{HasNoBar, SpellsFields}
 
 abbrev is_bar : ℕ → Bool
@@ -15,12 +15,12 @@ no_bar-onto byte [] other none = ((other, tt), tt)
 no_bar-onto byte (part ∷ parts) other none = ((other, none.0), none.1)
 
 -- no part has a bar
-parts-no_bar : (text : List ℕ) → AllByRecursion HasNoBar (parts_of text)
+parts-no_bar : (text : List ℕ) → AllByRecursion HasNoBar (between_bars text)
 parts-no_bar [] = (tt, tt)
 parts-no_bar (byte ∷ text) =
-    (elim (is_bar byte) as (λ b. is_bar byte ≡ b → AllByRecursion HasNoBar (cond b ([] ∷ parts_of text) (onto_first byte (parts_of text)))) [
+    (elim (is_bar byte) as (λ b. is_bar byte ≡ b → AllByRecursion HasNoBar (cond b ([] ∷ between_bars text) (onto_first byte (between_bars text)))) [
       | true ↦ λ is. (tt, parts-no_bar text)
-      | false ↦ λ is. no_bar-onto byte (parts_of text) is (parts-no_bar text)
+      | false ↦ λ is. no_bar-onto byte (between_bars text) is (parts-no_bar text)
     ]) refl
 
 -- n parts, or n and an empty one
@@ -70,7 +70,7 @@ all-empty : (fields : List (List ℕ)) → AllByRecursion HasNoBar fields → Al
 all-empty [] none = (tt, tt)
 all-empty (field ∷ fields) none = (none.0, all-empty fields none.1)
 
-spelled-by : (n : ℕ) (line : List ℕ) (fields : List (List ℕ)) → 0 < n → IsFirst n (parts_of (without_cr line)) fields → SpellsFields n line fields
+spelled-by : (n : ℕ) (line : List ℕ) (fields : List (List ℕ)) → 0 < n → IsFirst n (between_bars (without_cr line)) fields → SpellsFields n line fields
 unfolding IsFirst
 spelled-by n line fields some (count, inl is) = record {
   count = count;
@@ -84,7 +84,7 @@ spelled-by n line fields some (count, inr is) = record {
 }
 
 pub fields-spelled : (n : ℕ) (line : List ℕ) (fields : List (List ℕ)) → 0 < n → fields_of n line ≡ Some fields → SpellsFields n line fields
-fields-spelled n line fields some is = spelled-by n line fields some (first_parts-is n (parts_of (without_cr line)) fields is)
+fields-spelled n line fields some is = spelled-by n line fields some (first_parts-is n (between_bars (without_cr line)) fields is)
 
 -- the same, said of each place
 all : (field : List ℕ) → HasNoBar field → All (λ byte. is_bar byte ≡ false) field
@@ -93,7 +93,7 @@ all (byte ∷ field) none zero default below = none.0
 all (byte ∷ field) none (suc k) default below = all field none.1 k default (omega arith)
 
 -- fields that have no bar are the parts of the fields joined by bars
-parts-join : (fields : List (List ℕ)) → 0 < length fields → AllByRecursion HasNoBar fields → parts_of (join_with_byte 124 fields) ≡ fields
+parts-join : (fields : List (List ℕ)) → 0 < length fields → AllByRecursion HasNoBar fields → between_bars (join_with_byte 124 fields) ≡ fields
 parts-join [] some none = absurd (omega arith)
 parts-join (field ∷ []) some none = slice_split_none is_bar field (all field none.0)
 parts-join (field ∷ next ∷ fields) some none =
@@ -115,9 +115,9 @@ first_parts-empty (suc n) (field ∷ fields) count = ap (option_map (λ others. 
 fields-by : (n : ℕ) (line : List ℕ) (fields : List (List ℕ)) → 0 < n → length fields ≡ n → AllByRecursion HasNoBar fields
     → (without_cr line ≡ join_with_byte 124 fields) ⊎ (without_cr line ≡ join_with_byte 124 fields ++ 124 ∷ []) → fields_of n line ≡ Some fields
 fields-by n line fields some count none (inl is) =
-    ap (λ text. first_parts n (parts_of text)) is ∙ ap (first_parts n) (parts-join fields (omega (arith, count, some)) none) ∙ first_parts-exact n fields count
+    ap (λ text. first_parts n (between_bars text)) is ∙ ap (first_parts n) (parts-join fields (omega (arith, count, some)) none) ∙ first_parts-exact n fields count
 fields-by n line fields some count none (inr is) =
-    ap (λ text. first_parts n (parts_of text)) (is ∙ sym (join-empty fields (omega (arith, count, some))))
+    ap (λ text. first_parts n (between_bars text)) (is ∙ sym (join-empty fields (omega (arith, count, some))))
     ∙ ap (first_parts n) (parts-join (fields ++ [] ∷ []) (omega (arith, count, some, length-append fields ([] ∷ []))) (all-empty fields none))
     ∙ first_parts-empty n fields count
 

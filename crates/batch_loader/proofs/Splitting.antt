@@ -4,7 +4,7 @@ use Rattle.std.specs.Prelude.{suc, zero, slice_set}
 use Rattle.std.specs.Option.{option_map}
 use Rattle.std.proofs.Math.ListN.{length-set}
 use Rattle.std.proofs.lemmas.List.{take_more_set, take_all}
-use Rattle.batch_loader.specs.Fields.{parts_of, first_parts, parts_at, bar_from, start_of}
+use Rattle.batch_loader.specs.Fields.{between_bars, first_parts, parts_at, bar_from, start_of}
 use Rattle.batch_loader.proofs.Parts.{parts_left, first_parts-step, first_parts-none, first_parts-all, first_parts-more}
 
 -- where the part behind some ends begins
@@ -22,7 +22,7 @@ parts_at-push line from end (first ∷ ends) = ap (λ parts. slice_range line fr
 
 -- what the loop keeps that finds the ends: the parts so far stand in front of the parts that are left
 pub record IsSplitting (n : ℕ) (line ends : List ℕ) (place from : ℕ) : Type 0 where
-  pub front : first_parts n (parts_of line) ≡ option_map (λ others. parts_at line 0 (take place ends) ++ others) (first_parts (n - place) (parts_left line from))
+  pub front : first_parts n (between_bars line) ≡ option_map (λ others. parts_at line 0 (take place ends) ++ others) (first_parts (n - place) (parts_left line from))
   pub within : (k : ℕ) → k < place → (start_of ends k ≤ get_or ends k 0) × (get_or ends k 0 ≤ length line)
   pub from_is : from ≡ start_of ends place
   pub next_is : next_from 0 (take place ends) ≡ from
@@ -65,19 +65,19 @@ whole ends place past = take_all place ends past
 
 -- all ends are found, and the line is used up
 pub IsSplitting-end : (n : ℕ) (line ends : List ℕ) (place from : ℕ) → n ≤ place → length line ≤ from → IsSplitting n line ends place from
-    → first_parts n (parts_of line) ≡ Some (parts_at line 0 ends)
+    → first_parts n (between_bars line) ≡ Some (parts_at line 0 ends)
 IsSplitting-end n line ends place from last past before =
     before.front ∙ first_parts-all (n - place) from line (parts_at line 0 (take place ends)) (omega arith) past
     ∙ ap (λ ends. Some (parts_at line 0 ends)) (whole ends place (omega (arith, before.count)))
 
 -- all ends are found, and more is left
 pub IsSplitting-more : (n : ℕ) (line ends : List ℕ) (place from : ℕ) → n ≤ place → from < length line → IsSplitting n line ends place from
-    → first_parts n (parts_of line) ≡ None
+    → first_parts n (between_bars line) ≡ None
 IsSplitting-more n line ends place from last more before =
     before.front ∙ first_parts-more (n - place) from line (parts_at line 0 (take place ends)) (omega arith) more
 
 -- no part is left for the next end
 pub IsSplitting-none : (n : ℕ) (line ends : List ℕ) (place from : ℕ) → place < n → length line < from → IsSplitting n line ends place from
-    → first_parts n (parts_of line) ≡ None
+    → first_parts n (between_bars line) ≡ None
 IsSplitting-none n line ends place from below past before =
     before.front ∙ first_parts-none (n - place) (n - (place + 1)) from line (parts_at line 0 (take place ends)) (omega arith) past

@@ -9,6 +9,7 @@ use Rattle.batch_loader.specs.declared.columns.Column.{Column}
 use Rattle.batch_loader.specs.declared.columns.Column.TheVariants.{Number, Text, Skipped}
 use Rattle.batch_loader.specs.Fields.{fields_of}
 use Rattle.batch_loader.specs.Numbers.{spells_number, value_of}
+use Rattle.batch_loader.specs.Outcomes.{unless}
 
 -- why a field is refused, in a line and at a field number: a number column wants a number up to its limit, a kept text has at most 255 bytes
 abbrev pub field_fault : ℕ → ℕ → Column → List ℕ → Option Fault
@@ -22,15 +23,10 @@ fields_fault line field [] texts = None
 fields_fault line field (column ∷ columns) [] = None
 fields_fault line field (column ∷ columns) (text ∷ texts) = first_cause (field_fault line field column text ∷ fields_fault line (field + 1) columns texts ∷ [])
 
--- what a line has where nothing refuses it
-abbrev pub unless : {Row : Type 0} → Option Fault → Row → Result Row Fault
-unless (Some fault) row = Err fault
-unless None row = Ok row
-
 -- the row of fields, unless there are none in the right number or one is refused
 abbrev pub row_of_fields : {Row : Type 0} → List Column → (List (List ℕ) → Row) → ℕ → Option (List (List ℕ)) → Result Row Fault
 row_of_fields columns row line None = Err (FieldCount line)
-row_of_fields columns row line (Some fields) = unless (fields_fault line 1 columns fields) (row fields)
+row_of_fields columns row line (Some fields) = unless (fields_fault line 1 columns fields) (Ok (row fields))
 
 -- the row of a line with a number, or its first fault: a line above 8,192 bytes (field 0), the number of fields, then the fields
 abbrev pub row_of : {Row : Type 0} → List Column → (List (List ℕ) → Row) → ℕ → List ℕ → Result Row Fault

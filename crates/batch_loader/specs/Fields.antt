@@ -8,8 +8,8 @@ abbrev pub without_cr : List ℕ → List ℕ
 without_cr line = cond (nat_lt 0 (length line) && (slice_index line (length line - 1) == 13)) (take (length line - 1) line) line
 
 -- the parts of a text between its bars (124)
-abbrev pub parts_of : List ℕ → List (List ℕ)
-parts_of text = slice_split (λ byte. byte == 124) text
+abbrev pub between_bars : List ℕ → List (List ℕ)
+between_bars text = slice_split (λ byte. byte == 124) text
 
 -- n parts, or n and an empty one
 abbrev pub first_parts : ℕ → List (List ℕ) → Option (List (List ℕ))
@@ -21,7 +21,7 @@ first_parts (suc n) (part ∷ parts) = option_map (λ others. part ∷ others) (
 
 -- the n fields that a line spells, if it spells n fields
 abbrev pub fields_of : ℕ → List ℕ → Option (List (List ℕ))
-fields_of n line = first_parts n (parts_of (without_cr line))
+fields_of n line = first_parts n (between_bars (without_cr line))
 
 -- the parts of a line that end at some places, the first from a place on, and each next one behind the bar that ends the one before
 abbrev pub parts_at : List ℕ → ℕ → List ℕ → List (List ℕ)

@@ -6,7 +6,9 @@ pub mod Grammar
 pub mod LineFields
 pub mod Lines
 pub mod Numbers
+pub mod Outcomes
 pub mod Parsing
+pub mod Parts
 pub mod Reading
 pub mod Rows
 pub mod ShortNumbers

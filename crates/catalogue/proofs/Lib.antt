@@ -1,5 +1,4 @@
 pub mod CallerLemmas
-mod Ascending
 mod Decoded
 mod Places
 mod Read

@@ -1,5 +1,4 @@
 pub mod CallerLemmas
-mod Ascending
 mod Climbing
 mod Decoded
 mod Fields

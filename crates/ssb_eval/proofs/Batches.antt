@@ -2,6 +2,8 @@
 use Rattle.std.proofs.Common.{◌≡◌, ℕ, zero, suc, ◌+◌, ◌-◌, ◌≤◌, List, [], ◌∷◌, ◌++◌, length, take, drop, Option, Some, None, Result, Ok, Err, refl, sym, ap, ◌∙◌, arith, ◌⊎◌, inl, inr, IfOk, IfErr}
 use Rattle.std.proofs.lemmas.List.{length-drop, length-append, length_push}
 use Rattle.batch_loader.specs.Lines.{lines_of}
+use Rattle.batch_loader.specs.Outcomes.{and_then, unless}
+use Rattle.batch_loader.specs.Parts.{parts_in, parts_of}
 use Rattle.batch_loader.specs.Rows.{rows_of, row_before, next_number, number_after}
 use Rattle.batch_loader.specs.Tables.{lineorder_row}
 use Rattle.batch_loader.specs.Reading.{TakesRows, IsFirstFault}
@@ -17,8 +19,8 @@ use Rattle.cube_model.specs.Limits.{most_batch_rows}
 use Rattle.cube_query.specs.Groups.{FoldState, StandsFor}
 use Rattle.batch_admission.specs.Accepted.{Accepted, StandsBehind}
 use Rattle.batch_admission.specs.Found.{Found, cause_of}
-use Rattle.ssb_eval.specs.Evaluation.{and_then, unless, parts_in, parts_of, facts_behind, facts_of, answer_of, Gives}
-use Rattle.ssb_eval.specs.Taken.{AreTaken, IsBegun, LeavesFacts}
+use Rattle.ssb_eval.specs.Evaluation.{facts_behind, facts_of, answer_of, Gives}
+use Rattle.ssb_eval.specs.BatchLoop.{AreTaken, IsBegun, LeavesFacts}
 use Rattle.batch_admission.proofs.CallerLemmas.{all_rows-last, in_range, known_both, passes, passes-found}
 
 -- parts of a list

@@ -1,11 +1,12 @@
 -- How an evaluation ends.
 use Rattle.std.proofs.Common.{◌≡◌, ℕ, ◌⊎◌, inl, inr, List, Option, Some, None, Result, Ok, Err, refl, ap, ◌∙◌}
 use Rattle.std.specs.Io.KnownBytes.{Keeps}
+use Rattle.batch_loader.specs.Outcomes.{and_then}
 use Rattle.cube_model.specs.declared.fault.Fault.{Fault}
 use Rattle.cube_model.specs.declared.query.Query.{Query}
 use Rattle.cube_model.specs.declared.rows.DimRows.{DimRows}
 use Rattle.cube_model.specs.declared.fault.Fault.TheVariants.{Memory, Input}
-use Rattle.ssb_eval.specs.Evaluation.{Gives, Reports, Texts, and_then, answer_of, dimensions_of, eval_of}
+use Rattle.ssb_eval.specs.Evaluation.{Gives, Reports, Texts, answer_of, dimensions_of, eval_of}
 use Rattle.ssb_reports.specs.Report.{report_of}
 use Rattle.ssb_reports.specs.Writing.{Writes}
 

@@ -16,7 +16,7 @@ use Rattle.batch_admission.specs.Totals.{totals_of}
 use Rattle.batch_admission.specs.declared.totals.Totals.{Totals}
 use Rattle.batch_admission.proofs.CallerLemmas.{found-clean, found-earlier, known_both}
 use Rattle.cube_query.specs.Groups.{FoldState, CanTake, Takes, StandsFor}
-use Rattle.ssb_eval.specs.Taken.{AreTaken, IsBegun, IsUnderWay, LooksAtNext}
+use Rattle.ssb_eval.specs.BatchLoop.{AreTaken, IsBegun, IsUnderWay, LooksAtNext}
 
 no_cause_some : (cause : Option Fault) → is_some cause ≡ true → cause ≡ None → ⊥
 no_cause_some None none e = cc

@@ -3,8 +3,9 @@ use Rattle.std.proofs.Common.{◌≡◌, ◌≤◌, ◌+◌, ◌∙◌, zero, su
 use Rattle.std.specs.List.{AllByRecursion}
 use Rattle.batch_loader.specs.declared.columns.Column.{Column}
 use Rattle.batch_loader.specs.declared.columns.Column.TheVariants.{Text}
-use Rattle.batch_loader.specs.Columns.{field_fault, fields_fault, unless, row_of_fields, row_of}
+use Rattle.batch_loader.specs.Columns.{field_fault, fields_fault, row_of_fields, row_of}
 use Rattle.batch_loader.specs.Fields.{fields_of}
+use Rattle.batch_loader.specs.Outcomes.{unless}
 use Rattle.batch_loader.specs.Rows.{row_before, rows_of, next_number}
 use Rattle.batch_loader.specs.Tables.{customer_columns, customer_of_fields, customer_row, supplier_columns, supplier_of_fields, supplier_row, part_columns, part_of_fields, part_row, date_columns, date_of_fields, date_row}
 use Rattle.cube_model.specs.declared.fault.Fault.{Fault}
@@ -47,7 +48,7 @@ abbrev FieldsOf : {Row : Type 0} → List Column → (List (List ℕ) → Row) �
 FieldsOf columns row line taken = (fields : List (List ℕ)) × (fields_fault line 1 columns fields ≡ None) × (row fields ≡ taken)
 
 module _ {Row : Type 0} (columns : List Column) (row : List (List ℕ) → Row) (line : ℕ) (taken : Row) where
-  unless_ok : (cause : Option Fault) (found : Row) → unless cause found ≡ Ok taken → (cause ≡ None) × (found ≡ taken)
+  unless_ok : (cause : Option Fault) (found : Row) → unless cause (Ok found) ≡ Ok taken → (cause ≡ None) × (found ≡ taken)
   unless_ok None found e = (refl, cc)
   unless_ok (Some fault) found e = absurd cc
 

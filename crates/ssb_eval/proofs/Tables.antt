@@ -2,6 +2,7 @@
 use Rattle.std.proofs.Common.{◌≡◌, ℕ, ◌⊎◌, inl, inr, List, Option, Some, None, Result, Ok, Err, IfOk, IfErr, OnOk, sym, ap, ◌∙◌}
 use Rattle.std.specs.Io.KnownBytes.{Keeps}
 use Rattle.batch_loader.specs.Lines.{lines_of}
+use Rattle.batch_loader.specs.Outcomes.{and_then, unless}
 use Rattle.batch_loader.specs.Rows.{rows_of, next_number}
 use Rattle.batch_loader.specs.Reading.{AreRowsOf, IsFaultOf, TakesTable, RefusesTable}
 use Rattle.batch_loader.specs.Unread.{Unread}
@@ -9,7 +10,7 @@ use Rattle.cube_model.specs.declared.fault.Fault.{Fault}
 use Rattle.cube_model.specs.declared.fault.Fault.TheVariants.{Memory, Input}
 use Rattle.cube_model.specs.declared.rows.DimRows.{DimRows}
 use Rattle.cube_model.specs.Validity.{invalid_cause, IsValid}
-use Rattle.ssb_eval.specs.Evaluation.{Gives, table_rows, and_then, unless, valid_rows}
+use Rattle.ssb_eval.specs.Evaluation.{Gives, table_rows, valid_rows}
 
 table_ok : {Row : Type 0} (row : ℕ → List ℕ → Result Row Fault) (number : ℕ) (left : Option (List ℕ)) (text : List ℕ) (rows : List Row) → number ≡ 0 → Keeps (Some text) left → AreRowsOf row number left rows → table_rows row text ≡ Ok rows
 table_ok row number None text rows first kept are = absurd kept

@@ -14,7 +14,7 @@ use Rattle.cube_model.specs.Limits.{most_batch_rows}
 use Rattle.cube_query.specs.Groups.{FoldState}
 use Rattle.batch_admission.specs.Accepted.{Accepted}
 use Rattle.ssb_eval.specs.Evaluation.{Gives, answer_of}
-use Rattle.ssb_eval.specs.Taken.{AreTaken, LeavesFacts, TakesNextBatch, IsNextBatch}
+use Rattle.ssb_eval.specs.BatchLoop.{AreTaken, LeavesFacts, TakesNextBatch, IsNextBatch}
 use Rattle.batch_admission.proofs.CallerLemmas.{passes}
 use Rattle.ssb_eval.proofs.Batches.{gives-unread, gives-refused}
 

@@ -2,6 +2,8 @@
 use Rattle.std.proofs.Common.{◌≡◌, ℕ, zero, suc, ◌+◌, ◌≤◌, List, [], ◌∷◌, ◌++◌, length, take, drop, Option, Some, None, Result, Ok, Err, refl, sym, ap, ◌∙◌, arith, append-nil, append_assoc}
 use Rattle.std.proofs.lemmas.List.{length-drop, take-append-drop}
 use Rattle.batch_loader.specs.Lines.{lines_of}
+use Rattle.batch_loader.specs.Outcomes.{and_then, unless}
+use Rattle.batch_loader.specs.Parts.{parts_in}
 use Rattle.batch_loader.specs.Rows.{rows_of, row_before, next_number, number_after}
 use Rattle.batch_loader.specs.Tables.{lineorder_row}
 use Rattle.cube_model.specs.declared.fault.Fault.{Fault}
@@ -9,7 +11,7 @@ use Rattle.cube_model.specs.declared.rows.DimRows.{DimRows}
 use Rattle.cube_model.specs.declared.rows.LineOrder.{LineOrder}
 use Rattle.cube_model.specs.Admission.{all_rows, refusal}
 use Rattle.cube_model.specs.Limits.{most_batch_rows}
-use Rattle.ssb_eval.specs.Evaluation.{and_then, unless, parts_in, facts_behind, facts_of, table_rows}
+use Rattle.ssb_eval.specs.Evaluation.{facts_behind, facts_of, table_rows}
 use Rattle.batch_admission.proofs.CallerLemmas.{all_rows-last}
 
 -- a row stands in front of others

@@ -1,7 +1,9 @@
 -- What the texts of the five tables and a query come to: the bytes of a report, or the first refusal. Our own.
-use Rattle.std.specs.Prelude.{◌≡◌, ℕ, zero, suc, ◌+◌, ◌⊎◌, List, [], ◌∷◌, ◌++◌, length, take, drop, Option, Some, None, Result, Ok, Err}
+use Rattle.std.specs.Prelude.{◌≡◌, ℕ, ◌+◌, ◌⊎◌, List, [], ◌∷◌, ◌++◌, length, Option, Some, Result, Ok, Err}
 use Rattle.std.specs.Io.KnownBytes.{Appends, Keeps}
 use Rattle.batch_loader.specs.Lines.{lines_of}
+use Rattle.batch_loader.specs.Outcomes.{and_then, unless}
+use Rattle.batch_loader.specs.Parts.{parts_of}
 use Rattle.batch_loader.specs.Rows.{rows_of, number_after}
 use Rattle.batch_loader.specs.Tables.{customer_row, supplier_row, part_row, date_row, lineorder_row}
 use Rattle.cube_model.specs.declared.answer.Answer.{Answer}
@@ -25,16 +27,6 @@ pub record Texts : Type 0 where
   pub date : List ℕ
   pub lineorder : List ℕ
 
--- a next step, unless the first was refused
-abbrev pub and_then : {A B : Type 0} → Result A Fault → (A → Result B Fault) → Result B Fault
-and_then (Ok value) next = next value
-and_then (Err fault) next = Err fault
-
--- an outcome, unless there is a cause to refuse it
-abbrev pub unless : {A : Type 0} → Option Fault → Result A Fault → Result A Fault
-unless None outcome = outcome
-unless (Some cause) outcome = Err cause
-
 -- the rows of a table's text, whose lines count from 1
 abbrev pub table_rows : {Row : Type 0} → (ℕ → List ℕ → Result Row Fault) → List ℕ → Result (List Row) Fault
 table_rows row text = rows_of row 1 (lines_of text)
@@ -51,16 +43,6 @@ dimensions_of texts =
     and_then (table_rows part_row texts.part) (λ parts.
     and_then (table_rows date_row texts.date) (λ dates.
     valid_rows (record { customers = customers; suppliers = suppliers; parts = parts; dates = dates })))))
-
--- a list cut into parts of so many items, of which the last may have fewer, in at most so many steps
-abbrev pub parts_in : {A : Type 0} → ℕ → ℕ → List A → List (List A)
-parts_in steps size [] = []
-parts_in zero size (item ∷ items) = []
-parts_in (suc steps) size (item ∷ items) = take size (item ∷ items) ∷ parts_in steps size (drop size (item ∷ items))
-
--- the whole list
-abbrev pub parts_of : {A : Type 0} → ℕ → List A → List (List A)
-parts_of size items = parts_in (length items) size items
 
 -- the fact rows of the lines of batches, behind batches that were accepted: the lines of a batch are read, and then it is
 -- admitted. The number is that of the next line

@@ -1,3 +1,3 @@
+pub mod BatchLoop
 pub mod Evaluation
-pub mod Taken
 pub mod Status

@@ -6,7 +6,7 @@ ghost use Rattle.cube_model.specs.Admission.{all_rows};
 ghost use Rattle.cube_model.specs.Limits.{most_batch_rows};
 ghost use Rattle.cube_query.specs.Groups.{Begins};
 ghost use Rattle.ssb_eval.specs.Evaluation.{Gives, answer_of};
-ghost use Rattle.ssb_eval.specs.Taken.{AreTaken, CanGoOn, IsBegun, IsUnderWay, LooksAtNext, TakesNextBatch};
+ghost use Rattle.ssb_eval.specs.BatchLoop.{AreTaken, CanGoOn, IsBegun, IsUnderWay, LooksAtNext, TakesNextBatch};
 
 use batch_admission::{Admission, Findings};
 use batch_loader::{Lines, read_batch_into};

@@ -25,26 +25,31 @@ pub fn fact_hint<T: TableFiles>(
     axis: Axis,
     row: u32,
 ) -> Result<Option<String>, Fault> {
-    let dimension = Table::of(axis);
-    let Some(known) = keys(alloc, files, dimension)? else {
+    let Some(known) = keys(alloc, files, Table::of(axis))? else {
         return Ok(None);
     };
-    let Some(reader) = files.open(Table::Lineorder) else {
-        return Ok(None);
-    };
-    let mut lines = Lines::new(alloc, reader)?;
-    let Some(found) = first_unknown(&mut lines, known.as_slice(), axis, row)? else {
-        return Ok(None);
-    };
+    match unknown_key(alloc, files, known.as_slice(), axis, row)? {
+        None => Ok(None),
+        Some(found) => Ok(Some(unknown_line(alloc, files, axis, found)?)),
+    }
+}
+
+// What is said of a key that is unknown.
+fn unknown_line<T: TableFiles>(
+    alloc: Global,
+    files: &T,
+    axis: Axis,
+    found: Found,
+) -> Result<String, Fault> {
     let batch = batch_of(found.line);
     let said = format!(in alloc;
         "batch {batch}, line {} of {}: {axis} {} is in no row of {}",
         found.line,
         files.path(Table::Lineorder),
         found.key,
-        files.path(dimension)
+        files.path(Table::of(axis))
     )?;
-    Ok(Some(said))
+    Ok(said)
 }
 
 /// The keys of a dimension, line by line, if its file can be read again.
@@ -65,6 +70,23 @@ pub fn keys<T: TableFiles>(
         keys.push(number(field(line, 1)).unwrap_or(u64::MAX))?;
     }
     Ok(Some(keys))
+}
+
+// The first unknown key of the fact table at a row of its batch, if its file can be read again.
+fn unknown_key<T: TableFiles>(
+    alloc: Global,
+    files: &T,
+    known: &[u64],
+    axis: Axis,
+    row: u32,
+) -> Result<Option<Found>, Fault>
+    ensures { IfOk result (λ found. IfSome found (λ at. IsUnknownAt known.now row at.line at.key)) }
+{
+    let Some(reader) = files.open(Table::Lineorder) else {
+        return Ok(None);
+    };
+    let mut lines = Lines::new(alloc, reader)?;
+    first_unknown(&mut lines, known, axis, row)
 }
 
 // The first line at a row of its batch whose key is none of the known ones.

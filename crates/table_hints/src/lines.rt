@@ -3,6 +3,7 @@ use crate::files::{Table, TableFiles};
 use batch_loader::Lines;
 use cube_model::Fault;
 use std::alloc::Global;
+use std::io::Read;
 
 /// How many fields a line has. A bar behind the last one is no further field.
 pub fn field_count(line: &[u8]) -> usize {
@@ -46,6 +47,15 @@ pub fn line_of<T: TableFiles>(
         return Ok(None);
     };
     let mut lines = Lines::new(alloc, reader)?;
+    next_line(alloc, &mut lines, number)
+}
+
+// A line by its number from 1 among those that come.
+fn next_line<R: Read>(
+    alloc: Global,
+    lines: &mut Lines<R>,
+    number: u64,
+) -> Result<Option<Vec<u8>>, Fault> {
     for _ in 1..number {
         if lines.next()?.is_none() {
             return Ok(None);

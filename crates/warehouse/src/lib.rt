@@ -18,5 +18,6 @@ pub use creation::create;
 pub use opening::open;
 pub use running::run;
 pub use session::Session;
-pub use status::{MOST_CUBOIDS, Status};
+pub use status::Status;
 pub use warehouse_root::StoredCuboid;
+pub use warehouse_root::limits::MOST_CUBOIDS;

@@ -12,9 +12,7 @@ use crate::session::Session;
 use cube_model::Fault;
 use sector_device::Sectors;
 use warehouse_root::StoredCuboid;
-
-/// The most cuboids that a warehouse stores.
-pub const MOST_CUBOIDS: usize = 16;
+use warehouse_root::limits::MOST_CUBOIDS;
 
 /// The numbers of a warehouse.
 #[derive(Clone, Copy, Debug, PartialEq, Eq)]

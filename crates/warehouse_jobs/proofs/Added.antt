@@ -4,6 +4,8 @@ use Rattle.std.proofs.lemmas.Bool.{cases_lt}
 use Rattle.std.proofs.lemmas.List.{length_push, take_all}
 use Rattle.sector_device.specs.declared.device.Sectors.{Ghosts}
 use Rattle.batch_loader.specs.Lines.{lines_of}
+use Rattle.batch_loader.specs.Outcomes.{and_then, unless}
+use Rattle.batch_loader.specs.Parts.{parts_of}
 use Rattle.batch_loader.specs.Rows.{number_after}
 use Rattle.cube_model.specs.declared.rows.DimRows.{DimRows}
 use Rattle.cube_model.specs.declared.rows.LineOrder.{LineOrder}
@@ -11,7 +13,7 @@ use Rattle.cube_model.specs.Admission.{all_rows, refusal}
 use Rattle.cube_model.specs.Answers.{answer}
 use Rattle.cube_model.specs.Limits.{most_batch_rows}
 use Rattle.object_store.specs.Content.{Content}
-use Rattle.ssb_eval.specs.Evaluation.{and_then, facts_behind, facts_of, parts_of, unless}
+use Rattle.ssb_eval.specs.Evaluation.{facts_behind, facts_of}
 use Rattle.warehouse_objects.specs.Warehouse.{Warehouse, fresh, loaded}
 use Rattle.warehouse.specs.declared.session.Session.{Session}
 use Rattle.warehouse.specs.Session.{IsAt}

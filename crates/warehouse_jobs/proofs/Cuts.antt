@@ -1,10 +1,10 @@
 -- The parts of a text, one after the other.
 use Rattle.std.proofs.Common.{◌≡◌, ℕ, zero, suc, ◌≤◌, List, [], ◌∷◌, ◌++◌, length, take, drop, Ok, Err, refl, sym, ap, ◌∙◌, arith}
+use Rattle.batch_loader.specs.Parts.{parts_of}
 use Rattle.batch_loader.specs.Rows.{rows_of, number_after}
 use Rattle.batch_loader.specs.Tables.{lineorder_row}
 use Rattle.cube_model.specs.declared.fault.Fault.{Fault}
 use Rattle.cube_model.specs.declared.rows.LineOrder.{LineOrder}
-use Rattle.ssb_eval.specs.Evaluation.{parts_of}
 use Rattle.ssb_eval.proofs.Batches.{no_lines, parts_of-first}
 use Rattle.warehouse_jobs.specs.Cutting.{AreCut, IsNextFault}
 

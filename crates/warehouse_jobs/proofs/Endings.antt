@@ -4,6 +4,7 @@ use Rattle.std.proofs.KnownBytes.{Keeps-refl}
 use Rattle.std.specs.Io.KnownBytes.{Appends, Keeps}
 use Rattle.sector_device.specs.declared.device.Sectors.{Ghosts}
 use Rattle.batch_loader.specs.Lines.{lines_of}
+use Rattle.batch_loader.specs.Parts.{parts_of}
 use Rattle.batch_loader.specs.Reading.{IsFirstFault, RefusesBatch, TakesBatch, TakesRows}
 use Rattle.batch_loader.specs.Rows.{next_number}
 use Rattle.batch_loader.specs.Tables.{lineorder_row}
@@ -16,7 +17,6 @@ use Rattle.cube_model.specs.Limits.{most_batches}
 use Rattle.object_store.specs.Content.{Content}
 use Rattle.object_store.specs.Disk.{Leaves}
 use Rattle.object_store.specs.Moments.{leaves_then, leaves_weaker}
-use Rattle.ssb_eval.specs.Evaluation.{parts_of}
 use Rattle.ssb_reports.specs.Writing.{Writes}
 use Rattle.warehouse_objects.specs.Warehouse.{Warehouse, loaded}
 use Rattle.warehouse_objects.specs.Stands.{Stands}

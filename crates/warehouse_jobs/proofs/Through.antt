@@ -6,6 +6,7 @@ use Rattle.std.proofs.lemmas.List.{length-map, length_push}
 use Rattle.std.specs.Io.KnownBytes.{Appends}
 use Rattle.sector_device.specs.declared.device.Sectors.{Ghosts}
 use Rattle.batch_loader.specs.Lines.{lines_of}
+use Rattle.batch_loader.specs.Parts.{parts_of}
 use Rattle.batch_loader.specs.Reading.{TakesBatch, TakesRows}
 use Rattle.batch_loader.specs.Rows.{next_number, number_after}
 use Rattle.batch_loader.specs.Tables.{lineorder_row}
@@ -16,7 +17,6 @@ use Rattle.cube_model.specs.Limits.{most_batches}
 use Rattle.object_store.specs.Content.{Content}
 use Rattle.object_store.specs.Disk.{Leaves}
 use Rattle.object_store.specs.Moments.{leaves_then, leaves_weaker}
-use Rattle.ssb_eval.specs.Evaluation.{parts_of}
 use Rattle.ssb_eval.proofs.Batches.{next_number-after}
 use Rattle.warehouse_objects.specs.Warehouse.{Warehouse}
 use Rattle.warehouse_objects.specs.Stands.{Stands}

@@ -1,5 +1,4 @@
 pub mod CallerLemmas
-mod Ascending
 mod Climbs
 mod Decoded
 mod Fields

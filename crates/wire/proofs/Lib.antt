@@ -1,3 +1,4 @@
+pub mod Ascending
 pub mod CallerLemmas
 mod FieldLemmas
 pub mod Stopped

@@ -1,6 +1,7 @@
 use Rattle.std.proofs.Common.{Ok, ap, ◌∙◌}
 use Rattle.std.proofs.lemmas.Result.{err_from_is_err_and}
-use Rattle.ssb_eval.specs.Evaluation.{and_then, answer_of}
+use Rattle.batch_loader.specs.Outcomes.{and_then}
+use Rattle.ssb_eval.specs.Evaluation.{answer_of}
 use Rattle.ssb_reports.specs.Report.{report_of}
 use Rattle.ssb_eval.proofs.Endings.{reports-stop, reports-written, eval-stop, eval-stop_early}
 use Rattle.ssb_eval.proofs.evaluation.eval_texts.Goals as goal

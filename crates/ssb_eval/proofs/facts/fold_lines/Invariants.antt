@@ -1,6 +1,6 @@
 use Rattle.std.proofs.Common.{◌≡◌, ℕ, ◌-◌, List, Some, None}
 use Rattle.cube_model.specs.declared.rows.LineOrder.{LineOrder}
-use Rattle.ssb_eval.specs.Taken.{AreTaken, LeavesFacts}
+use Rattle.ssb_eval.specs.BatchLoop.{AreTaken, LeavesFacts}
 use Rattle.ssb_eval.proofs.facts.fold_lines.Given as goal
 
 abbrev pub invariant-loop-more : goal.invariant-loop-more

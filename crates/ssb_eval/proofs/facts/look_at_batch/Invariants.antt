@@ -4,7 +4,7 @@ use Rattle.batch_loader.proofs.TakingRows.{IsTaking}
 use Rattle.cube_model.specs.declared.rows.LineOrder.{LineOrder}
 use Rattle.cube_model.specs.Admission.{all_rows}
 use Rattle.cube_model.specs.Limits.{most_batch_rows}
-use Rattle.ssb_eval.specs.Taken.{AreTaken, IsBegun}
+use Rattle.ssb_eval.specs.BatchLoop.{AreTaken, IsBegun}
 use Rattle.ssb_eval.proofs.facts.look_at_batch.Given as goal
 
 abbrev pub invariant-loop : goal.invariant-loop

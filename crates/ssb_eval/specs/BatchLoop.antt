@@ -1,6 +1,7 @@
 -- What stands between two batches of an evaluation. Our own.
 use Rattle.std.specs.Prelude.{◌≡◌, ◌⊎◌, ℕ, ◌+◌, ◌*◌, ◌≤◌, Bool, true, false, None, Some, Option, List, [], ◌∷◌, ◌++◌, length, Result, Ok, Err}
 use Rattle.batch_loader.specs.Lines.{lines_of}
+use Rattle.batch_loader.specs.Parts.{parts_of}
 use Rattle.batch_loader.specs.Reading.{TakesBatch, RefusesBatch, IsFirstFault}
 use Rattle.batch_loader.specs.Rows.{next_number}
 use Rattle.batch_loader.specs.Tables.{lineorder_row}
@@ -17,7 +18,7 @@ use Rattle.cube_query.specs.Limits.{AreFoldable}
 use Rattle.batch_admission.specs.Accepted.{Accepted, StandsBehind}
 use Rattle.batch_admission.specs.Found.{Found, cause_of, found_in}
 use Rattle.batch_admission.specs.Totals.{totals_of}
-use Rattle.ssb_eval.specs.Evaluation.{facts_of, facts_behind, parts_of}
+use Rattle.ssb_eval.specs.Evaluation.{facts_of, facts_behind}
 
 -- batches were accepted, and their rows were folded
 pub record AreTaken (dimensions : DimRows) (query : Query) (accepted : Accepted) (fold : FoldState) (batches : List (List LineOrder)) : Type 0 where
