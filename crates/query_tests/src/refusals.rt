@@ -2,7 +2,7 @@
 
 use super::running::segment_of;
 use column_segment::Segment;
-use cube_model::{Agg, Attr, Fault, Measure};
+use cube_model::{Agg, Attr, Fault, Kind, LineOrder, Measure, Query};
 use cube_query::Fold;
 use dimensions::{Dims, have_short_texts};
 use sample_star::{
@@ -59,6 +59,20 @@ pub static TAKEN: [&[Fact<'static>]; 2] = [
         },
     ],
     &[],
+];
+
+/// A row with half of that sum too, of a customer of another region.
+const LARGE_ELSEWHERE: Fact<'static> = Fact {
+    custkey: 2,
+    ..LARGE
+};
+
+/// What the end of a fold over these two rows says to each kind of query. Their sum is that of no group by all columns, and
+/// that of the group of all regions.
+pub static ENDS: [(Kind, Option<Fault>); 3] = [
+    (Kind::Plain, None),
+    (Kind::Rollup, Some(Fault::BadLayout)),
+    (Kind::Cube, Some(Fault::BadLayout)),
 ];
 
 /// Rows with a key that no row has, in a dimension with a condition: before the keys of its rows, among them and behind.
@@ -124,4 +138,34 @@ fn add_segment_to_new(
     let query = query(alloc, asked)?;
     let mut fold = Fold::new(alloc, dims, &query)?;
     fold.add_segment(dims, segment)
+}
+
+/// What the end of a fold of a kind says, where each of the two rows was taken by a call of its own.
+pub fn refusal_at_the_end(alloc: Global, kind: Kind) -> Result<Option<Fault>, Fault> {
+    let dimensions = dim_rows(alloc, &STAR)?;
+    if !have_short_texts(&dimensions) {
+        return Err(Fault::BadQuery);
+    }
+    let dims = Dims::build(alloc, &dimensions)?;
+    refusal_over(alloc, &dims, kind)
+}
+
+fn refusal_over(alloc: Global, dims: &Dims, kind: Kind) -> Result<Option<Fault>, Fault> {
+    let one = line_orders(alloc, &[LARGE])?;
+    let other = line_orders(alloc, &[LARGE_ELSEWHERE])?;
+    let query = query(alloc, &Asked { kind, ..SUMS })?;
+    refusal_behind(alloc, dims, one.as_slice(), other.as_slice(), &query)
+}
+
+fn refusal_behind(
+    alloc: Global,
+    dims: &Dims,
+    one: &[LineOrder],
+    other: &[LineOrder],
+    query: &Query,
+) -> Result<Option<Fault>, Fault> {
+    let mut fold = Fold::new(alloc, dims, query)?;
+    fold.add_rows(dims, one)?;
+    fold.add_rows(dims, other)?;
+    Ok(fold.finish(dims).err())
 }

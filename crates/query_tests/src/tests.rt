@@ -6,7 +6,8 @@ use super::examples::{
 };
 use super::queries::Reach;
 use super::refusals::{
-    REFUSED, TAKEN, UNKNOWN, outcome_of as outcome_of_adding, outcome_of_choosing,
+    ENDS, REFUSED, TAKEN, UNKNOWN, outcome_of as outcome_of_adding, outcome_of_choosing,
+    refusal_at_the_end,
 };
 use super::running::{answer_of, is_as_worked};
 use cube_model::Fault;
@@ -80,6 +81,14 @@ fn sums_may_reach_their_limit(rt: HostRuntime) {
     for facts in &TAKEN {
         let outcome = outcome_of_adding(rt.alloc(), facts);
         assert_eq!(rt; outcome, Ok(()), "{facts:?}");
+    }
+}
+
+#[test]
+fn sums_of_coarser_groups_are_refused_past_their_limit(rt: HostRuntime) {
+    for (kind, refusal) in &ENDS {
+        let found = refusal_at_the_end(rt.alloc(), *kind);
+        assert_eq!(rt; found, Ok(*refusal), "{kind:?}");
     }
 }
 
