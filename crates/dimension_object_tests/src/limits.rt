@@ -18,13 +18,20 @@ fn numbered(alloc: Global, key: u32) -> Result<PartRow, Fault> {
     Ok(part)
 }
 
-/// Two parts, with brands of 0 and of 255 bytes.
+/// The keys of two parts, and how many bytes their brands have.
+static LENGTHS: [(u32, usize); 2] = [(4294967295, 0), (0, 255)];
+
+/// A part with a brand of so many bytes.
+fn part_of_length(alloc: Global, key: u32, count: usize) -> Result<PartRow, Fault> {
+    let mut part = part_row(alloc, &Product { key, ..FIRST_PART })?;
+    part.brand1 = repeated(alloc, count)?;
+    Ok(part)
+}
+
 fn short_and_long(alloc: Global) -> Result<DimRows, Fault> {
     let mut rows = no_rows(alloc);
-    for (key, count) in [(4294967295, 0), (0, 255)] {
-        let mut part = part_row(alloc, &Product { key, ..FIRST_PART })?;
-        part.brand1 = repeated(alloc, count)?;
-        rows.parts.push(part)?;
+    for (key, count) in LENGTHS {
+        rows.parts.push(part_of_length(alloc, key, count)?)?;
     }
     Ok(rows)
 }
@@ -46,14 +53,25 @@ fn again(alloc: Global, rows: &DimRows) -> Result<Dims, Fault> {
     copied(alloc, &dims)
 }
 
+/// The dimensions of the two parts, by way of their objects.
+fn short_and_long_again(alloc: Global) -> Result<Dims, Fault> {
+    let rows = short_and_long(alloc)?;
+    again(alloc, &rows)
+}
+
+fn has_brand_of_length(alloc: Global, dims: &Dims, key: u32, count: usize) -> Result<bool, Fault> {
+    let wanted = repeated(alloc, count)?;
+    Ok(dims.attribute(Axis::Part, key, Attr::PartBrand1) == Some(wanted.as_slice()))
+}
+
 #[test]
 fn empty_and_longest_text(rt: HostRuntime) -> Result<(), Fail> {
-    let rows = short_and_long(rt.alloc())?;
-    let dims = again(rt.alloc(), &rows)?;
-    for (key, count) in [(4294967295, 0), (0, 255)] {
-        let wanted = repeated(rt.alloc(), count)?;
-        let text = dims.attribute(Axis::Part, key, Attr::PartBrand1);
-        assert!(rt; text == Some(wanted.as_slice()), "{count} bytes");
+    let dims = short_and_long_again(rt.alloc())?;
+    for (key, count) in LENGTHS {
+        assert!(rt;
+            has_brand_of_length(rt.alloc(), &dims, key, count)?,
+            "{count} bytes"
+        );
     }
     Ok(())
 }

@@ -1,6 +1,6 @@
 //! Rows beside the limits.
 use crate::star::build_fault;
-use cube_model::{Axis, DimRows, Fault, PartRow, Place, Text};
+use cube_model::{Axis, DateRow, DimRows, Fault, PartRow, Place, Text};
 use itoa::Buffer;
 use sample_star::{Day, FIRST_DAY, FIRST_PART, Product, date_row, no_rows, part_row, text};
 use std::alloc::Global;
@@ -81,6 +81,12 @@ fn short_texts(rt: HostRuntime) -> Result<(), Fail> {
 
 fn long_month(alloc: Global, length: usize) -> Result<DimRows, Fault> {
     let mut rows = many_days(alloc, 1)?;
+    rows.dates.push(day_of_long_month(alloc, length)?)?;
+    Ok(rows)
+}
+
+/// A day of a month with a text of so many bytes.
+fn day_of_long_month(alloc: Global, length: usize) -> Result<DateRow, Fault> {
     let other = Day {
         yearmonthnum: "",
         ..FIRST_DAY
@@ -89,6 +95,5 @@ fn long_month(alloc: Global, length: usize) -> Result<DimRows, Fault> {
     for _ in 0..length {
         day.yearmonthnum.push(b'1')?;
     }
-    rows.dates.push(day)?;
-    Ok(rows)
+    Ok(day)
 }

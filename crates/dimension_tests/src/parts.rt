@@ -1,6 +1,9 @@
 //! Examples of dictionaries and hierarchies.
+use cube_model::Fault;
 use dictionary::Dictionary;
 use hierarchy::Hierarchy;
+use std::alloc::Global;
+use std::process::Abort;
 use std::test::Fail;
 
 /// Texts one after another, each with the code that it gets in a dictionary of two texts.
@@ -30,48 +33,77 @@ static LINKS: [(usize, u16, bool); 7] = [
 /// Codes with the upper members that they have then.
 static UPPERS: [(usize, Option<u16>); 4] = [(0, Some(3)), (1, Some(3)), (2, Some(0)), (3, None)];
 
-#[test]
-fn first_use(rt: HostRuntime) -> Result<(), Fail> {
-    let alloc = rt.alloc();
-    let mut texts = Dictionary::new(alloc, 2);
+/// Codes with the texts that they have where there is room for all.
+static TEXTS: [(u32, Option<&[u8]>); 5] = [
+    (0, Some(b"PERU")),
+    (1, Some(b"CHINA")),
+    (2, Some(b"")),
+    (3, Some(b"JAPAN")),
+    (4, None),
+];
+
+fn check_added(rt: &impl Abort, alloc: Global, texts: &mut Dictionary) -> Result<(), Fail> {
     for (text, code) in &ADDED {
         let added = texts.add(alloc, text.as_bytes())?;
         assert!(rt; added == *code, "adding {text}");
     }
-    for (text, code) in &KEPT {
-        assert!(rt; texts.code(text.as_bytes()) == *code, "the code of {text}");
-    }
     Ok(())
 }
 
+fn check_kept(rt: &impl Abort, texts: &Dictionary) {
+    for (text, code) in &KEPT {
+        assert!(rt; texts.code(text.as_bytes()) == *code, "the code of {text}");
+    }
+}
+
 #[test]
-fn texts_of_codes(rt: HostRuntime) -> Result<(), Fail> {
-    let alloc = rt.alloc();
+fn first_use(rt: HostRuntime) -> Result<(), Fail> {
+    let mut texts = Dictionary::new(rt.alloc(), 2);
+    check_added(&rt, rt.alloc(), &mut texts)?;
+    check_kept(&rt, &texts);
+    Ok(())
+}
+
+/// A dictionary with room for all of the texts, and with each of them.
+fn all_added(alloc: Global) -> Result<Dictionary, Fault> {
     let mut texts = Dictionary::new(alloc, 65535);
     for (text, _) in &ADDED {
         texts.add(alloc, text.as_bytes())?;
     }
-    let found = [texts.text(0), texts.text(1), texts.text(2), texts.text(3)];
-    let wanted = ["PERU", "CHINA", "", "JAPAN"];
-    for i in 0..4 {
-        assert!(rt; found[i] == Some(wanted[i].as_bytes()), "the text of {i}");
-    }
-    assert!(rt; texts.text(4).is_none() && texts.len() == 4);
-    Ok(())
+    Ok(texts)
 }
 
 #[test]
-fn upper_members(rt: HostRuntime) -> Result<(), Fail> {
-    let mut links = Hierarchy::new(rt.alloc());
+fn texts_of_codes(rt: HostRuntime) -> Result<(), Fail> {
+    let texts = all_added(rt.alloc())?;
+    for (code, text) in &TEXTS {
+        assert!(rt; texts.text(*code) == *text, "the text of {code}");
+    }
+    assert!(rt; texts.len() == 4);
+    Ok(())
+}
+
+fn check_links(rt: &impl Abort, links: &mut Hierarchy) -> Result<(), Fail> {
     for (code, upper, linked) in &LINKS {
         let holds = links.link(*code, *upper)?;
         assert!(rt; holds == *linked, "linking {code}");
     }
+    Ok(())
+}
+
+fn check_uppers(rt: &impl Abort, links: &Hierarchy) {
     for (code, upper) in &UPPERS {
         assert!(rt;
             links.up(*code) == *upper && links.len() == 3,
             "above {code}"
         );
     }
+}
+
+#[test]
+fn upper_members(rt: HostRuntime) -> Result<(), Fail> {
+    let mut links = Hierarchy::new(rt.alloc());
+    check_links(&rt, &mut links)?;
+    check_uppers(&rt, &links);
     Ok(())
 }

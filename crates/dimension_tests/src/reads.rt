@@ -1,7 +1,8 @@
 //! Row indexes, members, ranks and attributes, by tables of what was worked out by hand.
-use cube_model::{Attr, Axis};
+use cube_model::{Attr, Axis, Fault};
 use dimensions::Dims;
 use sample_star::{Day, Location, Product, Star, dim_rows};
+use std::alloc::Global;
 use std::process::Abort;
 use std::test::Fail;
 
@@ -210,10 +211,14 @@ fn check_texts(rt: &impl Abort, dims: &Dims) {
     }
 }
 
+fn sample_dims(alloc: Global) -> Result<Dims, Fault> {
+    let rows = dim_rows(alloc, &STAR)?;
+    Dims::build(alloc, &rows)
+}
+
 #[test]
 fn a_star(rt: HostRuntime) -> Result<(), Fail> {
-    let rows = dim_rows(rt.alloc(), &STAR)?;
-    let dims = Dims::build(rt.alloc(), &rows)?;
+    let dims = sample_dims(rt.alloc())?;
     check_indexes(&rt, &dims);
     check_counts(&rt, &dims);
     check_ranks(&rt, &dims);
