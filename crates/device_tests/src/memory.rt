@@ -101,12 +101,17 @@ fn large(rt: &HostRuntime, count: u32) -> Result<MemDisk, Fail> {
     Ok(disk)
 }
 
+// The bytes of the first three sectors and of the last one.
+fn ends<D: Sectors>(disk: &mut D) -> Result<([Option<u8>; 3], Option<u8>), DeviceError> {
+    let first = first_three(disk)?;
+    Ok((first, get(disk, 262_143)?))
+}
+
 #[test]
 fn holds_many_sectors(rt: HostRuntime) -> Result<(), Fail> {
     let mut disk = large(&rt, 262_144)?.crash(&[2, 1]);
-    for (i, byte) in [(0, 77), (1, 1), (2, 0), (262_143, 0)] {
-        assert_eq!(rt; get(&mut disk, i)?, Some(byte), "at {i}");
-    }
+    let bytes = ([Some(77), Some(1), Some(0)], Some(0));
+    assert_eq!(rt; ends(&mut disk), Ok(bytes));
     assert_eq!(rt;
         (disk.count(), disk.reads(), disk.failures()),
         (262_144, 4, 0)
