@@ -11,9 +11,6 @@ pub const FRONT: &[u8] = b"1|1|1|1|1|19930105|1-URGENT|0|17|1000|1000|2|980|600|
 /// As many bytes as a text may have.
 pub const LONGEST_TEXT: &[u8] = &[b'y'; 255];
 
-/// As many bytes as a line may have.
-pub const LONGEST_LINE: &[u8] = &[b'x'; 8192];
-
 /// Digits that change no number.
 pub const ZEROS: &[u8] = &[b'0'; 300];
 

@@ -2,38 +2,44 @@
 use batch_loader::{Lines, read_batch, read_customers};
 use cube_model::Fault;
 use sample_star::{TABLES, in_pieces};
+use std::alloc::Global;
 use std::test::Fail;
 
-#[test]
-fn each_read_of_fact_rows_fails_in_turn(rt: HostRuntime) -> Result<(), Fail> {
-    for read in 1..=TABLES.lineorder.len() as u32 / 14 + 2 {
-        let mut lines = Lines::new(rt.alloc(), in_pieces(TABLES.lineorder, 14).failing_at(read))?;
-        assert_eq!(rt;
-            read_batch(rt.alloc(), &mut lines, 9),
-            Err(Fault::Input),
-            "at {read}"
-        );
-        assert_eq!(rt;
-            read_batch(rt.alloc(), &mut lines, 0),
-            Err(Fault::Input),
-            "at {read}"
-        );
-    }
-    Ok(())
+/// How two readings of fact rows are refused where a read fails, if they are.
+fn facts_failing_at(alloc: Global, read: u32) -> Result<[Option<Fault>; 2], Fault> {
+    let mut lines = Lines::new(alloc, in_pieces(TABLES.lineorder, 14).failing_at(read))?;
+    let first = read_batch(alloc, &mut lines, 9).err();
+    let second = read_batch(alloc, &mut lines, 0).err();
+    Ok([first, second])
 }
 
 #[test]
-fn each_read_of_customers_fails_in_turn(rt: HostRuntime) -> Result<(), Fail> {
-    for read in 1..=TABLES.customer.len() as u32 + 1 {
-        let mut lines = Lines::new(rt.alloc(), in_pieces(TABLES.customer, 1).failing_at(read))?;
+fn each_read_of_fact_rows_fails_in_turn(rt: HostRuntime) {
+    for read in 1..=TABLES.lineorder.len() as u32 / 14 + 2 {
         assert_eq!(rt;
-            read_customers(rt.alloc(), &mut lines),
-            Err(Fault::Input),
+            facts_failing_at(rt.alloc(), read),
+            Ok([Some(Fault::Input); 2]),
             "at {read}"
         );
-        assert_eq!(rt; lines.fault(), Some(Fault::Input), "at {read}");
     }
-    Ok(())
+}
+
+/// How a reading of customers is refused where a read fails, and the fault that the lines have then.
+fn customers_failing_at(alloc: Global, read: u32) -> Result<[Option<Fault>; 2], Fault> {
+    let mut lines = Lines::new(alloc, in_pieces(TABLES.customer, 1).failing_at(read))?;
+    let refused = read_customers(alloc, &mut lines).err();
+    Ok([refused, lines.fault()])
+}
+
+#[test]
+fn each_read_of_customers_fails_in_turn(rt: HostRuntime) {
+    for read in 1..=TABLES.customer.len() as u32 + 1 {
+        assert_eq!(rt;
+            customers_failing_at(rt.alloc(), read),
+            Ok([Some(Fault::Input); 2]),
+            "at {read}"
+        );
+    }
 }
 
 #[test]

@@ -1,7 +1,8 @@
 //! Texts of fact rows that are refused.
-use crate::joined::{LONGEST_LINE, LONGEST_TEXT, ROW, joined};
+use crate::joined::{LONGEST_TEXT, ROW, joined};
 use crate::outcomes::is_refused;
 use cube_model::{Fault, Place};
+use std::alloc::Global;
 use std::test::Fail;
 
 /// A text in parts, and why it is refused.
@@ -11,7 +12,7 @@ struct Refused {
     fault: Fault,
 }
 
-static REFUSED: [Refused; 50] = [
+static REFUSED: [Refused; 46] = [
     Refused {
         parts: &[b"1|1|1|1|1|19930105|1-URGENT|0|17|1000|1000|2|980|600|0|19930201\n"],
         fault: Fault::FieldCount { line: 1 },
@@ -37,37 +38,12 @@ static REFUSED: [Refused; 50] = [
         fault: Fault::FieldCount { line: 1 },
     },
     Refused {
-        parts: &[LONGEST_LINE, b"\n"],
-        fault: Fault::FieldCount { line: 1 },
-    },
-    Refused {
         parts: &[ROW, b"\n", ROW, b"|\n\n"],
         fault: Fault::FieldCount { line: 3 },
     },
     Refused {
         parts: &[b"x|1|1|1|1|19930105|1-URGENT|0|17|1000|1000|2|980|600|0|19930201\n"],
         fault: Fault::FieldCount { line: 1 },
-    },
-    Refused {
-        parts: &[LONGEST_LINE, b"x\n"],
-        fault: Fault::FieldTooLong {
-            place: Place::Line(1),
-            field: 0,
-        },
-    },
-    Refused {
-        parts: &[LONGEST_LINE, b"\r\n"],
-        fault: Fault::FieldTooLong {
-            place: Place::Line(1),
-            field: 0,
-        },
-    },
-    Refused {
-        parts: &[LONGEST_LINE, b"|"],
-        fault: Fault::FieldTooLong {
-            place: Place::Line(1),
-            field: 0,
-        },
     },
     Refused {
         parts: &[
@@ -275,14 +251,44 @@ static REFUSED: [Refused; 50] = [
     },
 ];
 
+/// Whether a text is refused with its fault.
+fn is_told(alloc: Global, case: &Refused) -> Result<bool, Fault> {
+    let text = joined(alloc, case.parts)?;
+    Ok(is_refused(alloc, text.as_slice(), case.fault))
+}
+
 #[test]
 fn first_faults_are_told(rt: HostRuntime) -> Result<(), Fail> {
     for case in &REFUSED {
-        let text = joined(rt.alloc(), case.parts)?;
-        assert!(rt;
-            is_refused(rt.alloc(), text.as_slice(), case.fault),
-            "{case:?}"
-        );
+        assert!(rt; is_told(rt.alloc(), case)?, "{case:?}");
+    }
+    Ok(())
+}
+
+const LINE_TOO_LONG: Fault = Fault::FieldTooLong {
+    place: Place::Line(1),
+    field: 0,
+};
+
+/// What stands behind as many bytes as a line may have, and why such a text is refused.
+static LONG_LINES: [(&[u8], Fault); 4] = [
+    (b"\n", Fault::FieldCount { line: 1 }),
+    (b"x\n", LINE_TOO_LONG),
+    (b"\r\n", LINE_TOO_LONG),
+    (b"|", LINE_TOO_LONG),
+];
+
+/// Whether as many bytes as a line may have, with others behind them, are refused with a fault.
+fn is_long_line_refused(alloc: Global, end: &[u8], fault: Fault) -> Result<bool, Fault> {
+    let mut text = Vec::from_elem(alloc, b'x', 8192)?;
+    text.extend_from_slice(end)?;
+    Ok(is_refused(alloc, text.as_slice(), fault))
+}
+
+#[test]
+fn long_lines_are_refused(rt: HostRuntime) -> Result<(), Fail> {
+    for (end, fault) in &LONG_LINES {
+        assert!(rt; is_long_line_refused(rt.alloc(), end, *fault)?, "{end:?}");
     }
     Ok(())
 }

@@ -56,7 +56,7 @@ fn slow_row(alloc: Global, line: &[u8], number: u64) -> Result<LineOrder, Fault>
         return Err(Fault::FieldCount { line: number });
     }
     let numbers = slow_numbers(&fields, number)?;
-    row_of(alloc, &fields, &numbers)
+    Ok(row_of(texts_of(alloc, &fields)?, &numbers))
 }
 
 /// Splits a line at its bars. It gives false unless there are seventeen parts, or one more that is empty.
@@ -122,21 +122,40 @@ fn money(number: u64) -> Amount {
     Amount::new(number.min(9_223_372_036_854_775_807))
 }
 
-/// The row of the fields and of their numbers.
-fn row_of(alloc: Global, fields: &[&[u8]; 17], numbers: &[u64; 17]) -> Result<LineOrder, Fault> {
+/// The texts of a row.
+#[derive(Drop)]
+struct RowTexts {
+    orderpriority: RowText,
+    shippriority: RowText,
+    commitdate: RowText,
+    shipmode: RowText,
+}
+
+/// The texts among the fields.
+fn texts_of(alloc: Global, fields: &[&[u8]; 17]) -> Result<RowTexts, Fault> {
     let orderpriority = RowText::from_slice(alloc, fields[6])?;
     let shippriority = RowText::from_slice(alloc, fields[7])?;
     let commitdate = RowText::from_slice(alloc, fields[15])?;
     let shipmode = RowText::from_slice(alloc, fields[16])?;
-    Ok(LineOrder {
+    Ok(RowTexts {
+        orderpriority,
+        shippriority,
+        commitdate,
+        shipmode,
+    })
+}
+
+/// The row of its texts and numbers.
+fn row_of(texts: RowTexts, numbers: &[u64; 17]) -> LineOrder {
+    LineOrder {
         orderkey: money(numbers[0]),
         linenumber: key(numbers[1]),
         custkey: key(numbers[2]),
         partkey: key(numbers[3]),
         suppkey: key(numbers[4]),
         orderdate: key(numbers[5]),
-        orderpriority,
-        shippriority,
+        orderpriority: texts.orderpriority,
+        shippriority: texts.shippriority,
         quantity: small(numbers[8]),
         extendedprice: money(numbers[9]),
         ordtotalprice: money(numbers[10]),
@@ -144,7 +163,7 @@ fn row_of(alloc: Global, fields: &[&[u8]; 17], numbers: &[u64; 17]) -> Result<Li
         revenue: money(numbers[12]),
         supplycost: money(numbers[13]),
         tax: small(numbers[14]),
-        commitdate,
-        shipmode,
-    })
+        commitdate: texts.commitdate,
+        shipmode: texts.shipmode,
+    }
 }
