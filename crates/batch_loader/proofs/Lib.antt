@@ -11,3 +11,4 @@ pub mod TakingRows
 pub mod Pieces
 pub mod Windows
 pub mod ShortNumbers
+pub mod RowBuffers

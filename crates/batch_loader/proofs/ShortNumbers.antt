@@ -76,9 +76,30 @@ pairs-are : (a b c d e f g h : ℕ) → a ≤ 9 → b ≤ 9 → c ≤ 9 → d �
     ≡ (a * 10 + b) + 256 * ((b * 10 + c) + 256 * ((c * 10 + d) + 256 * ((d * 10 + e) + 256 * ((e * 10 + f) + 256 * ((f * 10 + g) + 256 * ((g * 10 + h) + 256 * (h * 10)))))))
 pairs-are a b c d e f g h sa sb sc sd se sf sg sh = omega arith
 
+-- four numbers below 100 in two products, and the sum of these
+
+abbrev pub halved : ℕ → ℕ → ℕ → ℕ → ℕ
+halved a b c d =
+    ((a + c * 4294967296) * 4294967296000100 % 18446744073709551616 + (b + d * 4294967296) * 42949672960001 % 18446744073709551616) % 18446744073709551616 / 4294967296
+
+halved-is : (a b c d : ℕ) → a ≤ 99 → b ≤ 99 → c ≤ 99 → d ≤ 99 → halved a b c d ≡ a * 1000000 + b * 10000 + c * 100 + d
+halved-is a b c d sa sb sc sd =
+    ap (λ n. n / 4294967296) (ap (λ n. n % 18446744073709551616) (ap (λ n. n + (b + d * 4294967296) * 42949672960001 % 18446744073709551616) (first a c sa sc) ∙ ap (λ n. a * 100 + 4294967296 * (a * 1000000 + c * 100) + n) (second b d sb sd)))
+    ∙ sum a b c d sa sb sc sd
+  where
+    first : (a c : ℕ) → a ≤ 99 → c ≤ 99 → (a + c * 4294967296) * 4294967296000100 % 18446744073709551616 ≡ a * 100 + 4294967296 * (a * 1000000 + c * 100)
+    first a c sa sc = omega arith
+
+    second : (b d : ℕ) → b ≤ 99 → d ≤ 99 → (b + d * 4294967296) * 42949672960001 % 18446744073709551616 ≡ b + 4294967296 * (b * 10000 + d)
+    second b d sb sd = omega arith
+
+    sum : (a b c d : ℕ) → a ≤ 99 → b ≤ 99 → c ≤ 99 → d ≤ 99
+        → ((a * 100 + 4294967296 * (a * 1000000 + c * 100)) + (b + 4294967296 * (b * 10000 + d))) % 18446744073709551616 / 4294967296 ≡ a * 1000000 + b * 10000 + c * 100 + d
+    sum a b c d sa sb sc sd = omega arith
+
 decimal-pairs : (pairs a b c d e f g h : ℕ) → a ≤ 9 → b ≤ 9 → c ≤ 9 → d ≤ 9 → e ≤ 9 → f ≤ 9 → g ≤ 9 → h ≤ 9
     → pairs ≡ (a * 10 + b) + 256 * ((b * 10 + c) + 256 * ((c * 10 + d) + 256 * ((d * 10 + e) + 256 * ((e * 10 + f) + 256 * ((f * 10 + g) + 256 * ((g * 10 + h) + 256 * (h * 10)))))))
-    → pairs / 1 % 256 * 1000000 + pairs / 65536 % 256 * 10000 + pairs / 4294967296 % 256 * 100 + pairs / 281474976710656 % 256 ≡ decimal_of (a ∷ b ∷ c ∷ d ∷ e ∷ f ∷ g ∷ h ∷ [])
+    → halved (pairs / 1 % 256) (pairs / 65536 % 256) (pairs / 4294967296 % 256) (pairs / 281474976710656 % 256) ≡ decimal_of (a ∷ b ∷ c ∷ d ∷ e ∷ f ∷ g ∷ h ∷ [])
 decimal-pairs pairs a b c d e f g h sa sb sc sd se sf sg sh is =
     let q1 : ℕ = (c * 10 + d) + 256 * ((d * 10 + e) + 256 * ((e * 10 + f) + 256 * ((f * 10 + g) + 256 * ((g * 10 + h) + 256 * (h * 10))))) in
     let q2 : ℕ = (e * 10 + f) + 256 * ((f * 10 + g) + 256 * ((g * 10 + h) + 256 * (h * 10))) in
@@ -90,7 +111,8 @@ decimal-pairs pairs a b c d e f g h sa sb sc sd se sf sg sh is =
     let byte1 : pairs / 65536 % 256 ≡ c * 10 + d = ap (λ n. n % 256) one ∙ low (c * 10 + d) ((d * 10 + e) + 256 * q2) (omega arith) in
     let byte2 : pairs / 4294967296 % 256 ≡ e * 10 + f = ap (λ n. n % 256) two ∙ low (e * 10 + f) ((f * 10 + g) + 256 * q3) (omega arith) in
     let byte3 : pairs / 281474976710656 % 256 ≡ g * 10 + h = ap (λ n. n % 256) three ∙ low (g * 10 + h) (h * 10) (omega arith) in
-    rw (byte0, byte1, byte2, byte3) (sums a b c d e f g h)
+    rw (byte0, byte1, byte2, byte3)
+    (halved-is (a * 10 + b) (c * 10 + d) (e * 10 + f) (g * 10 + h) (omega arith) (omega arith) (omega arith) (omega arith) ∙ sums a b c d e f g h)
   where
     low : (a q : ℕ) → a < 256 → (a + 256 * q) % 256 ≡ a
     low a q small = omega arith
@@ -99,7 +121,7 @@ decimal-pairs pairs a b c d e f g h sa sb sc sd se sf sg sh is =
     sums a b c d e f g h = omega arith
 
 pub decimal-spread : (number : ℕ) (digits : List ℕ) → IsSpread number digits
-    → pairs_of number / 1 % 256 * 1000000 + pairs_of number / 65536 % 256 * 10000 + pairs_of number / 4294967296 % 256 * 100 + pairs_of number / 281474976710656 % 256 ≡ decimal_of digits
+    → halved (pairs_of number / 1 % 256) (pairs_of number / 65536 % 256) (pairs_of number / 4294967296 % 256) (pairs_of number / 281474976710656 % 256) ≡ decimal_of digits
 decimal-spread number (a ∷ b ∷ c ∷ d ∷ e ∷ f ∷ g ∷ h ∷ []) spread =
     decimal-pairs (pairs_of number) a b c d e f g h spread.small.0 spread.small.1.0 spread.small.1.1.0 spread.small.1.1.1.0 spread.small.1.1.1.1.0 spread.small.1.1.1.1.1.0 spread.small.1.1.1.1.1.1.0 spread.small.1.1.1.1.1.1.1.0
     (ap pairs_of spread.bytes ∙ pairs-are a b c d e f g h spread.small.0 spread.small.1.0 spread.small.1.1.0 spread.small.1.1.1.0 spread.small.1.1.1.1.0 spread.small.1.1.1.1.1.0 spread.small.1.1.1.1.1.1.0 spread.small.1.1.1.1.1.1.1.0)

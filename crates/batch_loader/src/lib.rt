@@ -7,6 +7,7 @@ mod line_fields;
 mod lines;
 mod numbers;
 mod reading;
+mod row_buffer;
 mod rows;
 mod tables;
 mod window;

@@ -5,6 +5,7 @@ ghost use Rattle.batch_loader.specs.Reading.{PushesNext, PushesRow, RefusesRow, 
 ghost use Rattle.batch_loader.specs.Tables.{customer_row, supplier_row, part_row, date_row, lineorder_row};
 
 use crate::lines::Lines;
+use crate::row_buffer::RowBuffer;
 use crate::rows::TableRow;
 use cube_model::{CustomerRow, DateRow, Fault, Items, LineOrder, PartRow, SupplierRow};
 use std::alloc::Global;
@@ -82,9 +83,7 @@ pub fn read_batch_into<R: Read>(
     ensures taken { IfOk result (TakesBatch lineorder_row max lines.old lines.new) }
     ensures refused { lines.old.fault ≡ None → IfErr result (RefusesBatch lineorder_row max lines.old) }
 {
-    let mut room = done.into_vec();
-    room.clear();
-    read_rows(alloc, lines, max, Items::from_vec(room))
+    read_rows(alloc, lines, max, done)
 }
 
 // The rows of all lines that are left.
@@ -105,14 +104,13 @@ fn read_all<T: TableRow + Drop, R: Read>(
     Ok(rows)
 }
 
-// The rows of the next lines, at most `max`, in a list that is still empty.
+// The rows of the next lines, at most `max`, put over rows that are no longer needed.
 fn read_rows<T: TableRow + Drop, R: Read>(
     alloc: Global,
     lines: &mut Lines<R>,
     max: usize,
-    empty: Items<T>,
+    done: Items<T>,
 ) -> Result<Items<T>, Fault>
-    requires { length empty ≡ 0 }
     ensures again { IfSome lines.old.fault (λ fault. result ≡ Err fault) }
     ensures held { IfErr result (λ fault. lines.new.fault ≡ Some fault) }
     ensures taken { IfOk result (TakesBatch (row_of T.columns T.of_fields) max lines.old lines.new) }
@@ -121,20 +119,20 @@ fn read_rows<T: TableRow + Drop, R: Read>(
     if let Some(fault) = lines.fault() {
         return Err(fault);
     }
-    let mut rows = empty;
+    let mut rows = RowBuffer::over(done);
     for _ in 0..max {
         if !push_row(alloc, lines, &mut rows)? {
-            return Ok(rows);
+            return Ok(rows.into_rows());
         }
     }
-    Ok(rows)
+    Ok(rows.into_rows())
 }
 
 // Puts the row of the next line behind some rows. It gives false at the end of the text.
 fn push_row<T: TableRow + Drop, R: Read>(
     alloc: Global,
     lines: &mut Lines<R>,
-    rows: &mut Items<T>,
+    rows: &mut RowBuffer<T>,
 ) -> Result<bool, Fault>
     ensures again { IfSome lines.old.fault (λ fault. result ≡ Err fault) }
     ensures held { IfErr result (λ fault. lines.new.fault ≡ Some fault) }
@@ -155,7 +153,7 @@ fn push_line<T: TableRow + Drop>(
     alloc: Global,
     line: &[u8],
     number: u64,
-    rows: &mut Items<T>,
+    rows: &mut RowBuffer<T>,
 ) -> Result<(), Fault>
     requires { length line.now ≤ 8192 }
     ensures ok { OnOk result (PushesRow (row_of T.columns T.of_fields number line.now) rows.old rows.new) }

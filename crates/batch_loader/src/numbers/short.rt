@@ -7,6 +7,9 @@ ghost use Rattle.batch_loader.specs.ShortNumbers.{AreDigits, IsSpread, decimal_o
 
 use std::simd::prelude::*;
 
+/// How far behind a number's lower half the upper one lies.
+const HALF: u64 = 4_294_967_296;
+
 /// Eight digits 0.
 const ZEROS: u64 = 0x3030_3030_3030_3030;
 
@@ -76,7 +79,10 @@ fn value_of_eight(number: u64) -> u64
 {
     // Each byte of a pair at an even place is ten times its digit and the next one.
     let pairs = number.wrapping_mul(10).wrapping_add(number >> 8);
-    byte(pairs, 0) * 1_000_000 + byte(pairs, 16) * 10_000 + byte(pairs, 32) * 100 + byte(pairs, 48)
+    // Each product has its part of the value behind its lower half, which no carry leaves.
+    let first = (byte(pairs, 0) + byte(pairs, 32) * HALF).wrapping_mul(1_000_000 * HALF + 100);
+    let second = (byte(pairs, 16) + byte(pairs, 48) * HALF).wrapping_mul(10_000 * HALF + 1);
+    first.wrapping_add(second) / HALF
 }
 
 /// The byte of a number behind some bits.
