@@ -21,7 +21,7 @@ length_words [] = refl
 length_words (word ∷ words) =
     length-append (bits_of 32 word) (flat_map (bits_of 32) words) ∙ omega (arith, length-bits_of 32 word, length_words words)
 
-next_word : (words : List ℕ) (i : ℕ) → i < length words
+pub next_word : (words : List ℕ) (i : ℕ) → i < length words
     → flat_map (bits_of 32) (take (i + 1) words) ≡ flat_map (bits_of 32) (take i words) ++ bits_of 32 (get_or words i 0)
 next_word words i lt =
     ap (flat_map (bits_of 32)) (take_more words i 0 lt) ∙ flat_map-append (bits_of 32) (take i words) (get_or words i 0 ∷ [])

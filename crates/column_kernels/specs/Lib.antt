@@ -1,3 +1,4 @@
 pub mod Checks
+pub mod Extremes
 pub mod Masks
 pub mod Sums

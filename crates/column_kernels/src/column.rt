@@ -1,5 +1,5 @@
 //! Columns as they stand in the bytes of a batch, which are added up 32 rows at a time.
-ghost use Rattle.std.specs.Prelude.{◌≡◌, ◌+◌, ◌*◌, ◌^◌, ◌<◌, ◌≤◌, ℕ, List, length, sum, slice_index};
+ghost use Rattle.std.specs.Prelude.{◌≡◌, ◌+◌, ◌*◌, ◌^◌, ◌<◌, ◌≤◌, ℕ, ℤ, pos, ◌-ℤ◌, List, length, sum, slice_index, slice_index_or};
 ghost use Rattle.std.specs.Simd.Lanes.{chunk};
 ghost use Rattle.column_kernels.specs.Masks.{bits_of, selected};
 
@@ -82,4 +82,58 @@ impl<'a> Column for Products<'a> {
     fn number(&self, row: usize) -> u128 {
         u128::from(u64::from_le_bytes(self.column[row])) * u128::from(self.factors[row])
     }
+}
+
+/// A whole number a row.
+pub(crate) trait WholeColumn {
+    /// The numbers of the rows.
+    ghost wholes: { Self → List ℤ };
+
+    /// The number of a row.
+    fn whole(&self, row: usize) -> i128
+        requires within { row < length (wholes self.now) }
+        ensures value { result ≡ slice_index_or (wholes self.now) row (pos 0) };
+}
+
+/// The numbers of a column, as whole numbers.
+#[derive(Clone, Copy)]
+pub(crate) struct Whole<C> {
+    pub(crate) column: C,
+}
+
+impl<C: Column> WholeColumn for Whole<C> {
+    ghost use Rattle.column_kernels.specs.Extremes.{wholes};
+
+    ghost wholes = { λ w. wholes (C.numbers w.column) };
+
+    fn whole(&self, row: usize) -> i128 {
+        self.column.number(row) as i128
+    }
+}
+
+/// Numbers of eight bytes, each less another.
+#[derive(Clone, Copy)]
+pub(crate) struct Differences<'a> {
+    pub(crate) column: &'a [[u8; 8]],
+    pub(crate) others: &'a [[u8; 8]],
+}
+
+impl<'a> WholeColumn for Differences<'a> {
+    ghost use Rattle.column_kernels.specs.Sums.{numbers_of, differences};
+
+    ghost wholes = { λ d. differences (numbers_of d.column.now) (numbers_of d.others.now) };
+
+    fn whole(&self, row: usize) -> i128 {
+        less(
+            u64::from_le_bytes(self.column[row]),
+            u64::from_le_bytes(self.others[row]),
+        )
+    }
+}
+
+// A number less another.
+fn less(number: u64, other: u64) -> i128
+    ensures { result ≡ pos number -ℤ pos other }
+{
+    i128::from(number) - i128::from(other)
 }

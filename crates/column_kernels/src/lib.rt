@@ -1,9 +1,11 @@
-//! Columns of a batch as they stand in its bytes: checks, masks of rows, and sums of the selected rows.
+//! Columns of a batch as they stand in its bytes: checks, masks of rows, and sums, the least and the greatest of
+//! the selected rows.
 #![tactic(auto)]
 
 mod block;
 mod checks;
 mod column;
+mod extremes;
 mod lanes;
 mod mask;
 

@@ -94,6 +94,7 @@ impl Mask {
     pub fn words(&self) -> (&[u32], u32, u32)
         ensures bits { self.now ≡ flat_map (bits_of 32) result.0.now ++ bits_of result.2 result.1 }
         ensures rest { (result.2 < 32) × (result.1 < 2 ^ result.2) }
+        ensures few { length result.0.now ≤ 2048 }
     {
         (&self.words, self.rest, self.rest_rows)
     }
@@ -197,7 +198,7 @@ fn bit(is_set: bool, place: usize) -> u32
 }
 
 // Whether a bit of a word is set.
-fn is_set(word: u32, place: usize) -> bool
+pub(crate) fn is_set(word: u32, place: usize) -> bool
     requires { place < 32 }
     ensures { result ≡ (bit_at word place == 1) }
 {

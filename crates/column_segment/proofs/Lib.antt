@@ -3,6 +3,7 @@ mod Behind
 mod Gathered
 mod Chunked
 mod Coded
+mod Extremal
 mod Header
 mod Parts
 mod Passes

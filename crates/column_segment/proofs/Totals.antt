@@ -89,11 +89,11 @@ module _ (text : List ℕ) (layout : Layout) (decoded : IsDecoded text layout) (
   few : length (rows_in text layout) ≤ most_batch_rows
   few = decoded.segment.batch.few
 
-  amounts_are : (column : AmountColumn) (chunks : List (List ℕ)) → chunks ≡ first_chunks 8 layout.rows (column_bytes (amount_place column) 8 layout.rows text)
+  pub amounts_are : (column : AmountColumn) (chunks : List (List ℕ)) → chunks ≡ first_chunks 8 layout.rows (column_bytes (amount_place column) 8 layout.rows text)
       → numbers_of chunks ≡ map (amount_of column) (rows_in text layout)
   amounts_are column chunks is = ap (map (from_le_bytes w64)) is ∙ sym (amount_values text layout column)
 
-  bytes_are : (column : ByteColumn) (part : List ℕ) → part ≡ column_bytes (byte_place column) 1 layout.rows text → part ≡ map (byte_of column) (rows_in text layout)
+  pub bytes_are : (column : ByteColumn) (part : List ℕ) → part ≡ column_bytes (byte_place column) 1 layout.rows text → part ≡ map (byte_of column) (rows_in text layout)
   bytes_are column part is = is ∙ sym (byte_values text layout decoded.readable.room column)
 
   -- what is summed up, which is small, and its total

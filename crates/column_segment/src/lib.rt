@@ -5,6 +5,7 @@ mod batch;
 mod coding;
 mod columns;
 mod encoding;
+mod extremes;
 mod gathering;
 mod laws;
 mod layout;

@@ -5,12 +5,14 @@ ghost use Rattle.cube_model.specs.declared.rows.LineOrder.{LineOrder};
 ghost use Rattle.std.specs.Int.{from_le_bytes, w32};
 ghost use Rattle.cube_model.specs.Aggregates.{total};
 ghost use Rattle.cube_model.specs.Measures.{measure_of};
+ghost use Rattle.column_kernels.specs.Extremes.{extremes_of};
 ghost use Rattle.column_kernels.specs.Masks.{lies_in, selected};
 ghost use Rattle.column_kernels.specs.Sums.{numbers_of};
 ghost use Rattle.column_segment.specs.Columns.{amount_of, byte_of, number_of};
 ghost use Rattle.column_segment.specs.Segment.{FitColumns, IsBatch, IsSegment};
 
 use crate::columns::{AmountColumn, ByteColumn, NumberColumn};
+use crate::extremes::selected_extremes;
 use crate::layout::{Layout, amount_chunks, byte_part, number_chunks};
 use crate::reading::read_layout;
 use crate::rows::push_each;
@@ -129,5 +131,13 @@ impl Segment {
         ensures { result ≡ total (map (measure_of measure) (selected mask.now self.now.rows)) }
     {
         selected_sum(&self.bytes, &self.layout, measure, mask)
+    }
+
+    /// The least and the greatest of a measure over the rows that a mask of as many rows selects, if there are any.
+    pub fn selected_extremes(&self, measure: Measure, mask: &Mask) -> Option<(i128, i128)>
+        requires rows { length mask.now ≡ length self.now.rows }
+        ensures { result ≡ extremes_of (map (measure_of measure) (selected mask.now self.now.rows)) }
+    {
+        selected_extremes(&self.bytes, &self.layout, measure, mask)
     }
 }

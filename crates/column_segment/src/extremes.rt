@@ -1,0 +1,85 @@
+//! The least and the greatest of measures over selected rows.
+ghost use Rattle.std.specs.Prelude.{◌≡◌, ◌*◌, ◌-ℤ◌, pos, length, map};
+ghost use Rattle.cube_model.specs.Measures.{measure_of};
+ghost use Rattle.column_kernels.specs.Extremes.{extremes_of};
+ghost use Rattle.column_kernels.specs.Masks.{selected};
+ghost use Rattle.column_segment.specs.Columns.{amount_of, byte_of};
+ghost use Rattle.column_segment.specs.Decoded.{IsDecoded, rows_in};
+
+use crate::columns::{AmountColumn, ByteColumn};
+use crate::layout::{Layout, amount_chunks, byte_part};
+use column_kernels::Mask;
+use cube_model::Measure;
+
+// The least and the greatest of a measure over the selected rows, if there are any.
+pub(crate) fn selected_extremes(
+    bytes: &[u8],
+    layout: &Layout,
+    measure: Measure,
+    mask: &Mask,
+) -> Option<(i128, i128)>
+    requires decoded { IsDecoded bytes.now layout.now }
+    requires rows { length mask.now ≡ layout.now.rows }
+    ensures { result ≡ extremes_of (map (measure_of measure) (selected mask.now (rows_in bytes.now layout.now))) }
+{
+    match measure {
+        Measure::Quantity => extremes_of_bytes(bytes, layout, ByteColumn::Quantity, mask),
+        Measure::ExtendedPrice => {
+            extremes_of_amounts(bytes, layout, AmountColumn::ExtendedPrice, mask)
+        }
+        Measure::Revenue => extremes_of_amounts(bytes, layout, AmountColumn::Revenue, mask),
+        Measure::SupplyCost => extremes_of_amounts(bytes, layout, AmountColumn::SupplyCost, mask),
+        Measure::Discounted => extremes_of_discounted(bytes, layout, mask),
+        Measure::Profit => extremes_of_profit(bytes, layout, mask),
+    }
+}
+
+// The same of a column of small numbers.
+fn extremes_of_bytes(
+    bytes: &[u8],
+    layout: &Layout,
+    column: ByteColumn,
+    mask: &Mask,
+) -> Option<(i128, i128)>
+    requires decoded { IsDecoded bytes.now layout.now }
+    requires rows { length mask.now ≡ layout.now.rows }
+    ensures { result ≡ extremes_of (map (λ row. pos (byte_of column row)) (selected mask.now (rows_in bytes.now layout.now))) }
+{
+    mask.extremes_of_bytes(byte_part(bytes, layout.rows, column))
+}
+
+// The same of a column of amounts.
+fn extremes_of_amounts(
+    bytes: &[u8],
+    layout: &Layout,
+    column: AmountColumn,
+    mask: &Mask,
+) -> Option<(i128, i128)>
+    requires decoded { IsDecoded bytes.now layout.now }
+    requires rows { length mask.now ≡ layout.now.rows }
+    ensures { result ≡ extremes_of (map (λ row. pos (amount_of column row)) (selected mask.now (rows_in bytes.now layout.now))) }
+{
+    mask.extremes_of_numbers(amount_chunks(bytes, layout.rows, column))
+}
+
+// The same of the extended prices, each times its discount.
+fn extremes_of_discounted(bytes: &[u8], layout: &Layout, mask: &Mask) -> Option<(i128, i128)>
+    requires decoded { IsDecoded bytes.now layout.now }
+    requires rows { length mask.now ≡ layout.now.rows }
+    ensures { result ≡ extremes_of (map (λ row. pos (row.extendedprice * row.discount)) (selected mask.now (rows_in bytes.now layout.now))) }
+{
+    let prices = amount_chunks(bytes, layout.rows, AmountColumn::ExtendedPrice);
+    let discounts = byte_part(bytes, layout.rows, ByteColumn::Discount);
+    mask.extremes_of_products(prices, discounts)
+}
+
+// The same of the revenues, each less its supply cost.
+fn extremes_of_profit(bytes: &[u8], layout: &Layout, mask: &Mask) -> Option<(i128, i128)>
+    requires decoded { IsDecoded bytes.now layout.now }
+    requires rows { length mask.now ≡ layout.now.rows }
+    ensures { result ≡ extremes_of (map (λ row. pos row.revenue -ℤ pos row.supplycost) (selected mask.now (rows_in bytes.now layout.now))) }
+{
+    let revenues = amount_chunks(bytes, layout.rows, AmountColumn::Revenue);
+    let costs = amount_chunks(bytes, layout.rows, AmountColumn::SupplyCost);
+    mask.extremes_of_differences(revenues, costs)
+}
