@@ -1,4 +1,6 @@
 //! Answers by the plain program, and by the fold in one call, in several, and over the columns of a batch.
+ghost use Rattle.std.specs.Prelude.{[], OnOk};
+ghost use Rattle.cube_query.specs.Groups.{IsFoldOver, StandsFor};
 
 use super::examples::Example;
 use super::plain::plain_answer;
@@ -17,8 +19,27 @@ struct Session {
     fold: Fold,
 }
 
-// The answer by a fold to which the rows come one by one, with calls of no row between them. The dimensions move while it
-// runs.
+// Counts rows in one by one, with calls of no row between them.
+fn add_row_by_row(dims: &Dims, fold: &mut Fold, rows: &[LineOrder]) -> Result<(), Fault>
+    requires { StandsFor dims.now fold.old [] }
+    ensures { OnOk result (IsFoldOver dims.now fold.new) }
+{
+    for i in 0..rows.len() {
+        fold.add_rows(dims, &[])?;
+        fold.add_rows(dims, &rows[i..i + 1])?;
+    }
+    Ok(())
+}
+
+// The answer of a fold that begins, to which the rows come one by one.
+fn finish_row_by_row(dims: &Dims, fold: &mut Fold, rows: &[LineOrder]) -> Result<Answer, Fault>
+    requires { StandsFor dims.now fold.old [] }
+{
+    add_row_by_row(dims, fold, rows)?;
+    fold.finish(dims)
+}
+
+// The answer by a fold to which the rows come one by one. The dimensions move while it runs.
 fn answer_row_by_row(
     alloc: Global,
     dims: Dims,
@@ -27,11 +48,15 @@ fn answer_row_by_row(
 ) -> Result<Answer, Fault> {
     let fold = Fold::new(alloc, &dims, query)?;
     let mut session = Session { dims, fold };
-    for i in 0..rows.len() {
-        session.fold.add_rows(&session.dims, &[])?;
-        session.fold.add_rows(&session.dims, &rows[i..i + 1])?;
-    }
-    session.fold.finish(&session.dims)
+    finish_row_by_row(&session.dims, &mut session.fold, rows)
+}
+
+// The answer of a fold that begins, over the columns of a batch.
+fn finish_over(dims: &Dims, fold: &mut Fold, segment: &Segment) -> Result<Answer, Fault>
+    requires { StandsFor dims.now fold.old [] }
+{
+    fold.add_segment(dims, segment)?;
+    fold.finish(dims)
 }
 
 // The answer by a fold over the columns of a batch.
@@ -42,8 +67,7 @@ fn answer_over(
     query: &Query,
 ) -> Result<Answer, Fault> {
     let mut fold = Fold::new(alloc, dims, query)?;
-    fold.add_segment(dims, segment)?;
-    fold.finish(dims)
+    finish_over(dims, &mut fold, segment)
 }
 
 /// The batch of rows, spelled and read back.
