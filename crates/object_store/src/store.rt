@@ -27,7 +27,7 @@ use wire::limits::LEAST_SECTORS;
 
 /// Objects by id and a root, on a device. A commit replaces them at once, whatever stops it.
 ///
-/// After `Device` it answers `Failed` to every call but `device` and `close`, and calls the device no more. It is to be
+/// After `Device` it answers `Failed` to each `get`, `read_at` and `commit`, and calls the device no more. It is to be
 /// opened again.
 #[derive(Drop)]
 pub struct Store<D: Sectors> {
