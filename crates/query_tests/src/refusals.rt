@@ -1,4 +1,6 @@
 //! Batches that a fold refuses, and some that it takes.
+ghost use Rattle.std.specs.Prelude.{[]};
+ghost use Rattle.cube_query.specs.Groups.{StandsFor};
 
 use super::running::segment_of;
 use column_segment::Segment;
@@ -151,20 +153,29 @@ pub fn refusal_at_the_end(alloc: Global, kind: Kind) -> Result<Option<Fault>, Fa
 }
 
 fn refusal_over(alloc: Global, dims: &Dims, kind: Kind) -> Result<Option<Fault>, Fault> {
-    let one = line_orders(alloc, &[LARGE])?;
-    let other = line_orders(alloc, &[LARGE_ELSEWHERE])?;
     let query = query(alloc, &Asked { kind, ..SUMS })?;
-    refusal_behind(alloc, dims, one.as_slice(), other.as_slice(), &query)
+    let mut fold = Fold::new(alloc, dims, &query)?;
+    refusal_of(alloc, dims, &mut fold)
 }
 
+// What the end of a fold that begins says behind the two rows.
+fn refusal_of(alloc: Global, dims: &Dims, fold: &mut Fold) -> Result<Option<Fault>, Fault>
+    requires { StandsFor dims.now fold.old [] }
+{
+    let one = line_orders(alloc, &[LARGE])?;
+    let other = line_orders(alloc, &[LARGE_ELSEWHERE])?;
+    refusal_behind(dims, fold, one.as_slice(), other.as_slice())
+}
+
+// The same behind any rows, in two calls.
 fn refusal_behind(
-    alloc: Global,
     dims: &Dims,
+    fold: &mut Fold,
     one: &[LineOrder],
     other: &[LineOrder],
-    query: &Query,
-) -> Result<Option<Fault>, Fault> {
-    let mut fold = Fold::new(alloc, dims, query)?;
+) -> Result<Option<Fault>, Fault>
+    requires { StandsFor dims.now fold.old [] }
+{
     fold.add_rows(dims, one)?;
     fold.add_rows(dims, other)?;
     Ok(fold.finish(dims).err())
