@@ -43,7 +43,7 @@ above lowers texts place within count is =
     ∙ ap (λ (l : List (List ℕ)). place_of l (get_or texts place [])) (firsts_at_places lowers texts is)
 
 module _ (axis : Axis) (rows : List TextRow) (good : AreGoodRows axis rows) (column place : ℕ) (within : place < length rows) where
-  in_texts : (i : ℕ) → place < length (column_of i rows)
+  pub in_texts : (i : ℕ) → place < length (column_of i rows)
   in_texts i = omega (arith, within, length-map rows (text_in i))
 
   pub read_at_row : lower_of axis column ≡ None

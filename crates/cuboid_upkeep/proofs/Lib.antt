@@ -10,3 +10,4 @@ mod InRange
 mod Told
 mod OneGroup
 mod Standing
+mod Keyed

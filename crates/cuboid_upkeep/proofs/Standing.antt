@@ -1,11 +1,9 @@
 -- Rows that stand in for cells.
-use Rattle.std.proofs.Common.{◌≡◌, ◌∙◌, sym, ap, refl, subst, ℕ, zero, suc, ◌+◌, ◌==◌, ◌<◌, ◌≤◌, ◌⊎◌, inl, inr, Bool, true, false, cond, List, [], ◌∷◌, map, length, get_or, slice_get, Option, Some, None, ℤ, pos, arith, All}
+use Rattle.std.proofs.Common.{◌≡◌, ◌∙◌, sym, ap, refl, subst, ℕ, zero, suc, ◌==◌, ◌<◌, Bool, true, false, List, [], ◌∷◌, map, get_or, Option, Some, None, pos, arith, All}
 use Rattle.std.specs.Prelude.{◌&&◌, unwrap_or}
-use Rattle.std.specs.List.{Contains, filter, list_all, position_or_len}
+use Rattle.std.specs.List.{Contains, list_all}
 use Rattle.std.specs.Option.{is_some}
-use Rattle.std.proofs.lemmas.Bool.{cases_lt}
 use Rattle.std.proofs.lemmas.List.Elements.{All-filter, All-head, All-tail}
-use Rattle.std.proofs.lemmas.List.Sums.{passes_at_first}
 use Rattle.cube_model.specs.declared.attr.Axis.{Axis}
 use Rattle.cube_model.specs.declared.attr.Axis.TheVariants.{Customer, Supplier, Part, Date}
 use Rattle.cube_model.specs.declared.measure.Measure.{Measure}
@@ -15,96 +13,18 @@ use Rattle.cube_model.specs.declared.rows.LineOrder.{LineOrder}
 use Rattle.cube_model.specs.Attributes.{key_on}
 use Rattle.cube_model.specs.Measures.{measure_of}
 use Rattle.cube_model.specs.Places.{row_count_of, row_index_of}
-use Rattle.dimensions.specs.Shown.{rows_on}
-use Rattle.dimensions.specs.TextRows.{TextRow}
-use Rattle.dimensions.proofs.AttributeLaws.{count_on, index_on}
 use Rattle.group_plan.specs.Numbers.{IsKnown}
 use Rattle.group_plan.specs.Rows.{no_row}
 use Rattle.lattice.specs.declared.level.Level.{Level}
-use Rattle.lattice.specs.declared.view.View.{View}
-use Rattle.lattice.specs.Views.{level_on}
 use Rattle.cuboid_cells.specs.declared.cell.Cell.{Cell}
 use Rattle.cuboid_cells.specs.declared.key.Key.{Key}
-use Rattle.cuboid_cells.specs.Cells.{AreProper, IsCellOf, IsModeCode, PlainCells, cell_at, number_of}
+use Rattle.cuboid_cells.specs.Cells.{AreProper, IsCellOf, IsModeCode, PlainCells, number_of}
 use Rattle.cuboid_cells.specs.Limits.{all_code}
-use Rattle.cuboid_upkeep.specs.Codes.{member_code}
 use Rattle.cuboid_upkeep.specs.Grouping.{StandFor, cell_over, key_of, rows_of}
-use Rattle.cuboid_upkeep.specs.StandIns.{AreKeysOf, AreStandIns, HasCode, HaveAllCodes, IsStandIn, PutsKey, has_keys, key_at, stand_in, stood_in}
+use Rattle.cuboid_upkeep.specs.StandIns.{AreKeysOf, AreStandIns, HasCode, HaveAllCodes, IsStandIn, has_keys, key_at, stand_in, stood_in}
+use Rattle.cuboid_upkeep.specs.declared.member_keys.MemberKeys.{MemberKeys}
 use Rattle.cuboid_upkeep.specs.declared.stand_ins.StandIns.{StandIns}
-use Rattle.cuboid_upkeep.proofs.Found.{own_key, same_key}
 use Rattle.cuboid_upkeep.proofs.Sorted.{ascending_apart, only_one}
-
--- ---- keys by codes
-
--- the keys so far are at their codes
-abbrev pub AreSoFar : DimRows → Axis → Level → List ℕ → ℕ → List (Option ℕ) → Type 0
-AreSoFar dimensions axis level all count keys = AreKeysOf dimensions axis level keys
-    × ((place code : ℕ) → place < count → HasCode dimensions axis level (get_or all place 0) code → key_at keys code ≡ None → ⊥)
-
-none_yet : (code : ℕ) → key_at [] code ≡ None
-none_yet code = refl
-
-some_none : {X : Type 0} (x : X) (o : Option X) → o ≡ Some x → o ≡ None → ⊥
-some_none x o is none = absurd (cc (is, none))
-
-module _ (dimensions : DimRows) (axis : Axis) (level : Level) (all : List ℕ) where
-  pub at_first : AreSoFar dimensions axis level all 0 []
-  at_first = (λ code key at. absurd (cc at), λ place code before has none. absurd (omega (arith, before)))
-
-  module _ (count : ℕ) (keys : List (Option ℕ)) (so_far : AreSoFar dimensions axis level all count keys) where
-    pub one_put : (key own : ℕ) (new : List (Option ℕ)) → get_or all count 0 ≡ key → HasCode dimensions axis level key own → PutsKey keys own key new
-        → AreSoFar dimensions axis level all (count + 1) new
-    one_put key own new here has puts = (
-      λ code other at.
-          (elim (own == code) as (λ b. (own == code) ≡ b → HasCode dimensions axis level other code) [
-            | true ↦ λ e.
-                (let is : Some key ≡ Some other = sym (ap (λ (b : Bool). cond b (Some key) (key_at keys code)) e) ∙ sym (puts code) ∙ at in
-                let same : key ≡ other = cc is in
-                subst (λ (k : ℕ). HasCode dimensions axis level k code) same (subst (HasCode dimensions axis level key) (same_key own code e) has))
-            | false ↦ λ e. so_far.0 code other (sym (ap (λ (b : Bool). cond b (Some key) (key_at keys code)) e) ∙ sym (puts code) ∙ at)
-          ]) refl,
-      λ place code before is none.
-          (elim (own == code) as (λ b. (own == code) ≡ b → ⊥) [
-            | true ↦ λ e. some_none key (key_at new code) (puts code ∙ ap (λ (b : Bool). cond b (Some key) (key_at keys code)) e) none
-            | false ↦ λ e.
-                (let still : key_at keys code ≡ None = sym (ap (λ (b : Bool). cond b (Some key) (key_at keys code)) e) ∙ sym (puts code) ∙ none in
-                elim (cases_lt place count) [
-                  | inl low ↦ so_far.1 place code low is still
-                  | inr high ↦
-                      (let there : place ≡ count = omega (arith, before, high) in
-                      let own_code : own ≡ code = sym has.code_is ∙ ap (λ (k : ℕ). member_code dimensions axis level (row_index_of dimensions axis k)) (sym here ∙ ap (λ (n : ℕ). get_or all n 0) (sym there)) ∙ is.code_is in
-                      absurd (cc (own_key own code own_code, e)))
-                ])
-          ]) refl,
-    )
-
-    pub one_passed : (key : ℕ) → get_or all count 0 ≡ key → row_count_of dimensions axis ≤ row_index_of dimensions axis key → AreSoFar dimensions axis level all (count + 1) keys
-    one_passed key here past = (
-      so_far.0,
-      λ place code before is none.
-          elim (cases_lt place count) [
-            | inl low ↦ so_far.1 place code low is none
-            | inr high ↦
-                (let there : place ≡ count = omega (arith, before, high) in
-                let same : row_index_of dimensions axis (get_or all place 0) ≡ row_index_of dimensions axis key = ap (row_index_of dimensions axis) (ap (λ (n : ℕ). get_or all n 0) there ∙ here) in
-                absurd (omega (arith, is.known, past, same)))
-          ],
-    )
-
-  -- each known key stands at its place
-  pub all_put : (count : ℕ) (keys : List (Option ℕ)) → all ≡ map (λ (row : TextRow). row.key) (rows_on dimensions axis) → length all ≤ count
-      → AreSoFar dimensions axis level all count keys → HaveAllCodes dimensions axis level keys
-  all_put count keys is whole so_far key code has none =
-      let place : ℕ = position_or_len (λ other. other == key) all in
-      let index : position_or_len (λ other. other == key) all ≡ row_index_of dimensions axis key = ap (position_or_len (λ other. other == key)) is ∙ index_on dimensions axis key in
-      let many : length all ≡ row_count_of dimensions axis = ap length is ∙ length_keys (rows_on dimensions axis) ∙ count_on dimensions axis in
-      let within : position_or_len (λ other. other == key) all < length all = omega (arith, index, many, has.known) in
-      let there : get_or all place 0 ≡ key = same_key (get_or all place 0) key (passes_at_first (λ other. other == key) all 0 within) in
-      so_far.1 place code (omega (arith, within, whole)) (subst (λ (k : ℕ). HasCode dimensions axis level k code) (sym there) has) none
-    where
-      length_keys : (rows : List TextRow) → length (map (λ (row : TextRow). row.key) rows) ≡ length rows
-      length_keys [] = refl
-      length_keys (row ∷ rows) = ap suc (length_keys rows)
 
 -- ---- the rows of a cell
 
@@ -130,7 +50,7 @@ all_pass : {X : Type 0} (p : X → Bool) (xs : List X) → ((x : X) → Contains
 all_pass p [] pass = refl
 all_pass p (x ∷ xs) pass = λ i. pass x (zero, omega arith, refl) i && all_pass p xs (λ y there. pass y (suc there.0, omega (arith, there.1), there.2)) i
 
-module _ (dimensions : DimRows) (plain : PlainCells) (customers suppliers parts dates : List (Option ℕ)) where
+module _ (dimensions : DimRows) (plain : PlainCells) (customers suppliers parts dates : MemberKeys) where
   module _ (customers_whole : HaveAllCodes dimensions Customer plain.view.customer customers) (suppliers_whole : HaveAllCodes dimensions Supplier plain.view.supplier suppliers)
       (parts_whole : HaveAllCodes dimensions Part plain.view.part parts) (dates_whole : HaveAllCodes dimensions Date plain.view.date dates) where
     pub have_keys_where : (rows : List LineOrder) → StandFor dimensions rows plain → All (IsKnown dimensions) rows → list_all (has_keys customers suppliers parts dates) plain.cells ≡ true
@@ -146,7 +66,7 @@ module _ (dimensions : DimRows) (plain : PlainCells) (customers suppliers parts 
   -- ---- rows with the keys at the codes
   module _ (customers_sound : AreKeysOf dimensions Customer plain.view.customer customers) (suppliers_sound : AreKeysOf dimensions Supplier plain.view.supplier suppliers)
       (parts_sound : AreKeysOf dimensions Part plain.view.part parts) (dates_sound : AreKeysOf dimensions Date plain.view.date dates) (four : plain.view.ship_mode ≡ false) where
-    found : (axis : Axis) (level : Level) (keys : List (Option ℕ)) (code : ℕ) → AreKeysOf dimensions axis level keys → is_some (key_at keys code) ≡ true
+    found : (axis : Axis) (level : Level) (keys : MemberKeys) (code : ℕ) → AreKeysOf dimensions axis level keys → is_some (key_at keys code) ≡ true
         → HasCode dimensions axis level (unwrap_or (key_at keys code) 0) code
     found axis level keys code sound some =
         (elim (key_at keys code) as (λ o. key_at keys code ≡ o → is_some o ≡ true → HasCode dimensions axis level (unwrap_or o 0) code) [
@@ -215,12 +135,12 @@ same_else f g x each none (cell ∷ cells) zero = each cell
 same_else f g x each none (cell ∷ cells) (suc place) = same_else f g x each none cells place
 
 pub no_quantity : (rows : StandIns) (place : ℕ) → 0 ≡ (get_or (stood_in rows) place no_row).quantity
-no_quantity rows place = same_else (stand_in rows.customers.items rows.suppliers.items rows.parts.items rows.dates.items) (λ (row : LineOrder). row.quantity) 0 (λ cell. refl) refl rows.cells.now place
+no_quantity rows place = same_else (stand_in rows.customers rows.suppliers rows.parts rows.dates) (λ (row : LineOrder). row.quantity) 0 (λ cell. refl) refl rows.cells.now place
 
 pub no_discount : (rows : StandIns) (place : ℕ) → 0 ≡ (get_or (stood_in rows) place no_row).discount
-no_discount rows place = same_else (stand_in rows.customers.items rows.suppliers.items rows.parts.items rows.dates.items) (λ (row : LineOrder). row.discount) 0 (λ cell. refl) refl rows.cells.now place
+no_discount rows place = same_else (stand_in rows.customers rows.suppliers rows.parts rows.dates) (λ (row : LineOrder). row.discount) 0 (λ cell. refl) refl rows.cells.now place
 
-no_measures : (measure : Measure) (customers suppliers parts dates : List (Option ℕ)) (cell : Cell) → pos 0 ≡ measure_of measure (stand_in customers suppliers parts dates cell)
+no_measures : (measure : Measure) (customers suppliers parts dates : MemberKeys) (cell : Cell) → pos 0 ≡ measure_of measure (stand_in customers suppliers parts dates cell)
 no_measures Quantity customers suppliers parts dates cell = refl
 no_measures ExtendedPrice customers suppliers parts dates cell = refl
 no_measures Revenue customers suppliers parts dates cell = refl
@@ -237,5 +157,5 @@ none_behind Discounted = refl
 none_behind Profit = refl
 
 pub no_measure : (measure : Measure) (rows : StandIns) (place : ℕ) → pos 0 ≡ measure_of measure (get_or (stood_in rows) place no_row)
-no_measure measure rows place = same_else (stand_in rows.customers.items rows.suppliers.items rows.parts.items rows.dates.items) (measure_of measure) (pos 0)
-    (no_measures measure rows.customers.items rows.suppliers.items rows.parts.items rows.dates.items) (none_behind measure) rows.cells.now place
+no_measure measure rows place = same_else (stand_in rows.customers rows.suppliers rows.parts rows.dates) (measure_of measure) (pos 0)
+    (no_measures measure rows.customers rows.suppliers rows.parts rows.dates) (none_behind measure) rows.cells.now place

@@ -1,5 +1,5 @@
 -- Rows that stand in for cells: each has the members of its cell, and nothing else is looked at. Our own.
-use Rattle.std.specs.Prelude.{◌≡◌, ℕ, ◌<◌, ◌&&◌, ◌==◌, cond, Bool, Option, Some, None, List, [], ◌∷◌, map, slice_get, unwrap_or}
+use Rattle.std.specs.Prelude.{◌≡◌, ℕ, suc, ◌<◌, ◌&&◌, ◌==◌, cond, Bool, Option, Some, None, List, [], ◌∷◌, map, slice_index_or, slice_set, unwrap_or}
 use Rattle.std.specs.Option.{is_some}
 use Rattle.cube_model.specs.declared.attr.Axis.{Axis}
 use Rattle.cube_model.specs.declared.rows.DimRows.{DimRows}
@@ -9,18 +9,25 @@ use Rattle.group_plan.specs.Numbers.{IsKnown}
 use Rattle.lattice.specs.declared.level.Level.{Level}
 use Rattle.lattice.specs.declared.view.View.{View}
 use Rattle.cuboid_cells.specs.declared.cell.Cell.{Cell}
-use Rattle.cuboid_cells.specs.declared.key.Key.{Key}
+use Rattle.cuboid_cells.specs.Limits.{all_code}
 use Rattle.cuboid_upkeep.specs.Codes.{member_code}
 use Rattle.cuboid_upkeep.specs.Grouping.{key_of}
+use Rattle.cuboid_upkeep.specs.declared.member_keys.MemberKeys.{MemberKeys}
 use Rattle.cuboid_upkeep.specs.declared.stand_ins.StandIns.{StandIns}
 
--- the key that stands at a code, if there is one
-abbrev pub key_at : List (Option ℕ) → ℕ → Option ℕ
-key_at keys code = unwrap_or (slice_get keys code) None
+-- the key at a code, if there is one
+abbrev pub key_at : MemberKeys → ℕ → Option ℕ
+key_at keys code = cond (code == all_code) keys.every (slice_index_or keys.members.items code None)
 
--- a key stands at a code, and all else as before
-abbrev pub PutsKey : List (Option ℕ) → ℕ → ℕ → List (Option ℕ) → Type 0
-PutsKey old code key new = (other : ℕ) → key_at new other ≡ cond (code == other) (Some key) (key_at old other)
+-- a key is put at a code unless one stands there
+abbrev pub with_key : List (Option ℕ) → ℕ → ℕ → List (Option ℕ)
+with_key keys code key = cond (is_some (slice_index_or keys code None)) keys (slice_set keys code (Some key))
+
+-- at how many codes no key stands
+abbrev pub missing_in : List (Option ℕ) → ℕ
+missing_in [] = 0
+missing_in (None ∷ keys) = suc (missing_in keys)
+missing_in (Some key ∷ keys) = missing_in keys
 
 -- a row of a dimension has a key, and its member has a code
 pub record HasCode (dimensions : DimRows) (axis : Axis) (level : Level) (key code : ℕ) : Type 0 where
@@ -28,21 +35,28 @@ pub record HasCode (dimensions : DimRows) (axis : Axis) (level : Level) (key cod
   pub code_is : member_code dimensions axis level (row_index_of dimensions axis key) ≡ code
 
 -- the key at a code is that of a row with its member
-abbrev pub AreKeysOf : DimRows → Axis → Level → List (Option ℕ) → Type 0
+abbrev pub AreKeysOf : DimRows → Axis → Level → MemberKeys → Type 0
 AreKeysOf dimensions axis level keys = (code key : ℕ) → key_at keys code ≡ Some key → HasCode dimensions axis level key code
 
 -- there is a key at the code of each member
-abbrev pub HaveAllCodes : DimRows → Axis → Level → List (Option ℕ) → Type 0
+abbrev pub HaveAllCodes : DimRows → Axis → Level → MemberKeys → Type 0
 HaveAllCodes dimensions axis level keys = (key code : ℕ) → HasCode dimensions axis level key code → key_at keys code ≡ None → ⊥
 
+-- the same of keys by the codes of a level that has members
+abbrev pub AreAtCodes : DimRows → Axis → Level → List (Option ℕ) → Type 0
+AreAtCodes dimensions axis level keys = (code key : ℕ) → slice_index_or keys code None ≡ Some key → HasCode dimensions axis level key code
+
+abbrev pub HoldAllCodes : DimRows → Axis → Level → List (Option ℕ) → Type 0
+HoldAllCodes dimensions axis level keys = (key code : ℕ) → HasCode dimensions axis level key code → slice_index_or keys code None ≡ None → ⊥
+
 -- there are keys at all codes of a cell
-abbrev pub has_keys : List (Option ℕ) → List (Option ℕ) → List (Option ℕ) → List (Option ℕ) → Cell → Bool
+abbrev pub has_keys : MemberKeys → MemberKeys → MemberKeys → MemberKeys → Cell → Bool
 has_keys customers suppliers parts dates cell =
     is_some (key_at customers cell.key.customer) && (is_some (key_at suppliers cell.key.supplier)
     && (is_some (key_at parts cell.key.part) && is_some (key_at dates cell.key.date)))
 
 -- a fact row of the keys at the codes of a cell, and of noughts
-abbrev pub stand_in : List (Option ℕ) → List (Option ℕ) → List (Option ℕ) → List (Option ℕ) → Cell → LineOrder
+abbrev pub stand_in : MemberKeys → MemberKeys → MemberKeys → MemberKeys → Cell → LineOrder
 stand_in customers suppliers parts dates cell = record {
   orderkey = 0;
   linenumber = 0;
@@ -65,7 +79,7 @@ stand_in customers suppliers parts dates cell = record {
 
 -- the rows that stand in for cells
 abbrev pub stood_in : StandIns → List LineOrder
-stood_in rows = map (stand_in rows.customers.items rows.suppliers.items rows.parts.items rows.dates.items) rows.cells.now
+stood_in rows = map (stand_in rows.customers rows.suppliers rows.parts rows.dates) rows.cells.now
 
 -- a row has known keys, and the key of a cell
 pub record IsStandIn (dimensions : DimRows) (view : View) (cell : Cell) (row : LineOrder) : Type 0 where

@@ -1,5 +1,5 @@
 //! The codes of members.
-ghost use Rattle.std.specs.Prelude.{◌≡◌, ◌<◌, ◌≤◌, IfNone, IfSome, length};
+ghost use Rattle.std.specs.Prelude.{◌≡◌, ℕ, ◌<◌, ◌≤◌, IfNone, IfSome, length};
 ghost use Rattle.cube_model.specs.Places.{row_count_of, row_index_of};
 ghost use Rattle.dimensions.specs.Coded.{AreGoodRows};
 ghost use Rattle.dimensions.specs.Columns.{code_at};
@@ -9,6 +9,7 @@ ghost use Rattle.dimensions.specs.TextRows.{column_of};
 ghost use Rattle.lattice.specs.declared.level.Level.TheVariants as level;
 ghost use Rattle.lattice.specs.Levels.{level_attribute};
 ghost use Rattle.cuboid_cells.specs.Cells.{IsCodeAt};
+ghost use Rattle.cuboid_cells.specs.Limits.{all_code};
 ghost use Rattle.cuboid_upkeep.specs.Codes.{level_column, member_code};
 
 use cube_model::{Axis, valid_rows_keep_the_rules};
@@ -46,7 +47,7 @@ fn column_of_level(axis: Axis, grouped: Level) -> Option<usize>
 }
 
 // The code of the member of a level at a row of a dimension.
-fn code_at_row(dims: &Dims, axis: Axis, grouped: Level, place: usize) -> u16
+pub(crate) fn code_at_row(dims: &Dims, axis: Axis, grouped: Level, place: usize) -> u16
     requires good { AreGoodRows axis (rows_on dims.now axis) }
     requires grouped { grouped ≡ level.All → ⊥ }
     requires place { place < row_count_of dims.now axis }
@@ -56,6 +57,20 @@ fn code_at_row(dims: &Dims, axis: Axis, grouped: Level, place: usize) -> u16
     match column_of_level(axis, grouped) {
         None => place as u16,
         Some(column) => column_code(dims, axis, column, place),
+    }
+}
+
+// How many members a level has. Their codes are below it.
+pub(crate) fn code_count(dims: &Dims, axis: Axis, grouped: Level) -> usize
+    requires good { AreGoodRows axis (rows_on dims.now axis) }
+    requires grouped { grouped ≡ level.All → ⊥ }
+    ensures below { (place : ℕ) → place < row_count_of dims.now axis
+        → member_code dims.now axis grouped place < result }
+    ensures few { result ≤ all_code }
+{
+    match column_of_level(axis, grouped) {
+        None => dims.row_count(axis),
+        Some(column) => dims.texts(axis, column).len(),
     }
 }
 

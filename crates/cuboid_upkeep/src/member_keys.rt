@@ -1,64 +1,132 @@
 //! The keys of rows that have the members of a level.
-ghost use Rattle.std.specs.Prelude.{◌≡◌, ◌≤◌, IfNone, IfOk, IfSome, OnOk};
+ghost use Rattle.std.specs.Prelude.{◌≡◌, ℕ, ◌<◌, ◌≤◌, IfNone, IfOk, IfSome, None, length, replicate};
 ghost use Rattle.cube_model.specs.Places.{row_count_of, row_index_of};
-ghost use Rattle.cuboid_upkeep.specs.StandIns.{AreKeysOf, HasCode, HaveAllCodes, PutsKey, key_at};
+ghost use Rattle.dimensions.specs.Coded.{AreGoodRows};
+ghost use Rattle.dimensions.specs.Shown.{rows_on};
+ghost use Rattle.lattice.specs.declared.level.Level.TheVariants as level;
+ghost use Rattle.cuboid_cells.specs.Limits.{all_code};
+ghost use Rattle.cuboid_upkeep.specs.Codes.{member_code};
+ghost use Rattle.cuboid_upkeep.specs.StandIns.{AreAtCodes, AreKeysOf, HaveAllCodes, HoldAllCodes, key_at, missing_in, with_key};
 
-use crate::codes::code_of_key;
-use cube_model::Axis;
+use crate::codes::{code_at_row, code_count};
+use cube_model::{Axis, valid_rows_keep_the_rules};
+use cuboid_cells::limits::ALL_CODE;
 use dimensions::Dims;
 use lattice::Level;
 use std::alloc::{AllocError, Global};
 
+/// Keys by the codes of a level's members, each that of a row with the member.
+#[derive(Drop)]
+pub struct MemberKeys {
+    /// The key at the code of every member together.
+    pub every: Option<u32>,
+    /// The key at each other code.
+    pub members: Vec<Option<u32>>,
+}
+
+impl MemberKeys {
+    // The key at a code, if there is one.
+    pub(crate) fn key_at(&self, code: u16) -> Option<u32>
+        ensures { result ≡ key_at self.now code }
+    {
+        if code == ALL_CODE {
+            return self.every;
+        }
+        match self.members.get(usize::from(code)) {
+            Some(key) => *key,
+            None => None,
+        }
+    }
+}
+
 // For each code of a level, the key of a row of the dimension whose member has the code. One row will do for every member
-// together.
+// together, and no row is looked at where that is the level.
 pub(crate) fn keys_of_members(
     alloc: Global,
     dims: &Dims,
     axis: Axis,
     grouped: Level,
-) -> Result<Vec<Option<u32>>, AllocError>
-    ensures sound { IfOk result (λ keys. AreKeysOf dims.now axis grouped keys.items) }
-    ensures whole { IfOk result (λ keys. HaveAllCodes dims.now axis grouped keys.items) }
+) -> Result<MemberKeys, AllocError>
+    ensures sound { IfOk result (AreKeysOf dims.now axis grouped) }
+    ensures whole { IfOk result (HaveAllCodes dims.now axis grouped) }
 {
-    let all = dims.keys(axis);
+    if matches!(grouped, Level::All) {
+        return Ok(MemberKeys {
+            every: first_key(dims, axis),
+            members: Vec::new(alloc),
+        });
+    }
+    Ok(MemberKeys {
+        every: None,
+        members: keys_by_code(alloc, dims, axis, grouped)?,
+    })
+}
+
+// The key of the first row of a dimension.
+fn first_key(dims: &Dims, axis: Axis) -> Option<u32>
+    ensures some { IfSome result (λ key. row_index_of dims.now axis key < row_count_of dims.now axis) }
+    ensures none { IfNone result (row_count_of dims.now axis ≡ 0) }
+{
+    match dims.keys(axis) {
+        [] => None,
+        [key, ..] => Some(*key),
+    }
+}
+
+// The same for a level that has members, by their codes.
+fn keys_by_code(
+    alloc: Global,
+    dims: &Dims,
+    axis: Axis,
+    grouped: Level,
+) -> Result<Vec<Option<u32>>, AllocError>
+    requires { grouped ≡ level.All → ⊥ }
+    ensures sound { IfOk result (λ keys. AreAtCodes dims.now axis grouped keys.items) }
+    ensures whole { IfOk result (λ keys. HoldAllCodes dims.now axis grouped keys.items) }
+    ensures few { IfOk result (λ keys. length keys.items ≤ all_code) }
+{
+    valid_rows_keep_the_rules();
     let mut keys = Vec::new(alloc);
-    for place in 0..all.len() {
-        if let Some(code) = known_code(dims, axis, grouped, all[place]) {
-            put_key(&mut keys, code, all[place])?;
-        }
+    if dims.row_count(axis) > 0 {
+        keys.resize(code_count(dims, axis, grouped), None)?;
+        put_keys(dims, axis, grouped, keys.as_mut_slice());
     }
     Ok(keys)
 }
 
-// The code of the member of the row with a key. Nothing where no row has the key.
-fn known_code(dims: &Dims, axis: Axis, grouped: Level, key: u32) -> Option<u16>
-    ensures some { IfSome result (HasCode dims.now axis grouped key) }
-    ensures none { IfNone result (row_count_of dims.now axis ≤ row_index_of dims.now axis key) }
+// Puts a key at each code, reading rows until none is missing.
+fn put_keys(dims: &Dims, axis: Axis, grouped: Level, keys: &mut [Option<u32>])
+    requires good { AreGoodRows axis (rows_on dims.now axis) }
+    requires grouped { grouped ≡ level.All → ⊥ }
+    requires room { (place : ℕ) → place < row_count_of dims.now axis
+        → member_code dims.now axis grouped place < length keys.old }
+    requires none { keys.old ≡ replicate (length keys.old) None }
+    ensures sound { AreAtCodes dims.now axis grouped keys.new }
+    ensures whole { HoldAllCodes dims.now axis grouped keys.new }
+    ensures length { length keys.new ≡ length keys.old }
 {
-    if dims.row_index(axis, key) >= dims.row_count(axis) {
-        return None;
+    let all = dims.keys(axis);
+    let mut missing = keys.len();
+    for place in 0..all.len() {
+        if missing == 0 {
+            return;
+        }
+        let code = code_at_row(dims, axis, grouped, place);
+        missing = put_first(keys, code, all[place], missing);
     }
-    code_of_key(dims, axis, grouped, key)
 }
 
-// Puts a key at a code.
-fn put_key(keys: &mut Vec<Option<u32>>, code: u16, key: u32) -> Result<(), AllocError>
-    ensures { OnOk result (PutsKey keys.old.items code key keys.new.items) }
+// Puts a key at a code unless one stands there, and says at how many codes none stands then.
+fn put_first(keys: &mut [Option<u32>], code: u16, key: u32, missing: usize) -> usize
+    requires code { code < length keys.old }
+    requires missing { missing ≡ missing_in keys.old }
+    ensures puts { keys.new ≡ with_key keys.old code key }
+    ensures missing { result ≡ missing_in keys.new }
 {
     let place = usize::from(code);
-    if keys.len() <= place {
-        keys.resize(place + 1, None)?;
+    if keys[place].is_some() {
+        return missing;
     }
     keys[place] = Some(key);
-    Ok(())
-}
-
-// The key at a code, if there is one.
-pub(crate) fn key_at(keys: &[Option<u32>], code: u16) -> Option<u32>
-    ensures { result ≡ key_at keys.now code }
-{
-    match keys.get(usize::from(code)) {
-        Some(key) => *key,
-        None => None,
-    }
+    missing - 1
 }

@@ -6,7 +6,7 @@ ghost use Rattle.group_plan.specs.Numbers.{IsKnown};
 ghost use Rattle.cuboid_upkeep.specs.Grouping.{StandFor};
 ghost use Rattle.cuboid_upkeep.specs.StandIns.{AreStandIns, has_keys, stood_in};
 
-use crate::member_keys::{key_at, keys_of_members};
+use crate::member_keys::{MemberKeys, keys_of_members};
 use cube_model::{Axis, Fault, Measure};
 use cuboid_cells::{Cell, Cells};
 use dimensions::Dims;
@@ -17,10 +17,10 @@ use std::alloc::Global;
 #[derive(Drop)]
 pub struct StandIns<'a> {
     cells: &'a [Cell],
-    customers: Vec<Option<u32>>,
-    suppliers: Vec<Option<u32>>,
-    parts: Vec<Option<u32>>,
-    dates: Vec<Option<u32>>,
+    customers: MemberKeys,
+    suppliers: MemberKeys,
+    parts: MemberKeys,
+    dates: MemberKeys,
 }
 
 /// A row for each cell of a view of four axes, with the members of the cell.
@@ -54,18 +54,18 @@ pub fn stand_ins_of<'a>(alloc: Global, dims: &Dims, cells: &'a Cells) -> Result<
 // Whether there are keys at all codes of each cell.
 fn have_keys(
     cells: &[Cell],
-    customers: &[Option<u32>],
-    suppliers: &[Option<u32>],
-    parts: &[Option<u32>],
-    dates: &[Option<u32>],
+    customers: &MemberKeys,
+    suppliers: &MemberKeys,
+    parts: &MemberKeys,
+    dates: &MemberKeys,
 ) -> bool
     ensures { result ≡ list_all (has_keys customers.now suppliers.now parts.now dates.now) cells.now }
 {
     cells.iter().all(|cell| {
-        key_at(customers, cell.key.customer).is_some()
-            && key_at(suppliers, cell.key.supplier).is_some()
-            && key_at(parts, cell.key.part).is_some()
-            && key_at(dates, cell.key.date).is_some()
+        customers.key_at(cell.key.customer).is_some()
+            && suppliers.key_at(cell.key.supplier).is_some()
+            && parts.key_at(cell.key.part).is_some()
+            && dates.key_at(cell.key.date).is_some()
     })
 }
 
@@ -79,10 +79,10 @@ impl<'a> FactRows for StandIns<'a> {
     fn key(&self, place: usize, axis: Axis) -> u32 {
         let key = self.cells[place].key;
         let found = match axis {
-            Axis::Customer => key_at(&self.customers, key.customer),
-            Axis::Supplier => key_at(&self.suppliers, key.supplier),
-            Axis::Part => key_at(&self.parts, key.part),
-            Axis::Date => key_at(&self.dates, key.date),
+            Axis::Customer => self.customers.key_at(key.customer),
+            Axis::Supplier => self.suppliers.key_at(key.supplier),
+            Axis::Part => self.parts.key_at(key.part),
+            Axis::Date => self.dates.key_at(key.date),
         };
         found.unwrap_or(0)
     }

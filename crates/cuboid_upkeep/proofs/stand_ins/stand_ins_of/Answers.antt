@@ -1,6 +1,5 @@
-use Rattle.std.proofs.Common.{◌≡◌, ◌∙◌, sym, ap, refl, subst, Bool, true, false, List, Option, ℕ, inr, map}
+use Rattle.std.proofs.Common.{◌≡◌, ◌∙◌, sym, refl, subst, Bool, true, false, inr}
 use Rattle.std.specs.List.{list_all}
-use Rattle.cuboid_cells.specs.declared.cell.Cell.{Cell}
 use Rattle.cuboid_upkeep.specs.StandIns.{AreKeysOf, HaveAllCodes, has_keys}
 use Rattle.cube_model.specs.declared.attr.Axis.TheVariants.{Customer, Supplier, Part, Date}
 use Rattle.lattice.specs.declared.view.View.{View}
@@ -14,14 +13,14 @@ returns-then-not-have_keys-clause-refused c = inr (
       let dims = c.args.dims.now in
       let plain = c.args.cells.now in
       let v = c.view-view.ensures.value in
-      let have = have_keys_where dims plain c.in_ok-customers.customers.items c.in_ok-suppliers.suppliers.items c.in_ok-parts.parts.items c.in_ok-dates.dates.items
-      (subst (λ (view : View). HaveAllCodes dims Customer view.customer c.in_ok-customers.customers.items) v c.in_ok-customers.ensures.whole)
-      (subst (λ (view : View). HaveAllCodes dims Supplier view.supplier c.in_ok-suppliers.suppliers.items) v c.in_ok-suppliers.ensures.whole)
-      (subst (λ (view : View). HaveAllCodes dims Part view.part c.in_ok-parts.parts.items) v c.in_ok-parts.ensures.whole)
-      (subst (λ (view : View). HaveAllCodes dims Date view.date c.in_ok-dates.dates.items) v c.in_ok-dates.ensures.whole)
+      let have = have_keys_where dims plain c.in_ok-customers.customers c.in_ok-suppliers.suppliers c.in_ok-parts.parts c.in_ok-dates.dates
+      (subst (λ (view : View). HaveAllCodes dims Customer view.customer c.in_ok-customers.customers) v c.in_ok-customers.ensures.whole)
+      (subst (λ (view : View). HaveAllCodes dims Supplier view.supplier c.in_ok-suppliers.suppliers) v c.in_ok-suppliers.ensures.whole)
+      (subst (λ (view : View). HaveAllCodes dims Part view.part c.in_ok-parts.parts) v c.in_ok-parts.ensures.whole)
+      (subst (λ (view : View). HaveAllCodes dims Date view.date c.in_ok-dates.dates) v c.in_ok-dates.ensures.whole)
       rows stand known in
       let is : c.have_keys.result ≡ true = c.have_keys.ensures
-      ∙ (λ i. list_all (has_keys (c.deref.ensures.value i) (c.deref-2.ensures.value i) (c.deref-3.ensures.value i) (c.deref-4.ensures.value i)) (c.as_slice-cells.ensures i)) ∙ have in
+      ∙ (λ i. list_all (has_keys c.in_ok-customers.customers c.in_ok-suppliers.suppliers c.in_ok-parts.parts c.in_ok-dates.dates) (c.as_slice-cells.ensures i)) ∙ have in
       absurd (cc (is, c.if-not-have_keys.true)),
 )
 
@@ -36,11 +35,11 @@ returns-clause-ok c =
       | true ↦ λ e. refl
       | false ↦ λ e. absurd (cc (e, c.if-not-have_keys.false))
     ]) refl in
-    let have : list_all (has_keys c.in_ok-customers.customers.items c.in_ok-suppliers.suppliers.items c.in_ok-parts.parts.items c.in_ok-dates.dates.items) plain.cells ≡ true =
-    sym (λ i. list_all (has_keys (c.deref.ensures.value i) (c.deref-2.ensures.value i) (c.deref-3.ensures.value i) (c.deref-4.ensures.value i)) (same i)) ∙ sym c.have_keys.ensures ∙ found in
-    rw same (they_stand dims plain c.in_ok-customers.customers.items c.in_ok-suppliers.suppliers.items c.in_ok-parts.parts.items c.in_ok-dates.dates.items
-    (subst (λ (view : View). AreKeysOf dims Customer view.customer c.in_ok-customers.customers.items) v c.in_ok-customers.ensures.sound)
-    (subst (λ (view : View). AreKeysOf dims Supplier view.supplier c.in_ok-suppliers.suppliers.items) v c.in_ok-suppliers.ensures.sound)
-    (subst (λ (view : View). AreKeysOf dims Part view.part c.in_ok-parts.parts.items) v c.in_ok-parts.ensures.sound)
-    (subst (λ (view : View). AreKeysOf dims Date view.date c.in_ok-dates.dates.items) v c.in_ok-dates.ensures.sound)
+    let have : list_all (has_keys c.in_ok-customers.customers c.in_ok-suppliers.suppliers c.in_ok-parts.parts c.in_ok-dates.dates) plain.cells ≡ true =
+    sym (λ i. list_all (has_keys c.in_ok-customers.customers c.in_ok-suppliers.suppliers c.in_ok-parts.parts c.in_ok-dates.dates) (same i)) ∙ sym c.have_keys.ensures ∙ found in
+    rw same (they_stand dims plain c.in_ok-customers.customers c.in_ok-suppliers.suppliers c.in_ok-parts.parts c.in_ok-dates.dates
+    (subst (λ (view : View). AreKeysOf dims Customer view.customer c.in_ok-customers.customers) v c.in_ok-customers.ensures.sound)
+    (subst (λ (view : View). AreKeysOf dims Supplier view.supplier c.in_ok-suppliers.suppliers) v c.in_ok-suppliers.ensures.sound)
+    (subst (λ (view : View). AreKeysOf dims Part view.part c.in_ok-parts.parts) v c.in_ok-parts.ensures.sound)
+    (subst (λ (view : View). AreKeysOf dims Date view.date c.in_ok-dates.dates) v c.in_ok-dates.ensures.sound)
     c.requires.four_axes c.view-view.ensures.proper have)
