@@ -23,23 +23,6 @@ static QUERIES: [&str; 13] = [
 
 static SETS: [&str; 3] = ["plain", "rollup", "cube"];
 
-static ATTRIBUTES: [&str; 14] = [
-    "c_city",
-    "c_nation",
-    "c_region",
-    "s_city",
-    "s_nation",
-    "s_region",
-    "p_brand1",
-    "p_category",
-    "p_mfgr",
-    "d_datekey",
-    "d_yearmonthnum",
-    "d_year",
-    "d_yearmonth",
-    "d_weeknuminyear",
-];
-
 static AGGREGATES: [&str; 5] = ["count", "sum", "min", "max", "avg"];
 
 static MEASURES: [&str; 6] = [
@@ -51,6 +34,7 @@ static MEASURES: [&str; 6] = [
     "profit",
 ];
 
+// What a range may be on: the attributes, and behind them what else a fact row has.
 static RANGED: [&str; 16] = [
     "c_city",
     "c_nation",
@@ -70,13 +54,16 @@ static RANGED: [&str; 16] = [
     "discount",
 ];
 
+// How many of these are attributes.
+const ATTRIBUTES: usize = 14;
+
 impl Known {
     /// The names.
     pub fn names(self) -> &'static [&'static str] {
         match self {
             Known::Query => &QUERIES,
             Known::Set => &SETS,
-            Known::Attribute => &ATTRIBUTES,
+            Known::Attribute => &RANGED[..ATTRIBUTES],
             Known::Aggregate => &AGGREGATES,
             Known::Measure => &MEASURES,
             Known::Ranged => &RANGED,
