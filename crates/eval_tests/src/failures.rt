@@ -1,8 +1,9 @@
 //! Readers and writers that fail, and the status at the end.
+use crate::given::{Readers, write_report};
 use crate::words::FIRST;
 use cube_model::{Fault, Query};
-use sample_star::{TABLES, Taker, in_sevens};
-use ssb_eval::{eval_texts, exit_of};
+use sample_star::{TABLES, Taker};
+use ssb_eval::exit_of;
 use std::alloc::Global;
 use std::test::Fail;
 
@@ -22,16 +23,8 @@ fn is_taken(
         return false;
     }
     let mut taker = Taker::new(alloc, room);
-    let done = eval_texts(
-        alloc,
-        in_sevens(TABLES.customer).failing_at(fails[0]),
-        in_sevens(TABLES.supplier).failing_at(fails[1]),
-        in_sevens(TABLES.part).failing_at(fails[2]),
-        in_sevens(TABLES.date).failing_at(fails[3]),
-        in_sevens(TABLES.lineorder).failing_at(fails[4]),
-        query,
-        &mut taker,
-    );
+    let readers = Readers::in_sevens(&TABLES).failing_at(fails);
+    let done = write_report(alloc, readers, query, &mut taker);
     done == want && taker.bytes.as_slice() == &WHOLE[..taken]
 }
 

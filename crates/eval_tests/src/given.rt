@@ -1,9 +1,10 @@
 //! Cases, and what comes of them.
 use crate::words::Words;
 use cube_model::{Fault, Query};
-use sample_star::{TABLES, Tables, in_sevens};
+use sample_star::{Pieces, TABLES, Tables, in_sevens, whole};
 use ssb_eval::eval_texts;
 use std::alloc::Global;
+use std::io::Write;
 
 /// The sample tables, save for those whose texts are given.
 #[derive(Clone, Copy)]
@@ -43,20 +44,65 @@ fn given_or(text: Option<&'static str>, sample: &'static [u8]) -> &'static [u8] 
     }
 }
 
-/// Writes the report of a query over the texts of tables.
-fn write_report(
+/// Readers of the five tables.
+#[derive(Drop)]
+pub struct Readers<'a> {
+    customer: Pieces<'a>,
+    supplier: Pieces<'a>,
+    part: Pieces<'a>,
+    date: Pieces<'a>,
+    lineorder: Pieces<'a>,
+}
+
+impl<'a> Readers<'a> {
+    /// Readers that give the tables whole.
+    pub fn whole(tables: &Tables<'a>) -> Readers<'a> {
+        Readers {
+            customer: whole(tables.customer),
+            supplier: whole(tables.supplier),
+            part: whole(tables.part),
+            date: whole(tables.date),
+            lineorder: whole(tables.lineorder),
+        }
+    }
+
+    /// Readers that give the tables in pieces of seven bytes.
+    pub fn in_sevens(tables: &Tables<'a>) -> Readers<'a> {
+        Readers {
+            customer: in_sevens(tables.customer),
+            supplier: in_sevens(tables.supplier),
+            part: in_sevens(tables.part),
+            date: in_sevens(tables.date),
+            lineorder: in_sevens(tables.lineorder),
+        }
+    }
+
+    /// The readers, each of which fails at a read, counted from 1; at 0 it does not.
+    pub fn failing_at(self, reads: [u32; 5]) -> Readers<'a> {
+        Readers {
+            customer: self.customer.failing_at(reads[0]),
+            supplier: self.supplier.failing_at(reads[1]),
+            part: self.part.failing_at(reads[2]),
+            date: self.date.failing_at(reads[3]),
+            lineorder: self.lineorder.failing_at(reads[4]),
+        }
+    }
+}
+
+/// Writes the report of a query over what readers give.
+pub fn write_report<W: Write>(
     alloc: Global,
-    tables: &Tables<'_>,
+    readers: Readers<'_>,
     query: &Query,
-    out: &mut Vec<u8>,
+    out: &mut W,
 ) -> Result<(), Fault> {
     eval_texts(
         alloc,
-        in_sevens(tables.customer),
-        in_sevens(tables.supplier),
-        in_sevens(tables.part),
-        in_sevens(tables.date),
-        in_sevens(tables.lineorder),
+        readers.customer,
+        readers.supplier,
+        readers.part,
+        readers.date,
+        readers.lineorder,
         query,
         out,
     )
@@ -66,7 +112,8 @@ fn write_report(
 pub fn report(alloc: Global, given: &Given, words: &Words) -> Result<Vec<u8>, Fault> {
     let query = words.read(alloc)?;
     let mut out = Vec::new(alloc);
-    write_report(alloc, &given.tables(), &query, &mut out)?;
+    let readers = Readers::in_sevens(&given.tables());
+    write_report(alloc, readers, &query, &mut out)?;
     Ok(out)
 }
 

@@ -1,8 +1,8 @@
 //! Texts of so many rows that they are read in pieces.
+use crate::given::{Readers, write_report};
 use crate::words::FIRST;
 use cube_model::Fault;
-use sample_star::{TABLES, whole};
-use ssb_eval::eval_texts;
+use sample_star::{TABLES, Tables};
 use std::alloc::Global;
 use std::test::Fail;
 
@@ -65,16 +65,11 @@ fn text_of(alloc: Global, lines: &[(usize, &str)]) -> Result<Vec<u8>, Fault> {
 /// Writes the report of query 1.1 over a text of facts.
 fn write_first_query(alloc: Global, facts: &[u8], out: &mut Vec<u8>) -> Result<(), Fault> {
     let query = FIRST.read(alloc)?;
-    eval_texts(
-        alloc,
-        whole(TABLES.customer),
-        whole(TABLES.supplier),
-        whole(TABLES.part),
-        whole(TABLES.date),
-        whole(facts),
-        &query,
-        out,
-    )
+    let tables = Tables {
+        lineorder: facts,
+        ..TABLES
+    };
+    write_report(alloc, Readers::whole(&tables), &query, out)
 }
 
 /// The report of query 1.1 over a text of facts.
