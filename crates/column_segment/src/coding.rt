@@ -19,10 +19,16 @@ use dictionary::Dictionary;
 use std::alloc::Global;
 
 /// A column of texts.
-#[derive(Drop)]
 pub(crate) struct Coding {
     texts: Dictionary,
     codes: Vec<[u8; 2]>,
+}
+
+// Written out, so that a proof has one call to follow where a column is let go.
+impl Drop for Coding {
+    fn drop(self) {
+        let Coding { texts: _, codes: _ } = self;
+    }
 }
 
 impl Coding {

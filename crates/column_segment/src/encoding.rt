@@ -58,11 +58,21 @@ fn push_header(out: &mut Vec<u8>, number: u32, rows: u32) -> Result<(), Fault>
 }
 
 /// All columns of a batch while its rows are added.
-#[derive(Drop)]
 pub(crate) struct Columns {
     keys: Keys,
     figures: Figures,
     texts: Texts,
+}
+
+// Written out, so that a proof has one call to follow where the columns are let go.
+impl Drop for Columns {
+    fn drop(self) {
+        let Columns {
+            keys: _,
+            figures: _,
+            texts: _,
+        } = self;
+    }
 }
 
 impl Columns {
