@@ -13,7 +13,7 @@ use Rattle.cube_model.specs.declared.rows.LineOrder.{LineOrder}
 use Rattle.cube_model.specs.Admission.{all_rows, long_text, refusal, unknown_key}
 use Rattle.cube_model.specs.Causes.{first_cause, cause_if}
 use Rattle.cube_model.specs.Limits.{most_batch_rows, most_batches}
-use Rattle.batch_admission.specs.Accepted.{Accepted, Admits, StandsBehind, number_cause}
+use Rattle.batch_admission.specs.Accepted.{Accepted, Admits, CanFollow, StandsBehind, number_cause}
 use Rattle.batch_admission.specs.Found.{Found, cause_of, found_in}
 use Rattle.batch_admission.specs.Totals.{plus_rows, totals_of, totals_cause, size_of}
 
@@ -104,6 +104,18 @@ module _ (dimensions : DimRows) (old : Accepted) (number : ℕ) (rows : List Lin
           ∙ totals_of-append (all_rows batches) rows ∙ ap totals_of (sym (all_rows-last batches rows));
     };
   }
+
+-- an accepted batch can follow those before it
+pub CanFollow-found : (dimensions : DimRows) (old : Accepted) (number : ℕ) (rows : List LineOrder) (found : Found) (result : Result Unit Fault)
+    → number ≡ old.count + 1 → number ≤ most_batches → length rows ≤ most_batch_rows → found ≡ found_in dimensions old.totals rows → result_err result ≡ cause_of found
+    → OnOk result (CanFollow old.count number rows)
+CanFollow-found dimensions old number rows found (Err fault) is last few was cause = tt
+CanFollow-found dimensions old number rows found (Ok done) is last few was cause =
+    record { next = is; last = last; few = few; texts = first (long_text 1 rows) _ (sym (cause ∙ ap cause_of was)) }
+  where
+    first : (cause : Option Fault) (causes : List (Option Fault)) → first_cause (cause ∷ causes) ≡ None → cause ≡ None
+    first None causes e = refl
+    first (Some fault) causes e = absurd cc
 
 -- rows that are not too many
 pub not_long : (rows : List LineOrder) → length rows ≤ most_batch_rows → nat_lt most_batch_rows (length rows) ≡ false

@@ -1,12 +1,12 @@
 -- What the check of a batch keeps of the batches before it. Our own.
-use Rattle.std.specs.Prelude.{◌≡◌, ℕ, ◌+◌, nat_le, nat_lt, List, [], ◌∷◌, ◌++◌, length, Option, MatchOption}
+use Rattle.std.specs.Prelude.{◌≡◌, ℕ, ◌+◌, ◌≤◌, None, nat_le, nat_lt, List, [], ◌∷◌, ◌++◌, length, Option, MatchOption}
 use Rattle.cube_model.specs.declared.fault.Fault.{Fault}
 use Rattle.cube_model.specs.declared.fault.Fault.TheVariants.{Repeated, Gap, TooManyBatches}
 use Rattle.cube_model.specs.declared.rows.DimRows.{DimRows}
 use Rattle.cube_model.specs.declared.rows.LineOrder.{LineOrder}
-use Rattle.cube_model.specs.Admission.{all_rows, refusal}
+use Rattle.cube_model.specs.Admission.{all_rows, long_text, refusal}
 use Rattle.cube_model.specs.Causes.{first_cause, cause_if}
-use Rattle.cube_model.specs.Limits.{most_batches}
+use Rattle.cube_model.specs.Limits.{most_batch_rows, most_batches}
 use Rattle.batch_admission.specs.declared.totals.Totals.{Totals}
 use Rattle.batch_admission.specs.Totals.{totals_of}
 
@@ -26,6 +26,14 @@ number_cause count number = first_cause (
     cause_if (nat_le number count) Repeated
     ∷ cause_if (nat_lt (count + 1) number) Gap
     ∷ cause_if (nat_le most_batches count) TooManyBatches ∷ [])
+
+-- rows can be a batch with a number behind so many batches: it is the next one, not past the last, they are not too many,
+-- and no text of theirs is too long
+pub record CanFollow (count number : ℕ) (rows : List LineOrder) : Type 0 where
+  pub next : number ≡ count + 1
+  pub last : number ≤ most_batches
+  pub few : length rows ≤ most_batch_rows
+  pub texts : long_text 1 rows ≡ None
 
 -- a batch was taken in behind accepted ones exactly if it is not refused there; the first cause is the answer
 pub record Admits (dimensions : DimRows) (old new : Accepted) (number : ℕ) (rows : List LineOrder) (answer : Option Fault)

@@ -4,7 +4,7 @@ ghost use Rattle.std.specs.Result.{result_err};
 ghost use Rattle.cube_model.specs.declared.rows.DimRows.{DimRows};
 ghost use Rattle.cube_model.specs.declared.rows.LineOrder.{LineOrder};
 ghost use Rattle.cube_model.specs.Limits.{most_batch_rows, most_batches};
-ghost use Rattle.batch_admission.specs.Accepted.{Admits, StandsBehind, number_cause};
+ghost use Rattle.batch_admission.specs.Accepted.{Admits, CanFollow, StandsBehind, number_cause};
 ghost use Rattle.batch_admission.specs.Found.{cause_of, found_in};
 ghost use Rattle.batch_admission.specs.Totals.{AreBelow, sum_limit};
 
@@ -88,8 +88,9 @@ impl Admission {
 
     /// Takes a batch in, or answers the first cause for which it is refused.
     pub fn admit(&mut self, dims: &Dims, number: u32, rows: &[LineOrder]) -> Result<(), Fault>
-        ensures { (batches : List (List LineOrder)) → StandsBehind self.old batches
+        ensures admits { (batches : List (List LineOrder)) → StandsBehind self.old batches
             → Admits dims.now self.old self.new number rows.now (result_err result) batches }
+        ensures follows { OnOk result (CanFollow self.old.count number rows.now) }
     {
         self.check_number(number)?;
         if rows.len() > MOST_BATCH_ROWS {

@@ -1,23 +1,37 @@
 -- A further batch, made ready.
-use Rattle.std.proofs.Common.{◌≡◌, ℕ, ◌+◌, List, map, length, sym, ◌∙◌, arith}
+use Rattle.std.proofs.Common.{◌≡◌, ℕ, ◌+◌, List, map, length, sym, ap, subst, ◌∙◌, arith}
 use Rattle.std.proofs.lemmas.List.Concat.{length-flat_map}
 use Rattle.std.proofs.lemmas.List.Sums.{sum-map}
 use Rattle.std.specs.List.{sum_by}
-use Rattle.cube_model.specs.declared.rows.DimRows.{DimRows}
 use Rattle.cube_model.specs.declared.rows.LineOrder.{LineOrder}
-use Rattle.cube_model.specs.Admission.{all_rows, IsAdmissible}
-use Rattle.batch_admission.proofs.CallerLemmas.{passes}
+use Rattle.cube_model.specs.Admission.{all_rows}
+use Rattle.batch_admission.specs.Accepted.{CanFollow}
+use Rattle.batch_admission.specs.Totals.{AreBelow, sum_limit}
+use Rattle.batch_admission.specs.declared.totals.Totals.{Totals}
+use Rattle.warehouse_root.specs.Root.{AreProperTotals}
+use Rattle.warehouse_root.specs.declared.totals.StoredTotals.{StoredTotals}
+use Rattle.warehouse_objects.specs.Stands.{stored}
 use Rattle.warehouse.specs.Prepared.{MayFollow}
-use Rattle.warehouse_objects.proofs.CallerLemmas.{is_batch, next_number}
+use Rattle.warehouse_objects.proofs.CallerLemmas.{batch_of}
 
--- an admissible batch may be put
-pub follows : (rows : DimRows) (batches : List (List LineOrder)) (number : ℕ) (batch : List LineOrder) → IsAdmissible rows batches number batch → MayFollow (length batches) number batch
-follows rows batches number batch admissible =
-    let next : number ≡ length batches + 1 = next_number rows batches number batch admissible in record {
-      next = next;
-      few = omega (arith, next, (passes rows batches number batch admissible).batches_left);
-      batch = is_batch rows batches number batch admissible;
-    }
+-- a batch that was accepted behind so many may be put there
+pub follows : (count batches number : ℕ) (batch : List LineOrder) → CanFollow count number batch → count ≡ batches → MayFollow batches number batch
+follows count batches number batch can is = record {
+  next = can.next ∙ ap (λ n. n + 1) is;
+  few = can.last;
+  batch = batch_of batch can.few can.texts;
+}
+
+-- totals that keep their limit may be stored
+pub proper_totals : (totals : Totals) (kept : StoredTotals) → kept ≡ stored totals → AreBelow sum_limit totals → AreProperTotals kept
+proper_totals totals kept is below = subst AreProperTotals (sym is) (record {
+  quantity = omega (arith, below.quantity);
+  extendedprice = omega (arith, below.extendedprice);
+  revenue = omega (arith, below.revenue);
+  supplycost = omega (arith, below.supplycost);
+  discounted = omega (arith, below.discounted);
+  profit = omega (arith, below.profit);
+})
 
 -- the rows of batches together
 pub rows_together : (batches : List (List LineOrder)) → sum_by (λ rows. rows) (map (λ (batch : List LineOrder). length batch) batches) ≡ length (all_rows batches)

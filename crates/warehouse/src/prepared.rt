@@ -1,9 +1,7 @@
 //! What a submit puts on the device, made ready before the first device call.
-ghost use Rattle.std.specs.Prelude.{◌≡◌, false, ◌+◌, ◌<◌, ◌≤◌, ◌↔◌, length, IfOk, IfErr, IsTrue};
+ghost use Rattle.std.specs.Prelude.{◌≡◌, false, length, IfOk, IfErr};
 ghost use Rattle.cube_model.specs.declared.fault.Fault.TheVariants.{Memory};
-ghost use Rattle.cube_model.specs.Limits.{most_batches};
 ghost use Rattle.batch_admission.specs.Accepted.{StandsBehind};
-ghost use Rattle.column_segment.specs.Segment.{IsBatch};
 ghost use Rattle.warehouse_root.specs.Root.{AreProperTotals, IsProper};
 ghost use Rattle.object_store.specs.Commit.{ArePuts};
 ghost use Rattle.object_store.specs.Content.{Content};
@@ -14,8 +12,7 @@ ghost use Rattle.warehouse.specs.Loaded.{Agrees, IsLoaded};
 ghost use Rattle.warehouse.specs.Refusing.{is_of_device};
 
 use batch_admission::{Admission, Totals};
-use column_segment::{encode, is_batch};
-use cube_model::limits::MOST_BATCHES;
+use column_segment::encode;
 use cube_model::{Fault, LineOrder};
 use dimensions::Dims;
 use std::alloc::Global;
@@ -90,27 +87,16 @@ impl Prepared {
     {
         let mut admission = admission_of(root);
         match admission.admit(dims, number, rows) {
-            Ok(()) => {
-                if !Prepared::may_follow(root.batches(), number, rows) {
-                    return Err(Fault::BadLayout); // nothing that was admitted
-                }
-                Ok(stored_of(admission.totals()))
-            }
+            Ok(()) => Ok(stored_of(admission.totals())),
             Err(fault) => Err(cause_of(fault)),
         }
-    }
-
-    // Whether rows with a number may be put as a segment behind so many batches.
-    fn may_follow(batches: &[u32], number: u32, rows: &[LineOrder]) -> bool
-        ensures { IsTrue result ↔ MayFollow (length batches.now) number rows.now }
-    {
-        number as usize <= MOST_BATCHES && number as usize == batches.len() + 1 && is_batch(rows)
     }
 }
 
 // The check of a further batch behind those of a root.
 fn admission_of(root: &Root) -> Admission
-    ensures { (w : Warehouse) → root_of w ≡ root.now → StandsBehind result w.batches }
+    ensures count { result.count ≡ length root.now.batches }
+    ensures stands { (w : Warehouse) → root_of w ≡ root.now → StandsBehind result w.batches }
 {
     let _layout = root.layout();
     let totals = root.totals();

@@ -64,9 +64,13 @@ short_rows number (row ∷ rows) e column =
     let parts = both (long_field number row) (long_text (number + 1) rows ∷ []) e in
     All-cons (λ r. length (text_of column r) ≤ longest_text) row rows (short_row number row parts.0 column) (short_rows (number + 1) rows (only _ parts.1) column)
 
+-- rows that are not too many, with no text that is too long
+pub batch_of : (batch : List LineOrder) → length batch ≤ most_batch_rows → long_text 1 batch ≡ None → IsBatch batch
+batch_of batch few texts = record { few = few; short = short_rows 1 batch texts }
+
 module _ (rows : DimRows) (batches : List (List LineOrder)) (number : ℕ) (batch : List LineOrder) (admissible : IsAdmissible rows batches number batch) where
   pub is_batch : IsBatch batch
-  is_batch = record { few = (passes rows batches number batch admissible).few; short = short_rows 1 batch (passes rows batches number batch admissible).texts }
+  is_batch = batch_of batch (passes rows batches number batch admissible).few (passes rows batches number batch admissible).texts
 
   pub next_number : number ≡ length batches + 1
   next_number =
