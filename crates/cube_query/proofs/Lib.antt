@@ -28,5 +28,8 @@ pub mod Targets
 pub mod Passes
 pub mod Ends
 mod CellMerges
+mod BatchFolds
+mod BatchTallies
 mod CellGroups
 mod CellFolds
+mod WholeBatches

@@ -11,3 +11,4 @@ pub mod Room
 pub mod SegmentRows
 pub mod Slots
 pub mod Tallies
+pub mod WholeBatch

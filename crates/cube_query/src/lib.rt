@@ -17,6 +17,7 @@ mod running;
 mod segment_rows;
 mod slots;
 mod tally;
+mod whole_batch;
 
 pub use answer::fold;
 pub use fraction::fraction_of;

@@ -1,14 +1,16 @@
 //! A fold over fact rows that come in any number of calls.
-ghost use Rattle.std.specs.Prelude.{◌≡◌, ◌≢◌, ◌⊎◌, ◌≤◌, ℕ, List, false, length, Err, IfOk, IfErr, OnOk, OnErr};
+ghost use Rattle.std.specs.Prelude.{◌≡◌, ◌≢◌, ◌⊎◌, ◌≤◌, ◌<◌, ℕ, List, false, true, length, map, Some, Err, IfOk, IfErr, OnOk, OnErr};
 ghost use Rattle.std.specs.List.{All, AllByRecursion};
 ghost use Rattle.cube_model.specs.Answers.{answer};
 ghost use Rattle.cube_model.specs.Proper.{IsProper};
+ghost use Rattle.cube_model.specs.Selection.{is_selected};
 ghost use Rattle.cube_model.specs.declared.rows.LineOrder.{LineOrder};
 ghost use Rattle.cube_query.specs.Columns.{tallies_at};
 ghost use Rattle.cube_query.specs.Groups.{StandsFor, Begins, CanTake, IsFoldOver, IsFoldable, IsOver, Takes};
 ghost use Rattle.group_plan.specs.Numbers.{group_count, IsKnown};
 ghost use Rattle.group_plan.specs.Plans.{IsPlanOver, query_of};
-ghost use Rattle.cube_query.specs.Slots.{entries_of, AreSlots, Cover, Grow};
+ghost use Rattle.cube_query.specs.Slots.{entries_of, slot_of, AreSlots, CanPlace, Cover, Grow};
+ghost use Rattle.cube_query.specs.WholeBatch.{has_one_group};
 ghost use Rattle.cube_query.specs.FoldInvariant.{AreGroupSlots};
 ghost use Rattle.cuboid_upkeep.specs.Grouping.{StandFor};
 ghost use Rattle.lattice.specs.Determined.{Serves};
@@ -22,6 +24,8 @@ use crate::room::have_room;
 use crate::segment_rows::SegmentRows;
 use crate::slots::Slots;
 use crate::tally::Tally;
+use crate::whole_batch::{has_one_group, selected_rows, with_batch};
+use column_kernels::Mask;
 use column_segment::Segment;
 use cube_model::{Answer, Fault, LineOrder, Query};
 use cuboid_cells::Cells;
@@ -96,7 +100,8 @@ impl Fold {
     /// Counts the rows of a batch in. A refusal leaves the fold as it was.
     ///
     /// It asks nothing of the rows, and refuses them as `add_rows` does. Rows that fail a condition are left out column by
-    /// column, and only the others are looked at further.
+    /// column, and only the others are looked at further: one by one, or where the query has one group and no condition on
+    /// a dimension, all at once, by sums over the columns.
     pub fn add_segment(&mut self, dims: &Dims, segment: &Segment) -> Result<(), Fault>
         requires { IsOver dims.now self.old }
         ensures ok { OnOk result (Takes dims.now self.old segment.now.rows self.new) }
@@ -104,6 +109,9 @@ impl Fold {
         ensures refused { result ≡ Err Fault.BadLayout → CanTake dims.now self.old segment.now.rows → ⊥ }
         ensures only { IfErr result (λ fault. (fault ≡ Fault.Memory) ⊎ (fault ≡ Fault.BadLayout)) }
     {
+        if has_one_group(self.plan.query()) {
+            return self.add_whole(dims, segment);
+        }
         if self.plan.query().conditions.is_empty() {
             return self.add(dims, &SegmentRows::of(segment));
         }
@@ -145,6 +153,55 @@ impl Fold {
             aggregates,
             cells.as_slice(),
             group_slots.as_slice(),
+        ) {
+            Ok(merged) => {
+                self.columns = merged;
+                Ok(())
+            }
+            Err(fault) => Err(fault),
+        }
+    }
+
+    // Counts the selected rows of a batch in, all at once. A refusal leaves the fold as it was.
+    fn add_whole(&mut self, dims: &Dims, segment: &Segment) -> Result<(), Fault>
+        requires over { IsOver dims.now self.old }
+        requires one_group { has_one_group self.old.query ≡ true }
+        ensures ok { OnOk result (Takes dims.now self.old segment.now.rows self.new) }
+        ensures err { OnErr result (self.new ≡ self.old) }
+        ensures refused { result ≡ Err Fault.BadLayout → CanTake dims.now self.old segment.now.rows → ⊥ }
+        ensures only { IfErr result (λ fault. (fault ≡ Fault.Memory) ⊎ (fault ≡ Fault.BadLayout)) }
+    {
+        let mask = selected_rows(self.alloc, &self.plan.over(dims), segment)?;
+        self.add_masked(dims, segment, &mask)
+    }
+
+    // The same by the mask of the selected rows.
+    fn add_masked(&mut self, dims: &Dims, segment: &Segment, mask: &Mask) -> Result<(), Fault>
+        requires over { IsOver dims.now self.old }
+        requires one_group { has_one_group self.old.query ≡ true }
+        requires mask { mask.now ≡ map (is_selected dims.now self.old.query.conditions) segment.now.rows }
+        ensures ok { OnOk result (Takes dims.now self.old segment.now.rows self.new) }
+        ensures err { OnErr result (self.new ≡ self.old) }
+        ensures refused { result ≡ Err Fault.BadLayout → CanTake dims.now self.old segment.now.rows → ⊥ }
+        ensures only { IfErr result (λ fault. (fault ≡ Fault.Memory) ⊎ (fault ≡ Fault.BadLayout)) }
+    {
+        if mask.count() == 0 {
+            return Ok(());
+        }
+        let columns = &mut self.columns;
+        let slots = &mut self.slots;
+        let slot = match ready_for_one(slots, columns) {
+            Ok(slot) => slot,
+            Err(_) => return Err(Fault::Memory),
+        };
+        let aggregates = self.plan.query().aggregates.as_slice();
+        match with_batch(
+            self.alloc,
+            columns.as_slice(),
+            aggregates,
+            slot,
+            segment,
+            mask,
         ) {
             Ok(merged) => {
                 self.columns = merged;
@@ -251,4 +308,19 @@ fn ready<F: FactRows>(
         Ok(()) => Ok(group_slots),
         Err(_) => Err(Fault::Memory),
     }
+}
+
+// Makes all ready for the one group of a query: its slot, and a place for each slot. Nothing is counted yet.
+fn ready_for_one(slots: &mut Slots, columns: &mut Vec<Vec<Tally>>) -> Result<u32, AllocError>
+    requires { CanPlace slots.old 0 }
+    ensures slot { IfOk result (λ slot. slot_of (entries_of slots.new) 0 ≡ Some slot) }
+    ensures long { OnOk result (AllByRecursion (λ column. length (entries_of slots.new) ≤ length column.items) columns.new.items) }
+    ensures same { (slot : ℕ) → tallies_at columns.new.items slot ≡ tallies_at columns.old.items slot }
+    ensures cover { (bound : ℕ) → Cover bound slots.old → Cover bound slots.new }
+    ensures grow { (bound : ℕ) → 0 < bound → AreSlots bound (entries_of slots.old)
+        → Grow bound (entries_of slots.old) (entries_of slots.new) }
+{
+    let slot = slots.place(0)?;
+    lengthen_all(columns.as_mut_slice(), slots.len())?;
+    Ok(slot)
 }

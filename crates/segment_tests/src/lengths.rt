@@ -1,4 +1,4 @@
-//! Batches whose lengths lie around a block of 32 rows: masks and sums beside those by rows.
+//! Batches whose lengths lie around a block of 32 rows: masks, sums, the least and the greatest beside those by rows.
 
 use crate::batches::{ZEROS, spelled};
 use crate::decoding::pushed;
@@ -101,7 +101,22 @@ fn sum_by_rows(rows: &[LineOrder], measure: Measure, ranges: Ranges) -> i128 {
     sum
 }
 
-// How many measures have another sum under the mask of ranges than row by row.
+// The least and the greatest of a measure over the rows in ranges, row by row.
+fn extremes_by_rows(rows: &[LineOrder], measure: Measure, ranges: Ranges) -> Option<(i128, i128)> {
+    let mut found: Option<(i128, i128)> = None;
+    for row in rows {
+        if lies_in(row, ranges) {
+            let number = measured(row, measure);
+            found = match found {
+                None => Some((number, number)),
+                Some((least, greatest)) => Some((least.min(number), greatest.max(number))),
+            };
+        }
+    }
+    found
+}
+
+// How many measures have another sum, or another least and greatest, under the mask of ranges than row by row.
 fn wrong_sums(
     alloc: Global,
     segment: &Segment,
@@ -111,7 +126,11 @@ fn wrong_sums(
     let mask = segment.mask(alloc, ranges.0, ranges.1)?;
     let mut wrong: u32 = 0;
     for measure in MEASURES {
-        if segment.selected_sum(measure, &mask) != sum_by_rows(rows, measure, ranges) {
+        let sum = segment.selected_sum(measure, &mask);
+        let extremes = segment.selected_extremes(measure, &mask);
+        if sum != sum_by_rows(rows, measure, ranges)
+            || extremes != extremes_by_rows(rows, measure, ranges)
+        {
             wrong = wrong.wrapping_add(1);
         }
     }

@@ -1,7 +1,13 @@
-use Rattle.std.proofs.Common.{◌≡◌, ap}
+use Rattle.std.proofs.Common.{◌≡◌, ◌∙◌, sym, ap}
 use Rattle.group_plan.specs.Plans.{query_of}
+use Rattle.cube_query.specs.Groups.{FoldState}
+use Rattle.cube_query.specs.WholeBatch.{has_one_group}
 use Rattle.cube_query.proofs.Choosing.{can_take_some, keep_over, takes_all}
 use Rattle.cube_query.proofs.running.Fold.add_segment.Goals as goal
+
+pub add_whole-requires-clause-one_group : goal.add_whole-requires-clause-one_group
+add_whole-requires-clause-one_group c =
+    ap (λ (state : FoldState). has_one_group state.query) (sym c.self.view_is) ∙ ap has_one_group (sym c.query.ensures) ∙ sym c.has_one_group.ensures ∙ c.if-has_one_group.true
 
 pub returns-clause-ok : goal.returns-clause-ok
 returns-clause-ok c =

@@ -1,0 +1,161 @@
+use Rattle.std.proofs.Common.{◌≡◌, ◌∙◌, ◌<◌, Ok, List, ℕ, true, [], ◌++◌, length, map, sym, ap, subst, inl, inr, arith}
+use Rattle.std.specs.List.{AllByRecursion}
+use Rattle.std.proofs.lemmas.List.{length-map}
+use Rattle.std.specs.declared.alloc.Global.{Global}
+use Rattle.std.specs.declared.vec.Vec.{Vec}
+use Rattle.cube_model.specs.Selection.{is_selected}
+use Rattle.cube_model.specs.declared.fault.Fault.TheVariants.{BadLayout}
+use Rattle.cube_model.specs.declared.measure.Agg.{Agg}
+use Rattle.column_kernels.specs.Masks.{selected}
+use Rattle.group_plan.specs.Plans.{query_of}
+use Rattle.cube_query.specs.Columns.{tallies_at}
+use Rattle.cube_query.specs.Groups.{CanTake, FoldState, IsOver, StandsFor, Takes}
+use Rattle.cube_query.specs.Slots.{entries_of}
+use Rattle.cube_query.specs.WholeBatch.{HaveRoomAt, has_one_group, with_rows}
+use Rattle.cube_query.specs.declared.tally.Tally.{Tally}
+use Rattle.cube_query.proofs.BatchFolds.{kept_batch, kept_one, place_first, room_one, shown_one, slot_within, stands_batch, takes_none}
+use Rattle.cube_query.proofs.Choosing.{can_take_some, takes_all}
+use Rattle.cube_query.proofs.Columnwise.{tallies-length}
+use Rattle.cube_query.proofs.WholeBatches.{mask_keeps, none_selected, some_selected}
+use Rattle.cube_query.proofs.running.Fold.add_masked.Goals as goal
+
+pub returns-then-count-eq0-clause-ok : goal.returns-then-count-eq0-clause-ok
+returns-then-count-eq0-clause-ok c =
+    let dims = c.args.dims.now in
+    let old = c.args.self.now in
+    let rows = c.args.segment.now.rows in
+    let mask = c.args.mask.now in
+    let none = none_selected mask rows (ap length c.requires.mask ∙ length-map rows (is_selected dims old.query.conditions)) (sym c.count.ensures ∙ c.if-count-eq0.true) in
+    takes_all (Ok (tt {0})) dims old (selected mask rows) rows old (mask_keeps dims old.query.conditions mask rows c.requires.mask)
+    (subst (λ some. Takes dims old some old) (sym none) (takes_none dims old))
+
+pub ready_for_one-requires : goal.ready_for_one-requires
+ready_for_one-requires c =
+    let inside = c.self.inside in
+    let over = subst (λ (state : FoldState). IsOver c.args.dims.now state) (sym c.self.view_is) c.requires.over in
+    let one = subst (λ (state : FoldState). has_one_group state.query ≡ true) (sym c.self.view_is) c.requires.one_group in
+    place_first c.args.dims.now inside.plan over inside.slots inside.columns.items c.self.invariant one
+
+pub returns-in-Err-clause-err : goal.returns-in-Err-clause-err
+returns-in-Err-clause-err c =
+    let inside = c.self.inside in
+    let over = subst (λ (state : FoldState). IsOver c.args.dims.now state) (sym c.self.view_is) c.requires.over in
+    let one = subst (λ (state : FoldState). has_one_group state.query ≡ true) (sym c.self.view_is) c.requires.one_group in
+    let found = c.ready_for_one.ensures in
+    shown_one c.args.dims.now inside.plan over inside.slots inside.columns.items c.self.invariant one c.ready_for_one.new.slots c.ready_for_one.new.columns.items found.cover found.grow found.same
+    ∙ c.self.view_is
+
+pub with_batch-requires-clause-columns : goal.with_batch-requires-clause-columns
+with_batch-requires-clause-columns c =
+    let inside = c.self.inside in
+    let over = subst (λ (state : FoldState). IsOver c.args.dims.now state) (sym c.self.view_is) c.requires.over in
+    let one = subst (λ (state : FoldState). has_one_group state.query ≡ true) (sym c.self.view_is) c.requires.one_group in
+    let found = c.ready_for_one.ensures in
+    let entries = entries_of c.ready_for_one.new.slots in
+    let longer = c.ready_for_one.new.columns.items in
+    let kept = kept_one c.args.dims.now inside.plan over inside.slots inside.columns.items c.self.invariant one c.ready_for_one.new.slots longer found.cover found.grow found.same in
+    ap length c.as_slice.ensures.value
+    ∙ tallies-length (query_of inside.plan).aggregates longer (length entries) [] (kept.fresh (length entries) (omega arith))
+    ∙ sym (ap length (c.as_slice-aggregates.ensures ∙ ap (λ q. q.aggregates) c.query.ensures))
+
+pub with_batch-requires-clause-rows : goal.with_batch-requires-clause-rows
+with_batch-requires-clause-rows c = ap length c.requires.mask ∙ length-map c.args.segment.now.rows _
+
+pub with_batch-requires-clause-within : goal.with_batch-requires-clause-within
+with_batch-requires-clause-within c =
+    let inside = c.self.inside in
+    let over = subst (λ (state : FoldState). IsOver c.args.dims.now state) (sym c.self.view_is) c.requires.over in
+    let one = subst (λ (state : FoldState). has_one_group state.query ≡ true) (sym c.self.view_is) c.requires.one_group in
+    let found = c.ready_for_one.ensures in
+    subst (λ (list : List (Vec Tally Global)). AllByRecursion (λ column. c.in-Ok.slot < length column.items) list) (sym c.as_slice.ensures.value)
+    (slot_within c.args.dims.now inside.plan over inside.slots inside.columns.items c.self.invariant one c.ready_for_one.new.slots c.ready_for_one.new.columns.items found.cover found.grow found.same
+    c.in-Ok.slot c.in-Ok.ensures.slot c.in-Ok.ensures.long)
+
+pub invariant_of-self-in-Ok-with_batch : goal.invariant_of-self-in-Ok-with_batch
+invariant_of-self-in-Ok-with_batch c =
+    let inside = c.self.inside in
+    let dims = c.args.dims.now in
+    let rows = c.args.segment.now.rows in
+    let over = subst (λ (state : FoldState). IsOver dims state) (sym c.self.view_is) c.requires.over in
+    let one = subst (λ (state : FoldState). has_one_group state.query ≡ true) (sym c.self.view_is) c.requires.one_group in
+    let found = c.ready_for_one.ensures in
+    let aggregates : c.as_slice-aggregates.result.now ≡ (query_of inside.plan).aggregates = c.as_slice-aggregates.ensures ∙ ap (λ q. q.aggregates) c.query.ensures in
+    let marks = c.requires.mask ∙ ap (λ (state : FoldState). map (is_selected dims state.query.conditions) rows) (sym c.self.view_is) in
+    let is = λ (other : ℕ). c.in-Ok-with_batch.ensures.ok other
+    ∙ (λ i. with_rows (aggregates i) (selected c.args.mask.now rows) c.in-Ok.slot other (tallies_at (c.as_slice.ensures.value i) other)) in
+    kept_batch dims inside.plan over inside.slots inside.columns.items c.self.invariant one c.ready_for_one.new.slots c.ready_for_one.new.columns.items found.cover found.grow found.same
+    c.in-Ok.slot c.in-Ok.ensures.slot c.args.mask.now rows marks c.in-Ok-with_batch.merged.items is
+
+pub returns-in-Ok-with_batch-clause-ok : goal.returns-in-Ok-with_batch-clause-ok
+returns-in-Ok-with_batch-clause-ok c =
+    let inside = c.self.inside in
+    let dims = c.args.dims.now in
+    let old = c.args.self.now in
+    let rows = c.args.segment.now.rows in
+    let mask = c.args.mask.now in
+    let over = subst (λ (state : FoldState). IsOver dims state) (sym c.self.view_is) c.requires.over in
+    let one = subst (λ (state : FoldState). has_one_group state.query ≡ true) (sym c.self.view_is) c.requires.one_group in
+    let found = c.ready_for_one.ensures in
+    let aggregates : c.as_slice-aggregates.result.now ≡ (query_of inside.plan).aggregates = c.as_slice-aggregates.ensures ∙ ap (λ q. q.aggregates) c.query.ensures in
+    let marks = c.requires.mask ∙ ap (λ (state : FoldState). map (is_selected dims state.query.conditions) rows) (sym c.self.view_is) in
+    let own = c.requires.mask in
+    let is = λ (other : ℕ). c.in-Ok-with_batch.ensures.ok other
+    ∙ (λ i. with_rows (aggregates i) (selected mask rows) c.in-Ok.slot other (tallies_at (c.as_slice.ensures.value i) other)) in
+    takes_all (Ok (tt {0})) dims old (selected mask rows) rows _ (mask_keeps dims old.query.conditions mask rows own) (record {
+      query = ap (λ state. state.query) c.self.view_is;
+      stands = λ so_far stands.
+          stands_batch dims inside.plan over inside.slots inside.columns.items c.self.invariant one c.ready_for_one.new.slots c.ready_for_one.new.columns.items found.cover found.grow found.same
+          c.in-Ok.slot c.in-Ok.ensures.slot mask rows marks c.in-Ok-with_batch.merged.items is so_far (subst (λ (state : FoldState). StandsFor dims state so_far) (sym c.self.view_is) stands);
+    })
+
+pub returns-in-Err-with_batch-clause-err : goal.returns-in-Err-with_batch-clause-err
+returns-in-Err-with_batch-clause-err c =
+    let inside = c.self.inside in
+    let over = subst (λ (state : FoldState). IsOver c.args.dims.now state) (sym c.self.view_is) c.requires.over in
+    let one = subst (λ (state : FoldState). has_one_group state.query ≡ true) (sym c.self.view_is) c.requires.one_group in
+    let found = c.ready_for_one.ensures in
+    shown_one c.args.dims.now inside.plan over inside.slots inside.columns.items c.self.invariant one c.ready_for_one.new.slots c.ready_for_one.new.columns.items found.cover found.grow found.same
+    ∙ c.self.view_is
+
+pub returns-in-Err-with_batch-clause-refused : goal.returns-in-Err-with_batch-clause-refused
+returns-in-Err-with_batch-clause-refused c = λ bad can.
+    let inside = c.self.inside in
+    let dims = c.args.dims.now in
+    let old = c.args.self.now in
+    let rows = c.args.segment.now.rows in
+    let mask = c.args.mask.now in
+    let over = subst (λ (state : FoldState). IsOver dims state) (sym c.self.view_is) c.requires.over in
+    let one = subst (λ (state : FoldState). has_one_group state.query ≡ true) (sym c.self.view_is) c.requires.one_group in
+    let found = c.ready_for_one.ensures in
+    let aggregates : c.as_slice-aggregates.result.now ≡ (query_of inside.plan).aggregates = c.as_slice-aggregates.ensures ∙ ap (λ q. q.aggregates) c.query.ensures in
+    let marks = c.requires.mask ∙ ap (λ (state : FoldState). map (is_selected dims state.query.conditions) rows) (sym c.self.view_is) in
+    let own = c.requires.mask in
+    let fewer = can_take_some dims old (selected mask rows) rows (mask_keeps dims old.query.conditions mask rows own) can in
+    let given = subst (λ (state : FoldState). CanTake dims state (selected mask rows)) (sym c.self.view_is) fewer in
+    let any = some_selected mask rows (ap length own ∙ length-map rows (is_selected dims old.query.conditions)) (λ none. c.if-count-eq0.false (c.count.ensures ∙ none)) in
+    let room = room_one dims inside.plan over inside.slots inside.columns.items c.self.invariant one c.ready_for_one.new.slots c.ready_for_one.new.columns.items found.cover found.grow found.same
+    c.in-Ok.slot c.in-Ok.ensures.slot mask rows marks given.0 given.1.0 given.1.1 c.in-Ok.ensures.long any in
+    let there : HaveRoomAt c.as_slice-aggregates.result.now c.as_slice.result.now c.in-Ok.slot (selected mask rows) =
+    subst (λ (aggs : List Agg). HaveRoomAt aggs c.as_slice.result.now c.in-Ok.slot (selected mask rows)) (sym aggregates)
+    (subst (λ (columns : List (Vec Tally Global)). HaveRoomAt (query_of inside.plan).aggregates columns c.in-Ok.slot (selected mask rows)) (sym c.as_slice.ensures.value) room) in
+    let is : c.in-Err-with_batch.fault ≡ BadLayout = cc bad in
+    elim c.in-Err-with_batch.ensures.refused [
+      | inl memory ↦ absurd (cc (is, memory))
+      | inr none ↦ none.1 there
+    ]
+
+pub invariant_of-self : goal.invariant_of-self
+invariant_of-self c =
+    let inside = c.self.inside in
+    let over = subst (λ (state : FoldState). IsOver c.args.dims.now state) (sym c.self.view_is) c.requires.over in
+    let one = subst (λ (state : FoldState). has_one_group state.query ≡ true) (sym c.self.view_is) c.requires.one_group in
+    let found = c.ready_for_one.ensures in
+    kept_one c.args.dims.now inside.plan over inside.slots inside.columns.items c.self.invariant one c.ready_for_one.new.slots c.ready_for_one.new.columns.items found.cover found.grow found.same
+
+pub invariant_of-self-in-Err-with_batch : goal.invariant_of-self-in-Err-with_batch
+invariant_of-self-in-Err-with_batch c =
+    let inside = c.self.inside in
+    let over = subst (λ (state : FoldState). IsOver c.args.dims.now state) (sym c.self.view_is) c.requires.over in
+    let one = subst (λ (state : FoldState). has_one_group state.query ≡ true) (sym c.self.view_is) c.requires.one_group in
+    let found = c.ready_for_one.ensures in
+    kept_one c.args.dims.now inside.plan over inside.slots inside.columns.items c.self.invariant one c.ready_for_one.new.slots c.ready_for_one.new.columns.items found.cover found.grow found.same
