@@ -1,6 +1,6 @@
 //! A submit whose last sync fails, and a failure of each device call in turn.
 use crate::answers::{finding, found, report};
-use crate::calls::{Restart, answers_with_failure, is_allowed, may_be_found};
+use crate::calls::{Answers, Restart, answers_with_failure, is_allowed, may_be_found};
 use crate::sample::{loaded, opened, submit};
 use crate::stops::{OPENING, SUBMIT};
 use cube_model::Fault;
@@ -21,21 +21,21 @@ pub(crate) fn unsynced(alloc: Global, all: bool) -> Result<Session<Fuse<MemDisk>
     }
 }
 
+/// How a session refuses two submits, a query and the question for its status, if it does.
+fn refused_by(alloc: Global, session: &mut Session<Fuse<MemDisk>>) -> [Option<Fault>; 4] {
+    let second = submit(alloc, session, 2, &FACTS).err();
+    let third = submit(alloc, session, 3, &FACTS).err();
+    let answer = report(alloc, session, 1, QNumber::Q11).err();
+    [second, third, answer, session.status().err()]
+}
+
 #[test]
 fn each_later_call_is_failed(rt: HostRuntime) -> Result<(), Fail> {
     let mut session = unsynced(rt.alloc(), false)?;
-    let second = submit(rt.alloc(), &mut session, 2, &FACTS);
-    let third = submit(rt.alloc(), &mut session, 3, &FACTS);
-    let answer = report(rt.alloc(), &mut session, 1, QNumber::Q11);
+    let refused = refused_by(rt.alloc(), &mut session);
     assert_eq!(rt;
-        (second, third, answer, session.status(), session.is_broken()),
-        (
-            Err(Fault::Failed),
-            Err(Fault::Failed),
-            Err(Fault::Failed),
-            Err(Fault::Failed),
-            true
-        )
+        (refused, session.is_broken()),
+        ([Some(Fault::Failed); 4], true)
     );
     assert_eq!(rt;
         (session.device().failures(), session.close().failures()),
@@ -64,17 +64,28 @@ fn an_opening_whose_sync_fails_answers_device(rt: HostRuntime) -> Result<(), Fai
 /// The calls of a creation, three submits and a query over three batches: 11, 15 and 3, and one more that is not made.
 const CALLS: u64 = 30;
 
+/// How the calls go of which the n-th fails, and whether what is found then may be found.
+fn outcome(
+    alloc: Global,
+    n: u64,
+    reaches: bool,
+    restart: Restart,
+) -> Result<(Answers, bool), Fault> {
+    let (answers, disk) = answers_with_failure(alloc, n, reaches)?;
+    let found = found(alloc, restart.of(disk));
+    let allowed = may_be_found(alloc, &answers, &found);
+    Ok((answers, allowed))
+}
+
 #[test]
 fn a_failing_call_leaves_what_may_be_found(rt: HostRuntime) -> Result<(), Fail> {
     for n in 1..=CALLS {
         for reaches in [false, true] {
             for restart in [Restart::Not, Restart::Oldest, Restart::Newest] {
-                let (answers, disk) = answers_with_failure(rt.alloc(), n, reaches)?;
-                let found = found(rt.alloc(), restart.of(disk));
-                assert!(rt; is_allowed(&answers.used), "call {n}: {answers:?}");
+                let (answers, allowed) = outcome(rt.alloc(), n, reaches, restart)?;
                 assert!(rt;
-                    may_be_found(rt.alloc(), &answers, &found),
-                    "call {n}: {answers:?}, {found:?}"
+                    is_allowed(&answers.used) && allowed,
+                    "call {n}, {restart:?}: {answers:?}"
                 );
             }
         }

@@ -87,17 +87,28 @@ fn as_heard(reply: Reply) -> Heard {
     }
 }
 
-/// What a session replies to the commands of the run.
-fn replies(alloc: Global, session: &mut Session<Fuse<MemDisk>>) -> Result<Vec<Heard>, Fault> {
+/// The commands of the run.
+fn commands(alloc: Global) -> Result<Vec<Command>, Fault> {
     let mut commands = Vec::new(alloc);
     for (told, _) in &RUN {
         commands.push(command(alloc, told)?)?;
     }
-    let mut replies = Vec::new(alloc);
-    for reply in run(alloc, session, commands.as_slice())? {
-        replies.push(as_heard(reply))?;
+    Ok(commands)
+}
+
+fn all_heard(alloc: Global, replies: Vec<Reply>) -> Result<Vec<Heard>, Fault> {
+    let mut heard = Vec::new(alloc);
+    for reply in replies {
+        heard.push(as_heard(reply))?;
     }
-    Ok(replies)
+    Ok(heard)
+}
+
+/// What a session replies to the commands of the run.
+fn replies(alloc: Global, session: &mut Session<Fuse<MemDisk>>) -> Result<Vec<Heard>, Fault> {
+    let commands = commands(alloc)?;
+    let replies = run(alloc, session, commands.as_slice())?;
+    all_heard(alloc, replies)
 }
 
 fn reply(alloc: Global, said: &Said) -> Result<Heard, Fault> {
