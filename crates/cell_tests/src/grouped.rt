@@ -11,7 +11,7 @@ use std::alloc::Global;
 use std::test::Fail;
 
 // What is kept of the first row and the third together.
-const FIRST_AND_THIRD: Summaries = Summaries {
+pub(crate) const FIRST_AND_THIRD: Summaries = Summaries {
     quantity: Summary {
         sum: 42,
         least: 17,
@@ -59,13 +59,13 @@ fn cell(codes: [u16; 4], count: u64, measures: Summaries) -> Cell {
     }
 }
 
-// Takes the facts in as a batch, where the view does not group by ship mode.
+// Takes the facts in as a batch.
 fn take_in(alloc: Global, dims: &Dims, facts: &[Fact<'_>], cells: &mut Cells) -> Result<(), Fault> {
     let rows = line_orders(alloc, facts)?;
-    if cells.view().ship_mode || rows.len() > 65_536 {
+    if rows.len() > 65_536 {
         return Ok(());
     }
-    add_rows(cells, alloc, dims, &RowSlice(&rows))
+    add_rows(cells, alloc, dims, &RowSlice(&rows), None)
 }
 
 // The dimensions of the sample star.

@@ -2,6 +2,8 @@
 #![tactic(auto)]
 
 #[cfg(test)]
+mod by_mode;
+#[cfg(test)]
 mod grouped;
 #[cfg(test)]
 mod merges;

@@ -88,7 +88,7 @@ fn take_in(
     if cells.view().ship_mode || rows.len() > 65_536 {
         return Err(Fault::BadLayout);
     }
-    add_rows(cells, alloc, dims, &RowSlice(&rows))
+    add_rows(cells, alloc, dims, &RowSlice(&rows), None)
 }
 
 // The cells of a view over four batches of pairs.

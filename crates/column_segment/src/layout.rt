@@ -1,10 +1,11 @@
 //! Where the columns of a batch stand in its bytes.
-ghost use Rattle.std.specs.Prelude.{◌≡◌, ◌+◌, ◌*◌, ◌≤◌, length};
+ghost use Rattle.std.specs.Prelude.{◌≡◌, ◌+◌, ◌*◌, ◌≤◌, length, map};
+ghost use Rattle.std.specs.Int.{from_le_bytes, w16};
 ghost use Rattle.std.specs.Simd.{first_chunks};
 ghost use Rattle.cube_model.specs.Limits.{most_batch_rows};
-ghost use Rattle.column_segment.specs.Decoded.{amount_place, byte_place, column_bytes, number_place};
+ghost use Rattle.column_segment.specs.Decoded.{amount_place, byte_place, codes_in, coded_of, column_bytes, number_place};
 
-use crate::columns::{AmountColumn, ByteColumn, NumberColumn};
+use crate::columns::{AmountColumn, ByteColumn, NumberColumn, TextColumn};
 use dictionary::Dictionary;
 
 /// How many bytes stand before the columns: the name, the batch's number, how many rows.
@@ -27,6 +28,20 @@ pub(crate) struct CodedTexts {
     pub(crate) shippriority: Coded,
     pub(crate) commitdate: Coded,
     pub(crate) shipmode: Coded,
+}
+
+impl CodedTexts {
+    // One of them.
+    pub(crate) fn column(&self, column: TextColumn) -> &Coded
+        ensures { result.now ≡ coded_of column self.now }
+    {
+        match column {
+            TextColumn::OrderPriority => &self.orderpriority,
+            TextColumn::ShipPriority => &self.shippriority,
+            TextColumn::CommitDate => &self.commitdate,
+            TextColumn::ShipMode => &self.shipmode,
+        }
+    }
 }
 
 /// What the bytes of a batch were found to be.
@@ -69,6 +84,15 @@ pub(crate) fn byte_part(bytes: &[u8], rows: usize, column: ByteColumn) -> &[u8]
     ensures many { length result.now ≡ rows }
 {
     part(bytes, rows, byte_place(column), 1)
+}
+
+/// The codes of a column of texts that begin at a place.
+pub(crate) fn code_chunks(bytes: &[u8], rows: usize, at: usize) -> &[[u8; 2]]
+    requires few { rows ≤ most_batch_rows }
+    requires room { at + 2 * rows ≤ length bytes.now }
+    ensures { map (from_le_bytes w16) result.now ≡ codes_in bytes.now rows at }
+{
+    bytes.split_at(at).1.split_at(2 * rows).0.as_chunks::<2>().0
 }
 
 // The bytes of a column of so many bytes a row, behind those of the columns before it.

@@ -1,24 +1,26 @@
 //! A batch as the bytes that it was read from, which are kept and looked at as columns.
-ghost use Rattle.std.specs.Prelude.{◌≡◌, ◌↔◌, ◌⊎◌, ◌++◌, ℕ, List, length, map, take, drop, IsTrue, IfErr, IfOk, IsOkUnless, OnOk};
+ghost use Rattle.std.specs.Prelude.{◌≡◌, ◌↔◌, ◌⊎◌, ◌++◌, ◌<◌, ℕ, List, All, length, map, take, drop, IsTrue, IfErr, IfOk, IsOkUnless, OnOk};
 ghost use Rattle.cube_model.specs.declared.fault.Fault.{Fault};
 ghost use Rattle.cube_model.specs.declared.rows.LineOrder.{LineOrder};
-ghost use Rattle.std.specs.Int.{from_le_bytes, w32};
+ghost use Rattle.std.specs.Int.{from_le_bytes, w16, w32};
 ghost use Rattle.cube_model.specs.Aggregates.{total};
 ghost use Rattle.cube_model.specs.Measures.{measure_of};
 ghost use Rattle.column_kernels.specs.Extremes.{extremes_of};
+ghost use Rattle.dictionary.specs.Columns.{text_at};
 ghost use Rattle.column_kernels.specs.Masks.{lies_in, selected};
 ghost use Rattle.column_kernels.specs.Sums.{numbers_of};
-ghost use Rattle.column_segment.specs.Columns.{amount_of, byte_of, number_of};
+ghost use Rattle.column_segment.specs.Columns.{amount_of, byte_of, number_of, text_of};
 ghost use Rattle.column_segment.specs.Segment.{FitColumns, IsBatch, IsSegment};
 
-use crate::columns::{AmountColumn, ByteColumn, NumberColumn};
+use crate::columns::{AmountColumn, ByteColumn, NumberColumn, TextColumn};
 use crate::extremes::selected_extremes;
-use crate::layout::{Layout, amount_chunks, byte_part, number_chunks};
+use crate::layout::{Layout, amount_chunks, byte_part, code_chunks, number_chunks};
 use crate::reading::read_layout;
 use crate::rows::push_each;
 use crate::sums::selected_sum;
 use column_kernels::Mask;
 use cube_model::{Fault, LineOrder, Measure};
+use dictionary::Dictionary;
 use std::alloc::Global;
 use std::marker::Model;
 
@@ -113,6 +115,19 @@ impl Segment {
         ensures { result.now ≡ map (byte_of column) self.now.rows }
     {
         byte_part(&self.bytes, self.layout.rows, column)
+    }
+
+    /// A column of texts: the texts that stand in it, and for each row the code of its text, which is a place among them, in
+    /// two bytes, the lowest first.
+    pub fn coded(&self, column: TextColumn) -> (&Dictionary, &[[u8; 2]])
+        ensures below { All (λ code. code < length result.0.now.texts) (map (from_le_bytes w16) result.1.now) }
+        ensures texts { map (text_at result.0.now.texts) (map (from_le_bytes w16) result.1.now) ≡ map (text_of column) self.now.rows }
+    {
+        let coded = self.layout.texts.column(column);
+        (
+            &coded.texts,
+            code_chunks(&self.bytes, self.layout.rows, coded.at),
+        )
     }
 
     /// The rows whose quantity and discount lie in their ranges, ends included. `Memory` where there is none.

@@ -20,6 +20,7 @@ use Rattle.lattice.specs.Determined.{Serves}
 use Rattle.cuboid_cells.specs.declared.cell.Cell.{Cell}
 use Rattle.cuboid_cells.specs.declared.key.Key.{Key}
 use Rattle.cuboid_cells.specs.Cells.{AreAscending, PlainCells, cell_at, number_of as key_number}
+use Rattle.cuboid_upkeep.specs.Codes.{IsMode}
 use Rattle.cuboid_upkeep.specs.Grouping.{HasMembers, StandFor, cell_over, key_of, rows_of}
 use Rattle.cuboid_upkeep.specs.Lawful.{OneKeyOneGroup}
 use Rattle.cuboid_upkeep.specs.StandIns.{AreStandIns}
@@ -61,73 +62,74 @@ apart (cell ∷ cells) up = (
 )
 
 -- ---- stand-ins
-pub stand_known : (dimensions : DimRows) (view : View) (cells : List Cell) (stand : List LineOrder) → AreStandIns dimensions view cells stand → All (IsKnown dimensions) stand
-stand_known dimensions view [] [] standing = All-nil (IsKnown dimensions)
-stand_known dimensions view [] (row ∷ stand) standing = absurd standing
-stand_known dimensions view (cell ∷ cells) [] standing = absurd standing
-stand_known dimensions view (cell ∷ cells) (row ∷ stand) standing = All-cons (IsKnown dimensions) row stand standing.0.known (stand_known dimensions view cells stand standing.1)
+pub stand_known : (dimensions : DimRows) (modes : List (List ℕ)) (view : View) (cells : List Cell) (stand : List LineOrder) → AreStandIns dimensions modes view cells stand → All (IsKnown dimensions) stand
+stand_known dimensions modes view [] [] standing = All-nil (IsKnown dimensions)
+stand_known dimensions modes view [] (row ∷ stand) standing = absurd standing
+stand_known dimensions modes view (cell ∷ cells) [] standing = absurd standing
+stand_known dimensions modes view (cell ∷ cells) (row ∷ stand) standing = All-cons (IsKnown dimensions) row stand standing.0.known (stand_known dimensions modes view cells stand standing.1)
 
-pub stand_count : (dimensions : DimRows) (view : View) (cells : List Cell) (stand : List LineOrder) → AreStandIns dimensions view cells stand → length stand ≡ length cells
-stand_count dimensions view [] [] standing = refl
-stand_count dimensions view [] (row ∷ stand) standing = absurd standing
-stand_count dimensions view (cell ∷ cells) [] standing = absurd standing
-stand_count dimensions view (cell ∷ cells) (row ∷ stand) standing = ap suc (stand_count dimensions view cells stand standing.1)
+pub stand_count : (dimensions : DimRows) (modes : List (List ℕ)) (view : View) (cells : List Cell) (stand : List LineOrder) → AreStandIns dimensions modes view cells stand → length stand ≡ length cells
+stand_count dimensions modes view [] [] standing = refl
+stand_count dimensions modes view [] (row ∷ stand) standing = absurd standing
+stand_count dimensions modes view (cell ∷ cells) [] standing = absurd standing
+stand_count dimensions modes view (cell ∷ cells) (row ∷ stand) standing = ap suc (stand_count dimensions modes view cells stand standing.1)
 
 -- a row that has the slot of a key
-pub record HasSlot (dimensions : DimRows) (view : View) (query : Query) (entries : List (ℕ × ℕ)) (number : ℕ) (group_slot : Option ℕ) : Type 0 where
+pub record HasSlot (dimensions : DimRows) (modes : List (List ℕ)) (view : View) (query : Query) (entries : List (ℕ × ℕ)) (number : ℕ) (group_slot : Option ℕ) : Type 0 where
   pub row : LineOrder
   pub known : IsKnown dimensions row
-  pub number_is : key_number (key_of dimensions view row) ≡ number
+  pub ship_mode : view.ship_mode ≡ true → IsMode modes row.shipmode
+  pub number_is : key_number (key_of dimensions modes view row) ≡ number
   pub slot : IsGroupSlot dimensions query entries row group_slot
 
-module _ (dimensions : DimRows) (view : View) (query : Query) (entries : List (ℕ × ℕ)) where
-  stand_slot : (cells : List Cell) (stand : List LineOrder) (group_slots : List (Option ℕ)) (number : ℕ) (found : Cell) → AreStandIns dimensions view cells stand
-      → AreGroupSlots dimensions query entries stand group_slots → cell_at number cells ≡ Some found → HasSlot dimensions view query entries number (slot_by cells group_slots number)
+module _ (dimensions : DimRows) (modes : List (List ℕ)) (view : View) (query : Query) (entries : List (ℕ × ℕ)) where
+  stand_slot : (cells : List Cell) (stand : List LineOrder) (group_slots : List (Option ℕ)) (number : ℕ) (found : Cell) → AreStandIns dimensions modes view cells stand
+      → AreGroupSlots dimensions query entries stand group_slots → cell_at number cells ≡ Some found → HasSlot dimensions modes view query entries number (slot_by cells group_slots number)
   stand_slot [] stand group_slots number found standing are is = absurd (cc is)
   stand_slot (cell ∷ cells) [] group_slots number found standing are is = absurd standing
   stand_slot (cell ∷ cells) (row ∷ stand) [] number found standing are is = absurd are
   stand_slot (cell ∷ cells) (row ∷ stand) (group_slot ∷ group_slots) number found standing are is =
       (elim (key_number cell.key == number) as (λ b. (key_number cell.key == number) ≡ b → cond b (Some cell) (cell_at number cells) ≡ Some found
-      → HasSlot dimensions view query entries number (cond b group_slot (slot_by cells group_slots number))) [
+      → HasSlot dimensions modes view query entries number (cond b group_slot (slot_by cells group_slots number))) [
         | true ↦ λ e there.
             (let own : key_number cell.key ≡ number = grind (arith, nat_tests) in
-            record { row = row; known = standing.0.known; number_is = ap (λ (k : Key). key_number k) standing.0.key_is ∙ own; slot = are.0 })
+            record { row = row; known = standing.0.known; ship_mode = standing.0.ship_mode; number_is = ap (λ (k : Key). key_number k) standing.0.key_is ∙ own; slot = are.0 })
         | false ↦ λ e there. stand_slot cells stand group_slots number found standing.1 are.1 there
       ]) refl is
 
   -- ---- the cell of a row
-  row_found : (number : ℕ) (rows : List LineOrder) (row : LineOrder) → Contains rows row → key_number (key_of dimensions view row) ≡ number → cell_over dimensions view (rows_of dimensions view number rows) ≡ None → ⊥
+  row_found : (number : ℕ) (rows : List LineOrder) (row : LineOrder) → Contains rows row → key_number (key_of dimensions modes view row) ≡ number → cell_over dimensions modes view (rows_of dimensions modes view number rows) ≡ None → ⊥
   row_found number [] row there own none = absurd (omega (arith, there.1))
   row_found number (first ∷ rows) row (zero, within, is) own none =
-      let test : (key_number (key_of dimensions view first) == number) ≡ true = (let same : key_number (key_of dimensions view first) ≡ number = ap (λ (r : LineOrder). key_number (key_of dimensions view r)) is ∙ own in grind (arith, nat_tests)) in
-      let some : cell_over dimensions view (first ∷ rows_of dimensions view number rows) ≡ None =
-      sym (ap (λ (b : Bool). cell_over dimensions view (cond b (first ∷ rows_of dimensions view number rows) (rows_of dimensions view number rows))) test) ∙ none in
+      let test : (key_number (key_of dimensions modes view first) == number) ≡ true = (let same : key_number (key_of dimensions modes view first) ≡ number = ap (λ (r : LineOrder). key_number (key_of dimensions modes view r)) is ∙ own in grind (arith, nat_tests)) in
+      let some : cell_over dimensions modes view (first ∷ rows_of dimensions modes view number rows) ≡ None =
+      sym (ap (λ (b : Bool). cell_over dimensions modes view (cond b (first ∷ rows_of dimensions modes view number rows) (rows_of dimensions modes view number rows))) test) ∙ none in
       absurd (cc some)
   row_found number (first ∷ rows) row (suc k, within, is) own none =
-      (elim (key_number (key_of dimensions view first) == number) as (λ b. cell_over dimensions view (cond b (first ∷ rows_of dimensions view number rows) (rows_of dimensions view number rows)) ≡ None → ⊥) [
+      (elim (key_number (key_of dimensions modes view first) == number) as (λ b. cell_over dimensions modes view (cond b (first ∷ rows_of dimensions modes view number rows) (rows_of dimensions modes view number rows)) ≡ None → ⊥) [
         | true ↦ λ some. absurd (cc some)
         | false ↦ λ still. row_found number rows row (k, omega (arith, within), is) own still
       ]) none
 
   module _ (law : OneKeyOneGroup dimensions) (serves : Serves view query) (cells : List Cell) (stand : List LineOrder) (group_slots : List (Option ℕ))
-      (standing : AreStandIns dimensions view cells stand) (are : AreGroupSlots dimensions query entries stand group_slots) (rows : List LineOrder) (stand_for : StandFor dimensions rows (record { view = view; cells = cells })) where
+      (standing : AreStandIns dimensions modes view cells stand) (are : AreGroupSlots dimensions query entries stand group_slots) (rows : List LineOrder) (stand_for : StandFor dimensions modes rows (record { view = view; cells = cells })) where
     abbrev pub slot_of_row : LineOrder → Option ℕ
-    slot_of_row row = slot_by cells group_slots (key_number (key_of dimensions view row))
+    slot_of_row row = slot_by cells group_slots (key_number (key_of dimensions modes view row))
 
     row_slot : (row : LineOrder) → Contains rows row → IsGroupSlot dimensions query entries row (slot_of_row row)
     row_slot row there =
-        let number = key_number (key_of dimensions view row) in
-        let members : HasMembers dimensions view row = subst (HasMembers dimensions view) there.2 (stand_for.known there.0 row there.1) in
+        let number = key_number (key_of dimensions modes view row) in
+        let members : HasMembers dimensions modes view row = subst (HasMembers dimensions modes view) there.2 (stand_for.known there.0 row there.1) in
         (elim (cell_at number cells) as (λ o. cell_at number cells ≡ o → IsGroupSlot dimensions query entries row (slot_of_row row)) [
           | None ↦ λ e. absurd (row_found number rows row there refl (sym (stand_for.group number) ∙ e))
           | Some found ↦ λ e. turned row members (stand_slot cells stand group_slots number found standing are e)
         ]) refl
       where
-        turned : (row : LineOrder) → HasMembers dimensions view row → HasSlot dimensions view query entries (key_number (key_of dimensions view row)) (slot_of_row row) → IsGroupSlot dimensions query entries row (slot_of_row row)
+        turned : (row : LineOrder) → HasMembers dimensions modes view row → HasSlot dimensions modes view query entries (key_number (key_of dimensions modes view row)) (slot_of_row row) → IsGroupSlot dimensions query entries row (slot_of_row row)
         turned row members has =
             (elim (slot_of_row row) as (λ o. IsGroupSlot dimensions query entries has.row o → IsGroupSlot dimensions query entries row o) [
-              | None ↦ λ is. law view query has.row row None serves (λ axis apart. has.known axis) members has.number_is is
-              | Some slot ↦ λ is. (is.0, law view query has.row row (Some is.0) serves (λ axis apart. has.known axis) members has.number_is is.1, is.2)
+              | None ↦ λ is. law modes view query has.row row None serves (record { axes = λ axis apart. has.known axis; ship_mode = has.ship_mode }) members has.number_is is
+              | Some slot ↦ λ is. (is.0, law modes view query has.row row (Some is.0) serves (record { axes = λ axis apart. has.known axis; ship_mode = has.ship_mode }) members has.number_is is.1, is.2)
             ]) has.slot
 
     all_slots : (part : List LineOrder) → ((row : LineOrder) → Contains part row → Contains rows row) → AreGroupSlots dimensions query entries part (map slot_of_row part)
@@ -149,14 +151,14 @@ module _ (dimensions : DimRows) (view : View) (query : Query) (entries : List (�
         each : (aggs : List Agg) → with_cells aggs slot cells group_slots (tallies_of aggs before) ≡ tallies_of aggs (before ++ slotted slot rows (map slot_of_row rows))
         each [] = refl
         each (agg ∷ aggs) =
-            let one = cells_are_rows dimensions view agg slot cells group_slots rows before same stand_for.group (apart cells stand_for.ascending)
+            let one = cells_are_rows dimensions modes view agg slot cells group_slots rows before same stand_for.group (apart cells stand_for.ascending)
             ∙ sym (ap (λ (more : List LineOrder). tally_over agg (before ++ more)) (slotted-filter slot slot_of_row rows)) in
             λ i. one i ∷ each aggs i
 
 -- ---- a fold
 module _ (dimensions : DimRows) (plan : Plan) (over : IsPlanOver dimensions plan) (old : Slots) (columns : List (Vec Tally Global)) (kept : IsKept plan old columns) (new : Slots) (longer : List (Vec Tally Global))
     (cover : Cover (group_count dimensions (query_of plan).columns) new) (grow : Grow (group_count dimensions (query_of plan).columns) (entries_of old) (entries_of new)) (same : (slot : ℕ) → tallies_at longer slot ≡ tallies_at columns slot)
-    (plain : PlainCells) (stand : List LineOrder) (group_slots : List (Option ℕ)) (standing : AreStandIns dimensions plain.view plain.cells stand) (are : AreGroupSlots dimensions (query_of plan) (entries_of new) stand group_slots) where
+    (modes : List (List ℕ)) (plain : PlainCells) (stand : List LineOrder) (group_slots : List (Option ℕ)) (standing : AreStandIns dimensions modes plain.view plain.cells stand) (are : AreGroupSlots dimensions (query_of plan) (entries_of new) stand group_slots) where
   pub slots_below : AreBelow (length (entries_of new)) group_slots
   slots_below place slot at =
       let found = AreGroupSlots-at dimensions (query_of plan) (entries_of new) stand group_slots are place slot at in
@@ -175,17 +177,17 @@ module _ (dimensions : DimRows) (plan : Plan) (over : IsPlanOver dimensions plan
               ∙ all_untouched aggs slot (length (entries_of new)) plain.cells group_slots [] slots_below h;
         }
 
-    pub stands_merged : (count : length group_slots ≡ length plain.cells) → OneKeyOneGroup dimensions → Serves plain.view (query_of plan) → (rows : List LineOrder) → StandFor dimensions rows plain
+    pub stands_merged : (count : length group_slots ≡ length plain.cells) → OneKeyOneGroup dimensions → Serves plain.view (query_of plan) → (rows : List LineOrder) → StandFor dimensions modes rows plain
         → (so_far : List LineOrder) → StandsFor dimensions (shown plan old columns) so_far → StandsFor dimensions (shown plan new merged) (so_far ++ rows)
     stands_merged count law serves rows stand_for so_far stands =
         let query = query_of plan in
         let entries = entries_of new in
-        let have = rows_have_slots dimensions plain.view query entries law serves plain.cells stand group_slots standing are rows stand_for in
-        let counted = rows_counted dimensions plain.view query entries law serves plain.cells stand group_slots standing are rows stand_for query.aggregates longer merged count merged_is in
+        let have = rows_have_slots dimensions modes plain.view query entries law serves plain.cells stand group_slots standing are rows stand_for in
+        let counted = rows_counted dimensions modes plain.view query entries law serves plain.cells stand group_slots standing are rows stand_for query.aggregates longer merged count merged_is in
         stands_count dimensions plan over old columns kept new longer cover grow same rows
-        (map (slot_of_row dimensions plain.view query entries law serves plain.cells stand group_slots standing are rows stand_for) rows) have merged counted so_far stands
+        (map (slot_of_row dimensions modes plain.view query entries law serves plain.cells stand group_slots standing are rows stand_for) rows) have merged counted so_far stands
 
-  pub room_for_cells : (rows : List LineOrder) → StandFor dimensions rows plain → (so_far : List LineOrder) → StandsFor dimensions (shown plan old columns) so_far → AreFoldable dimensions (so_far ++ rows)
+  pub room_for_cells : (rows : List LineOrder) → StandFor dimensions modes rows plain → (so_far : List LineOrder) → StandsFor dimensions (shown plan old columns) so_far → AreFoldable dimensions (so_far ++ rows)
       → AllByRecursion (λ column. length (entries_of new) ≤ length column.items) longer → AllHaveCellRoom (query_of plan).aggregates plain.cells group_slots longer
   room_for_cells rows stand_for so_far stands foldable long k h default column =
       let query = finest (query_of plan) in
@@ -199,8 +201,8 @@ module _ (dimensions : DimRows) (plan : Plan) (over : IsPlanOver dimensions plan
       let many = tallies-length aggs longer (length entries) [] (tallied.fresh (length entries) (omega arith)) in
       let total = range_of_agg (so_far ++ rows) foldable.in_range agg in
       let both = sum_by-append size so_far rows in
-      let counts = count_total-rows dimensions plain.view plain.cells rows stand_for.group (apart plain.cells stand_for.ascending) in
-      let sizes = size_total-rows dimensions plain.view agg plain.cells rows stand_for.group (apart plain.cells stand_for.ascending) in
+      let counts = count_total-rows dimensions modes plain.view plain.cells rows stand_for.group (apart plain.cells stand_for.ascending) in
+      let sizes = size_total-rows dimensions modes plain.view agg plain.cells rows stand_for.group (apart plain.cells stand_for.ascending) in
       let p = is_selected dimensions query.conditions in
       cell_room agg plain.cells group_slots (get_or longer k column).items (λ place slot at.
       let found = AreGroupSlots-at dimensions (query_of plan) entries stand group_slots are place slot at in

@@ -57,23 +57,23 @@ by_measure : (measure : Measure) (rows : List LineOrder) → counted (length row
 by_measure measure rows = ap (counted (length rows)) (summary_is measure rows)
     ∙ (λ i. counted (sym (length-map rows (measure_of measure)) i) (summary_over measure rows))
 
-of_rows : (dimensions : DimRows) (view : View) (agg : Agg) (row : LineOrder) (rows : List LineOrder)
-    → cell_tally agg (record { key = key_of dimensions view row; count = length (row ∷ rows); measures = summaries_over (row ∷ rows) }) ≡ tally_over agg (row ∷ rows)
-of_rows dimensions view Count row rows =
+of_rows : (dimensions : DimRows) (modes : List (List ℕ)) (view : View) (agg : Agg) (row : LineOrder) (rows : List LineOrder)
+    → cell_tally agg (record { key = key_of dimensions modes view row; count = length (row ∷ rows); measures = summaries_over (row ∷ rows) }) ≡ tally_over agg (row ∷ rows)
+of_rows dimensions modes view Count row rows =
     λ i. record { count = sym (length-map (row ∷ rows) (λ _. pos 0)) i; sum = sym (noughts_sum rows) i; least = sym (noughts_least rows) i; greatest = sym (noughts_greatest rows) i }
-of_rows dimensions view (Sum measure) row rows = by_measure measure (row ∷ rows)
-of_rows dimensions view (Min measure) row rows = by_measure measure (row ∷ rows)
-of_rows dimensions view (Max measure) row rows = by_measure measure (row ∷ rows)
-of_rows dimensions view (Avg measure) row rows = by_measure measure (row ∷ rows)
+of_rows dimensions modes view (Sum measure) row rows = by_measure measure (row ∷ rows)
+of_rows dimensions modes view (Min measure) row rows = by_measure measure (row ∷ rows)
+of_rows dimensions modes view (Max measure) row rows = by_measure measure (row ∷ rows)
+of_rows dimensions modes view (Avg measure) row rows = by_measure measure (row ∷ rows)
 
 -- the tally of a cell is that of its rows
-pub cell_is : (dimensions : DimRows) (view : View) (agg : Agg) (rows : List LineOrder) (cell : Cell) → cell_over dimensions view rows ≡ Some cell
+pub cell_is : (dimensions : DimRows) (modes : List (List ℕ)) (view : View) (agg : Agg) (rows : List LineOrder) (cell : Cell) → cell_over dimensions modes view rows ≡ Some cell
     → (cell_tally agg cell ≡ tally_over agg rows) × (cell.count ≡ length rows)
-cell_is dimensions view agg [] cell is = absurd (cc is)
-cell_is dimensions view agg (row ∷ rows) cell is =
-    let made : Cell = record { key = key_of dimensions view row; count = length (row ∷ rows); measures = summaries_over (row ∷ rows) } in
+cell_is dimensions modes view agg [] cell is = absurd (cc is)
+cell_is dimensions modes view agg (row ∷ rows) cell is =
+    let made : Cell = record { key = key_of dimensions modes view row; count = length (row ∷ rows); measures = summaries_over (row ∷ rows) } in
     let same : made ≡ cell = cc is in
-    subst (λ (c : Cell). (cell_tally agg c ≡ tally_over agg (row ∷ rows)) × (c.count ≡ length (row ∷ rows))) same (of_rows dimensions view agg row rows, refl)
+    subst (λ (c : Cell). (cell_tally agg c ≡ tally_over agg (row ∷ rows)) × (c.count ≡ length (row ∷ rows))) same (of_rows dimensions modes view agg row rows, refl)
 
 -- ---- the slot of each key
 abbrev pub slot_by : List Cell → List (Option ℕ) → ℕ → Option ℕ
@@ -136,50 +136,50 @@ abbrev pub AreApart : List Cell → Type 0
 AreApart [] = Unit {0}
 AreApart (cell ∷ cells) = (cell_at (key_number cell.key) cells ≡ None) × AreApart cells
 
-module _ (dimensions : DimRows) (view : View) where
+module _ (dimensions : DimRows) (modes : List (List ℕ)) (view : View) where
   abbrev pub number_in : LineOrder → ℕ
-  number_in row = key_number (key_of dimensions view row)
+  number_in row = key_number (key_of dimensions modes view row)
 
   -- the rows of the other keys
   abbrev pub others_of : ℕ → List LineOrder → List LineOrder
   others_of number rows = filter (λ row. not (number_in row == number)) rows
 
   -- rows of no key are none
-  no_rows : (rows : List LineOrder) → Group dimensions view rows [] → rows ≡ []
+  no_rows : (rows : List LineOrder) → Group dimensions modes view rows [] → rows ≡ []
   no_rows [] group = refl
   no_rows (row ∷ rows) group =
       let number = number_in row in
       let own : (number == number) ≡ true = grind (arith, nat_tests) in
-      let is : cell_over dimensions view (cond (number == number) (row ∷ rows_of dimensions view number rows) (rows_of dimensions view number rows)) ≡ None = sym (group number) in
-      let some : cell_over dimensions view (row ∷ rows_of dimensions view number rows) ≡ None =
-      sym (ap (λ (b : Bool). cell_over dimensions view (cond b (row ∷ rows_of dimensions view number rows) (rows_of dimensions view number rows))) own) ∙ is in
+      let is : cell_over dimensions modes view (cond (number == number) (row ∷ rows_of dimensions modes view number rows) (rows_of dimensions modes view number rows)) ≡ None = sym (group number) in
+      let some : cell_over dimensions modes view (row ∷ rows_of dimensions modes view number rows) ≡ None =
+      sym (ap (λ (b : Bool). cell_over dimensions modes view (cond b (row ∷ rows_of dimensions modes view number rows) (rows_of dimensions modes view number rows))) own) ∙ is in
       absurd (cc some)
 
-  module _ (rows : List LineOrder) (cell : Cell) (cells : List Cell) (group : Group dimensions view rows (cell ∷ cells)) (apart : AreApart (cell ∷ cells)) where
+  module _ (rows : List LineOrder) (cell : Cell) (cells : List Cell) (group : Group dimensions modes view rows (cell ∷ cells)) (apart : AreApart (cell ∷ cells)) where
     abbrev pub own_rows : List LineOrder
-    own_rows = rows_of dimensions view (key_number cell.key) rows
+    own_rows = rows_of dimensions modes view (key_number cell.key) rows
 
     abbrev pub other_rows : List LineOrder
     other_rows = others_of (key_number cell.key) rows
 
-    pub own_cell : cell_over dimensions view own_rows ≡ Some cell
+    pub own_cell : cell_over dimensions modes view own_rows ≡ Some cell
     own_cell =
         let number = key_number cell.key in
         let own : (number == number) ≡ true = grind (arith, nat_tests) in
         sym (group number) ∙ ap (λ (b : Bool). cond b (Some cell) (cell_at number cells)) own
 
-    pub others_group : Group dimensions view other_rows cells
+    pub others_group : Group dimensions modes view other_rows cells
     others_group number =
         let mine = key_number cell.key in
-        (elim (mine == number) as (λ b. (mine == number) ≡ b → cell_at number cells ≡ cell_over dimensions view (rows_of dimensions view number other_rows)) [
+        (elim (mine == number) as (λ b. (mine == number) ≡ b → cell_at number cells ≡ cell_over dimensions modes view (rows_of dimensions modes view number other_rows)) [
           | true ↦ λ e.
               (let same : mine ≡ number = grind (arith, nat_tests) in
               ap (λ (n : ℕ). cell_at n cells) (sym same) ∙ apart.0
-              ∙ sym (ap (cell_over dimensions view) (both_tests (λ row. not (number_in row == mine)) (λ row. number_in row == number) rows
+              ∙ sym (ap (cell_over dimensions modes view) (both_tests (λ row. not (number_in row == mine)) (λ row. number_in row == number) rows
               ∙ same_tests (λ row. not (number_in row == mine) && (number_in row == number)) (λ _. false) (λ row. never mine number (number_in row) same) rows ∙ none_pass rows)))
           | false ↦ λ e.
               (sym (ap (λ (b : Bool). cond b (Some cell) (cell_at number cells)) e) ∙ group number
-              ∙ sym (ap (cell_over dimensions view) (both_tests (λ row. not (number_in row == mine)) (λ row. number_in row == number) rows
+              ∙ sym (ap (cell_over dimensions modes view) (both_tests (λ row. not (number_in row == mine)) (λ row. number_in row == number) rows
               ∙ same_tests (λ row. not (number_in row == mine) && (number_in row == number)) (λ row. number_in row == number) (λ row. still mine number (number_in row) e) rows)))
         ]) refl
       where
@@ -208,28 +208,28 @@ module _ (dimensions : DimRows) (view : View) where
     all_rows = parted (λ row. number_in row == key_number cell.key) rows
 
   -- ---- the sums of all cells
-  pub count_total-rows : (cells : List Cell) (rows : List LineOrder) → Group dimensions view rows cells → AreApart cells → count_total cells ≤ length rows
+  pub count_total-rows : (cells : List Cell) (rows : List LineOrder) → Group dimensions modes view rows cells → AreApart cells → count_total cells ≤ length rows
   count_total-rows [] rows group apart = omega arith
   count_total-rows (cell ∷ cells) rows group apart =
       let own = own_rows rows cell cells group apart in
       let others = other_rows rows cell cells group apart in
       let rest = count_total-rows cells others (others_group rows cell cells group apart) apart.1 in
-      let is = (cell_is dimensions view Count own cell (own_cell rows cell cells group apart)).1 in
+      let is = (cell_is dimensions modes view Count own cell (own_cell rows cell cells group apart)).1 in
       omega (arith, rest, is, (all_rows rows cell cells group apart).lengths, length-append own others)
 
-  pub size_total-rows : (agg : Agg) (cells : List Cell) (rows : List LineOrder) → Group dimensions view rows cells → AreApart cells → size_total agg cells ≤ size_of agg rows
+  pub size_total-rows : (agg : Agg) (cells : List Cell) (rows : List LineOrder) → Group dimensions modes view rows cells → AreApart cells → size_total agg cells ≤ size_of agg rows
   size_total-rows agg [] rows group apart = omega arith
   size_total-rows agg (cell ∷ cells) rows group apart =
       let size = λ (row : LineOrder). nat_abs (number_of agg row) in
       let own = own_rows rows cell cells group apart in
       let others = other_rows rows cell cells group apart in
       let rest = size_total-rows agg cells others (others_group rows cell cells group apart) apart.1 in
-      let is = (cell_is dimensions view agg own cell (own_cell rows cell cells group apart)).0 in
+      let is = (cell_is dimensions modes view agg own cell (own_cell rows cell cells group apart)).0 in
       omega (arith, rest, ap (λ (t : Tally). nat_abs t.sum) is, nat_abs-total (number_of agg) own, (all_rows rows cell cells group apart).sums size, sum_by-append size own others)
 
   -- ---- the cells of a slot
   pub cells_are_rows : (agg : Agg) (slot : ℕ) (cells : List Cell) (group_slots : List (Option ℕ)) (rows before : List LineOrder) → length group_slots ≡ length cells
-      → Group dimensions view rows cells → AreApart cells
+      → Group dimensions modes view rows cells → AreApart cells
       → after_cells agg slot cells group_slots (tally_over agg before) ≡ tally_over agg (before ++ filter (λ row. is_slot slot (slot_by cells group_slots (number_in row))) rows)
   cells_are_rows agg slot [] group_slots rows before same group apart =
       sym (ap (tally_over agg) (ap (λ (own : List LineOrder). before ++ filter (λ row. is_slot slot (slot_by [] group_slots (number_in row))) own) (no_rows rows group) ∙ append-nil before))
@@ -248,7 +248,7 @@ module _ (dimensions : DimRows) (view : View) where
       let parts : SameRows (filter wanted rows) (filter wanted own ++ filter later others) = subst (λ (last : List LineOrder). SameRows (filter wanted rows) (filter wanted own ++ last)) behind (filter-parted wanted mine rows) in
       let held : filter wanted own ≡ cond (is_slot slot group_slot) own [] = kept_whole mine group_slot rows in
       let tallies = (SameRows-behind before (filter wanted rows) (filter wanted own ++ filter later others) parts).tallies (number_of agg) in
-      let mine_is = (cell_is dimensions view agg own cell (own_cell rows cell cells group apart)).0 in
+      let mine_is = (cell_is dimensions modes view agg own cell (own_cell rows cell cells group apart)).0 in
       first group_slot own (filter later others) rest mine_is
       ∙ sym (tallies ∙ ap (tally_over agg) (ap (λ (front : List LineOrder). before ++ (front ++ filter later others)) held))
     where
@@ -262,7 +262,7 @@ module _ (dimensions : DimRows) (view : View) where
           ]) refl
 
       filter-parted : (p : LineOrder → Bool) (mine : ℕ) (rows : List LineOrder)
-          → SameRows (filter p rows) (filter p (rows_of dimensions view mine rows) ++ filter p (others_of mine rows))
+          → SameRows (filter p rows) (filter p (rows_of dimensions modes view mine rows) ++ filter p (others_of mine rows))
       filter-parted p mine rows =
           let q = λ (row : LineOrder). number_in row == mine in
           let parts = parted q (filter p rows) in
@@ -276,7 +276,7 @@ module _ (dimensions : DimRows) (view : View) where
           and_turned false false = refl
 
       kept_whole : (mine : ℕ) (g : Option ℕ) (rows : List LineOrder)
-          → filter (λ row. is_slot slot (cond (mine == number_in row) g (slot_by cells group_slots (number_in row)))) (rows_of dimensions view mine rows) ≡ cond (is_slot slot g) (rows_of dimensions view mine rows) []
+          → filter (λ row. is_slot slot (cond (mine == number_in row) g (slot_by cells group_slots (number_in row)))) (rows_of dimensions modes view mine rows) ≡ cond (is_slot slot g) (rows_of dimensions modes view mine rows) []
       kept_whole mine g rows =
           both_tests (λ row. number_in row == mine) (λ row. is_slot slot (cond (mine == number_in row) g (slot_by cells group_slots (number_in row)))) rows
           ∙ same_tests (λ row. (number_in row == mine) && is_slot slot (cond (mine == number_in row) g (slot_by cells group_slots (number_in row)))) (λ row. (number_in row == mine) && is_slot slot g)

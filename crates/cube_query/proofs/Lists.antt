@@ -55,6 +55,17 @@ pub length_same : {X Y : Type 0} (f : X → Y) (xs : List X) → length (map f x
 length_same f [] = refl
 length_same f (x ∷ xs) = ap suc (length_same f xs)
 
+-- where the texts of codes are the ship modes of rows, so are they at each place
+pub text_at_place : (text : ℕ → List ℕ) (codes : List ℕ) (rows : List LineOrder) (place : ℕ)
+    → map text codes ≡ map (λ row. row.shipmode) rows → place < length rows → text (get_or codes place 0) ≡ (row_at rows place).shipmode
+text_at_place text codes rows place same h =
+    let mode : LineOrder → List ℕ = λ row. row.shipmode in
+    let many : length codes ≡ length rows = sym (length-map codes text) ∙ ap length same ∙ length-map rows mode in
+    sym (get_or-map text codes place 0 (omega (arith, h, many)))
+    ∙ ap (λ texts. get_or texts place (text 0)) same
+    ∙ get_or_default (map mode rows) place (text 0) (mode no_row) (omega (arith, h, length-map rows mode))
+    ∙ get_or-map mode rows place no_row h
+
 -- where the numbers of bytes are those of rows, so are they at each place
 pub number_at_place : (f : List ℕ → ℕ) (column : List (List ℕ)) (number : LineOrder → ℕ) (rows : List LineOrder) (place : ℕ) (default : List ℕ)
     → map f column ≡ map number rows → place < length rows → f (get_or column place default) ≡ number (row_at rows place)

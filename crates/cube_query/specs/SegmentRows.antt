@@ -1,7 +1,8 @@
 -- Fact rows as the columns of a batch. Our own.
-use Rattle.std.specs.Prelude.{◌≡◌, ℕ, List, map}
-use Rattle.std.specs.Int.{from_le_bytes, w32, w64}
+use Rattle.std.specs.Prelude.{◌≡◌, ℕ, ◌<◌, List, length, map, All}
+use Rattle.std.specs.Int.{from_le_bytes, w16, w32, w64}
 use Rattle.cube_model.specs.declared.rows.LineOrder.{LineOrder}
+use Rattle.dictionary.specs.Columns.{text_at}
 
 -- the columns of rows that a query can ask for
 pub record HaveColumns (rows : List LineOrder) (customers suppliers parts dates : List (List ℕ)) (quantities discounts : List ℕ)
@@ -15,3 +16,13 @@ pub record HaveColumns (rows : List LineOrder) (customers suppliers parts dates 
   pub price : map (from_le_bytes w64) prices ≡ map (λ row. row.extendedprice) rows
   pub revenue : map (from_le_bytes w64) revenues ≡ map (λ row. row.revenue) rows
   pub cost : map (from_le_bytes w64) costs ≡ map (λ row. row.supplycost) rows
+
+-- a batch of fact rows, and the texts of its ship modes
+pub record ModedRows : Type 0 where
+  pub rows : List LineOrder
+  pub modes : List (List ℕ)
+
+-- the code of each row's ship mode among the texts
+pub record HaveModes (moded : ModedRows) (codes : List (List ℕ)) : Type 0 where
+  pub texts : map (text_at moded.modes) (map (from_le_bytes w16) codes) ≡ map (λ row. row.shipmode) moded.rows
+  pub below : All (λ code. code < length moded.modes) (map (from_le_bytes w16) codes)

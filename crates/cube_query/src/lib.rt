@@ -10,6 +10,7 @@ mod finish;
 mod fraction;
 mod group_slots;
 mod lines;
+mod moded_rows;
 mod numbers;
 mod order;
 mod room;
@@ -21,6 +22,7 @@ mod whole_batch;
 
 pub use answer::fold;
 pub use fraction::fraction_of;
+pub use moded_rows::RowsWithModes;
 pub use running::Fold;
 pub use segment_rows::SegmentRows;
 pub use tally::Tally;

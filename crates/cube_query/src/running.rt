@@ -1,6 +1,7 @@
 //! A fold over fact rows that come in any number of calls.
 ghost use Rattle.std.specs.Prelude.{◌≡◌, ◌≢◌, ◌⊎◌, ◌≤◌, ◌<◌, ℕ, List, false, true, length, map, Some, Err, IfOk, IfErr, OnOk, OnErr};
 ghost use Rattle.std.specs.List.{All, AllByRecursion};
+ghost use Rattle.std.specs.Option.{option_map};
 ghost use Rattle.cube_model.specs.Answers.{answer};
 ghost use Rattle.cube_model.specs.Proper.{IsProper};
 ghost use Rattle.cube_model.specs.Selection.{is_selected};
@@ -12,6 +13,7 @@ ghost use Rattle.group_plan.specs.Plans.{IsPlanOver, query_of};
 ghost use Rattle.cube_query.specs.Slots.{entries_of, slot_of, AreSlots, CanPlace, Cover, Grow};
 ghost use Rattle.cube_query.specs.WholeBatch.{has_one_group};
 ghost use Rattle.cube_query.specs.FoldInvariant.{AreGroupSlots};
+ghost use Rattle.cuboid_upkeep.specs.Codes.{modes_of};
 ghost use Rattle.cuboid_upkeep.specs.Grouping.{StandFor};
 ghost use Rattle.lattice.specs.Determined.{Serves};
 
@@ -30,6 +32,7 @@ use column_segment::Segment;
 use cube_model::{Answer, Fault, LineOrder, Query};
 use cuboid_cells::Cells;
 use cuboid_upkeep::{one_key_one_group, stand_ins_of};
+use dictionary::Dictionary;
 use dimensions::Dims;
 use group_plan::{FactRows, Plan, RowSlice};
 use std::alloc::{AllocError, Global};
@@ -119,24 +122,31 @@ impl Fold {
         self.add(dims, &rows)
     }
 
-    /// Counts the cells of a view of four axes in, in place of the rows that they stand for. A refusal leaves the fold as it
-    /// was.
+    /// Counts the cells of a view in, in place of the rows that they stand for. A refusal leaves the fold as it was.
     ///
-    /// The view has to serve the query. `BadLayout` says that the cells stand for no rows that can be taken: a code is
+    /// The view has to serve the query. The fifth codes of cells are places among the modes, which only a view that groups
+    /// by ship mode looks at. `BadLayout` says that the cells stand for no rows that can be taken: a code is
     /// that of no member, or the sums with them pass their limit. All memory is taken before the first cell is counted:
     /// that of the columns once more, and for the time of the call some for each cell and each dimension row.
-    pub fn add_cells(&mut self, dims: &Dims, cells: &Cells) -> Result<(), Fault>
+    pub fn add_cells(
+        &mut self,
+        dims: &Dims,
+        cells: &Cells,
+        modes: Option<&Dictionary>,
+    ) -> Result<(), Fault>
         requires over { IsOver dims.now self.old }
-        requires four_axes { cells.now.view.ship_mode ≡ false }
         requires serves { Serves cells.now.view self.old.query }
-        ensures ok { OnOk result ((rows : List LineOrder) → StandFor dims.now rows cells.now → Takes dims.now self.old rows self.new) }
+        ensures ok { OnOk result ((rows : List LineOrder)
+            → StandFor dims.now (modes_of (option_map (λ modes. modes.now) modes.entry)) rows cells.now
+            → Takes dims.now self.old rows self.new) }
         ensures err { OnErr result (self.new ≡ self.old) }
-        ensures refused { result ≡ Err Fault.BadLayout → (rows : List LineOrder) → StandFor dims.now rows cells.now
+        ensures refused { result ≡ Err Fault.BadLayout → (rows : List LineOrder)
+            → StandFor dims.now (modes_of (option_map (λ modes. modes.now) modes.entry)) rows cells.now
             → CanTake dims.now self.old rows → ⊥ }
         ensures only { IfErr result (λ fault. (fault ≡ Fault.Memory) ⊎ (fault ≡ Fault.BadLayout)) }
     {
         one_key_one_group(dims);
-        let rows = match stand_ins_of(self.alloc, dims, cells) {
+        let rows = match stand_ins_of(self.alloc, dims, cells, modes) {
             Ok(rows) => rows,
             Err(fault) => return Err(fault),
         };

@@ -25,26 +25,26 @@ err_through (Ok a) P Q f p = p
 err_through (Err fault) P Q f p = f fault p
 
 pub both_stand : MergesStandForBoth
-both_stand dimensions rows others one other new same first second merge =
+both_stand dimensions modes rows others one other new same first second merge =
     let to_new : one.view ≡ new.view = sym merge.view in
     let from_other : other.view ≡ new.view = sym same ∙ sym merge.view in record {
-      known = All-append (HasMembers dimensions new.view) rows others
-          (subst (λ (view : View). All (HasMembers dimensions view) rows) to_new first.known)
-          (subst (λ (view : View). All (HasMembers dimensions view) others) from_other second.known);
+      known = All-append (HasMembers dimensions modes new.view) rows others
+          (subst (λ (view : View). All (HasMembers dimensions modes view) rows) to_new first.known)
+          (subst (λ (view : View). All (HasMembers dimensions modes view) others) from_other second.known);
       ascending = merge.cells.ascending;
-      group = both_group dimensions new.view rows others one.cells other.cells new.cells
-          (subst (λ (view : View). Group dimensions view rows one.cells) to_new first.group)
-          (subst (λ (view : View). Group dimensions view others other.cells) from_other second.group) merge.cells.by_key;
+      group = both_group dimensions modes new.view rows others one.cells other.cells new.cells
+          (subst (λ (view : View). Group dimensions modes view rows one.cells) to_new first.group)
+          (subst (λ (view : View). Group dimensions modes view others other.cells) from_other second.group) merge.cells.by_key;
     }
 
 all_behind : (P : LineOrder → Type 0) (rows others : List LineOrder) → All P (rows ++ others) → All P others
 all_behind P [] others all = all
 all_behind P (row ∷ rows) others all = all_behind P rows others (All-tail P row (rows ++ others) all)
 
-module _ (dimensions : DimRows) (view : View) (so_far rows : List LineOrder) where
+module _ (dimensions : DimRows) (modes : List (List ℕ)) (view : View) (so_far rows : List LineOrder) where
   -- rows that are unfit by themselves are so behind others
-  pub unfit_behind : AreUnfit dimensions view rows → AreUnfit dimensions view (so_far ++ rows)
-  unfit_behind (inl none) = inl (λ all. none (all_behind (HasMembers dimensions view) so_far rows all))
+  pub unfit_behind : AreUnfit dimensions modes view rows → AreUnfit dimensions modes view (so_far ++ rows)
+  unfit_behind (inl none) = inl (λ all. none (all_behind (HasMembers dimensions modes view) so_far rows all))
   unfit_behind (inr past) = inr (record {
     before = so_far ++ past.before;
     part = past.part;
@@ -56,13 +56,13 @@ module _ (dimensions : DimRows) (view : View) (so_far rows : List LineOrder) whe
     passes = past.passes;
   })
 
-  pub batch_refused : (fault : Fault) → (fault ≡ Fault.Memory) ⊎ ((fault ≡ Fault.BadLayout) × AreUnfit dimensions view rows) → IsAddFault dimensions view (so_far ++ rows) fault
+  pub batch_refused : (fault : Fault) → (fault ≡ Fault.Memory) ⊎ ((fault ≡ Fault.BadLayout) × AreUnfit dimensions modes view rows) → IsAddFault dimensions modes view (so_far ++ rows) fault
   batch_refused fault (inl memory) = inl memory
   batch_refused fault (inr bad) = inr (inl (bad.0, unfit_behind bad.1))
 
-  module _ (one other : List Cell) (fit : All CellFits one) (first : StandFor dimensions so_far (record { view = view; cells = one }))
-      (second : StandFor dimensions rows (record { view = view; cells = other })) where
-    passed : PassesType one other → PassType dimensions view (so_far ++ rows)
+  module _ (one other : List Cell) (fit : All CellFits one) (first : StandFor dimensions modes so_far (record { view = view; cells = one }))
+      (second : StandFor dimensions modes rows (record { view = view; cells = other })) where
+    passed : PassesType one other → PassType dimensions modes view (so_far ++ rows)
     passed p =
         let number : ℕ = number_of p.left.key in
         let left_key : KeyFits p.left.key = subst (λ (c : Cell). KeyFits c.key) p.in_one.2 (fit p.in_one.0 p.left p.in_one.1).key in
@@ -76,21 +76,21 @@ module _ (dimensions : DimRows) (view : View) (so_far rows : List LineOrder) whe
           cell = merged p.left p.right;
           parts = sym (append-nil (so_far ++ rows));
           is =
-              over_append dimensions view number so_far rows
+              over_append dimensions modes view number so_far rows
               ∙ (λ i. merged_if_any (sym (first.group number) i) (sym (second.group number) i))
               ∙ (λ i. merged_if_any (at_left i) (at_right i));
           passes = λ numbers. p.passes (record { key = left_key; count = numbers.count; measures = numbers.measures });
         }
 
     pub merge_refused : (fault : Fault) → IsMergeFault (record { view = view; cells = one }) (record { view = view; cells = other }) fault
-        → IsAddFault dimensions view (so_far ++ rows) fault
+        → IsAddFault dimensions modes view (so_far ++ rows) fault
     merge_refused fault (inl memory) = inl memory
     merge_refused fault (inr (inl bad)) = inr (inl (bad.0, inr (passed bad.1)))
     merge_refused fault (inr (inr many)) = inr (inr (
       many.0,
       record {
         cells = many.1.cells;
-        stand = both_stand dimensions so_far rows (record { view = view; cells = one }) (record { view = view; cells = other })
+        stand = both_stand dimensions modes so_far rows (record { view = view; cells = one }) (record { view = view; cells = other })
             (record { view = view; cells = many.1.cells }) refl first second (record { view = refl; cells = many.1.are });
         many = many.1.many;
       },

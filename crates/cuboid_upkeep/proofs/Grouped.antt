@@ -18,36 +18,36 @@ use Rattle.cuboid_upkeep.proofs.Sorted.{found_in}
 use Rattle.cuboid_upkeep.proofs.Merged.{both_group, over_append}
 
 -- the rows before a place were grouped
-pub record Grouping (dimensions : DimRows) (view : View) (rows : List LineOrder) (keys : List ℕ) (cells : List Cell) : Type 0 where
+pub record Grouping (dimensions : DimRows) (modes : List (List ℕ)) (view : View) (rows : List LineOrder) (keys : List ℕ) (cells : List Cell) : Type 0 where
   pub keyed : AreKeyed keys cells
   pub few : length cells ≤ length rows
-  pub known : All (HasMembers dimensions view) rows
+  pub known : All (HasMembers dimensions modes view) rows
   pub good : All (IsGood view) cells
-  pub group : Group dimensions view rows cells
+  pub group : Group dimensions modes view rows cells
 
-module _ (dimensions : DimRows) (view : View) where
-  pub none_yet : (keys : List ℕ) → keys ≡ [] → IsDistinct nat_eq keys → (cells : List Cell) → cells ≡ [] → Grouping dimensions view [] keys cells
-  none_yet keys keys_are once cells cells_are = subst (Grouping dimensions view [] keys) (sym cells_are) (record {
+module _ (dimensions : DimRows) (modes : List (List ℕ)) (view : View) where
+  pub none_yet : (keys : List ℕ) → keys ≡ [] → IsDistinct nat_eq keys → (cells : List Cell) → cells ≡ [] → Grouping dimensions modes view [] keys cells
+  none_yet keys keys_are once cells cells_are = subst (Grouping dimensions modes view [] keys) (sym cells_are) (record {
     keyed = record { keys_are = keys_are; once = once };
     few = omega arith;
-    known = All-nil (HasMembers dimensions view);
+    known = All-nil (HasMembers dimensions modes view);
     good = All-nil (IsGood view);
     group = λ number. refl;
   })
 
   -- the cell of one row
   abbrev of_row : (row : LineOrder) → Cell
-  of_row row = record { key = key_of dimensions view row; count = 1; measures = summaries_over (row ∷ []) }
+  of_row row = record { key = key_of dimensions modes view row; count = 1; measures = summaries_over (row ∷ []) }
 
-  one_if : (row : LineOrder) (b : Bool) → cond b (Some (of_row row)) None ≡ cell_over dimensions view (cond b (row ∷ []) [])
+  one_if : (row : LineOrder) (b : Bool) → cond b (Some (of_row row)) None ≡ cell_over dimensions modes view (cond b (row ∷ []) [])
   one_if row true = refl
   one_if row false = refl
 
-  pub row_alone : (row : LineOrder) (cell : Cell) → IsCellOfRow dimensions view row cell → Group dimensions view (row ∷ []) (cell ∷ [])
+  pub row_alone : (row : LineOrder) (cell : Cell) → IsCellOfRow dimensions modes view row cell → Group dimensions modes view (row ∷ []) (cell ∷ [])
   row_alone row cell is =
       let same : of_row row ≡ cell = cc is.is in
-      subst (λ (c : Cell). Group dimensions view (row ∷ []) (c ∷ [])) same
-      (λ number. one_if row (number_of (key_of dimensions view row) == number))
+      subst (λ (c : Cell). Group dimensions modes view (row ∷ []) (c ∷ [])) same
+      (λ number. one_if row (number_of (key_of dimensions modes view row) == number))
 
   module _ (rows : List LineOrder) (place : ℕ) (within : place < length rows) where
     abbrev pub row : LineOrder
@@ -56,16 +56,16 @@ module _ (dimensions : DimRows) (view : View) where
     more : take (place + 1) rows ≡ take place rows ++ row ∷ []
     more = take_more rows place no_row within
 
-    pub one_more : (keys new_keys : List ℕ) (cells new : List Cell) (cell : Cell) → Grouping dimensions view (take place rows) keys cells
-        → IsCellOfRow dimensions view row cell → AreKeyed new_keys new → TakesIn cells cell new → Grouping dimensions view (take (place + 1) rows) new_keys new
+    pub one_more : (keys new_keys : List ℕ) (cells new : List Cell) (cell : Cell) → Grouping dimensions modes view (take place rows) keys cells
+        → IsCellOfRow dimensions modes view row cell → AreKeyed new_keys new → TakesIn cells cell new → Grouping dimensions modes view (take (place + 1) rows) new_keys new
     one_more keys new_keys cells new cell so_far is keyed takes =
-        subst (λ (l : List LineOrder). Grouping dimensions view l new_keys new) (sym more) (record {
+        subst (λ (l : List LineOrder). Grouping dimensions modes view l new_keys new) (sym more) (record {
           keyed = keyed;
           few = omega (arith, takes.longer, so_far.few, length_more);
-          known = All-append (HasMembers dimensions view) (take place rows) (row ∷ []) so_far.known
-              (All-cons (HasMembers dimensions view) row [] is.members (All-nil (HasMembers dimensions view)));
+          known = All-append (HasMembers dimensions modes view) (take place rows) (row ∷ []) so_far.known
+              (All-cons (HasMembers dimensions modes view) row [] is.members (All-nil (HasMembers dimensions modes view)));
           good = takes.good view so_far.good is.good;
-          group = both_group dimensions view (take place rows) (row ∷ []) cells (cell ∷ []) new so_far.group (row_alone row cell is) takes.by_key;
+          group = both_group dimensions modes view (take place rows) (row ∷ []) cells (cell ∷ []) new so_far.group (row_alone row cell is) takes.by_key;
         })
       where
         length_more : length (take place rows ++ row ∷ []) ≡ length (take place rows) + 1
@@ -80,26 +80,26 @@ module _ (dimensions : DimRows) (view : View) where
     parts_so_far = sym (take-append-drop (place + 1) rows) ∙ ap (λ (l : List LineOrder). l ++ drop (place + 1) rows) more
 
     -- a row that has no cell
-    pub row_unfit : HasNoCell dimensions view row → AreUnfit dimensions view rows
-    row_unfit why = elim why as (λ _. AreUnfit dimensions view rows) [
+    pub row_unfit : HasNoCell dimensions modes view row → AreUnfit dimensions modes view rows
+    row_unfit why = elim why as (λ _. AreUnfit dimensions modes view rows) [
       | inl none ↦ inl (λ all. none (all place no_row within))
       | inr past ↦ inr (record {
         before = take place rows;
         part = row ∷ [];
         behind = drop (place + 1) rows;
-        number = number_of (key_of dimensions view row);
+        number = number_of (key_of dimensions modes view row);
         cell = past.0;
         parts = parts_of_row;
         is =
-            ap (λ (b : Bool). cell_over dimensions view (cond b (row ∷ []) [])) (own_key (number_of (key_of dimensions view row)) (number_of (key_of dimensions view row)) refl)
+            ap (λ (b : Bool). cell_over dimensions modes view (cond b (row ∷ []) [])) (own_key (number_of (key_of dimensions modes view row)) (number_of (key_of dimensions modes view row)) refl)
             ∙ past.1;
         passes = past.2;
       })
     ]
 
     -- a row whose cell cannot be taken in
-    pub row_overflows : (keys : List ℕ) (cells : List Cell) (cell : Cell) → Grouping dimensions view (take place rows) keys cells
-        → IsCellOfRow dimensions view row cell → Overflows cells cell → AreUnfit dimensions view rows
+    pub row_overflows : (keys : List ℕ) (cells : List Cell) (cell : Cell) → Grouping dimensions modes view (take place rows) keys cells
+        → IsCellOfRow dimensions modes view row cell → Overflows cells cell → AreUnfit dimensions modes view rows
     row_overflows keys cells cell so_far is over =
         let there = found_in (number_of cell.key) cells over.before over.is in
         let key : KeyFits over.before.key = subst (λ (c : Cell). KeyFits c.key) there.2 (so_far.good there.0 over.before there.1).fits.key in
@@ -113,23 +113,23 @@ module _ (dimensions : DimRows) (view : View) where
           cell = merged over.before cell;
           parts = parts_so_far;
           is =
-              over_append dimensions view (number_of cell.key) (take place rows) (row ∷ [])
+              over_append dimensions modes view (number_of cell.key) (take place rows) (row ∷ [])
               ∙ (λ i. merged_if_any (sym (so_far.group (number_of cell.key)) i) (sym (row_alone row cell is (number_of cell.key)) i))
               ∙ (λ i. merged_if_any (over.is i) (alone i));
           passes = λ numbers. over.passes (record { key = key; count = numbers.count; measures = numbers.measures });
         })
 
-    pub overflow_refused : (keys : List ℕ) (cells : List Cell) (cell : Cell) → Grouping dimensions view (take place rows) keys cells
-        → IsCellOfRow dimensions view row cell → (fault : Fault) → (fault ≡ Fault.Memory) ⊎ ((fault ≡ Fault.BadLayout) × Overflows cells cell)
-        → (fault ≡ Fault.Memory) ⊎ ((fault ≡ Fault.BadLayout) × AreUnfit dimensions view rows)
+    pub overflow_refused : (keys : List ℕ) (cells : List Cell) (cell : Cell) → Grouping dimensions modes view (take place rows) keys cells
+        → IsCellOfRow dimensions modes view row cell → (fault : Fault) → (fault ≡ Fault.Memory) ⊎ ((fault ≡ Fault.BadLayout) × Overflows cells cell)
+        → (fault ≡ Fault.Memory) ⊎ ((fault ≡ Fault.BadLayout) × AreUnfit dimensions modes view rows)
     overflow_refused keys cells cell so_far is fault (inl memory) = inl memory
     overflow_refused keys cells cell so_far is fault (inr over) = inr (over.0, row_overflows keys cells cell so_far is over.1)
 
   -- all rows were grouped
   pub are_grouped : (rows : List LineOrder) (place : ℕ) → length rows ≤ place → (keys : List ℕ) (cells : List Cell)
-      → Grouping dimensions view (take place rows) keys cells → AreGrouped dimensions view rows cells
+      → Grouping dimensions modes view (take place rows) keys cells → AreGrouped dimensions modes view rows cells
   are_grouped rows place all keys cells so_far =
-      let whole = subst (λ (l : List LineOrder). Grouping dimensions view l keys cells) (take_all place rows all) so_far in record {
+      let whole = subst (λ (l : List LineOrder). Grouping dimensions modes view l keys cells) (take_all place rows all) so_far in record {
         few = whole.few;
         known = whole.known;
         once = subst (IsDistinct nat_eq) whole.keyed.keys_are whole.keyed.once;

@@ -85,11 +85,11 @@ summary_fits measure row rows small =
       greatest = fits_small (fold int_max (number row) (map number rows)) (omega (arith, high, small));
     }
 
-cell_fits : (dimensions : DimRows) (view : View) (rows : List LineOrder) (cell : Cell) → cell_over dimensions view rows ≡ Some cell
+cell_fits : (dimensions : DimRows) (modes : List (List ℕ)) (view : View) (rows : List LineOrder) (cell : Cell) → cell_over dimensions modes view rows ≡ Some cell
     → AreInRange rows → length rows < 2 ^ 63 → NumbersFit cell
-cell_fits dimensions view [] cell is small few = absurd (cc is)
-cell_fits dimensions view (row ∷ rows) cell is small few =
-    let made : Cell = record { key = key_of dimensions view row; count = length (row ∷ rows); measures = summaries_over (row ∷ rows) } in
+cell_fits dimensions modes view [] cell is small few = absurd (cc is)
+cell_fits dimensions modes view (row ∷ rows) cell is small few =
+    let made : Cell = record { key = key_of dimensions modes view row; count = length (row ∷ rows); measures = summaries_over (row ∷ rows) } in
     let same : made ≡ cell = cc is in
     subst NumbersFit same (record {
       count = omega (arith, few);
@@ -104,9 +104,9 @@ cell_fits dimensions view (row ∷ rows) cell is small few =
     })
 
 pub in_range_fit : RowsInRangeFit
-in_range_fit dimensions view rows in_range few past =
-    let of_key = λ (row : LineOrder). number_of (key_of dimensions view row) == past.number in
-    let chosen : List LineOrder = rows_of dimensions view past.number past.part in
+in_range_fit dimensions modes view rows in_range few past =
+    let of_key = λ (row : LineOrder). number_of (key_of dimensions modes view row) == past.number in
+    let chosen : List LineOrder = rows_of dimensions modes view past.number past.part in
     let small : AreInRange chosen = λ measure.
     let all = in_range measure in
     let parts : absolute_total measure rows ≡ absolute_total measure (past.before ++ (past.part ++ past.behind)) = ap (absolute_total measure) past.parts in
@@ -124,4 +124,4 @@ in_range_fit dimensions view rows in_range few past =
       length-filter of_key past.part,
       count_by-le-length of_key past.part,
     ) in
-    past.passes (cell_fits dimensions view chosen past.cell past.is small short)
+    past.passes (cell_fits dimensions modes view chosen past.cell past.is small short)

@@ -1,6 +1,5 @@
 mod Merged
 mod Found
-mod Taken
 mod Grouped
 mod Sorted
 mod Added
@@ -11,3 +10,6 @@ mod Told
 mod OneGroup
 mod Standing
 mod Keyed
+mod Leading
+mod Modes
+mod Taken

@@ -62,26 +62,26 @@ all_over_both x xs y ys = λ i. record {
   profit = over_both Profit x xs y ys i;
 }
 
-cell_over-append : (dimensions : DimRows) (view : View) (rows others : List LineOrder)
-    → cell_over dimensions view (rows ++ others) ≡ merged_if_any (cell_over dimensions view rows) (cell_over dimensions view others)
-cell_over-append dimensions view [] others = refl
-cell_over-append dimensions view (x ∷ xs) [] = ap (cell_over dimensions view) (append-nil (x ∷ xs))
-cell_over-append dimensions view (x ∷ xs) (y ∷ ys) =
+cell_over-append : (dimensions : DimRows) (modes : List (List ℕ)) (view : View) (rows others : List LineOrder)
+    → cell_over dimensions modes view (rows ++ others) ≡ merged_if_any (cell_over dimensions modes view rows) (cell_over dimensions modes view others)
+cell_over-append dimensions modes view [] others = refl
+cell_over-append dimensions modes view (x ∷ xs) [] = ap (cell_over dimensions modes view) (append-nil (x ∷ xs))
+cell_over-append dimensions modes view (x ∷ xs) (y ∷ ys) =
     let count = length-append (x ∷ xs) (y ∷ ys) in
     let measures = all_over_both x xs y ys in
-    λ i. Some (record { key = key_of dimensions view x; count = count i; measures = measures i })
+    λ i. Some (record { key = key_of dimensions modes view x; count = count i; measures = measures i })
 
-pub over_append : (dimensions : DimRows) (view : View) (number : ℕ) (rows others : List LineOrder)
-    → cell_over dimensions view (rows_of dimensions view number (rows ++ others))
-    ≡ merged_if_any (cell_over dimensions view (rows_of dimensions view number rows)) (cell_over dimensions view (rows_of dimensions view number others))
-over_append dimensions view number rows others =
-    ap (cell_over dimensions view) (filter-append (λ row. number_of (key_of dimensions view row) == number) rows others)
-    ∙ cell_over-append dimensions view (rows_of dimensions view number rows) (rows_of dimensions view number others)
+pub over_append : (dimensions : DimRows) (modes : List (List ℕ)) (view : View) (number : ℕ) (rows others : List LineOrder)
+    → cell_over dimensions modes view (rows_of dimensions modes view number (rows ++ others))
+    ≡ merged_if_any (cell_over dimensions modes view (rows_of dimensions modes view number rows)) (cell_over dimensions modes view (rows_of dimensions modes view number others))
+over_append dimensions modes view number rows others =
+    ap (cell_over dimensions modes view) (filter-append (λ row. number_of (key_of dimensions modes view row) == number) rows others)
+    ∙ cell_over-append dimensions modes view (rows_of dimensions modes view number rows) (rows_of dimensions modes view number others)
 
 -- cells of fact rows put end to end go by keys as their merge does
-pub both_group : (dimensions : DimRows) (view : View) (rows others : List LineOrder) (one other new : List Cell)
-    → Group dimensions view rows one → Group dimensions view others other
+pub both_group : (dimensions : DimRows) (modes : List (List ℕ)) (view : View) (rows others : List LineOrder) (one other new : List Cell)
+    → Group dimensions modes view rows one → Group dimensions modes view others other
     → ((number : ℕ) → cell_at number new ≡ merged_if_any (cell_at number one) (cell_at number other))
-    → Group dimensions view (rows ++ others) new
-both_group dimensions view rows others one other new first second by_key = λ number.
-    by_key number ∙ (λ i. merged_if_any (first number i) (second number i)) ∙ sym (over_append dimensions view number rows others)
+    → Group dimensions modes view (rows ++ others) new
+both_group dimensions modes view rows others one other new first second by_key = λ number.
+    by_key number ∙ (λ i. merged_if_any (first number i) (second number i)) ∙ sym (over_append dimensions modes view number rows others)

@@ -1,5 +1,5 @@
 -- Fact rows of one key in a view are in one group of each query that the view serves.
-use Rattle.std.proofs.Common.{◌≡◌, ◌∙◌, sym, ap, refl, subst, ℕ, ◌+◌, ◌*◌, ◌<◌, ◌≤◌, true, false, List, [], ◌∷◌, map, Option, Some, None, arith}
+use Rattle.std.proofs.Common.{◌≡◌, ◌∙◌, sym, ap, refl, subst, ℕ, ◌+◌, ◌*◌, ◌<◌, ◌≤◌, true, false, List, [], ◌∷◌, map, Option, Some, None, Bool, arith}
 use Rattle.std.specs.Prelude.{◌&&◌}
 use Rattle.std.specs.List.{AllByRecursion, list_any, list_all}
 use Rattle.std.specs.Str.{bytes_eq}
@@ -32,7 +32,7 @@ use Rattle.lattice.specs.Views.{level_on}
 use Rattle.cuboid_cells.specs.declared.key.Key.{Key}
 use Rattle.cuboid_cells.specs.Cells.{number_of}
 use Rattle.cuboid_upkeep.specs.Grouping.{HasMembers, code_on, key_of}
-use Rattle.cuboid_upkeep.specs.Codes.{level_column, member_code}
+use Rattle.cuboid_upkeep.specs.Codes.{IsMode, level_column, member_code, mode_code}
 use Rattle.cuboid_upkeep.specs.Lawful.{OneKeyOneGroup}
 use Rattle.cuboid_upkeep.proofs.Coded.{code_below, few_days, good_on, in_level_column, in_no_column}
 use Rattle.cuboid_upkeep.proofs.Told.{tells}
@@ -57,8 +57,8 @@ below_all DateWeeknuminyear = omega arith
 grouped : (view : View) (attr : Attr) → Determines view attr → level_on (axis_of attr) view ≡ level.All → ⊥
 grouped view attr low is = absurd (omega (arith, low, below_all attr, ap height is))
 
-module _ (dimensions : DimRows) (law : ValidRowsKeepTheRules) (valid : IsValid dimensions) (short : HaveShortTexts dimensions) (view : View) (row other : LineOrder)
-    (members : HasMembers dimensions view row) (others : HasMembers dimensions view other) (same : key_of dimensions view row ≡ key_of dimensions view other) where
+module _ (dimensions : DimRows) (law : ValidRowsKeepTheRules) (valid : IsValid dimensions) (short : HaveShortTexts dimensions) (modes : List (List ℕ)) (view : View) (row other : LineOrder)
+    (members : HasMembers dimensions modes view row) (others : HasMembers dimensions modes view other) (same : key_of dimensions modes view row ≡ key_of dimensions modes view other) where
   one_code : (axis : Axis) → code_on dimensions axis (level_on axis view) row ≡ code_on dimensions axis (level_on axis view) other
   one_code Customer = ap (λ (k : Key). k.customer) same
   one_code Supplier = ap (λ (k : Key). k.supplier) same
@@ -71,7 +71,7 @@ module _ (dimensions : DimRows) (law : ValidRowsKeepTheRules) (valid : IsValid d
       let apart = grouped view attr low in
       attribute_at_place dimensions attr row
       ∙ tells dimensions law valid short (row_index_of dimensions axis (key_on axis row)) (row_index_of dimensions axis (key_on axis other)) attr (level_on axis view) low
-      (members axis apart) (others axis apart) (one_code axis)
+      (members.axes axis apart) (others.axes axis apart) (one_code axis)
       ∙ sym (attribute_at_place dimensions attr other)
 
   one_key : (columns : List Attr) → AllByRecursion (Determines view) columns
@@ -139,8 +139,13 @@ module _ (dimensions : DimRows) (law : ValidRowsKeepTheRules) (valid : IsValid d
       day_fits axis level.Middle place within e = day axis level.Middle place (within (λ is. absurd (cc is))) e (λ is. absurd (cc is))
       day_fits axis level.Highest place within e = day axis level.Highest place (within (λ is. absurd (cc is))) e (λ is. absurd (cc is))
 
-  fits_on : (view : View) (row : LineOrder) → HasMembers dimensions view row → (axis : Axis) → code_on dimensions axis (level_on axis view) row < 65536
-  fits_on view row members axis = code_fits axis (level_on axis view) (row_index_of dimensions axis (key_on axis row)) (members axis)
+  fits_on : (modes : List (List ℕ)) (view : View) (row : LineOrder) → HasMembers dimensions modes view row → (axis : Axis) → code_on dimensions axis (level_on axis view) row < 65536
+  fits_on modes view row members axis = code_fits axis (level_on axis view) (row_index_of dimensions axis (key_on axis row)) (members.axes axis)
+
+-- the code of a ship mode fits its field
+mode_fits : (grouped : Bool) (modes : List (List ℕ)) (text : List ℕ) → (grouped ≡ true → IsMode modes text) → mode_code grouped modes text < 65536
+mode_fits false modes text mode = omega arith
+mode_fits true modes text mode = let below = (mode refl).below in omega (arith, below)
 
 -- digits to the base 65,536
 last_digit : (a b x y : ℕ) → x < 65536 → y < 65536 → a * 65536 + x ≡ b * 65536 + y → (a ≡ b) × (x ≡ y)
@@ -157,10 +162,10 @@ one_key_of one other a b c d e p q r s t same =
     λ i. record { customer = second.0 i; supplier = second.1 i; part = third.1 i; date = fourth.1 i; ship_mode = fifth.1 i }
 
 pub one_group : (dimensions : DimRows) → ValidRowsKeepTheRules → IsValid dimensions → HaveShortTexts dimensions → OneKeyOneGroup dimensions
-one_group dimensions law valid short view query row other number serves members others same is =
-    let fits = fits_on dimensions law valid short view row members in
-    let also = fits_on dimensions law valid short view other others in
-    let key : key_of dimensions view row ≡ key_of dimensions view other =
-    one_key_of (key_of dimensions view row) (key_of dimensions view other) (fits Customer) (fits Supplier) (fits Part) (fits Date) (omega arith)
-    (also Customer) (also Supplier) (also Part) (also Date) (omega arith) same in
-    one_number dimensions law valid short view row other members others key query serves number is
+one_group dimensions law valid short modes view query row other number serves members others same is =
+    let fits = fits_on dimensions law valid short modes view row members in
+    let also = fits_on dimensions law valid short modes view other others in
+    let key : key_of dimensions modes view row ≡ key_of dimensions modes view other =
+    one_key_of (key_of dimensions modes view row) (key_of dimensions modes view other) (fits Customer) (fits Supplier) (fits Part) (fits Date) (mode_fits view.ship_mode modes row.shipmode members.ship_mode)
+    (also Customer) (also Supplier) (also Part) (also Date) (mode_fits view.ship_mode modes other.shipmode others.ship_mode) same in
+    one_number dimensions law valid short modes view row other members others key query serves number is

@@ -57,7 +57,7 @@ one_list (cell ∷ cells) (other ∷ others) up also same =
     λ i. first i ∷ rest i
 
 pub the_one : CellsAreTheOne
-the_one dimensions rows one other same first second =
-    let group = subst (λ (view : View). Group dimensions view rows other.cells) (sym same) second.group in
+the_one dimensions modes rows one other same first second =
+    let group = subst (λ (view : View). Group dimensions modes view rows other.cells) (sym same) second.group in
     let list = one_list one.cells other.cells first.ascending second.ascending (λ number. first.group number ∙ sym (group number)) in
     λ i. record { view = same i; cells = list i }

@@ -88,9 +88,9 @@ module _ (cells new : List Cell) (same : IsPermutation cells new) (once : IsDist
       strictly : (a b : ℕ) → a ≤ b → a ≢ b → a < b
       strictly a b below apart = grind arith
 
-module _ (dimensions : DimRows) (view : View) (rows : List LineOrder) (cells new : List Cell) (are : AreGrouped dimensions view rows cells)
+module _ (dimensions : DimRows) (modes : List (List ℕ)) (view : View) (rows : List LineOrder) (cells new : List Cell) (are : AreGrouped dimensions modes view rows cells)
     (same : IsPermutation cells new) (order : IsNonDecreasingBy key_number new) where
-  pub they_stand : StandFor dimensions rows (record { view = view; cells = new })
+  pub they_stand : StandFor dimensions modes rows (record { view = view; cells = new })
   they_stand = record {
     known = are.known;
     ascending = ascend_still cells new same are.once order;

@@ -1,9 +1,11 @@
 -- Rows that stand in for cells.
 use Rattle.std.proofs.Common.{◌≡◌, ◌∙◌, sym, ap, refl, subst, ℕ, zero, suc, ◌==◌, ◌<◌, Bool, true, false, List, [], ◌∷◌, map, get_or, Option, Some, None, pos, arith, All}
 use Rattle.std.specs.Prelude.{◌&&◌, unwrap_or}
-use Rattle.std.specs.List.{Contains, list_all}
-use Rattle.std.specs.Option.{is_some}
-use Rattle.std.proofs.lemmas.List.Elements.{All-filter, All-head, All-tail}
+use Rattle.std.specs.List.{Contains, filter, list_all, position_or_len}
+use Rattle.std.specs.Option.{is_some, option_map}
+use Rattle.std.proofs.lemmas.Bool.{cases_lt}
+use Rattle.std.proofs.lemmas.List.Elements.{All-filter, All-head, All-tail, Contains-get_or}
+use Rattle.std.proofs.lemmas.List.Sums.{passes_at_first}
 use Rattle.cube_model.specs.declared.attr.Axis.{Axis}
 use Rattle.cube_model.specs.declared.attr.Axis.TheVariants.{Customer, Supplier, Part, Date}
 use Rattle.cube_model.specs.declared.measure.Measure.{Measure}
@@ -16,12 +18,15 @@ use Rattle.cube_model.specs.Places.{row_count_of, row_index_of}
 use Rattle.group_plan.specs.Numbers.{IsKnown}
 use Rattle.group_plan.specs.Rows.{no_row}
 use Rattle.lattice.specs.declared.level.Level.{Level}
+use Rattle.lattice.specs.declared.view.View.{View}
 use Rattle.cuboid_cells.specs.declared.cell.Cell.{Cell}
 use Rattle.cuboid_cells.specs.declared.key.Key.{Key}
-use Rattle.cuboid_cells.specs.Cells.{AreProper, IsCellOf, IsModeCode, PlainCells, number_of}
-use Rattle.cuboid_cells.specs.Limits.{all_code}
-use Rattle.cuboid_upkeep.specs.Grouping.{StandFor, cell_over, key_of, rows_of}
-use Rattle.cuboid_upkeep.specs.StandIns.{AreKeysOf, AreStandIns, HasCode, HaveAllCodes, IsStandIn, has_keys, key_at, stand_in, stood_in}
+use Rattle.cuboid_cells.specs.Cells.{AreProper, IsCellOf, IsModeCode, PlainCells, cell_at, number_of}
+use Rattle.dictionary.specs.Columns.{place_of, text_at}
+use Rattle.dictionary.proofs.CallerLemmas.{text_at_place}
+use Rattle.cuboid_upkeep.specs.Codes.{IsMode, member_code, mode_code, modes_of}
+use Rattle.cuboid_upkeep.specs.Grouping.{HasMembers, StandFor, cell_over, key_of, rows_of}
+use Rattle.cuboid_upkeep.specs.StandIns.{AreKeysOf, AreStandIns, HasCode, HaveAllCodes, IsCodeOfMode, IsStandIn, has_keys, key_at, stand_in, stood_in}
 use Rattle.cuboid_upkeep.specs.declared.member_keys.MemberKeys.{MemberKeys}
 use Rattle.cuboid_upkeep.specs.declared.stand_ins.StandIns.{StandIns}
 use Rattle.cuboid_upkeep.proofs.Sorted.{ascending_apart, only_one}
@@ -29,17 +34,35 @@ use Rattle.cuboid_upkeep.proofs.Sorted.{ascending_apart, only_one}
 -- ---- the rows of a cell
 
 -- a row of each cell
-pub row_of_cell : (dimensions : DimRows) (plain : PlainCells) (rows : List LineOrder) (P : LineOrder → Type 0) (cell : Cell) → StandFor dimensions rows plain → All P rows → Contains plain.cells cell
-    → (row : LineOrder) × P row × (key_of dimensions plain.view row ≡ cell.key)
-row_of_cell dimensions plain rows P cell stand all in_cells =
+pub row_of_cell : (dimensions : DimRows) (modes : List (List ℕ)) (plain : PlainCells) (rows : List LineOrder) (P : LineOrder → Type 0) (cell : Cell) → StandFor dimensions modes rows plain → All P rows → Contains plain.cells cell
+    → (row : LineOrder) × P row × (key_of dimensions modes plain.view row ≡ cell.key)
+row_of_cell dimensions modes plain rows P cell stand all in_cells =
     let number = number_of cell.key in
-    let is : cell_over dimensions plain.view (rows_of dimensions plain.view number rows) ≡ Some cell =
+    let is : cell_over dimensions modes plain.view (rows_of dimensions modes plain.view number rows) ≡ Some cell =
     sym (stand.group number) ∙ only_one plain.cells cell (ascending_apart plain.cells stand.ascending) in_cells in
-    first (rows_of dimensions plain.view number rows) (All-filter (λ row. number_of (key_of dimensions plain.view row) == number) P rows all) is
+    first (rows_of dimensions modes plain.view number rows) (All-filter (λ row. number_of (key_of dimensions modes plain.view row) == number) P rows all) is
   where
-    first : (own : List LineOrder) → All P own → cell_over dimensions plain.view own ≡ Some cell → (row : LineOrder) × P row × (key_of dimensions plain.view row ≡ cell.key)
+    first : (own : List LineOrder) → All P own → cell_over dimensions modes plain.view own ≡ Some cell → (row : LineOrder) × P row × (key_of dimensions modes plain.view row ≡ cell.key)
     first [] all is = absurd (cc is)
-    first (row ∷ own) all is = (row, All-head P row own all, (let same : key_of dimensions plain.view row ≡ cell.key = cc is in same))
+    first (row ∷ own) all is = (row, All-head P row own all, (let same : key_of dimensions modes plain.view row ≡ cell.key = cc is in same))
+
+-- ---- all codes have modes
+
+-- the fifth code of a cell that stands for rows is that of a mode
+pub codes_of_modes : (dimensions : DimRows) (modes : List (List ℕ)) (plain : PlainCells) (rows : List LineOrder) → plain.view.ship_mode ≡ true → StandFor dimensions modes rows plain
+    → All (λ (cell : Cell). IsCodeOfMode modes cell.key.ship_mode) plain.cells
+codes_of_modes dimensions modes plain rows grouped stand = λ place default within.
+    let cell = get_or plain.cells place default in
+    let own = row_of_cell dimensions modes plain rows (HasMembers dimensions modes plain.view) cell stand stand.known (Contains-get_or plain.cells place default within) in
+    let text : List ℕ = own.0.shipmode in
+    let mode = own.1.ship_mode grouped in
+    let code : place_of modes text ≡ cell.key.ship_mode = ap (λ (g : Bool). mode_code g modes text) (sym grouped) ∙ ap (λ (k : Key). k.ship_mode) own.2 in
+    let there : text_at modes (place_of modes text) ≡ text = text_at_place modes text mode.among in
+    record {
+      among = omega (arith, mode.among, code);
+      again = ap (λ (n : ℕ). place_of modes (text_at modes n)) (sym code) ∙ ap (place_of modes) there ∙ code;
+      below = omega (arith, mode.below, code);
+    }
 
 -- ---- all codes have keys
 some_where : (o : Option ℕ) → (o ≡ None → ⊥) → is_some o ≡ true
@@ -50,12 +73,12 @@ all_pass : {X : Type 0} (p : X → Bool) (xs : List X) → ((x : X) → Contains
 all_pass p [] pass = refl
 all_pass p (x ∷ xs) pass = λ i. pass x (zero, omega arith, refl) i && all_pass p xs (λ y there. pass y (suc there.0, omega (arith, there.1), there.2)) i
 
-module _ (dimensions : DimRows) (plain : PlainCells) (customers suppliers parts dates : MemberKeys) where
+module _ (dimensions : DimRows) (modes : List (List ℕ)) (plain : PlainCells) (customers suppliers parts dates : MemberKeys) where
   module _ (customers_whole : HaveAllCodes dimensions Customer plain.view.customer customers) (suppliers_whole : HaveAllCodes dimensions Supplier plain.view.supplier suppliers)
       (parts_whole : HaveAllCodes dimensions Part plain.view.part parts) (dates_whole : HaveAllCodes dimensions Date plain.view.date dates) where
-    pub have_keys_where : (rows : List LineOrder) → StandFor dimensions rows plain → All (IsKnown dimensions) rows → list_all (has_keys customers suppliers parts dates) plain.cells ≡ true
+    pub have_keys_where : (rows : List LineOrder) → StandFor dimensions modes rows plain → All (IsKnown dimensions) rows → list_all (has_keys customers suppliers parts dates) plain.cells ≡ true
     have_keys_where rows stand known = all_pass (has_keys customers suppliers parts dates) plain.cells (λ cell there.
-        let own = row_of_cell dimensions plain rows (IsKnown dimensions) cell stand known there in
+        let own = row_of_cell dimensions modes plain rows (IsKnown dimensions) cell stand known there in
         let row = own.0 in
         let first = some_where (key_at customers cell.key.customer) (customers_whole row.custkey cell.key.customer (record { known = own.1 Customer; code_is = ap (λ (k : Key). k.customer) own.2 })) in
         let second = some_where (key_at suppliers cell.key.supplier) (suppliers_whole row.suppkey cell.key.supplier (record { known = own.1 Supplier; code_is = ap (λ (k : Key). k.supplier) own.2 })) in
@@ -65,7 +88,8 @@ module _ (dimensions : DimRows) (plain : PlainCells) (customers suppliers parts 
 
   -- ---- rows with the keys at the codes
   module _ (customers_sound : AreKeysOf dimensions Customer plain.view.customer customers) (suppliers_sound : AreKeysOf dimensions Supplier plain.view.supplier suppliers)
-      (parts_sound : AreKeysOf dimensions Part plain.view.part parts) (dates_sound : AreKeysOf dimensions Date plain.view.date dates) (four : plain.view.ship_mode ≡ false) where
+      (parts_sound : AreKeysOf dimensions Part plain.view.part parts) (dates_sound : AreKeysOf dimensions Date plain.view.date dates)
+      (modes_there : plain.view.ship_mode ≡ true → All (λ (cell : Cell). IsCodeOfMode modes cell.key.ship_mode) plain.cells) where
     found : (axis : Axis) (level : Level) (keys : MemberKeys) (code : ℕ) → AreKeysOf dimensions axis level keys → is_some (key_at keys code) ≡ true
         → HasCode dimensions axis level (unwrap_or (key_at keys code) 0) code
     found axis level keys code sound some =
@@ -82,8 +106,16 @@ module _ (dimensions : DimRows) (plain : PlainCells) (customers suppliers parts 
     right true b is = is
     right false b is = absurd (cc is)
 
-    one_stands : (cell : Cell) → IsCellOf plain.view cell → has_keys customers suppliers parts dates cell ≡ true → IsStandIn dimensions plain.view cell (stand_in customers suppliers parts dates cell)
-    one_stands cell of_view has =
+    -- the fifth code is that of the ship mode
+    fifth_is : (grouped : Bool) (code : ℕ) → IsModeCode grouped code → (grouped ≡ true → IsCodeOfMode modes code) → mode_code grouped modes (text_at modes code) ≡ code
+    fifth_is false code own there = sym (own.1 refl)
+    fifth_is true code own there = (there refl).again
+
+    mode_is : (code : ℕ) → IsCodeOfMode modes code → IsMode modes (text_at modes code)
+    mode_is code is = record { among = omega (arith, is.among, is.again); below = omega (arith, is.below, is.again) }
+
+    one_stands : (cell : Cell) → IsCellOf plain.view cell → (plain.view.ship_mode ≡ true → IsCodeOfMode modes cell.key.ship_mode) → has_keys customers suppliers parts dates cell ≡ true → IsStandIn dimensions modes plain.view cell (stand_in modes customers suppliers parts dates cell)
+    one_stands cell of_view there has =
         let a = is_some (key_at customers cell.key.customer) in
         let b = is_some (key_at suppliers cell.key.supplier) in
         let c = is_some (key_at parts cell.key.part) in
@@ -94,10 +126,10 @@ module _ (dimensions : DimRows) (plain : PlainCells) (customers suppliers parts 
         let second = found Supplier plain.view.supplier suppliers cell.key.supplier suppliers_sound (left b (c && d) rest) in
         let third = found Part plain.view.part parts cell.key.part parts_sound (left c d last) in
         let fourth = found Date plain.view.date dates cell.key.date dates_sound (right c d last) in
-        let mode : IsModeCode false cell.key.ship_mode = subst (λ (g : Bool). IsModeCode g cell.key.ship_mode) four of_view.key.ship_mode in
-        let fifth : all_code ≡ cell.key.ship_mode = sym (mode.1 refl) in
+        let fifth = fifth_is plain.view.ship_mode cell.key.ship_mode of_view.key.ship_mode there in
         record {
           known = λ axis. known_on axis first.known second.known third.known fourth.known;
+          ship_mode = λ is. mode_is cell.key.ship_mode (there is);
           key_is = λ i. record { customer = first.code_is i; supplier = second.code_is i; part = third.code_is i; date = fourth.code_is i; ship_mode = fifth i };
         }
       where
@@ -106,27 +138,31 @@ module _ (dimensions : DimRows) (plain : PlainCells) (customers suppliers parts 
             → row_index_of dimensions Supplier (unwrap_or (key_at suppliers cell.key.supplier) 0) < row_count_of dimensions Supplier
             → row_index_of dimensions Part (unwrap_or (key_at parts cell.key.part) 0) < row_count_of dimensions Part
             → row_index_of dimensions Date (unwrap_or (key_at dates cell.key.date) 0) < row_count_of dimensions Date
-            → row_index_of dimensions axis (key_on axis (stand_in customers suppliers parts dates cell)) < row_count_of dimensions axis
+            → row_index_of dimensions axis (key_on axis (stand_in modes customers suppliers parts dates cell)) < row_count_of dimensions axis
         known_on Customer p q r s = p
         known_on Supplier p q r s = q
         known_on Part p q r s = r
         known_on Date p q r s = s
 
-    all_stand : (cells : List Cell) → All (IsCellOf plain.view) cells → list_all (has_keys customers suppliers parts dates) cells ≡ true
-        → AreStandIns dimensions plain.view cells (map (stand_in customers suppliers parts dates) cells)
-    all_stand [] each has = tt
-    all_stand (cell ∷ cells) each has =
+    all_stand : (cells : List Cell) → All (IsCellOf plain.view) cells → (plain.view.ship_mode ≡ true → All (λ (cell : Cell). IsCodeOfMode modes cell.key.ship_mode) cells) → list_all (has_keys customers suppliers parts dates) cells ≡ true
+        → AreStandIns dimensions modes plain.view cells (map (stand_in modes customers suppliers parts dates) cells)
+    all_stand [] each there has = tt
+    all_stand (cell ∷ cells) each there has =
         let p = has_keys customers suppliers parts dates cell in
         let rest = list_all (has_keys customers suppliers parts dates) cells in (
-          one_stands cell (All-head (IsCellOf plain.view) cell cells each) (left p rest has),
-          all_stand cells (All-tail (IsCellOf plain.view) cell cells each) (right p rest has),
+          one_stands cell (All-head (IsCellOf plain.view) cell cells each) (λ is. All-head (λ (cell : Cell). IsCodeOfMode modes cell.key.ship_mode) cell cells (there is)) (left p rest has),
+          all_stand cells (All-tail (IsCellOf plain.view) cell cells each) (λ is. All-tail (λ (cell : Cell). IsCodeOfMode modes cell.key.ship_mode) cell cells (there is)) (right p rest has),
         )
 
     pub they_stand : AreProper plain → list_all (has_keys customers suppliers parts dates) plain.cells ≡ true
-        → AreStandIns dimensions plain.view plain.cells (map (stand_in customers suppliers parts dates) plain.cells)
-    they_stand proper has = all_stand plain.cells proper.rules.each has
+        → AreStandIns dimensions modes plain.view plain.cells (map (stand_in modes customers suppliers parts dates) plain.cells)
+    they_stand proper has = all_stand plain.cells proper.rules.each modes_there has
 
 -- ---- all else is nought
+
+-- the modes of rows that stand in for cells
+abbrev given : StandIns → List (List ℕ)
+given rows = modes_of (option_map (λ modes. modes.now) rows.modes)
 
 pub same_else : {X : Type 0} (f : Cell → LineOrder) (g : LineOrder → X) (x : X) → ((cell : Cell) → x ≡ g (f cell)) → x ≡ g no_row
     → (cells : List Cell) (place : ℕ) → x ≡ g (get_or (map f cells) place no_row)
@@ -135,18 +171,18 @@ same_else f g x each none (cell ∷ cells) zero = each cell
 same_else f g x each none (cell ∷ cells) (suc place) = same_else f g x each none cells place
 
 pub no_quantity : (rows : StandIns) (place : ℕ) → 0 ≡ (get_or (stood_in rows) place no_row).quantity
-no_quantity rows place = same_else (stand_in rows.customers rows.suppliers rows.parts rows.dates) (λ (row : LineOrder). row.quantity) 0 (λ cell. refl) refl rows.cells.now place
+no_quantity rows place = same_else (stand_in (given rows) rows.customers rows.suppliers rows.parts rows.dates) (λ (row : LineOrder). row.quantity) 0 (λ cell. refl) refl rows.cells.now place
 
 pub no_discount : (rows : StandIns) (place : ℕ) → 0 ≡ (get_or (stood_in rows) place no_row).discount
-no_discount rows place = same_else (stand_in rows.customers rows.suppliers rows.parts rows.dates) (λ (row : LineOrder). row.discount) 0 (λ cell. refl) refl rows.cells.now place
+no_discount rows place = same_else (stand_in (given rows) rows.customers rows.suppliers rows.parts rows.dates) (λ (row : LineOrder). row.discount) 0 (λ cell. refl) refl rows.cells.now place
 
-no_measures : (measure : Measure) (customers suppliers parts dates : MemberKeys) (cell : Cell) → pos 0 ≡ measure_of measure (stand_in customers suppliers parts dates cell)
-no_measures Quantity customers suppliers parts dates cell = refl
-no_measures ExtendedPrice customers suppliers parts dates cell = refl
-no_measures Revenue customers suppliers parts dates cell = refl
-no_measures SupplyCost customers suppliers parts dates cell = refl
-no_measures Discounted customers suppliers parts dates cell = refl
-no_measures Profit customers suppliers parts dates cell = refl
+no_measures : (measure : Measure) (modes : List (List ℕ)) (customers suppliers parts dates : MemberKeys) (cell : Cell) → pos 0 ≡ measure_of measure (stand_in modes customers suppliers parts dates cell)
+no_measures Quantity modes customers suppliers parts dates cell = refl
+no_measures ExtendedPrice modes customers suppliers parts dates cell = refl
+no_measures Revenue modes customers suppliers parts dates cell = refl
+no_measures SupplyCost modes customers suppliers parts dates cell = refl
+no_measures Discounted modes customers suppliers parts dates cell = refl
+no_measures Profit modes customers suppliers parts dates cell = refl
 
 none_behind : (measure : Measure) → pos 0 ≡ measure_of measure no_row
 none_behind Quantity = refl
@@ -157,5 +193,5 @@ none_behind Discounted = refl
 none_behind Profit = refl
 
 pub no_measure : (measure : Measure) (rows : StandIns) (place : ℕ) → pos 0 ≡ measure_of measure (get_or (stood_in rows) place no_row)
-no_measure measure rows place = same_else (stand_in rows.customers rows.suppliers rows.parts rows.dates) (measure_of measure) (pos 0)
-    (no_measures measure rows.customers rows.suppliers rows.parts rows.dates) (none_behind measure) rows.cells.now place
+no_measure measure rows place = same_else (stand_in (given rows) rows.customers rows.suppliers rows.parts rows.dates) (measure_of measure) (pos 0)
+    (no_measures measure (given rows) rows.customers rows.suppliers rows.parts rows.dates) (none_behind measure) rows.cells.now place

@@ -1,6 +1,6 @@
 -- The plain grouping of fact rows by the levels of a view: a cell for each choice of members that some row has, with the
 -- count of its rows and, for each measure, the sum, the least and the greatest of their numbers (Gray et al. 1997).
-use Rattle.std.specs.Prelude.{◌≡◌, ℕ, ◌==◌, ◌<◌, ◌^◌, Option, Some, None, List, [], ◌∷◌, ◌++◌, length, map, All}
+use Rattle.std.specs.Prelude.{◌≡◌, ℕ, ◌==◌, ◌<◌, ◌^◌, true, Option, Some, None, List, [], ◌∷◌, ◌++◌, length, map, All}
 use Rattle.std.specs.List.{filter}
 use Rattle.cube_model.specs.declared.attr.Axis.{Axis}
 use Rattle.cube_model.specs.declared.attr.Axis.TheVariants.{Customer, Supplier, Part, Date}
@@ -22,26 +22,25 @@ use Rattle.cuboid_cells.specs.declared.key.Key.{Key}
 use Rattle.cuboid_cells.specs.declared.summary.Summaries.{Summaries}
 use Rattle.cuboid_cells.specs.declared.summary.Summary.{Summary}
 use Rattle.cuboid_cells.specs.Cells.{AreAscending, PlainCells, SummariesFit, cell_at, number_of}
-use Rattle.cuboid_cells.specs.Limits.{all_code}
-use Rattle.cuboid_upkeep.specs.Codes.{member_code}
+use Rattle.cuboid_upkeep.specs.Codes.{IsMode, member_code, mode_code}
 
 -- the code of a fact row's member at a level of a dimension
 abbrev pub code_on : DimRows → Axis → Level → LineOrder → ℕ
 code_on dimensions axis level row = member_code dimensions axis level (row_index_of dimensions axis (key_on axis row))
 
--- the key of a fact row in a view that does not group by ship mode
-abbrev pub key_of : DimRows → View → LineOrder → Key
-key_of dimensions view row = record {
+-- the key of a fact row in a view, by a list of ship modes
+abbrev pub key_of : DimRows → List (List ℕ) → View → LineOrder → Key
+key_of dimensions modes view row = record {
   customer = code_on dimensions Customer view.customer row;
   supplier = code_on dimensions Supplier view.supplier row;
   part = code_on dimensions Part view.part row;
   date = code_on dimensions Date view.date row;
-  ship_mode = all_code;
+  ship_mode = mode_code view.ship_mode modes row.shipmode;
 }
 
 -- the fact rows of a key, told by its number
-abbrev pub rows_of : DimRows → View → ℕ → List LineOrder → List LineOrder
-rows_of dimensions view number rows = filter (λ row. number_of (key_of dimensions view row) == number) rows
+abbrev pub rows_of : DimRows → List (List ℕ) → View → ℕ → List LineOrder → List LineOrder
+rows_of dimensions modes view number rows = filter (λ row. number_of (key_of dimensions modes view row) == number) rows
 
 -- what is kept of a measure of fact rows
 abbrev pub summary_over : Measure → List LineOrder → Summary
@@ -63,27 +62,30 @@ summaries_over rows = record {
 }
 
 -- the cell of fact rows of one key, where there are any
-abbrev pub cell_over : DimRows → View → List LineOrder → Option Cell
-cell_over dimensions view [] = None
-cell_over dimensions view (row ∷ rows) = Some (record {
-  key = key_of dimensions view row;
+abbrev pub cell_over : DimRows → List (List ℕ) → View → List LineOrder → Option Cell
+cell_over dimensions modes view [] = None
+cell_over dimensions modes view (row ∷ rows) = Some (record {
+  key = key_of dimensions modes view row;
   count = length (row ∷ rows);
   measures = summaries_over (row ∷ rows);
 })
 
 -- cells are told by keys: that of a key is the cell of the fact rows of the key
-abbrev pub Group : DimRows → View → List LineOrder → List Cell → Type 0
-Group dimensions view rows cells = (number : ℕ) → cell_at number cells ≡ cell_over dimensions view (rows_of dimensions view number rows)
+abbrev pub Group : DimRows → List (List ℕ) → View → List LineOrder → List Cell → Type 0
+Group dimensions modes view rows cells = (number : ℕ)
+    → cell_at number cells ≡ cell_over dimensions modes view (rows_of dimensions modes view number rows)
 
--- a fact row has a member at each level by which a view groups: its key is in the dimension
-abbrev pub HasMembers : DimRows → View → LineOrder → Type 0
-HasMembers dimensions view row = (axis : Axis) → (level_on axis view ≡ level.All → ⊥) → IsKnownOn dimensions row axis
+-- a fact row has a member at each level by which a view groups: its key is in the dimension, and its ship mode is one of the
+-- modes where the view groups by it
+pub record HasMembers (dimensions : DimRows) (modes : List (List ℕ)) (view : View) (row : LineOrder) : Type 0 where
+  pub axes : (axis : Axis) → (level_on axis view ≡ level.All → ⊥) → IsKnownOn dimensions row axis
+  pub ship_mode : view.ship_mode ≡ true → IsMode modes row.shipmode
 
 -- the cells of a view stand for fact rows: each row has its members, and the cells group the rows
-pub record StandFor (dimensions : DimRows) (rows : List LineOrder) (plain : PlainCells) : Type 0 where
-  pub known : All (HasMembers dimensions plain.view) rows
+pub record StandFor (dimensions : DimRows) (modes : List (List ℕ)) (rows : List LineOrder) (plain : PlainCells) : Type 0 where
+  pub known : All (HasMembers dimensions modes plain.view) rows
   pub ascending : AreAscending plain.cells
-  pub group : Group dimensions plain.view rows plain.cells
+  pub group : Group dimensions modes plain.view rows plain.cells
 
 -- the count and the measures of a cell fit their fields
 pub record NumbersFit (cell : Cell) : Type 0 where
@@ -91,12 +93,12 @@ pub record NumbersFit (cell : Cell) : Type 0 where
   pub measures : SummariesFit cell.measures
 
 -- those of one key among some fact rows one behind the other have a cell whose count, sum, least or greatest passes its type
-pub record PassType (dimensions : DimRows) (view : View) (rows : List LineOrder) : Type 0 where
+pub record PassType (dimensions : DimRows) (modes : List (List ℕ)) (view : View) (rows : List LineOrder) : Type 0 where
   pub before : List LineOrder
   pub part : List LineOrder
   pub behind : List LineOrder
   pub number : ℕ
   pub cell : Cell
   pub parts : rows ≡ before ++ (part ++ behind)
-  pub is : cell_over dimensions view (rows_of dimensions view number part) ≡ Some cell
+  pub is : cell_over dimensions modes view (rows_of dimensions modes view number part) ≡ Some cell
   pub passes : NumbersFit cell → ⊥

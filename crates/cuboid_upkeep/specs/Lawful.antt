@@ -13,23 +13,28 @@ use Rattle.cuboid_upkeep.specs.Grouping.{HasMembers, PassType, StandFor, key_of}
 
 -- the cells of fact rows put end to end are the merge of their cells
 abbrev pub MergesStandForBoth : Type 0
-MergesStandForBoth = (dimensions : DimRows) (rows others : List LineOrder) (one other new : PlainCells)
-    → one.view ≡ other.view → StandFor dimensions rows one → StandFor dimensions others other
-    → IsMergeOf one other new → StandFor dimensions (rows ++ others) new
+MergesStandForBoth = (dimensions : DimRows) (modes : List (List ℕ)) (rows others : List LineOrder) (one other new : PlainCells)
+    → one.view ≡ other.view → StandFor dimensions modes rows one → StandFor dimensions modes others other
+    → IsMergeOf one other new → StandFor dimensions modes (rows ++ others) new
+
+-- Cells stand for the same rows when modes are added behind the others: the codes of those that were there stay.
+abbrev pub ModesAreAddedBehind : Type 0
+ModesAreAddedBehind = (dimensions : DimRows) (modes more : List (List ℕ)) (rows : List LineOrder) (plain : PlainCells)
+    → StandFor dimensions modes rows plain → StandFor dimensions (modes ++ more) rows plain
 
 -- fact rows have one list of cells
 abbrev pub CellsAreTheOne : Type 0
-CellsAreTheOne = (dimensions : DimRows) (rows : List LineOrder) (one other : PlainCells)
-    → one.view ≡ other.view → StandFor dimensions rows one → StandFor dimensions rows other → one ≡ other
+CellsAreTheOne = (dimensions : DimRows) (modes : List (List ℕ)) (rows : List LineOrder) (one other : PlainCells)
+    → one.view ≡ other.view → StandFor dimensions modes rows one → StandFor dimensions modes rows other → one ≡ other
 
 -- no cell of fact rows passes a type where the sums of the rows are in range
 abbrev pub RowsInRangeFit : Type 0
-RowsInRangeFit = (dimensions : DimRows) (view : View) (rows : List LineOrder)
-    → AreInRange rows → length rows < 2 ^ 63 → PassType dimensions view rows → ⊥
+RowsInRangeFit = (dimensions : DimRows) (modes : List (List ℕ)) (view : View) (rows : List LineOrder)
+    → AreInRange rows → length rows < 2 ^ 63 → PassType dimensions modes view rows → ⊥
 
 -- Fact rows of one key in a view, told by its number, are in one group of each query that the view serves, or in none.
 abbrev pub OneKeyOneGroup : DimRows → Type 0
-OneKeyOneGroup dimensions = (view : View) (query : Query) (row other : LineOrder) (number : Option ℕ)
-    → Serves view query → HasMembers dimensions view row → HasMembers dimensions view other
-    → number_of (key_of dimensions view row) ≡ number_of (key_of dimensions view other)
+OneKeyOneGroup dimensions = (modes : List (List ℕ)) (view : View) (query : Query) (row other : LineOrder) (number : Option ℕ)
+    → Serves view query → HasMembers dimensions modes view row → HasMembers dimensions modes view other
+    → number_of (key_of dimensions modes view row) ≡ number_of (key_of dimensions modes view other)
     → IsNumber dimensions query row number → IsNumber dimensions query other number

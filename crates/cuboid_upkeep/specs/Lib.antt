@@ -3,3 +3,4 @@ pub mod Grouping
 pub mod Lawful
 pub mod StandIns
 pub mod Steps
+pub mod Tables

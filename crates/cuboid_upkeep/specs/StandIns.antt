@@ -1,16 +1,17 @@
 -- Rows that stand in for cells: each has the members of its cell, and nothing else is looked at. Our own.
-use Rattle.std.specs.Prelude.{◌≡◌, ℕ, suc, ◌<◌, ◌&&◌, ◌==◌, cond, Bool, Option, Some, None, List, [], ◌∷◌, map, slice_index_or, slice_set, unwrap_or}
-use Rattle.std.specs.Option.{is_some}
+use Rattle.std.specs.Prelude.{◌≡◌, ℕ, suc, ◌<◌, ◌&&◌, ◌==◌, cond, Bool, true, Option, Some, None, List, [], ◌∷◌, length, map, slice_index_or, slice_set, unwrap_or}
+use Rattle.std.specs.Option.{is_some, option_map}
 use Rattle.cube_model.specs.declared.attr.Axis.{Axis}
 use Rattle.cube_model.specs.declared.rows.DimRows.{DimRows}
 use Rattle.cube_model.specs.declared.rows.LineOrder.{LineOrder}
 use Rattle.cube_model.specs.Places.{row_count_of, row_index_of}
+use Rattle.dictionary.specs.Columns.{place_of, text_at}
 use Rattle.group_plan.specs.Numbers.{IsKnown}
 use Rattle.lattice.specs.declared.level.Level.{Level}
 use Rattle.lattice.specs.declared.view.View.{View}
 use Rattle.cuboid_cells.specs.declared.cell.Cell.{Cell}
 use Rattle.cuboid_cells.specs.Limits.{all_code}
-use Rattle.cuboid_upkeep.specs.Codes.{member_code}
+use Rattle.cuboid_upkeep.specs.Codes.{IsMode, member_code, modes_of}
 use Rattle.cuboid_upkeep.specs.Grouping.{key_of}
 use Rattle.cuboid_upkeep.specs.declared.member_keys.MemberKeys.{MemberKeys}
 use Rattle.cuboid_upkeep.specs.declared.stand_ins.StandIns.{StandIns}
@@ -55,9 +56,15 @@ has_keys customers suppliers parts dates cell =
     is_some (key_at customers cell.key.customer) && (is_some (key_at suppliers cell.key.supplier)
     && (is_some (key_at parts cell.key.part) && is_some (key_at dates cell.key.date)))
 
--- a fact row of the keys at the codes of a cell, and of noughts
-abbrev pub stand_in : MemberKeys → MemberKeys → MemberKeys → MemberKeys → Cell → LineOrder
-stand_in customers suppliers parts dates cell = record {
+-- a code is that of a mode, whose text has this code
+pub record IsCodeOfMode (modes : List (List ℕ)) (code : ℕ) : Type 0 where
+  pub among : code < length modes
+  pub again : place_of modes (text_at modes code) ≡ code
+  pub below : code < all_code
+
+-- a fact row of the keys and the ship mode at the codes of a cell, and of noughts
+abbrev pub stand_in : List (List ℕ) → MemberKeys → MemberKeys → MemberKeys → MemberKeys → Cell → LineOrder
+stand_in modes customers suppliers parts dates cell = record {
   orderkey = 0;
   linenumber = 0;
   custkey = unwrap_or (key_at customers cell.key.customer) 0;
@@ -74,21 +81,25 @@ stand_in customers suppliers parts dates cell = record {
   supplycost = 0;
   tax = 0;
   commitdate = [];
-  shipmode = [];
+  shipmode = text_at modes cell.key.ship_mode;
 }
 
 -- the rows that stand in for cells
 abbrev pub stood_in : StandIns → List LineOrder
-stood_in rows = map (stand_in rows.customers rows.suppliers rows.parts rows.dates) rows.cells.now
+stood_in rows =
+    let modes = modes_of (option_map (λ modes. modes.now) rows.modes) in
+    map (stand_in modes rows.customers rows.suppliers rows.parts rows.dates) rows.cells.now
 
--- a row has known keys, and the key of a cell
-pub record IsStandIn (dimensions : DimRows) (view : View) (cell : Cell) (row : LineOrder) : Type 0 where
+-- a row has known keys, a ship mode that is one of the modes where the view groups by it, and the key of a cell
+pub record IsStandIn (dimensions : DimRows) (modes : List (List ℕ)) (view : View) (cell : Cell) (row : LineOrder) : Type 0 where
   pub known : IsKnown dimensions row
-  pub key_is : key_of dimensions view row ≡ cell.key
+  pub ship_mode : view.ship_mode ≡ true → IsMode modes row.shipmode
+  pub key_is : key_of dimensions modes view row ≡ cell.key
 
 -- rows stand in for cells, one for each
-abbrev pub AreStandIns : DimRows → View → List Cell → List LineOrder → Type 0
-AreStandIns dimensions view [] [] = Unit {0}
-AreStandIns dimensions view [] (row ∷ rows) = ⊥
-AreStandIns dimensions view (cell ∷ cells) [] = ⊥
-AreStandIns dimensions view (cell ∷ cells) (row ∷ rows) = IsStandIn dimensions view cell row × AreStandIns dimensions view cells rows
+abbrev pub AreStandIns : DimRows → List (List ℕ) → View → List Cell → List LineOrder → Type 0
+AreStandIns dimensions modes view [] [] = Unit {0}
+AreStandIns dimensions modes view [] (row ∷ rows) = ⊥
+AreStandIns dimensions modes view (cell ∷ cells) [] = ⊥
+AreStandIns dimensions modes view (cell ∷ cells) (row ∷ rows) =
+    IsStandIn dimensions modes view cell row × AreStandIns dimensions modes view cells rows

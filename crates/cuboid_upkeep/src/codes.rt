@@ -1,5 +1,5 @@
 //! The codes of members.
-ghost use Rattle.std.specs.Prelude.{◌≡◌, ℕ, ◌<◌, ◌≤◌, IfNone, IfSome, length};
+ghost use Rattle.std.specs.Prelude.{◌≡◌, ◌↔◌, ◌<◌, ◌≤◌, ℕ, Some, IfNone, IfSome, IsTrue, length};
 ghost use Rattle.cube_model.specs.Places.{row_count_of, row_index_of};
 ghost use Rattle.dimensions.specs.Coded.{AreGoodRows};
 ghost use Rattle.dimensions.specs.Columns.{code_at};
@@ -17,6 +17,91 @@ use cuboid_cells::limits::ALL_CODE;
 use dimensions::{Dims, lower_column};
 use lattice::Level;
 
+// Where the codes of the members of a level stand.
+#[derive(Clone, Copy)]
+pub(crate) enum LevelCodes<'a> {
+    // The place of a row is its code.
+    Places,
+    // At the place of a row.
+    Column(&'a [u16]),
+    // At the code of a lower column.
+    Above(&'a [u16], &'a [u16]),
+    // And that at the code of one that is lower still.
+    Twice(&'a [u16], &'a [u16], &'a [u16]),
+}
+
+impl<'a> LevelCodes<'a> {
+    ghost use Rattle.cuboid_upkeep.specs.Tables.{AreCodesOf, LeadToMembers, Leads, tables_of};
+    ghost use Rattle.lattice.specs.declared.level.Level.{Level};
+
+    // Those of a level of a dimension, if it has members.
+    pub(crate) fn of(dims: &'a Dims, axis: Axis, grouped: Level) -> LevelCodes<'a>
+        ensures { AreCodesOf dims.now axis grouped result }
+    {
+        valid_rows_keep_the_rules();
+        dims.row_count(axis);
+        match column_of_level(axis, grouped) {
+            None => LevelCodes::Places,
+            Some(column) => LevelCodes::of_column(dims, axis, column),
+        }
+    }
+
+    // Those of a level whose members stand in a column.
+    fn of_column(dims: &'a Dims, axis: Axis, column: usize) -> LevelCodes<'a>
+        requires good { AreGoodRows axis (rows_on dims.now axis) }
+        requires column { column < length (lowers_of axis) }
+        ensures { (grouped : Level) → level_column (level_attribute axis grouped) ≡ Some column
+            → LeadToMembers dims.now axis grouped (tables_of result) }
+    {
+        let codes = dims.codes(axis, column);
+        let Some(lower) = lower_column(axis, column) else {
+            return LevelCodes::Column(codes);
+        };
+        let lowers = dims.codes(axis, lower);
+        match lower_column(axis, lower) {
+            None => LevelCodes::Above(lowers, codes),
+            Some(lowest) => LevelCodes::Twice(dims.codes(axis, lowest), lowers, codes),
+        }
+    }
+
+    // The code that they lead to from the place of a row.
+    #[inline]
+    fn read(self, place: usize) -> u16
+        requires { (code : ℕ) × Leads (tables_of self) place code × (code < 65536) }
+        ensures { (code : ℕ) → Leads (tables_of self.entry) place code → result ≡ code }
+    {
+        match self {
+            LevelCodes::Places => place as u16,
+            LevelCodes::Column(codes) => codes[place],
+            LevelCodes::Above(lowers, codes) => codes[usize::from(lowers[place])],
+            LevelCodes::Twice(lowest, lowers, codes) => {
+                codes[usize::from(lowers[usize::from(lowest[place])])]
+            }
+        }
+    }
+
+    // The code of the member that a key has. Nothing where the level has members and no row has the key.
+    #[inline]
+    pub(crate) fn code(self, dims: &Dims, axis: Axis, grouped: Level, key: u32) -> Option<u16>
+        requires codes { AreCodesOf dims.now axis grouped self }
+        ensures some { IfSome result (λ code. code ≡ member_code dims.now axis grouped (row_index_of dims.now axis key)) }
+        ensures apart { IfSome result (IsCodeAt grouped) }
+        ensures known { IfSome result (λ code. (grouped ≡ level.All → ⊥)
+            → row_index_of dims.now axis key < row_count_of dims.now axis) }
+        ensures none { IfNone result ((grouped ≡ level.All → ⊥)
+            × (row_count_of dims.now axis ≤ row_index_of dims.now axis key)) }
+    {
+        if is_all(grouped) {
+            return Some(ALL_CODE);
+        }
+        let place = dims.row_index(axis, key);
+        if place >= dims.row_count(axis) {
+            return None;
+        }
+        Some(self.read(place))
+    }
+}
+
 // The code of a column's text at a row: read at the row, or above the code of a lower column.
 fn column_code(dims: &Dims, axis: Axis, column: usize, place: usize) -> u16
     requires good { AreGoodRows axis (rows_on dims.now axis) }
@@ -29,6 +114,14 @@ fn column_code(dims: &Dims, axis: Axis, column: usize, place: usize) -> u16
         Some(lower) => usize::from(column_code(dims, axis, lower, place)),
     };
     dims.codes(axis, column)[at]
+}
+
+// Whether a level is that of every member together.
+#[inline]
+fn is_all(grouped: Level) -> bool
+    ensures { IsTrue result ↔ (grouped ≡ level.All) }
+{
+    matches!(grouped, Level::All)
 }
 
 // The column that has the members of a level. Nothing for a day, and for every member together.
@@ -72,24 +165,4 @@ pub(crate) fn code_count(dims: &Dims, axis: Axis, grouped: Level) -> usize
         None => dims.row_count(axis),
         Some(column) => dims.texts(axis, column).len(),
     }
-}
-
-// The code of the member that a key has at a level. Nothing where the level has members and no row has the key.
-pub(crate) fn code_of_key(dims: &Dims, axis: Axis, grouped: Level, key: u32) -> Option<u16>
-    ensures some { IfSome result (λ code. code ≡ member_code dims.now axis grouped (row_index_of dims.now axis key)) }
-    ensures apart { IfSome result (IsCodeAt grouped) }
-    ensures known { IfSome result (λ code. (grouped ≡ level.All → ⊥)
-        → row_index_of dims.now axis key < row_count_of dims.now axis) }
-    ensures none { IfNone result ((grouped ≡ level.All → ⊥)
-        × (row_count_of dims.now axis ≤ row_index_of dims.now axis key)) }
-{
-    valid_rows_keep_the_rules();
-    if matches!(grouped, Level::All) {
-        return Some(ALL_CODE);
-    }
-    let place = dims.row_index(axis, key);
-    if place >= dims.row_count(axis) {
-        return None;
-    }
-    Some(code_at_row(dims, axis, grouped, place))
 }

@@ -1,5 +1,5 @@
 //! Laws of the definitions: each function proves the statement that its contract names, and does nothing.
-ghost use Rattle.cuboid_upkeep.specs.Lawful.{CellsAreTheOne, MergesStandForBoth, OneKeyOneGroup, RowsInRangeFit};
+ghost use Rattle.cuboid_upkeep.specs.Lawful.{CellsAreTheOne, MergesStandForBoth, ModesAreAddedBehind, OneKeyOneGroup, RowsInRangeFit};
 
 use cube_model::{Axis, valid_rows_keep_the_rules};
 use dimensions::Dims;
@@ -7,6 +7,11 @@ use dimensions::Dims;
 /// The cells of fact rows put end to end are the merge of their cells.
 pub fn merges_stand_for_both()
     ensures { MergesStandForBoth }
+{}
+
+/// Cells stand for the same rows when modes are added behind the others.
+pub fn modes_are_added_behind()
+    ensures { ModesAreAddedBehind }
 {}
 
 /// Fact rows have one list of cells.

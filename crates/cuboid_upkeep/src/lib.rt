@@ -3,6 +3,8 @@
 
 mod codes;
 mod grouping;
+mod guesses;
+mod key_tables;
 mod laws;
 mod member_keys;
 mod row_cell;
@@ -10,6 +12,9 @@ mod stand_ins;
 mod taking;
 mod upkeep;
 
-pub use laws::{cells_are_the_one, merges_stand_for_both, one_key_one_group, rows_in_range_fit};
+pub use laws::{
+    cells_are_the_one, merges_stand_for_both, modes_are_added_behind, one_key_one_group,
+    rows_in_range_fit,
+};
 pub use stand_ins::{StandIns, stand_ins_of};
 pub use upkeep::add_rows;

@@ -51,6 +51,7 @@ impl Dictionary {
     pub fn len(&self) -> usize
         ensures count { result ≡ length self.now.texts }
         ensures within { result ≤ self.now.limit }
+        ensures limit { self.now.limit < 2 ^ 32 }
     {
         self.texts.len()
     }

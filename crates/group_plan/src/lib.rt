@@ -18,5 +18,5 @@ mod sides;
 pub use bounds::Bounds;
 pub use over::PlanOver;
 pub use plan::Plan;
-pub use rows::{FactRows, RowSlice};
+pub use rows::{FactRows, ModeRows, RowSlice};
 pub use side::UnknownKey;

@@ -1,8 +1,9 @@
 //! Fact rows as a plan and a fold read them, wherever they stand.
-ghost use Rattle.std.specs.Prelude.{◌≡◌, ◌<◌, List, length};
+ghost use Rattle.std.specs.Prelude.{◌≡◌, ◌<◌, ℕ, List, length, map};
 ghost use Rattle.cube_model.specs.declared.rows.LineOrder.{LineOrder};
 ghost use Rattle.cube_model.specs.Attributes.{key_on};
 ghost use Rattle.cube_model.specs.Measures.{measure_of};
+ghost use Rattle.dictionary.specs.Columns.{text_at};
 ghost use Rattle.group_plan.specs.Rows.{row_at};
 
 use cube_model::{Axis, LineOrder, Measure};
@@ -37,6 +38,27 @@ pub trait FactRows {
         ensures { result ≡ measure_of measure (row_at (rows self.now) place) };
 }
 
+/// Fact rows whose ship modes are told by codes: each row has the code of a text. A text may have several codes.
+pub trait ModeRows: FactRows {
+    /// The text of each code.
+    ghost modes: { Self → List (List ℕ) };
+
+    /// How many codes there are.
+    fn mode_count(&self) -> usize
+        ensures { result ≡ length (modes self.now) };
+
+    /// The text of a code.
+    fn mode_text(&self, code: usize) -> &[u8]
+        requires { code < length (modes self.now) }
+        ensures { result.now ≡ text_at (modes self.now) code };
+
+    /// The code of a row's ship mode.
+    fn mode_code(&self, place: usize) -> usize
+        requires { place < length (Self.rows self.now) }
+        ensures below { result < length (modes self.now) }
+        ensures text { text_at (modes self.now) result ≡ (row_at (Self.rows self.now) place).shipmode };
+}
+
 /// Fact rows in memory, one after another.
 #[derive(Clone, Copy, Debug)]
 pub struct RowSlice<'a>(pub &'a [LineOrder]);
@@ -68,5 +90,21 @@ impl<'a> FactRows for RowSlice<'a> {
 
     fn measure(&self, place: usize, measure: Measure) -> i128 {
         self.0[place].measure(measure)
+    }
+}
+
+impl<'a> ModeRows for RowSlice<'a> {
+    ghost modes = { λ slice. map (λ row. row.shipmode) slice.0.now };
+
+    fn mode_count(&self) -> usize {
+        self.0.len()
+    }
+
+    fn mode_text(&self, code: usize) -> &[u8] {
+        self.0[code].shipmode.as_slice()
+    }
+
+    fn mode_code(&self, place: usize) -> usize {
+        place
     }
 }

@@ -1,6 +1,7 @@
 use Rattle.std.proofs.Common.{take}
 use Rattle.cuboid_upkeep.proofs.Grouped.{Grouping}
+use Rattle.cuboid_upkeep.specs.Tables.{modes_in}
 use Rattle.cuboid_upkeep.proofs.grouping.group_rows.Given as goal
 
 abbrev pub invariant-loop-place : goal.invariant-loop-place
-invariant-loop-place g l = Grouping l.dims l.view (take l.place (g.F.FactRows.rows l.rows)) l.numbers.keys l.cells.items
+invariant-loop-place g l = Grouping l.dims (modes_in l.tables) l.view (take l.place (g.F.FactRows.rows l.rows)) l.numbers.keys l.cells.items

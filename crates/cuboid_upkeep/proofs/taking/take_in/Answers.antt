@@ -1,40 +1,43 @@
-use Rattle.std.proofs.Common.{◌<◌, ◌∙◌, ap, inr, refl, arith, rules, ℕ, List, length, nat_eq}
-use Rattle.std.specs.List.{IsDistinct, position_or_len}
-use Rattle.std.proofs.lemmas.List.{length-map}
+use Rattle.std.proofs.Common.{◌≡◌, ◌⊎◌, ◌∙◌, ap, inr, refl, subst, ℕ, List}
+use Rattle.cube_model.specs.declared.fault.Fault.{Fault}
 use Rattle.cuboid_cells.specs.declared.cell.Cell.{Cell}
-use Rattle.cuboid_cells.specs.Cells.{number_of}
-use Rattle.cuboid_upkeep.proofs.Taken.{keyed_still, keys_stay, overflows, taken_behind, taken_over}
+use Rattle.cuboid_upkeep.specs.Steps.{AreKeyed, HasKeyAt, MergesAt, Overflows, OverflowsAt, TakesIn}
+use Rattle.cuboid_upkeep.proofs.Added.{err_through, ok_through}
+use Rattle.cuboid_upkeep.proofs.Taken.{guessed, merge_overflows, merged_keyed, merged_taken}
 use Rattle.cuboid_upkeep.proofs.taking.take_in.Goals as goal
 
-pub returns-then-place-len-clause-ok : goal.returns-then-place-len-clause-ok
-returns-then-place-len-clause-ok c =
-    taken_behind c.args.cells.now.items c.args.cell c.in-Ok.place
-    (c.in-Ok.ensures.index ∙ (λ i. position_or_len (nat_eq (c.number.ensures i)) (c.requires.keys_are i)))
-    (omega (arith, c.if-place-len.true, c.len.ensures)) c.push.new.self.items c.in_ok-push.ensures.items
+pub merge_at-requires : goal.merge_at-requires
+merge_at-requires c =
+    (subst (λ (l : List Cell). HasKeyAt l c.guess-guess.result c.args.cell.key) c.deref.ensures.value (c.has_key.ensures c.if-has_key.true)).within
 
-pub returns-in_default-merge-clause-refused : goal.returns-in_default-merge-clause-refused
-returns-in_default-merge-clause-refused c = inr (
-  refl,
-  overflows c.args.cells.now.items c.args.cell c.in-Ok.place
-      (c.in-Ok.ensures.index ∙ (λ i. position_or_len (nat_eq (c.number.ensures i)) (c.requires.keys_are i)))
-      (omega (arith, c.if-place-len.false, c.len.ensures)) c.index.result.now c.index.ensures c.in_default-merge.ensures.none,
-)
-
-pub returns-clause-keyed : goal.returns-clause-keyed
-returns-clause-keyed c =
-    let within : c.in-Ok.place < length c.args.cells.now.items = omega (arith, c.if-place-len.false, c.len.ensures) in
+pub returns-then-has_key-clause-keyed : goal.returns-then-has_key-clause-keyed
+returns-then-has_key-clause-keyed c =
+    let cells : List Cell = c.args.cells.now.items in
+    let new : List Cell = c.merge_at.new.cells.items in
+    let has : HasKeyAt cells c.guess-guess.result c.args.cell.key =
+    subst (λ (l : List Cell). HasKeyAt l c.guess-guess.result c.args.cell.key) c.deref.ensures.value (c.has_key.ensures c.if-has_key.true) in
     let keys : List ℕ = c.args.numbers.now.keys in
-    let in_keys : c.in-Ok.place < length keys =
-    omega (arith, c.if-place-len.false, c.len.ensures, ap length c.requires.keys_are, length-map c.args.cells.now.items (λ (cell : Cell). number_of cell.key)) in
-    let once : IsDistinct nat_eq c.insert_full.new.self.keys = search rules in
-    keyed_still c.args.cells.now.items c.args.cell c.in-Ok.place
-    (c.in-Ok.ensures.index ∙ (λ i. position_or_len (nat_eq (c.number.ensures i)) (c.requires.keys_are i)))
-    within c.index.result.now c.index.ensures c.in-Some.both c.in-Some.ensures.some keys c.insert_full.new.self.keys
-    c.requires.keys_are (c.in-Ok.ensures.keys ∙ keys_stay keys c.number.result c.in-Ok.place c.in-Ok.ensures.index in_keys) once
+    let is = guessed keys cells c.guess-guess.result c.args.cell.key c.requires has in
+    ok_through c.merge_at.result (MergesAt cells c.guess-guess.result c.args.cell new) (AreKeyed keys new)
+    (λ m. merged_keyed cells c.args.cell c.guess-guess.result is has.within new m keys keys c.requires.keys_are refl c.requires.once)
+    c.merge_at.ensures.ok
 
-pub returns-clause-ok : goal.returns-clause-ok
-returns-clause-ok c =
-    taken_over c.args.cells.now.items c.args.cell c.in-Ok.place
-    (c.in-Ok.ensures.index ∙ (λ i. position_or_len (nat_eq (c.number.ensures i)) (c.requires.keys_are i)))
-    (omega (arith, c.if-place-len.false, c.len.ensures))
-    c.index.result.now c.index.ensures c.in-Some.both c.in-Some.ensures.some c.in-Some.ensures.fits
+pub returns-then-has_key-clause-ok : goal.returns-then-has_key-clause-ok
+returns-then-has_key-clause-ok c =
+    let cells : List Cell = c.args.cells.now.items in
+    let new : List Cell = c.merge_at.new.cells.items in
+    let has : HasKeyAt cells c.guess-guess.result c.args.cell.key =
+    subst (λ (l : List Cell). HasKeyAt l c.guess-guess.result c.args.cell.key) c.deref.ensures.value (c.has_key.ensures c.if-has_key.true) in
+    let is = guessed c.args.numbers.now.keys cells c.guess-guess.result c.args.cell.key c.requires has in
+    ok_through c.merge_at.result (MergesAt cells c.guess-guess.result c.args.cell new) (TakesIn cells c.args.cell new)
+    (λ m. merged_taken cells c.args.cell c.guess-guess.result is has.within new m) c.merge_at.ensures.ok
+
+pub returns-then-has_key-clause-refused : goal.returns-then-has_key-clause-refused
+returns-then-has_key-clause-refused c =
+    let cells : List Cell = c.args.cells.now.items in
+    let has : HasKeyAt cells c.guess-guess.result c.args.cell.key =
+    subst (λ (l : List Cell). HasKeyAt l c.guess-guess.result c.args.cell.key) c.deref.ensures.value (c.has_key.ensures c.if-has_key.true) in
+    let is = guessed c.args.numbers.now.keys cells c.guess-guess.result c.args.cell.key c.requires has in
+    err_through c.merge_at.result (λ fault. (fault ≡ Fault.BadLayout) × OverflowsAt cells c.guess-guess.result c.args.cell)
+    (λ fault. (fault ≡ Fault.Memory) ⊎ ((fault ≡ Fault.BadLayout) × Overflows cells c.args.cell))
+    (λ fault why. inr (why.0, merge_overflows cells c.args.cell c.guess-guess.result is has.within why.1)) c.merge_at.ensures.refused

@@ -1,9 +1,11 @@
-use Rattle.std.proofs.Common.{◌≡◌, ◌∙◌, ◌++◌, ◌⊎◌, List, sym, subst}
+use Rattle.std.proofs.Common.{◌≡◌, ◌∙◌, ◌++◌, ◌⊎◌, ℕ, List, sym, subst}
+use Rattle.std.specs.Option.{option_map}
 use Rattle.std.proofs.lemmas.Result.{err_from_is_err_and}
 use Rattle.cube_model.specs.declared.fault.Fault.{Fault}
 use Rattle.cube_model.specs.declared.rows.LineOrder.{LineOrder}
 use Rattle.lattice.specs.declared.view.View.{View}
 use Rattle.cuboid_cells.specs.Merges.{IsMergeFault, IsMergeOf}
+use Rattle.cuboid_upkeep.specs.Codes.{modes_of}
 use Rattle.cuboid_upkeep.specs.Grouping.{StandFor}
 use Rattle.cuboid_upkeep.specs.Steps.{AreUnfit, IsAddFault}
 use Rattle.cuboid_upkeep.proofs.Added.{batch_refused, both_stand, err_through, merge_refused, ok_through}
@@ -13,25 +15,28 @@ pub returns-in_err-batch-clause-refused : goal.returns-in_err-batch-clause-refus
 returns-in_err-batch-clause-refused g c =
     let p = err_from_is_err_and c.from_residual.result c.from_residual.ensures.1 in
     let rows = g.F.FactRows.rows c.args.rows.now in
-    let why = subst (λ (view : View). (c.in_err-batch.field-0.0 ≡ Fault.Memory) ⊎ ((c.in_err-batch.field-0.0 ≡ Fault.BadLayout) × AreUnfit c.args.dims.now view rows))
+    let modes : List (List ℕ) = modes_of (option_map (λ modes. modes.now) c.args.modes) in
+    let why = subst (λ (view : View). (c.in_err-batch.field-0.0 ≡ Fault.Memory) ⊎ ((c.in_err-batch.field-0.0 ≡ Fault.BadLayout) × AreUnfit c.args.dims.now modes view rows))
     c.view.ensures.value c.in_err-batch.ensures.refused in
-    rw (p.1, p.2) (λ so_far stand. batch_refused c.args.dims.now c.args.cells.now.view so_far rows c.in_err-batch.field-0.0 why)
+    rw (p.1, p.2) (λ so_far stand. batch_refused c.args.dims.now modes c.args.cells.now.view so_far rows c.in_err-batch.field-0.0 why)
 
 pub returns-clause-ok : goal.returns-clause-ok
 returns-clause-ok g c =
     let rows = g.F.FactRows.rows c.args.rows.now in
+    let modes : List (List ℕ) = modes_of (option_map (λ modes. modes.now) c.args.modes) in
     let same : c.args.cells.now.view ≡ c.in_ok-batch.batch.view = sym (c.in_ok-batch.ensures.view ∙ c.view.ensures.value) in
     ok_through c.merge.result (IsMergeOf c.args.cells.now c.in_ok-batch.batch c.merge.new.self)
-    ((so_far : List LineOrder) → StandFor c.args.dims.now so_far c.args.cells.now → StandFor c.args.dims.now (so_far ++ rows) c.merge.new.self)
-    (λ merge so_far stand. both_stand c.args.dims.now so_far rows c.args.cells.now c.in_ok-batch.batch c.merge.new.self same stand c.in_ok-batch.ensures.ok merge)
+    ((so_far : List LineOrder) → StandFor c.args.dims.now modes so_far c.args.cells.now → StandFor c.args.dims.now modes (so_far ++ rows) c.merge.new.self)
+    (λ merge so_far stand. both_stand c.args.dims.now modes so_far rows c.args.cells.now c.in_ok-batch.batch c.merge.new.self same stand c.in_ok-batch.ensures.ok merge)
     c.merge.ensures.ok
 
 pub returns-clause-refused : goal.returns-clause-refused
 returns-clause-refused g c =
     let rows = g.F.FactRows.rows c.args.rows.now in
+    let modes : List (List ℕ) = modes_of (option_map (λ modes. modes.now) c.args.modes) in
     let same : c.in_ok-batch.batch.view ≡ c.args.cells.now.view = c.in_ok-batch.ensures.view ∙ c.view.ensures.value in
     err_through c.merge.result (IsMergeFault c.args.cells.now c.in_ok-batch.batch)
-    (λ fault. (so_far : List LineOrder) → StandFor c.args.dims.now so_far c.args.cells.now → IsAddFault c.args.dims.now c.args.cells.now.view (so_far ++ rows) fault)
-    (λ fault why so_far stand. merge_refused c.args.dims.now c.args.cells.now.view so_far rows c.args.cells.now.cells c.in_ok-batch.batch.cells c.view.ensures.proper.fit stand
-    (subst (λ (view : View). StandFor c.args.dims.now rows (record { view = view; cells = c.in_ok-batch.batch.cells })) same c.in_ok-batch.ensures.ok) fault why)
+    (λ fault. (so_far : List LineOrder) → StandFor c.args.dims.now modes so_far c.args.cells.now → IsAddFault c.args.dims.now modes c.args.cells.now.view (so_far ++ rows) fault)
+    (λ fault why so_far stand. merge_refused c.args.dims.now modes c.args.cells.now.view so_far rows c.args.cells.now.cells c.in_ok-batch.batch.cells c.view.ensures.proper.fit stand
+    (subst (λ (view : View). StandFor c.args.dims.now modes rows (record { view = view; cells = c.in_ok-batch.batch.cells })) same c.in_ok-batch.ensures.ok) fault why)
     c.merge.ensures.refused

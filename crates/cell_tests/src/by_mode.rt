@@ -1,0 +1,174 @@
+//! Cells of the sample rows by ship mode as well, worked out by hand.
+use crate::grouped::FIRST_AND_THIRD;
+use crate::sample::{FIRST, SECOND, THIRD};
+use cube_model::Fault;
+use cuboid_cells::{Cell, Cells, Key, Summaries};
+use cuboid_upkeep::{add_rows, stand_ins_of};
+use dictionary::Dictionary;
+use dimensions::Dims;
+use group_plan::{FactRows, RowSlice};
+use lattice::View;
+use sample_star::{FACTS, STAR, dim_rows, line_orders};
+use std::alloc::Global;
+use std::test::Fail;
+
+const ALL: u16 = 65_535;
+
+// The texts of the sample's ship modes in an order that is not that of the rows.
+const MODES: [&[u8]; 2] = [b"RAIL", b"AIR"];
+
+fn modes_of(alloc: Global, texts: &[&[u8]]) -> Result<Dictionary, Fault> {
+    let mut modes = Dictionary::new(alloc, 65_535);
+    for text in texts {
+        modes.add(alloc, text)?;
+    }
+    Ok(modes)
+}
+
+fn dims_of(alloc: Global) -> Result<Dims, Fault> {
+    let rows = dim_rows(alloc, &STAR)?;
+    Dims::build(alloc, &rows)
+}
+
+fn cells_of(alloc: Global, index: u16) -> Result<Cells, Fault> {
+    match View::new(index) {
+        Some(view) => Ok(Cells::empty(alloc, view)),
+        None => Err(Fault::BadQuery),
+    }
+}
+
+// Takes the sample rows in as a batch.
+fn take_in(
+    alloc: Global,
+    dims: &Dims,
+    cells: &mut Cells,
+    modes: Option<&Dictionary>,
+) -> Result<(), Fault> {
+    let rows = line_orders(alloc, &FACTS)?;
+    if rows.len() > 65_536 {
+        return Ok(());
+    }
+    add_rows(cells, alloc, dims, &RowSlice(&rows), modes)
+}
+
+// The cells of the sample rows under a view.
+fn grouped(alloc: Global, index: u16) -> Result<Cells, Fault> {
+    let dims = dims_of(alloc)?;
+    let modes = modes_of(alloc, &MODES)?;
+    let mut cells = cells_of(alloc, index)?;
+    take_in(alloc, &dims, &mut cells, Some(&modes))?;
+    Ok(cells)
+}
+
+// A cell of the codes of a part, a day and a ship mode.
+fn cell(part: u16, date: u16, ship_mode: u16, count: u64, measures: Summaries) -> Cell {
+    Cell {
+        key: Key {
+            customer: ALL,
+            supplier: ALL,
+            part,
+            date,
+            ship_mode,
+        },
+        count,
+        measures,
+    }
+}
+
+#[test]
+fn groups_the_sample_rows_by_ship_mode(rt: HostRuntime) -> Result<(), Fail> {
+    let cells = grouped(rt.alloc(), 511)?;
+    let want = [
+        cell(ALL, ALL, 0, 1, SECOND),
+        cell(ALL, ALL, 1, 2, FIRST_AND_THIRD),
+    ];
+    assert_eq!(rt; cells.as_slice(), want.as_slice());
+    Ok(())
+}
+
+#[test]
+fn groups_the_sample_rows_by_day_and_ship_mode(rt: HostRuntime) -> Result<(), Fail> {
+    let cells = grouped(rt.alloc(), 504)?;
+    let want = [
+        cell(0, 0, 1, 1, FIRST),
+        cell(0, 1, 0, 1, SECOND),
+        cell(0, 1, 1, 1, THIRD),
+    ];
+    assert_eq!(rt; cells.as_slice(), want.as_slice());
+    Ok(())
+}
+
+// The modes that are given, the view, and whether the sample rows are taken.
+static GIVEN: [(Option<&[&[u8]]>, u16, bool); 6] = [
+    (Some(&MODES), 511, true),
+    (Some(&[b"AIR"]), 511, false),
+    (Some(&[]), 511, false),
+    (None, 511, false),
+    (Some(&[b"AIR"]), 255, true),
+    (None, 255, true),
+];
+
+// What comes of the sample rows, and whether there is no cell afterwards.
+fn taken(
+    alloc: Global,
+    dims: &Dims,
+    texts: Option<&[&[u8]]>,
+    index: u16,
+) -> Result<(Result<(), Fault>, bool), Fault> {
+    let modes = modes_of(alloc, texts.unwrap_or(&[]))?;
+    let mut cells = cells_of(alloc, index)?;
+    let given = if texts.is_some() { Some(&modes) } else { None };
+    let found = take_in(alloc, dims, &mut cells, given);
+    Ok((found, cells.as_slice().is_empty()))
+}
+
+#[test]
+fn refuses_rows_of_no_mode(rt: HostRuntime) -> Result<(), Fail> {
+    let dims = dims_of(rt.alloc())?;
+    for (texts, view, some) in GIVEN {
+        let want = if some { Ok(()) } else { Err(Fault::BadLayout) };
+        assert_eq!(rt;
+            taken(rt.alloc(), &dims, texts, view),
+            Ok((want, !some)),
+            "view {view}"
+        );
+    }
+    Ok(())
+}
+
+// How many rows stand in for the cells of the sample rows.
+fn stand_ins(
+    alloc: Global,
+    dims: &Dims,
+    texts: Option<&[&[u8]]>,
+    index: u16,
+) -> Result<usize, Fault> {
+    let modes = modes_of(alloc, texts.unwrap_or(&[]))?;
+    let cells = grouped(alloc, index)?;
+    let given = if texts.is_some() { Some(&modes) } else { None };
+    let rows = stand_ins_of(alloc, dims, &cells, given)?;
+    Ok(rows.count())
+}
+
+// How many cells the sample rows have.
+fn many(index: u16) -> usize {
+    if index == 511 { 2 } else { 1 }
+}
+
+#[test]
+fn cells_of_no_mode_have_no_stand_ins(rt: HostRuntime) -> Result<(), Fail> {
+    let dims = dims_of(rt.alloc())?;
+    for (texts, view, some) in GIVEN {
+        let want = if some {
+            Ok(many(view))
+        } else {
+            Err(Fault::BadLayout)
+        };
+        assert_eq!(rt;
+            stand_ins(rt.alloc(), &dims, texts, view),
+            want,
+            "view {view}"
+        );
+    }
+    Ok(())
+}

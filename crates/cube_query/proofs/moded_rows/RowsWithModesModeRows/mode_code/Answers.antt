@@ -1,0 +1,16 @@
+use Rattle.std.proofs.Common.{◌≡◌, ◌∙◌, ◌<◌, ap, length, map, subst, w16}
+use Rattle.std.specs.Int.{from_le_bytes}
+use Rattle.dictionary.specs.Columns.{text_at}
+use Rattle.group_plan.specs.Rows.{row_at}
+use Rattle.cube_query.specs.SegmentRows.{ModedRows}
+use Rattle.cube_query.proofs.Lists.{text_at_place}
+use Rattle.cube_query.proofs.moded_rows.RowsWithModesModeRows.mode_code.Goals as goal
+
+pub returns-clause-text : goal.returns-clause-text
+returns-clause-text c =
+    let place = c.args.place in
+    let own = c.self.inside in
+    subst (λ (m : ModedRows). place < length m.rows → text_at m.modes c.from.result ≡ (row_at m.rows place).shipmode) c.self.view_is
+    (λ h. ap (text_at own.modes.now.texts) (c.from.ensures ∙ c.code_at.ensures)
+    ∙ text_at_place (text_at own.modes.now.texts) (map (from_le_bytes w16) own.codes.now) own.rows place c.self.invariant.texts h)
+    c.requires
