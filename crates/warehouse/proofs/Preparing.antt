@@ -3,8 +3,10 @@ use Rattle.std.proofs.Common.{◌≡◌, ℕ, ◌+◌, List, map, length, sym, a
 use Rattle.std.proofs.lemmas.List.Concat.{length-flat_map}
 use Rattle.std.proofs.lemmas.List.Sums.{sum-map}
 use Rattle.std.specs.List.{sum_by}
+use Rattle.cube_model.specs.declared.rows.DimRows.{DimRows}
 use Rattle.cube_model.specs.declared.rows.LineOrder.{LineOrder}
-use Rattle.cube_model.specs.Admission.{all_rows}
+use Rattle.cube_model.specs.Admission.{all_rows, IsAdmissible}
+use Rattle.batch_admission.proofs.CallerLemmas.{passes}
 use Rattle.batch_admission.specs.Accepted.{CanFollow}
 use Rattle.batch_admission.specs.Totals.{AreBelow, sum_limit}
 use Rattle.batch_admission.specs.declared.totals.Totals.{Totals}
@@ -12,11 +14,20 @@ use Rattle.warehouse_root.specs.Root.{AreProperTotals}
 use Rattle.warehouse_root.specs.declared.totals.StoredTotals.{StoredTotals}
 use Rattle.warehouse_objects.specs.Stands.{stored}
 use Rattle.warehouse.specs.Prepared.{MayFollow}
-use Rattle.warehouse_objects.proofs.CallerLemmas.{batch_of}
+use Rattle.warehouse_objects.proofs.CallerLemmas.{batch_of, is_batch, next_number}
+
+-- an admissible batch may be put
+pub follows : (rows : DimRows) (batches : List (List LineOrder)) (number : ℕ) (batch : List LineOrder) → IsAdmissible rows batches number batch → MayFollow (length batches) number batch
+follows rows batches number batch admissible =
+    let next : number ≡ length batches + 1 = next_number rows batches number batch admissible in record {
+      next = next;
+      few = omega (arith, next, (passes rows batches number batch admissible).batches_left);
+      batch = is_batch rows batches number batch admissible;
+    }
 
 -- a batch that was accepted behind so many may be put there
-pub follows : (count batches number : ℕ) (batch : List LineOrder) → CanFollow count number batch → count ≡ batches → MayFollow batches number batch
-follows count batches number batch can is = record {
+pub can_follow : (count batches number : ℕ) (batch : List LineOrder) → CanFollow count number batch → count ≡ batches → MayFollow batches number batch
+can_follow count batches number batch can is = record {
   next = can.next ∙ ap (λ n. n + 1) is;
   few = can.last;
   batch = batch_of batch can.few can.texts;

@@ -2,7 +2,7 @@ use Rattle.std.proofs.Common.{◌≡◌, Some, length, sym, ◌∙◌, ap, subst
 use Rattle.cube_model.specs.declared.rows.DimRows.{DimRows}
 use Rattle.cube_model.specs.Admission.{refusal}
 use Rattle.warehouse.proofs.Refusing.{refusal_apart}
-use Rattle.warehouse.proofs.Preparing.{follows, proper_totals}
+use Rattle.warehouse.proofs.Preparing.{can_follow, proper_totals}
 use Rattle.warehouse.proofs.prepared.Prepared.admitted.Goals as goal
 
 pub returns-in-Err-clause-model : goal.returns-in-Err-clause-model
@@ -14,4 +14,4 @@ returns-in-Err-clause-model c w rows_are root_is =
 
 pub returns-in-Ok-clause-follows : goal.returns-in-Ok-clause-follows
 returns-in-Ok-clause-follows c =
-    (follows c.admission_of-admission.result.count (length c.args.root.now.batches) c.args.number c.args.rows.now c.in-Ok.ensures.follows c.admission_of-admission.ensures.count, proper_totals c.totals.result c.stored_of.result c.stored_of.ensures c.totals.ensures.below)
+    (can_follow c.admission_of-admission.result.count (length c.args.root.now.batches) c.args.number c.args.rows.now c.in-Ok.ensures.follows c.admission_of-admission.ensures.count, proper_totals c.totals.result c.stored_of.result c.stored_of.ensures c.totals.ensures.below)
