@@ -10,9 +10,9 @@ pub returns-in_err-check_extents-clause-refused : goal.returns-in_err-check_exte
 returns-in_err-check_extents-clause-refused c =
     let p = err_from_is_err_and c.from_residual-in_err-check_extents.result c.from_residual-in_err-check_extents.ensures.1 in
     rw (p.1, p.2) (
-        ⊎_elim (λ memory. inl memory) (λ bad. inr (
-          bad.0,
-          λ entries root is laid.
-              let same = IsCatalogue-one c.args.bytes.now entries c.in_ok-catalogue.catalogue.entries.items root c.in_ok-catalogue.catalogue.root.items is c.in_ok-catalogue.ensures.ok in
-              bad.1 (subst (λ (l : List Entry). AreLaidOut c.args.superblock.now.sectors (used_by c.args.superblock.now l)) (same.0 ∙ sym c.deref.ensures.value) laid),
-        )) c.in_err-check_extents.ensures.refused)
+    ⊎_elim (λ memory. inl memory) (λ bad. inr (
+      bad.0,
+      λ entries root is laid.
+          let same = IsCatalogue-one c.args.bytes.now entries c.in_ok-catalogue.catalogue.entries.items root c.in_ok-catalogue.catalogue.root.items is c.in_ok-catalogue.ensures.ok in
+          bad.1 (subst (λ (l : List Entry). AreLaidOut c.args.superblock.now.sectors (used_by c.args.superblock.now l)) (same.0 ∙ sym c.deref.ensures.value) laid),
+    )) c.in_err-check_extents.ensures.refused)

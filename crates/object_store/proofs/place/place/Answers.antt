@@ -22,10 +22,10 @@ pub returns-in_err-extent-clause-refused : goal.returns-in_err-extent-clause-ref
 returns-in_err-extent-clause-refused c =
     let p = err_from_is_err_and c.from_residual-in_err-extent.result c.from_residual-in_err-extent.ensures.1 in
     rw (p.1, p.2) (
-        inr (
-          c.in_err-extent.ensures.only_full,
-          fail_put c.args.free.now c.loop-k.free c.args.puts.now c.loop-k.k no_put c.loop-k.placed.items c.div_ceil.result c.loop-k-test.true c.loop-k.invariant (omega (arith, c.div_ceil.ensures)) ((c.in_err-extent.ensures.full).0 (ap Err c.in_err-extent.ensures.only_full)),
-        ))
+    inr (
+      c.in_err-extent.ensures.only_full,
+      fail_put c.args.free.now c.loop-k.free c.args.puts.now c.loop-k.k no_put c.loop-k.placed.items c.div_ceil.result c.loop-k-test.true c.loop-k.invariant (omega (arith, c.div_ceil.ensures)) ((c.in_err-extent.ensures.full).0 (ap Err c.in_err-extent.ensures.only_full)),
+    ))
 
 pub loop-k-preserved : goal.loop-k-preserved
 loop-k-preserved c =

@@ -13,7 +13,7 @@ pub returns-in_err-placed-clause-refused : goal.returns-in_err-placed-clause-ref
 returns-in_err-placed-clause-refused c =
     let p = err_from_is_err_and c.from_residual-in_err-placed.result c.from_residual-in_err-placed.ensures.1 in
     rw (p.1, p.2) (
-        ⊎_elim (λ memory. inl memory) (λ full. inr (full.0, lacks_put c.args.stamp.sectors c.args.used.now c.args.kept.items (puts_of c.args.puts.now) c.args.root.now c.in_ok-free.free c.in_ok-free.ensures.ok full.1)) c.in_err-placed.ensures.refused)
+    ⊎_elim (λ memory. inl memory) (λ full. inr (full.0, lacks_put c.args.stamp.sectors c.args.used.now c.args.kept.items (puts_of c.args.puts.now) c.args.root.now c.in_ok-free.free c.in_ok-free.ensures.ok full.1)) c.in_err-placed.ensures.refused)
 
 pub encode-requires-clause-few : goal.encode-requires-clause-few
 encode-requires-clause-few c =
@@ -47,15 +47,15 @@ pub returns-in_err-extent-clause-refused : goal.returns-in_err-extent-clause-ref
 returns-in_err-extent-clause-refused c =
     let p = err_from_is_err_and c.from_residual-in_err-extent.result c.from_residual-in_err-extent.ensures.1 in
     rw (p.1, p.2) (
-        let kept = c.args.kept.items in
-        let merged : c.put_entries.new.entries.items ≡ put_each (λ e. e.id) c.in_ok-placed.placed.items kept = c.in_ok-put_entries.ensures.ok ∙ ap (λ (l : List Entry). put_each (λ e. e.id) l kept) c.deref.ensures.value in
-        let spelled : c.in_ok-catalogue.catalogue.items ≡ catalogue_of c.put_entries.new.entries.items c.args.root.now = c.in_ok-catalogue.ensures.ok ∙ ap (λ (l : List Entry). catalogue_of l c.args.root.now) c.deref-2.ensures.value in
-        let len : c.len.result ≡ length c.in_ok-catalogue.catalogue.items = search rules in
-        inr (
-          c.in_err-extent.ensures.only_full,
-          lacks_catalogue c.args.stamp.sectors c.args.used.now kept c.in_ok-placed.placed.items c.put_entries.new.entries.items (puts_of c.args.puts.now) c.args.root.now c.in_ok-catalogue.catalogue.items c.in_ok-free.free c.place.new.free c.div_ceil.result
-              c.in_ok-free.ensures.ok c.in_ok-placed.ensures.ok merged spelled (omega (arith, c.div_ceil.ensures, len)) ((c.in_err-extent.ensures.full).0 (ap Err c.in_err-extent.ensures.only_full)),
-        ))
+    let kept = c.args.kept.items in
+    let merged : c.put_entries.new.entries.items ≡ put_each (λ e. e.id) c.in_ok-placed.placed.items kept = c.in_ok-put_entries.ensures.ok ∙ ap (λ (l : List Entry). put_each (λ e. e.id) l kept) c.deref.ensures.value in
+    let spelled : c.in_ok-catalogue.catalogue.items ≡ catalogue_of c.put_entries.new.entries.items c.args.root.now = c.in_ok-catalogue.ensures.ok ∙ ap (λ (l : List Entry). catalogue_of l c.args.root.now) c.deref-2.ensures.value in
+    let len : c.len.result ≡ length c.in_ok-catalogue.catalogue.items = search rules in
+    inr (
+      c.in_err-extent.ensures.only_full,
+      lacks_catalogue c.args.stamp.sectors c.args.used.now kept c.in_ok-placed.placed.items c.put_entries.new.entries.items (puts_of c.args.puts.now) c.args.root.now c.in_ok-catalogue.catalogue.items c.in_ok-free.free c.place.new.free c.div_ceil.result
+          c.in_ok-free.ensures.ok c.in_ok-placed.ensures.ok merged spelled (omega (arith, c.div_ceil.ensures, len)) ((c.in_err-extent.ensures.full).0 (ap Err c.in_err-extent.ensures.only_full)),
+    ))
 
 pub returns-clause-ok : goal.returns-clause-ok
 returns-clause-ok c =

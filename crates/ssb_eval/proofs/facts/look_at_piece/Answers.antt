@@ -16,10 +16,10 @@ pub returns-in_err-add_rows-clause-only : goal.returns-in_err-add_rows-clause-on
 returns-in_err-add_rows-clause-only c =
     let p = err_from_is_err_and c.from_residual.result c.from_residual.ensures.1 in
     rw (p.1, p.2) (
-        let no : is_some (cause_of c.more-more.result) ≡ false = search rules in
-        memory_alone (Err c.in_err-add_rows.field-0.0) (CanTake c.args.dims.now c.args.fold.now c.args.rows.now)
-        (can_add_behind c.args.dims.now c.args.rows.now c.args.found c.more-more.result c.args.fold.now c.requires.begun c.more-more.ensures no c.requires.few)
-        c.in_err-add_rows.ensures.refused c.in_err-add_rows.ensures.only)
+    let no : is_some (cause_of c.more-more.result) ≡ false = search rules in
+    memory_alone (Err c.in_err-add_rows.field-0.0) (CanTake c.args.dims.now c.args.fold.now c.args.rows.now)
+    (can_add_behind c.args.dims.now c.args.rows.now c.args.found c.more-more.result c.args.fold.now c.requires.begun c.more-more.ensures no c.requires.few)
+    c.in_err-add_rows.ensures.refused c.in_err-add_rows.ensures.only)
 
 pub returns-then-is_some-clause-ok : goal.returns-then-is_some-clause-ok
 returns-then-is_some-clause-ok c = λ before earlier begun.

@@ -20,7 +20,7 @@ pub returns-in_err-submit-clause-refused : goal.returns-in_err-submit-clause-ref
 returns-in_err-submit-clause-refused g c =
     let p = err_from_is_err_and c.from_residual-in_err-submit.result c.from_residual-in_err-submit.ensures.1 in
     rw (p.1, p.2) (λ w at k.
-        let status = c.in_ok-status.ensures.ok w at (c.submit.ensures.word k) in
-        let new : length w.batches < c.args.number = omega (arith, c.if-branch.false, status.batches) in
-        refuses g.D.Sectors w c.args.number c.args.rows.now c.args.session.now c.submit.new.self c.in_err-submit.field-0.0 new
-        (λ e. (c.in_err-submit.ensures.device (ap (λ f. Err f) e)).failed) (λ no. (c.in_err-submit.ensures.causes no w at k, (c.in_err-submit.ensures.refused no w at).0)) (c.submit.ensures.leaves w at))
+    let status = c.in_ok-status.ensures.ok w at (c.submit.ensures.word k) in
+    let new : length w.batches < c.args.number = omega (arith, c.if-branch.false, status.batches) in
+    refuses g.D.Sectors w c.args.number c.args.rows.now c.args.session.now c.submit.new.self c.in_err-submit.field-0.0 new
+    (λ e. (c.in_err-submit.ensures.device (ap (λ f. Err f) e)).failed) (λ no. (c.in_err-submit.ensures.causes no w at k, (c.in_err-submit.ensures.refused no w at).0)) (c.submit.ensures.leaves w at))

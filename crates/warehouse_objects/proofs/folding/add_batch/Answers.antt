@@ -32,19 +32,19 @@ pub returns-in_err-segment-clause-refused : goal.returns-in_err-segment-clause-r
 returns-in_err-segment-clause-refused g c =
     let p = err_from_is_err_and c.from_residual-in_err-segment.result c.from_residual-in_err-segment.ensures.1 in
     rw (p.1, p.2) (λ is k w stands same batch here many so_far.
-        let before = c.args.before in
-        let bad : c.in_err-segment.field-0.0 ≡ BadLayout = err_fault c.in_err-segment.field-0.0 BadLayout is in
-        bad_one ⊥ _ (of_fault _ c.decoded_batch.result BadLayout c.decoded_batch.ensures.refused (c.in_err-segment.was ∙ ap (λ (f : Fault). Err f) bad)) (λ none. none batch (sym many)
-        (segment_there (content_of g.D.Sectors c.args.store.now) w stands before (before + 1) c.segment_id.result refl c.segment_id.ensures batch here c.in_ok-bytes.bytes.items (c.in_ok-bytes.ensures.found k))))
+    let before = c.args.before in
+    let bad : c.in_err-segment.field-0.0 ≡ BadLayout = err_fault c.in_err-segment.field-0.0 BadLayout is in
+    bad_one ⊥ _ (of_fault _ c.decoded_batch.result BadLayout c.decoded_batch.ensures.refused (c.in_err-segment.was ∙ ap (λ (f : Fault). Err f) bad)) (λ none. none batch (sym many)
+    (segment_there (content_of g.D.Sectors c.args.store.now) w stands before (before + 1) c.segment_id.result refl c.segment_id.ensures batch here c.in_ok-bytes.bytes.items (c.in_ok-bytes.ensures.found k))))
 
 pub returns-in_err-bytes-clause-refused : goal.returns-in_err-bytes-clause-refused
 returns-in_err-bytes-clause-refused g c =
     let p = err_from_is_err_and c.from_residual.result c.from_residual.ensures.1 in
     rw (p.1, p.2) (λ is k w stands same batch here many so_far.
-        let before = c.args.before in
-        let bad : c.in_err-bytes.field-0.0 ≡ BadLayout = err_fault c.in_err-bytes.field-0.0 BadLayout is in
-        never_missing (content_of g.D.Sectors c.args.store.now) w stands before (before + 1) c.segment_id.result refl c.segment_id.ensures batch here
-        (c.read_object.ensures.missing (c.in_err-bytes.was ∙ ap (λ (f : Fault). Err f) bad) k))
+    let before = c.args.before in
+    let bad : c.in_err-bytes.field-0.0 ≡ BadLayout = err_fault c.in_err-bytes.field-0.0 BadLayout is in
+    never_missing (content_of g.D.Sectors c.args.store.now) w stands before (before + 1) c.segment_id.result refl c.segment_id.ensures batch here
+    (c.read_object.ensures.missing (c.in_err-bytes.was ∙ ap (λ (f : Fault). Err f) bad) k))
 
 pub returns-clause-device : goal.returns-clause-device
 returns-clause-device g c is = absurd (never_device _ (of_fault _ c.take_in.result Device c.take_in.ensures.refused is))

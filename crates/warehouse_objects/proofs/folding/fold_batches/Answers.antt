@@ -45,15 +45,15 @@ pub returns-in_err-add_batch-clause-refused : goal.returns-in_err-add_batch-clau
 returns-in_err-add_batch-clause-refused g c =
     let p = err_from_is_err_and c.from_residual.result c.from_residual.ensures.1 in
     rw (p.1, p.2) (λ is k w stands rooted same.
-        let so_far = c.loop-before.invariant in
-        let word = c.in_err-add_batch.ensures.leaves.word k in
-        let lengths : length c.args.root.now.batches ≡ length w.batches = ap (λ r. length r.batches) rooted ∙ length-map w.batches length in
-        let lt : c.loop-before.before < length w.batches = omega (arith, c.loop-before-test.true, c.requires.few, lengths) in
-        let got = get_within w.batches c.loop-before.before lt in
-        let many = ap (λ (l : List ℕ). get_or l c.loop-before.before 0) (c.batches-batches.ensures ∙ ap (λ r. r.batches) rooted)
-        ∙ count_there (content_of g.D.Sectors c.args.store.now) w stands c.loop-before.before got.0 got.1 in
-        c.in_err-add_batch.ensures.refused is k w (subst (λ (x : Content). Stands x w) (sym (so_far.still.content word)) stands) same got.0 got.1 many
-        (subst (λ (bs : List (List LineOrder)). StandsFor c.args.dims.now c.loop-before.fold (all_rows bs)) (so_far.folded.2 word w stands) so_far.folded.1))
+    let so_far = c.loop-before.invariant in
+    let word = c.in_err-add_batch.ensures.leaves.word k in
+    let lengths : length c.args.root.now.batches ≡ length w.batches = ap (λ r. length r.batches) rooted ∙ length-map w.batches length in
+    let lt : c.loop-before.before < length w.batches = omega (arith, c.loop-before-test.true, c.requires.few, lengths) in
+    let got = get_within w.batches c.loop-before.before lt in
+    let many = ap (λ (l : List ℕ). get_or l c.loop-before.before 0) (c.batches-batches.ensures ∙ ap (λ r. r.batches) rooted)
+    ∙ count_there (content_of g.D.Sectors c.args.store.now) w stands c.loop-before.before got.0 got.1 in
+    c.in_err-add_batch.ensures.refused is k w (subst (λ (x : Content). Stands x w) (sym (so_far.still.content word)) stands) same got.0 got.1 many
+    (subst (λ (bs : List (List LineOrder)). StandsFor c.args.dims.now c.loop-before.fold (all_rows bs)) (so_far.folded.2 word w stands) so_far.folded.1))
 
 pub returns-in_err-add_batch-clause-leaves : goal.returns-in_err-add_batch-clause-leaves
 returns-in_err-add_batch-clause-leaves g c =

@@ -22,12 +22,12 @@ pub returns-in_err-plan-clause-refuses : goal.returns-in_err-plan-clause-refuses
 returns-in_err-plan-clause-refuses g c =
     let p = err_from_is_err_and c.from_residual.result c.from_residual.ensures.1 in
     rw (p.1, p.2) (λ no_device no_failed.
-        let store = c.args.self.now in
-        ⊎_elim (λ memory. inl memory) (λ full. inr (inr (
-          full.0,
-          lacks_room store.superblock.sectors (used_by store.superblock store.entries.items) store.entries.items (puts_of c.args.puts.now) c.args.drops.now c.args.root.now
-              (subst (λ (l : List Entry). LacksPlaces store.superblock.sectors (used_by store.superblock l) (asked_for (sizes_at (drop_each (λ e. e.id) c.args.drops.now l)) (puts_of c.args.puts.now) c.args.root.now)) c.deref.ensures.value full.1),
-        ))) c.in_err-plan.ensures.refused)
+    let store = c.args.self.now in
+    ⊎_elim (λ memory. inl memory) (λ full. inr (inr (
+      full.0,
+      lacks_room store.superblock.sectors (used_by store.superblock store.entries.items) store.entries.items (puts_of c.args.puts.now) c.args.drops.now c.args.root.now
+          (subst (λ (l : List Entry). LacksPlaces store.superblock.sectors (used_by store.superblock l) (asked_for (sizes_at (drop_each (λ e. e.id) c.args.drops.now l)) (puts_of c.args.puts.now) c.args.root.now)) c.deref.ensures.value full.1),
+    ))) c.in_err-plan.ensures.refused)
 
 pub invariant_of-self-in-Ok : goal.invariant_of-self-in-Ok
 invariant_of-self-in-Ok g c =
