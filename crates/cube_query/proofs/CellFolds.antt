@@ -1,7 +1,7 @@
 -- What a fold stands for when cells were merged in: the rows that they stand for.
-use Rattle.std.proofs.Common.{◌≡◌, ◌≢◌, ◌∙◌, sym, ap, refl, subst, ℕ, zero, suc, ◌+◌, ◌<◌, ◌≤◌, ◌^◌, Bool, true, false, cond, List, [], ◌∷◌, ◌++◌, map, length, length-append, get_or, Option, Some, None, arith, All}
-use Rattle.std.specs.Prelude.{◌==◌, nat_abs, slice_get}
-use Rattle.std.specs.List.{AllByRecursion, Contains, filter, list_any, sum_by}
+use Rattle.std.proofs.Common.{◌≡◌, ◌∙◌, sym, ap, refl, subst, ℕ, zero, suc, ◌<◌, ◌≤◌, Bool, true, false, cond, List, [], ◌∷◌, ◌++◌, map, length, length-append, get_or, Option, Some, None, arith, All}
+use Rattle.std.specs.Prelude.{◌==◌, nat_abs}
+use Rattle.std.specs.List.{AllByRecursion, Contains, filter, list_any}
 use Rattle.std.specs.Ordering.{eq_by_cmp}
 use Rattle.std.specs.declared.alloc.Global.{Global}
 use Rattle.std.specs.declared.vec.Vec.{Vec}
@@ -24,21 +24,21 @@ use Rattle.cuboid_upkeep.specs.Codes.{IsMode}
 use Rattle.cuboid_upkeep.specs.Grouping.{HasMembers, StandFor, cell_over, key_of, rows_of}
 use Rattle.cuboid_upkeep.specs.Lawful.{OneKeyOneGroup}
 use Rattle.cuboid_upkeep.specs.StandIns.{AreStandIns}
-use Rattle.group_plan.specs.Numbers.{group_count, key_at, IsKnown, IsNumber}
+use Rattle.group_plan.specs.Numbers.{group_count, key_at, IsKnown}
 use Rattle.group_plan.specs.Plans.{IsPlanOver, query_of}
 use Rattle.group_plan.specs.declared.plan.Plan.{Plan}
 use Rattle.group_plan.proofs.Extending.{plan_of_over}
-use Rattle.cube_query.specs.CellTallies.{AllHaveCellRoom, AreBelow, with_cells}
-use Rattle.cube_query.specs.Columns.{size_of, slotted, tallies_at, tally_at}
-use Rattle.cube_query.specs.FoldInvariant.{AreGroupSlots, AreTallied, CountIn, IsGroupSlot, IsKept}
+use Rattle.cube_query.specs.CellTallies.{AreBelow, HaveRoomForAll, with_cells}
+use Rattle.cube_query.specs.Columns.{slotted, tallies_at, tally_at}
+use Rattle.cube_query.specs.FoldInvariant.{AreGroupSlots, CountIn, IsGroupSlot, IsKept}
 use Rattle.cube_query.specs.Groups.{StandsFor, finest, rows_at}
 use Rattle.cube_query.specs.Limits.{AreFoldable}
-use Rattle.cube_query.specs.Slots.{entries_of, slot_of, AreSlots, Cover, Grow}
+use Rattle.cube_query.specs.Slots.{entries_of, Cover, Grow}
 use Rattle.cube_query.specs.Tallies.{number_of, tallies_of, tally_of}
 use Rattle.cube_query.specs.declared.slots.Slots.{Slots}
 use Rattle.cube_query.specs.declared.tally.Tally.{Tally}
-use Rattle.cube_query.proofs.CellGroups.{AreApart, cells_are_rows, count_total-rows, is_slot, number_in, size_total-rows, slot_by, slotted-filter, tally_over}
-use Rattle.cube_query.proofs.CellMerges.{all_untouched, cell_room, count_total, size_total}
+use Rattle.cube_query.proofs.CellGroups.{AreApart, cells_are_rows, count_total-rows, size_total-rows, slot_by, slotted-filter, tally_over}
+use Rattle.cube_query.proofs.CellMerges.{all_untouched, count_in-le, size_in-le}
 use Rattle.cube_query.proofs.Columnwise.{All-at, tallies-length, tallies-one}
 use Rattle.cube_query.proofs.Folds.{kept_ready, shown, stands_count, tallied_for, kept_numbers}
 use Rattle.cube_query.proofs.Marking.{AreGroupSlots-at}
@@ -155,6 +155,16 @@ module _ (dimensions : DimRows) (modes : List (List ℕ)) (view : View) (query :
             ∙ sym (ap (λ (more : List LineOrder). tally_over agg (before ++ more)) (slotted-filter slot slot_of_row rows)) in
             λ i. one i ∷ each aggs i
 
+-- the same room by other names
+pub same_room : {aggs others : List Agg} {cells other_cells : List Cell} {group_slots other_slots : List (Option ℕ)} {columns other_columns : List (Vec Tally Global)}
+    → aggs ≡ others → cells ≡ other_cells → group_slots ≡ other_slots → columns ≡ other_columns
+    → HaveRoomForAll aggs cells group_slots columns → HaveRoomForAll others other_cells other_slots other_columns
+same_room {others = others} {cells = cells} {other_cells = other_cells} {group_slots = group_slots} {other_slots = other_slots} {columns = columns} aggs_are cells_are slots_are columns_are room =
+    subst (λ (list : List (Vec Tally Global)). HaveRoomForAll others other_cells other_slots list) columns_are
+    (subst (λ (list : List (Option ℕ)). HaveRoomForAll others other_cells list columns) slots_are
+    (subst (λ (list : List Cell). HaveRoomForAll others list group_slots columns) cells_are
+    (subst (λ (list : List Agg). HaveRoomForAll list cells group_slots columns) aggs_are room)))
+
 -- ---- a fold
 module _ (dimensions : DimRows) (plan : Plan) (over : IsPlanOver dimensions plan) (old : Slots) (columns : List (Vec Tally Global)) (kept : IsKept plan old columns) (new : Slots) (longer : List (Vec Tally Global))
     (cover : Cover (group_count dimensions (query_of plan).columns) new) (grow : Grow (group_count dimensions (query_of plan).columns) (entries_of old) (entries_of new)) (same : (slot : ℕ) → tallies_at longer slot ≡ tallies_at columns slot)
@@ -188,31 +198,43 @@ module _ (dimensions : DimRows) (plan : Plan) (over : IsPlanOver dimensions plan
         (map (slot_of_row dimensions modes plain.view query entries law serves plain.cells stand group_slots standing are rows stand_for) rows) have merged counted so_far stands
 
   pub room_for_cells : (rows : List LineOrder) → StandFor dimensions modes rows plain → (so_far : List LineOrder) → StandsFor dimensions (shown plan old columns) so_far → AreFoldable dimensions (so_far ++ rows)
-      → AllByRecursion (λ column. length (entries_of new) ≤ length column.items) longer → AllHaveCellRoom (query_of plan).aggregates plain.cells group_slots longer
-  room_for_cells rows stand_for so_far stands foldable long k h default column =
+      → AllByRecursion (λ column. length (entries_of new) ≤ length column.items) longer → HaveRoomForAll (query_of plan).aggregates plain.cells group_slots longer
+  room_for_cells rows stand_for so_far stands foldable long =
       let query = finest (query_of plan) in
       let entries = entries_of new in
       let aggs = query.aggregates in
-      let agg = get_or aggs k default in
-      let number = number_of agg in
-      let size = λ (row : LineOrder). nat_abs (number_of agg row) in
+      let size = λ (agg : Agg) (row : LineOrder). nat_abs (number_of agg row) in
       let made = plan_of_over dimensions plan over in
       let tallied = AreTallied-grow dimensions query (entries_of old) entries columns longer so_far made.rising (kept_numbers dimensions plan over old columns kept) grow same (tallied_for dimensions plan over old columns kept so_far stands) in
       let many = tallies-length aggs longer (length entries) [] (tallied.fresh (length entries) (omega arith)) in
-      let total = range_of_agg (so_far ++ rows) foldable.in_range agg in
-      let both = sum_by-append size so_far rows in
+      let both = length-append so_far rows in
       let counts = count_total-rows dimensions modes plain.view plain.cells rows stand_for.group (apart plain.cells stand_for.ascending) in
-      let sizes = size_total-rows dimensions modes plain.view agg plain.cells rows stand_for.group (apart plain.cells stand_for.ascending) in
-      let p = is_selected dimensions query.conditions in
-      cell_room agg plain.cells group_slots (get_or longer k column).items (λ place slot at.
-      let found = AreGroupSlots-at dimensions (query_of plan) entries stand group_slots are place slot at in
-      let key = key_at dimensions query.columns found.0 in
-      let q = λ (row : LineOrder). list_any (eq_by_cmp key_cmp key) (keys_of dimensions query row) in
-      let own = rows_at dimensions query key so_far in
-      let within = grow.slots.within found.0 slot found.1 in
-      let tally : tally_at (get_or longer k column).items slot ≡ tally_of (map number own) =
-      tallies-one aggs longer slot own (tallied.each found.0 slot found.1) k h default column in (
-        omega (arith, within, All-at (λ (column : Vec Tally Global). length entries ≤ length column.items) longer long k (omega (arith, h, many)) column),
-        omega (arith, ap (λ (t : Tally). t.count) tally, foldable.few, length-append so_far rows, length-map own number, length-filter-le q (filter p so_far), length-filter-le p so_far, counts),
-        omega (arith, ap (λ (t : Tally). nat_abs t.sum) tally, nat_abs-total number own, sum_by-filter size q (filter p so_far), sum_by-filter size p so_far, total, both, sizes),
-      ))
+      let few_in = count_in-le plain.cells group_slots in
+      record {
+        few = omega (arith, counts, few_in, foldable.few, both);
+        columns_have = λ k h default column.
+            let agg = get_or aggs k default in
+            let number = number_of agg in
+            let total = range_of_agg (so_far ++ rows) foldable.in_range agg in
+            let sums = sum_by-append (size agg) so_far rows in
+            let sizes = size_total-rows dimensions modes plain.view agg plain.cells rows stand_for.group (apart plain.cells stand_for.ascending) in
+            let small_in = size_in-le agg plain.cells group_slots in
+            let p = is_selected dimensions query.conditions in
+            record {
+              small = omega (arith, sizes, small_in, total, sums);
+              each = λ place slot at.
+                  let found = AreGroupSlots-at dimensions (query_of plan) entries stand group_slots are place slot at in
+                  let key = key_at dimensions query.columns found.0 in
+                  let q = λ (row : LineOrder). list_any (eq_by_cmp key_cmp key) (keys_of dimensions query row) in
+                  let own = rows_at dimensions query key so_far in
+                  let within = grow.slots.within found.0 slot found.1 in
+                  let tally : tally_at (get_or longer k column).items slot ≡ tally_of (map number own) =
+                  tallies-one aggs longer slot own (tallied.each found.0 slot found.1) k h default column in (
+                    omega (arith, within, All-at (λ (column : Vec Tally Global). length entries ≤ length column.items) longer long k (omega (arith, h, many)) column),
+                    (
+                      omega (arith, ap (λ (t : Tally). t.count) tally, foldable.few, both, length-map own number, length-filter-le q (filter p so_far), length-filter-le p so_far, counts, few_in),
+                      omega (arith, ap (λ (t : Tally). nat_abs t.sum) tally, nat_abs-total number own, sum_by-filter (size agg) q (filter p so_far), sum_by-filter (size agg) p so_far, total, sums, sizes, small_in),
+                    ),
+                  );
+            };
+      }

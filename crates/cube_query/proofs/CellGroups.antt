@@ -1,13 +1,11 @@
 -- Cells in place of the fact rows that they stand for: the tallies of a slot's cells are those of its rows.
-use Rattle.std.proofs.Common.{◌≡◌, ◌≢◌, ◌∙◌, sym, ap, refl, subst, ℕ, zero, suc, ◌+◌, ◌<◌, ◌≤◌, ◌^◌, ℤ, pos, ◌+ℤ◌, Bool, true, false, cond, not, List, [], ◌∷◌, ◌++◌, map, length, length-append, append-nil, append_assoc, get_or, Option, Some, None, arith, All}
-use Rattle.std.specs.Prelude.{◌==◌, ◌&&◌, ◌||◌, nat_abs, slice_get}
+use Rattle.std.proofs.Common.{◌≡◌, ◌∙◌, sym, ap, refl, subst, ℕ, ◌≤◌, pos, ◌+ℤ◌, Bool, true, false, cond, not, List, [], ◌∷◌, ◌++◌, map, length, length-append, append-nil, append_assoc, Option, Some, None, arith}
+use Rattle.std.specs.Prelude.{◌==◌, ◌&&◌, ◌||◌, nat_abs}
 use Rattle.std.specs.Int.{int_min, int_max}
-use Rattle.std.specs.List.{Contains, filter, fold, sum_by}
+use Rattle.std.specs.List.{filter, fold}
 use Rattle.std.proofs.lemmas.Bool.Decides.{nat_tests}
-use Rattle.std.proofs.lemmas.Int.{ints}
 use Rattle.std.proofs.lemmas.List.{length-map, map-append}
-use Rattle.std.proofs.lemmas.List.Sums.{sum_by-append, sum_by-cons}
-use Rattle.cube_model.specs.Aggregates.{greatest, least, total}
+use Rattle.std.proofs.lemmas.List.Sums.{sum_by-append}
 use Rattle.cube_model.specs.declared.measure.Agg.{Agg}
 use Rattle.cube_model.specs.declared.measure.Agg.TheVariants.{Count, Sum, Min, Max, Avg}
 use Rattle.cube_model.specs.declared.measure.Measure.{Measure}
@@ -17,10 +15,9 @@ use Rattle.cube_model.specs.declared.rows.LineOrder.{LineOrder}
 use Rattle.cube_model.specs.Measures.{measure_of}
 use Rattle.lattice.specs.declared.view.View.{View}
 use Rattle.cuboid_cells.specs.declared.cell.Cell.{Cell}
-use Rattle.cuboid_cells.specs.declared.key.Key.{Key}
-use Rattle.cuboid_cells.specs.Cells.{AreAscending, cell_at, number_of as key_number}
+use Rattle.cuboid_cells.specs.Cells.{cell_at, number_of as key_number}
 use Rattle.cuboid_upkeep.specs.Grouping.{Group, cell_over, key_of, rows_of, summaries_over, summary_over}
-use Rattle.cube_query.specs.CellTallies.{after_cells, cell_tally, counted, noughts, summary_in}
+use Rattle.cube_query.specs.CellTallies.{after_cells, cell_tally, counted, summary_in}
 use Rattle.cube_query.specs.Columns.{size_of, slotted}
 use Rattle.cube_query.specs.Tallies.{merged, number_of, tally_of}
 use Rattle.cube_query.specs.declared.tally.Tally.{Tally}

@@ -1,21 +1,22 @@
 -- Cells that are merged into the tallies of a column.
-use Rattle.std.proofs.Common.{◌≡◌, ◌≢◌, ◌∙◌, sym, ap, refl, subst, ℕ, zero, suc, ◌+◌, ◌<◌, ◌≤◌, ◌^◌, ℤ, pos, ◌+ℤ◌, Bool, true, false, cond, List, [], ◌∷◌, ◌++◌, map, length, length-set, drop, take, get_or, Option, Some, None, arith, FitsSigned, w64, slice_set, get_or-set_same, get_or-set_other}
+use Rattle.std.proofs.Common.{◌≡◌, ◌≢◌, ◌∙◌, sym, ap, refl, subst, ℕ, zero, suc, ◌+◌, ◌<◌, ◌≤◌, ◌^◌, pos, ◌+ℤ◌, Bool, true, false, cond, List, [], ◌∷◌, map, length, length-set, drop, get_or, Option, Some, None, arith, slice_set, get_or-set_same, get_or-set_other, below_more}
 use Rattle.std.specs.Prelude.{◌==◌, nat_abs, slice_get}
 use Rattle.std.specs.Int.{int_min, int_max}
+use Rattle.std.specs.List.{list_all}
 use Rattle.std.proofs.lemmas.Bool.Decides.{nat_tests}
-use Rattle.std.proofs.lemmas.Option.{slice_get-get_or}
 use Rattle.std.specs.declared.alloc.Global.{Global}
 use Rattle.std.specs.declared.vec.Vec.{Vec}
-use Rattle.std.proofs.lemmas.List.{take_more, map-append, length-map}
 use Rattle.cube_model.specs.declared.measure.Agg.{Agg}
 use Rattle.cube_model.specs.declared.measure.Agg.TheVariants.{Count, Sum, Min, Max, Avg}
 use Rattle.cube_model.specs.declared.rows.LineOrder.{LineOrder}
 use Rattle.cuboid_cells.specs.declared.cell.Cell.{Cell}
 use Rattle.cuboid_cells.specs.declared.summary.Summary.{Summary}
-use Rattle.cube_query.specs.CellTallies.{AreBelow, HasCellRoom, HaveCellRoom, after_cells, cell_tally, with_cell, with_cells}
+use Rattle.cube_query.specs.CellTallies.{AreBelow, HasRoomForAll, HaveCellRoom, HaveRoomForAll, MergesCells, after_cells, cell_tally, count_in, size_in, with_cell, with_cells}
 use Rattle.cube_query.specs.Columns.{no_tally, tallies_at, tally_at}
+use Rattle.cube_query.specs.Room.{can_take}
 use Rattle.cube_query.specs.Tallies.{merged, number_of, tallies_of, tally_of}
 use Rattle.cube_query.specs.declared.tally.Tally.{Tally}
+use Rattle.cube_query.proofs.Rooms.{all_take, can_add-apart, can_add-both, each_takes}
 use Rattle.cube_query.proofs.Sums.{FitsSigned-small, nat_abs-+ℤ}
 
 -- no cell, and nothing of a measure
@@ -109,33 +110,83 @@ all_merged agg cells group_slots old now count h underway slot =
     sym (ap (λ (cs : List Cell). after_cells agg slot cs (drop count group_slots) (tally_at now slot)) (drop-past cells count h)) ∙ underway.1 slot
 
 -- ---- all columns
-with_cells-append : (slot : ℕ) (cells : List Cell) (group_slots : List (Option ℕ)) (aggs : List Agg) (agg : Agg) (tallies : List Tally) (tally : Tally) → length tallies ≡ length aggs
-    → with_cells (aggs ++ agg ∷ []) slot cells group_slots (tallies ++ tally ∷ []) ≡ with_cells aggs slot cells group_slots tallies ++ after_cells agg slot cells group_slots tally ∷ []
-with_cells-append slot cells group_slots [] agg [] tally same = refl
-with_cells-append slot cells group_slots [] agg (first ∷ tallies) tally same = absurd (omega (arith, same))
-with_cells-append slot cells group_slots (one ∷ aggs) agg [] tally same = absurd (omega (arith, same))
-with_cells-append slot cells group_slots (one ∷ aggs) agg (first ∷ tallies) tally same =
-    ap (λ (more : List Tally). after_cells one slot cells group_slots first ∷ more) (with_cells-append slot cells group_slots aggs agg tallies tally (omega (arith, same)))
 
-pub length-take-below : {X : Type 0} (xs : List X) (n : ℕ) → n ≤ length xs → length (take n xs) ≡ n
-length-take-below xs zero h = refl
-length-take-below [] (suc n) h = absurd (omega (arith, h))
-length-take-below (x ∷ xs) (suc n) h = ap suc (length-take-below xs n (omega (arith, h)))
+-- in the columns below a place cells are merged in, and the others are as they were
+pub record AreMergedBelow (n : ℕ) (aggs : List Agg) (cells : List Cell) (group_slots : List (Option ℕ)) (old new : List (Vec Tally Global)) : Type 0 where
+  pub same_length : length new ≡ length old
+  pub merged : (k : ℕ) → k < n → (agg : Agg) (column : Vec Tally Global) → MergesCells (get_or aggs k agg) cells group_slots (get_or old k column).items (get_or new k column).items
+  pub kept : (k : ℕ) → n ≤ k → (column : Vec Tally Global) → get_or new k column ≡ get_or old k column
 
--- one column more
-pub one_column : (slot : ℕ) (cells : List Cell) (group_slots : List (Option ℕ)) (aggs : List Agg) (columns merged : List (Vec Tally Global)) (count : ℕ) (agg : Agg) (column new : Vec Tally Global)
-    → length columns ≡ length aggs → count < length columns
-    → tallies_at merged slot ≡ with_cells (take count aggs) slot cells group_slots (tallies_at (take count columns) slot)
-    → tally_at new.items slot ≡ after_cells (get_or aggs count agg) slot cells group_slots (tally_at (get_or columns count column).items slot)
-    → tallies_at (merged ++ new ∷ []) slot ≡ with_cells (take (count + 1) aggs) slot cells group_slots (tallies_at (take (count + 1) columns) slot)
-one_column slot cells group_slots aggs columns merged count agg column new same h so_far is =
-    let read = λ (v : Vec Tally Global). tally_at v.items slot in
-    map-append read merged (new ∷ [])
-    ∙ (λ i. so_far i ++ is i ∷ [])
-    ∙ sym (with_cells-append slot cells group_slots (take count aggs) (get_or aggs count agg) (tallies_at (take count columns) slot) (read (get_or columns count column))
-    (length-map (take count columns) read ∙ length-take-below columns count (omega (arith, h)) ∙ sym (length-take-below aggs count (omega (arith, h, same)))))
-    ∙ (λ i. with_cells (sym (take_more aggs count agg (omega (arith, h, same))) i) slot cells group_slots
-    (sym (ap (map read) (take_more columns count column h) ∙ map-append read (take count columns) (get_or columns count column ∷ [])) i))
+module _ (cells : List Cell) (group_slots : List (Option ℕ)) where
+  pub AreMergedBelow-set : (aggs : List Agg) (old now : List (Vec Tally Global)) (n : ℕ) (column : Vec Tally Global) → length old ≡ length aggs → n < length aggs → AreMergedBelow n aggs cells group_slots old now
+      → ((agg : Agg) (first : Vec Tally Global) → MergesCells (get_or aggs n agg) cells group_slots (get_or now n first).items column.items)
+      → AreMergedBelow (n + 1) aggs cells group_slots old (slice_set now n column)
+  AreMergedBelow-set aggs old now n column same h before here =
+      let in_now : n < length now = omega (arith, before.same_length, same, h) in
+      record {
+        same_length = length-set now n column ∙ before.same_length;
+        merged = below_more _ _
+            (λ k below agg first. let other : k ≢ n = omega (arith, below) in
+            subst (λ (c : Vec Tally Global). MergesCells (get_or aggs k agg) cells group_slots (get_or old k first).items c.items) (sym (get_or-set_other now n k column first other)) (before.merged k below agg first))
+            (λ agg first.
+            subst (λ (c : Vec Tally Global). MergesCells (get_or aggs n agg) cells group_slots (get_or old n first).items c.items) (sym (get_or-set_same now n column first in_now))
+            (subst (λ (c : Vec Tally Global). MergesCells (get_or aggs n agg) cells group_slots c.items column.items) (before.kept n (omega arith) first) (here agg first)));
+        kept = λ k above first. let other : k ≢ n = omega (arith, above) in get_or-set_other now n k column first other ∙ before.kept k (omega (arith, above)) first;
+      }
+
+  merged_each : (slot : ℕ) (aggs : List Agg) (old new : List (Vec Tally Global)) → length old ≡ length aggs → length new ≡ length aggs
+      → ((k : ℕ) → k < length aggs → (agg : Agg) (column : Vec Tally Global) → MergesCells (get_or aggs k agg) cells group_slots (get_or old k column).items (get_or new k column).items)
+      → tallies_at new slot ≡ with_cells aggs slot cells group_slots (tallies_at old slot)
+  merged_each slot [] [] [] same many each = refl
+  merged_each slot [] [] (one ∷ new) same many each = absurd (omega (arith, many))
+  merged_each slot [] (one ∷ old) new same many each = absurd (omega (arith, same))
+  merged_each slot (agg ∷ aggs) [] new same many each = absurd (omega (arith, same))
+  merged_each slot (agg ∷ aggs) (one ∷ old) [] same many each = absurd (omega (arith, many))
+  merged_each slot (agg ∷ aggs) (one ∷ old) (first ∷ new) same many each =
+      let here = each 0 (omega arith) agg one slot in
+      let rest = merged_each slot aggs old new (omega (arith, same)) (omega (arith, many)) (λ k h other column. each (suc k) (omega (arith, h)) other column) in
+      λ i. here i ∷ rest i
+
+  pub all_columns_merged : (aggs : List Agg) (old new : List (Vec Tally Global)) (n : ℕ) → length old ≡ length aggs → length aggs ≤ n → AreMergedBelow n aggs cells group_slots old new
+      → (slot : ℕ) → tallies_at new slot ≡ with_cells aggs slot cells group_slots (tallies_at old slot)
+  all_columns_merged aggs old new n same h done slot =
+      merged_each slot aggs old new same (done.same_length ∙ same) (λ k below agg column. done.merged k (omega (arith, below, h)) agg column)
+
+-- ---- the sums of the cells that have a slot
+module _ (cells : List Cell) (group_slots : List (Option ℕ)) (same : length group_slots ≡ length cells) (count : ℕ) (h : count < length cells) where
+  here_cells : drop count cells ≡ get_or cells count no_cell ∷ drop (count + 1) cells
+  here_cells = drop-one cells count no_cell h
+
+  here_slots : drop count group_slots ≡ get_or group_slots count None ∷ drop (count + 1) group_slots
+  here_slots = drop-one group_slots count None (omega (arith, h, same))
+
+  pub count_next : count_in (drop count cells) (drop count group_slots)
+      ≡ count_in (get_or cells count no_cell ∷ []) (get_or group_slots count None ∷ []) + count_in (drop (count + 1) cells) (drop (count + 1) group_slots)
+  count_next =
+      (λ i. count_in (here_cells i) (here_slots i))
+      ∙ one (get_or cells count no_cell) (drop (count + 1) cells) (get_or group_slots count None) (drop (count + 1) group_slots)
+    where
+      one : (cell : Cell) (cells : List Cell) (group_slot : Option ℕ) (group_slots : List (Option ℕ))
+          → count_in (cell ∷ cells) (group_slot ∷ group_slots) ≡ count_in (cell ∷ []) (group_slot ∷ []) + count_in cells group_slots
+      one cell cells None group_slots = omega arith
+      one cell cells (Some slot) group_slots = omega arith
+
+  pub size_next : (agg : Agg) → size_in agg (drop count cells) (drop count group_slots)
+      ≡ size_in agg (get_or cells count no_cell ∷ []) (get_or group_slots count None ∷ []) + size_in agg (drop (count + 1) cells) (drop (count + 1) group_slots)
+  size_next agg =
+      (λ i. size_in agg (here_cells i) (here_slots i))
+      ∙ one (get_or cells count no_cell) (drop (count + 1) cells) (get_or group_slots count None) (drop (count + 1) group_slots)
+    where
+      one : (cell : Cell) (cells : List Cell) (group_slot : Option ℕ) (group_slots : List (Option ℕ))
+          → size_in agg (cell ∷ cells) (group_slot ∷ group_slots) ≡ size_in agg (cell ∷ []) (group_slot ∷ []) + size_in agg cells group_slots
+      one cell cells None group_slots = omega arith
+      one cell cells (Some slot) group_slots = omega arith
+
+pub count_past : (cells : List Cell) (group_slots : List (Option ℕ)) (count : ℕ) → length cells ≤ count → count_in (drop count cells) (drop count group_slots) ≡ 0
+count_past cells group_slots count h = ap (λ (cs : List Cell). count_in cs (drop count group_slots)) (drop-past cells count h)
+
+pub size_past : (agg : Agg) (cells : List Cell) (group_slots : List (Option ℕ)) (count : ℕ) → length cells ≤ count → size_in agg (drop count cells) (drop count group_slots) ≡ 0
+size_past agg cells group_slots count h = ap (λ (cs : List Cell). size_in agg cs (drop count group_slots)) (drop-past cells count h)
 
 -- ---- how far a merge goes
 abbrev joined : Tally → Tally → Tally
@@ -182,17 +233,29 @@ abbrev pub size_total : Agg → List Cell → ℕ
 size_total agg [] = 0
 size_total agg (cell ∷ cells) = nat_abs (cell_tally agg cell).sum + size_total agg cells
 
+pub count_in-le : (cells : List Cell) (group_slots : List (Option ℕ)) → count_in cells group_slots ≤ count_total cells
+count_in-le [] group_slots = omega arith
+count_in-le (cell ∷ cells) [] = omega arith
+count_in-le (cell ∷ cells) (None ∷ group_slots) = (let rest = count_in-le cells group_slots in omega (arith, rest))
+count_in-le (cell ∷ cells) (Some slot ∷ group_slots) = (let rest = count_in-le cells group_slots in omega (arith, rest))
+
+pub size_in-le : (agg : Agg) (cells : List Cell) (group_slots : List (Option ℕ)) → size_in agg cells group_slots ≤ size_total agg cells
+size_in-le agg [] group_slots = omega arith
+size_in-le agg (cell ∷ cells) [] = omega arith
+size_in-le agg (cell ∷ cells) (None ∷ group_slots) = (let rest = size_in-le agg cells group_slots in omega (arith, rest))
+size_in-le agg (cell ∷ cells) (Some slot ∷ group_slots) = (let rest = size_in-le agg cells group_slots in omega (arith, rest))
+
 -- each slot lies in the column, and its tally can take all cells
 abbrev pub CanTakeAll : Agg → List Cell → List (Option ℕ) → List Tally → Type 0
 CanTakeAll agg cells group_slots column = (place slot : ℕ) → slice_get group_slots place ≡ Some (Some slot)
-    → (slot < length column) × ((tally_at column slot).count + count_total cells < 2 ^ 63) × (nat_abs (tally_at column slot).sum + size_total agg cells < 2 ^ 63)
+    → (slot < length column) × (((tally_at column slot).count + count_in cells group_slots < 2 ^ 63) × (nat_abs (tally_at column slot).sum + size_in agg cells group_slots < 2 ^ 63))
 
 pub cell_room : (agg : Agg) (cells : List Cell) (group_slots : List (Option ℕ)) (column : List Tally) → CanTakeAll agg cells group_slots column → HaveCellRoom agg cells group_slots column
 cell_room agg [] group_slots column can = tt
 cell_room agg (cell ∷ cells) [] column can = tt
 cell_room agg (cell ∷ cells) (None ∷ group_slots) column can = (
   tt,
-  cell_room agg cells group_slots column (λ place slot at. let low = can (suc place) slot at in (low.0, omega (arith, low.1), omega (arith, low.2))),
+  cell_room agg cells group_slots column (λ place slot at. can (suc place) slot at),
 )
 cell_room agg (cell ∷ cells) (Some own ∷ group_slots) column can =
     let here = can 0 own refl in
@@ -202,27 +265,47 @@ cell_room agg (cell ∷ cells) (Some own ∷ group_slots) column can =
     let count = merged-count before tally in
     let sum = merged-sum before tally in
     let counted = cell_count agg cell in (
-      (omega (arith, here.1), FitsSigned-small (before.sum +ℤ tally.sum) (omega (arith, here.2, nat_abs-+ℤ before.sum tally.sum))),
+      (omega (arith, here.1.0), FitsSigned-small (before.sum +ℤ tally.sum) (omega (arith, here.1.1, nat_abs-+ℤ before.sum tally.sum))),
       cell_room agg cells group_slots (slice_set column own new) (λ place slot at.
           let low = can (suc place) slot at in
           let long = length-set column own new in
-          (elim (own == slot) as (λ b. (own == slot) ≡ b → (slot < length (slice_set column own new)) × ((tally_at (slice_set column own new) slot).count + count_total cells < 2 ^ 63) × (nat_abs (tally_at (slice_set column own new) slot).sum + size_total agg cells < 2 ^ 63)) [
+          (elim (own == slot) as (λ b. (own == slot) ≡ b → (slot < length (slice_set column own new)) × (((tally_at (slice_set column own new) slot).count + count_in cells group_slots < 2 ^ 63) × (nat_abs (tally_at (slice_set column own new) slot).sum + size_in agg cells group_slots < 2 ^ 63))) [
             | true ↦ λ e.
                 (let same : slot ≡ own = grind (arith, nat_tests) in
                 let is : tally_at (slice_set column own new) slot ≡ new = ap (tally_at (slice_set column own new)) same ∙ get_or-set_same column own new no_tally here.0 in (
                   omega (arith, low.0, long),
-                  omega (arith, here.1, count, counted, ap (λ (t : Tally). t.count) is),
-                  omega (arith, here.2, sum, ap (λ (t : Tally). nat_abs t.sum) is),
+                  (omega (arith, here.1.0, count, counted, ap (λ (t : Tally). t.count) is), omega (arith, here.1.1, sum, ap (λ (t : Tally). nat_abs t.sum) is)),
                 ))
             | false ↦ λ e.
                 (let apart : slot ≢ own = grind (arith, nat_tests) in
                 let is : tally_at (slice_set column own new) slot ≡ tally_at column slot = get_or-set_other column own slot new no_tally apart in (
                   omega (arith, low.0, long),
-                  omega (arith, low.1, ap (λ (t : Tally). t.count) is),
-                  omega (arith, low.2, ap (λ (t : Tally). nat_abs t.sum) is),
+                  (omega (arith, low.1.0, ap (λ (t : Tally). t.count) is), omega (arith, low.1.1, ap (λ (t : Tally). nat_abs t.sum) is)),
                 ))
           ]) refl),
     )
+
+-- ---- what the tests say together
+module _ (agg : Agg) (cells : List Cell) (group_slots : List (Option ℕ)) (column : List Tally) (count : ℕ) (count_is : count ≡ count_in cells group_slots) (size : ℕ) (size_is : size ≡ size_in agg cells group_slots) where
+  pub room_there : size < 2 ^ 63 → list_all (λ group_slot. can_take column group_slot count size) group_slots ≡ true → HasRoomForAll agg cells group_slots column
+  room_there small all = record {
+    small = omega (arith, small, size_is);
+    each = λ place slot at.
+        let here = each_takes column count size group_slots all place slot at in
+        let apart = can_add-apart (tally_at column slot) count size here.1 in
+        (here.0, (omega (arith, apart.0, count_is), omega (arith, apart.1, size_is)));
+  }
+
+  pub room_taken : HasRoomForAll agg cells group_slots column → list_all (λ group_slot. can_take column group_slot count size) group_slots ≡ true
+  room_taken room = all_take column count size group_slots (λ place slot at.
+      let here = room.each place slot at in
+      (here.0, can_add-both (tally_at column slot) count size (omega (arith, here.1.0, count_is)) (omega (arith, here.1.1, size_is))))
+
+-- the room that the next column has, in the loop
+pub room_now : (aggs : List Agg) (cells : List Cell) (group_slots : List (Option ℕ)) (old now : List (Vec Tally Global)) (n : ℕ) → n < length aggs → HaveRoomForAll aggs cells group_slots old
+    → AreMergedBelow n aggs cells group_slots old now → (agg : Agg) (column : Vec Tally Global) → HasRoomForAll (get_or aggs n agg) cells group_slots (get_or now n column).items
+room_now aggs cells group_slots old now n h room below agg column =
+    subst (λ (c : Vec Tally Global). HasRoomForAll (get_or aggs n agg) cells group_slots c.items) (sym (below.kept n (omega arith) column)) (room.columns_have n h agg column)
 
 -- ---- a slot of no cell
 untouched : (agg : Agg) (slot bound : ℕ) (cells : List Cell) (group_slots : List (Option ℕ)) (tally : Tally) → AreBelow bound group_slots → bound ≤ slot

@@ -1,6 +1,6 @@
 -- When the tallies of a column have room, slot by slot.
 use Rattle.std.proofs.Common.{◌≡◌, ◌∙◌, sym, ap, refl, ℕ, zero, suc, ◌<◌, ◌^◌, true, false, Bool, List, [], ◌∷◌, length, Some, None, arith}
-use Rattle.std.specs.Prelude.{Option, ◌&&◌, nat_lt, slice_get}
+use Rattle.std.specs.Prelude.{Option, ◌+◌, ◌&&◌, nat_abs, nat_lt, slice_get}
 use Rattle.std.specs.List.{list_all}
 use Rattle.std.proofs.lemmas.Bool.Decides.{nat_tests}
 use Rattle.cube_model.specs.declared.measure.Agg.{Agg}
@@ -21,7 +21,7 @@ module _ (column : List Tally) (count size : ℕ) where
   abbrev takes : Option ℕ → Bool
   takes group_slot = can_take column group_slot count size
 
-  each_takes : (group_slots : List (Option ℕ)) → list_all takes group_slots ≡ true → (place slot : ℕ) → slice_get group_slots place ≡ Some (Some slot)
+  pub each_takes : (group_slots : List (Option ℕ)) → list_all takes group_slots ≡ true → (place slot : ℕ) → slice_get group_slots place ≡ Some (Some slot)
       → (slot < length column) × (can_add (tally_at column slot) count size ≡ true)
   each_takes [] all place slot at = absurd (cc at)
   each_takes (None ∷ group_slots) all zero slot at = absurd (cc at)
@@ -33,7 +33,7 @@ module _ (column : List Tally) (count size : ℕ) where
       (grind (arith, nat_tests, same, within), ap (λ s. can_add (tally_at column s) count size) (sym same) ∙ can)
   each_takes (group_slot ∷ group_slots) all (suc place) slot at = each_takes group_slots (and_right (takes group_slot) (list_all takes group_slots) all) place slot at
 
-  all_take : (group_slots : List (Option ℕ)) → ((place slot : ℕ) → slice_get group_slots place ≡ Some (Some slot) → (slot < length column) × (can_add (tally_at column slot) count size ≡ true))
+  pub all_take : (group_slots : List (Option ℕ)) → ((place slot : ℕ) → slice_get group_slots place ≡ Some (Some slot) → (slot < length column) × (can_add (tally_at column slot) count size ≡ true))
       → list_all takes group_slots ≡ true
   all_take [] each = refl
   all_take (None ∷ group_slots) each = all_take group_slots (λ place slot at. each (suc place) slot at)
@@ -57,3 +57,16 @@ module _ (agg : Agg) (column : List Tally) (rows : List LineOrder) (group_slots 
   room_taken room = all_take column (length group_slots) size group_slots (λ place slot at.
       let here = room.each place slot at in
       (here.0, (λ i. can_add (tally_at column slot) (same i) (is i)) ∙ here.1))
+
+-- a test on a tally is that of its count and of its sum
+pub can_add-apart : (tally : Tally) (count size : ℕ) → can_add tally count size ≡ true → (tally.count + count < 2 ^ 63) × (nat_abs tally.sum + size < 2 ^ 63)
+can_add-apart tally count size can =
+    let few = and_left (nat_lt (tally.count + count) (2 ^ 63)) (nat_lt (nat_abs tally.sum + size) (2 ^ 63)) can in
+    let small = and_right (nat_lt (tally.count + count) (2 ^ 63)) (nat_lt (nat_abs tally.sum + size) (2 ^ 63)) can in
+    (grind (arith, nat_tests, few), grind (arith, nat_tests, small))
+
+pub can_add-both : (tally : Tally) (count size : ℕ) → tally.count + count < 2 ^ 63 → nat_abs tally.sum + size < 2 ^ 63 → can_add tally count size ≡ true
+can_add-both tally count size few small =
+    let first : nat_lt (tally.count + count) (2 ^ 63) ≡ true = grind (arith, nat_tests, few) in
+    let second : nat_lt (nat_abs tally.sum + size) (2 ^ 63) ≡ true = grind (arith, nat_tests, small) in
+    λ i. first i && second i

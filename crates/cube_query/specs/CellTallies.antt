@@ -1,5 +1,5 @@
 -- Cells of a cuboid as tallies, merged into those at the slots of their groups. Our own.
-use Rattle.std.specs.Prelude.{◌≡◌, ℕ, ◌+◌, ◌^◌, ◌<◌, ◌≤◌, ◌==◌, cond, ℤ, pos, ◌+ℤ◌, FitsSigned, List, [], ◌∷◌, length, slice_get, slice_set, slice_index_or, Option, Some, None}
+use Rattle.std.specs.Prelude.{◌≡◌, ℕ, ◌+◌, ◌^◌, ◌<◌, ◌==◌, cond, pos, nat_abs, ◌+ℤ◌, FitsSigned, List, [], ◌∷◌, length, slice_get, slice_set, slice_index_or, Option, Some, None}
 use Rattle.std.specs.Int.{w64}
 use Rattle.std.specs.declared.alloc.Global.{Global}
 use Rattle.std.specs.declared.vec.Vec.{Vec}
@@ -10,7 +10,7 @@ use Rattle.cube_model.specs.declared.measure.Measure.TheVariants.{Quantity, Exte
 use Rattle.cuboid_cells.specs.declared.cell.Cell.{Cell}
 use Rattle.cuboid_cells.specs.declared.summary.Summaries.{Summaries}
 use Rattle.cuboid_cells.specs.declared.summary.Summary.{Summary}
-use Rattle.cube_query.specs.Columns.{no_tally, tally_at}
+use Rattle.cube_query.specs.Columns.{tally_at}
 use Rattle.cube_query.specs.Tallies.{merged}
 use Rattle.cube_query.specs.declared.tally.Tally.{Tally}
 
@@ -80,7 +80,29 @@ with_cells (agg ∷ aggs) slot cells group_slots [] = []
 with_cells (agg ∷ aggs) slot cells group_slots (tally ∷ tallies) =
     after_cells agg slot cells group_slots tally ∷ with_cells aggs slot cells group_slots tallies
 
--- each column can take the cells in turn
-abbrev pub AllHaveCellRoom : List Agg → List Cell → List (Option ℕ) → List (Vec Tally Global) → Type 0
-AllHaveCellRoom aggs cells group_slots columns = (k : ℕ) → k < length aggs → (agg : Agg) (column : Vec Tally Global)
-    → HaveCellRoom (slice_index_or aggs k agg) cells group_slots (slice_index_or columns k column).items
+-- how many rows the cells that have a slot stand for
+abbrev pub count_in : List Cell → List (Option ℕ) → ℕ
+count_in [] group_slots = 0
+count_in (cell ∷ cells) [] = 0
+count_in (cell ∷ cells) (None ∷ group_slots) = count_in cells group_slots
+count_in (cell ∷ cells) (Some slot ∷ group_slots) = cell.count + count_in cells group_slots
+
+-- the absolute values of their sums together
+abbrev pub size_in : Agg → List Cell → List (Option ℕ) → ℕ
+size_in agg [] group_slots = 0
+size_in agg (cell ∷ cells) [] = 0
+size_in agg (cell ∷ cells) (None ∷ group_slots) = size_in agg cells group_slots
+size_in agg (cell ∷ cells) (Some slot ∷ group_slots) = nat_abs (cell_tally agg cell).sum + size_in agg cells group_slots
+
+-- the slot of each cell lies in the column, and its tally can take all cells that have a slot
+pub record HasRoomForAll (agg : Agg) (cells : List Cell) (group_slots : List (Option ℕ)) (column : List Tally) : Type 0 where
+  pub small : size_in agg cells group_slots < 2 ^ 63
+  pub each : (place slot : ℕ) → slice_get group_slots place ≡ Some (Some slot) → (slot < length column)
+      × (((tally_at column slot).count + count_in cells group_slots < 2 ^ 63)
+      × (nat_abs (tally_at column slot).sum + size_in agg cells group_slots < 2 ^ 63))
+
+-- and so it is in each column
+pub record HaveRoomForAll (aggs : List Agg) (cells : List Cell) (group_slots : List (Option ℕ)) (columns : List (Vec Tally Global)) : Type 0 where
+  pub few : count_in cells group_slots < 2 ^ 63
+  pub columns_have : (k : ℕ) → k < length aggs → (agg : Agg) (column : Vec Tally Global)
+      → HasRoomForAll (slice_index_or aggs k agg) cells group_slots (slice_index_or columns k column).items

@@ -1,118 +1,186 @@
 //! Cells of a cuboid, merged into the tallies at the slots of their groups.
-ghost use Rattle.std.specs.Prelude.{◌≡◌, ◌⊎◌, ◌≤◌, ◌<◌, ◌^◌, ◌+◌, ◌+ℤ◌, ℕ, length, slice_set, Some, FitsSigned, IfErr, IfOk, MatchOption, OnErr, OnOk};
-ghost use Rattle.std.specs.Int.{w64};
-ghost use Rattle.std.specs.List.{AllByRecursion};
-ghost use Rattle.cube_model.specs.declared.fault.Fault.{Fault};
-ghost use Rattle.cube_query.specs.CellTallies.{AllHaveCellRoom, AreBelow, HasCellRoom, HaveCellRoom, MergesCells, cell_tally, counted, summary_in, with_cell, with_cells};
-ghost use Rattle.cube_query.specs.Columns.{tallies_at, tally_at};
-ghost use Rattle.cube_query.specs.Tallies.{merged};
+ghost use Rattle.std.specs.Prelude.{◌≡◌, ◌↔◌, ◌≤◌, ◌<◌, ◌^◌, ℕ, [], ◌∷◌, length, Some, IsTrue, MatchOption};
+ghost use Rattle.cube_query.specs.CellTallies.{AreBelow, HasCellRoom, HasRoomForAll, HaveCellRoom, HaveRoomForAll, MergesCells, cell_tally, count_in, counted, size_in, summary_in, with_cell, with_cells};
+ghost use Rattle.cube_query.specs.Columns.{tallies_at};
 
-use crate::tally::{Tally, TooLarge};
-use cube_model::{Agg, Amount, Fault, Measure};
+use crate::room::{LIMIT, all_can_take};
+use crate::tally::Tally;
+use cube_model::{Agg, Amount, Measure};
 use cuboid_cells::{Cell, Summaries, Summary};
-use std::alloc::Global;
 
-// The least count that a tally does not hold.
-const LIMIT: u64 = 1 << 63;
-
-/// Columns with cells merged in, each at the slot of its group if it has one, beside the columns that they are made from.
-/// `BadLayout` where a count or a sum would pass its limit.
-pub fn with_cells(
-    alloc: Global,
+/// Whether each column has room for cells at the slots of their groups. It takes no memory.
+pub fn have_room_for_cells(
     columns: &[Vec<Tally>],
     aggs: &[Agg],
     cells: &[Cell],
     group_slots: &[Option<u32>],
-) -> Result<Vec<Vec<Tally>>, Fault>
+) -> bool
     requires columns { length columns.now ≡ length aggs.now }
     requires group_slots { length group_slots.now ≡ length cells.now }
-    requires within { (bound : ℕ) × AreBelow bound group_slots.now × AllByRecursion (λ column. bound ≤ length column.items) columns.now }
-    ensures ok { IfOk result (λ new. (slot : ℕ) → tallies_at new.items slot
-        ≡ with_cells aggs.now slot cells.now group_slots.now (tallies_at columns.now slot)) }
-    ensures refused { IfErr result (λ fault. (fault ≡ Fault.Memory)
-        ⊎ ((fault ≡ Fault.BadLayout) × (AllHaveCellRoom aggs.now cells.now group_slots.now columns.now → ⊥))) }
+    ensures { IsTrue result ↔ HaveRoomForAll aggs.now cells.now group_slots.now columns.now }
 {
-    let mut merged = Vec::with_capacity(alloc, columns.len())?;
-    for place in 0..columns.len() {
-        let mut column = Vec::from_slice(alloc, columns[place].as_slice())?;
-        match merge_cells(column.as_mut_slice(), aggs[place], cells, group_slots) {
-            Ok(()) => {}
-            Err(_) => return Err(Fault::BadLayout),
+    let Some(count) = count_in(cells, group_slots) else {
+        return false;
+    };
+    for place in 0..aggs.len() {
+        if !has_room_for_cells(
+            columns[place].as_slice(),
+            aggs[place],
+            cells,
+            group_slots,
+            count,
+        ) {
+            return false;
         }
-        merged.push(column)?;
     }
-    Ok(merged)
+    true
 }
 
-// Merges cells in at the slots of their groups.
-fn merge_cells(
-    column: &mut [Tally],
+// Whether a column has room for cells of so many rows at the slots of their groups.
+fn has_room_for_cells(
+    column: &[Tally],
     agg: Agg,
     cells: &[Cell],
     group_slots: &[Option<u32>],
-) -> Result<(), TooLarge>
+    count: u128,
+) -> bool
+    requires group_slots { length group_slots.now ≡ length cells.now }
+    requires count { count ≡ count_in cells.now group_slots.now }
+    requires few { count < 2 ^ 63 }
+    ensures { IsTrue result ↔ HasRoomForAll agg cells.now group_slots.now column.now }
+{
+    match size_in(agg, cells, group_slots) {
+        Some(size) => all_can_take(column, group_slots, count, size),
+        None => false,
+    }
+}
+
+// How many rows the cells that have a slot stand for, unless they are too many.
+fn count_in(cells: &[Cell], group_slots: &[Option<u32>]) -> Option<u128>
+    requires { length group_slots.now ≡ length cells.now }
+    ensures { MatchOption result (2 ^ 63 ≤ count_in cells.now group_slots.now)
+        (λ count. (count ≡ count_in cells.now group_slots.now) × (count < 2 ^ 63)) }
+{
+    let mut count = 0;
+    for place in 0..cells.len() {
+        count += count_at(&cells[place], group_slots[place]);
+        if count >= LIMIT {
+            return None;
+        }
+    }
+    Some(count)
+}
+
+// How many rows a cell stands for, if it has a slot.
+fn count_at(cell: &Cell, group_slot: Option<u32>) -> u128
+    ensures count { result ≡ count_in (cell.now ∷ []) (group_slot ∷ []) }
+    ensures small { result < 2 ^ 64 }
+{
+    match group_slot {
+        None => 0,
+        Some(_) => u128::from(cell.count),
+    }
+}
+
+// The absolute values of the sums of the cells that have a slot together, unless they are too large.
+fn size_in(agg: Agg, cells: &[Cell], group_slots: &[Option<u32>]) -> Option<u128>
+    requires { length group_slots.now ≡ length cells.now }
+    ensures { MatchOption result (2 ^ 63 ≤ size_in agg cells.now group_slots.now)
+        (λ size. (size ≡ size_in agg cells.now group_slots.now) × (size < 2 ^ 63)) }
+{
+    let mut size = 0;
+    for place in 0..cells.len() {
+        size += size_at(agg, &cells[place], group_slots[place]);
+        if size >= LIMIT {
+            return None;
+        }
+    }
+    Some(size)
+}
+
+// The absolute value of the sum of a cell, if it has a slot.
+fn size_at(agg: Agg, cell: &Cell, group_slot: Option<u32>) -> u128
+    ensures size { result ≡ size_in agg (cell.now ∷ []) (group_slot ∷ []) }
+    ensures small { result ≤ 2 ^ 63 }
+{
+    match group_slot {
+        None => 0,
+        Some(_) => u128::from(sum_in(agg, cell).unsigned_abs()),
+    }
+}
+
+// What a cell adds to a sum.
+fn sum_in(agg: Agg, cell: &Cell) -> i64
+    ensures { result ≡ (cell_tally agg cell.now).sum }
+{
+    match agg {
+        Agg::Count => 0,
+        Agg::Sum(measure) | Agg::Min(measure) | Agg::Max(measure) | Agg::Avg(measure) => {
+            summary_in(&cell.measures, measure).sum
+        }
+    }
+}
+
+/// Merges cells in at the slots of their groups, in all columns. It takes no memory.
+pub fn merge_in_cells(
+    columns: &mut [Vec<Tally>],
+    aggs: &[Agg],
+    cells: &[Cell],
+    group_slots: &[Option<u32>],
+)
+    requires columns { length columns.old ≡ length aggs.now }
+    requires group_slots { length group_slots.now ≡ length cells.now }
+    requires room { HaveRoomForAll aggs.now cells.now group_slots.now columns.old }
+    ensures { (slot : ℕ) → tallies_at columns.new slot
+        ≡ with_cells aggs.now slot cells.now group_slots.now (tallies_at columns.old slot) }
+{
+    for i in 0..aggs.len() {
+        let column = &mut columns[i];
+        merge_cells(column.as_mut_slice(), aggs[i], cells, group_slots);
+    }
+}
+
+// Merges cells in at the slots of their groups.
+fn merge_cells(column: &mut [Tally], agg: Agg, cells: &[Cell], group_slots: &[Option<u32>])
     requires group_slots { length group_slots.now ≡ length cells.now }
     requires within { AreBelow (length column.old) group_slots.now }
-    ensures ok { OnOk result (MergesCells agg cells.now group_slots.now column.old column.new) }
-    ensures err { OnErr result (HaveCellRoom agg cells.now group_slots.now column.old → ⊥) }
+    requires room { HaveCellRoom agg cells.now group_slots.now column.old }
+    ensures merges { MergesCells agg cells.now group_slots.now column.old column.new }
     ensures length { length column.new ≡ length column.old }
 {
     for place in 0..cells.len() {
-        merge_cell(column, agg, &cells[place], group_slots[place])?;
+        merge_cell(column, agg, &cells[place], group_slots[place]);
     }
-    Ok(())
 }
 
 // Merges a cell in at the slot of its group, if it has one.
-fn merge_cell(
-    column: &mut [Tally],
-    agg: Agg,
-    cell: &Cell,
-    group_slot: Option<u32>,
-) -> Result<(), TooLarge>
-    requires { (slot : ℕ) → group_slot ≡ Some slot → slot < length column.old }
-    ensures ok { OnOk result (column.new ≡ with_cell agg cell.now group_slot column.old) }
-    ensures err { OnErr result (HasCellRoom agg cell.now group_slot column.old → ⊥) }
+fn merge_cell(column: &mut [Tally], agg: Agg, cell: &Cell, group_slot: Option<u32>)
+    requires within { (slot : ℕ) → group_slot ≡ Some slot → slot < length column.old }
+    requires room { HasCellRoom agg cell.now group_slot column.old }
+    ensures merges { column.new ≡ with_cell agg cell.now group_slot column.old }
     ensures length { length column.new ≡ length column.old }
 {
-    let Some(slot) = group_slot else {
-        return Ok(());
-    };
-    let Some(tally) = cell_tally(agg, cell) else {
-        return Err(TooLarge);
-    };
-    merge_at(column, slot, tally)
-}
-
-// Merges a tally into that at a slot.
-fn merge_at(column: &mut [Tally], slot: u32, tally: Tally) -> Result<(), TooLarge>
-    requires { slot < length column.old }
-    ensures ok { OnOk result (column.new ≡ slice_set column.old slot (merged (tally_at column.old slot) tally)) }
-    ensures err { OnErr result ((tally_at column.old slot).count + tally.count < 2 ^ 63
-        → FitsSigned w64 ((tally_at column.old slot).sum +ℤ tally.sum) → ⊥) }
-    ensures length { length column.new ≡ length column.old }
-{
-    column[slot as usize] = column[slot as usize].merge(tally)?;
-    Ok(())
-}
-
-// The tally of the rows of a cell. Nothing where they are too many to be counted.
-fn cell_tally(agg: Agg, cell: &Cell) -> Option<Tally>
-    ensures { MatchOption result (2 ^ 63 ≤ cell.now.count) (λ tally. tally ≡ cell_tally agg cell.now) }
-{
-    if cell.count >= LIMIT {
-        return None;
+    if let Some(slot) = group_slot {
+        let tally = column[slot as usize];
+        column[slot as usize] = tally.joined(cell_tally(agg, cell));
     }
+}
+
+// The tally of the rows of a cell.
+fn cell_tally(agg: Agg, cell: &Cell) -> Tally
+    requires { cell.now.count < 2 ^ 63 }
+    ensures { result ≡ cell_tally agg cell.now }
+{
     let count = Amount::new(cell.count);
     match agg {
-        Agg::Count => Some(Tally {
+        Agg::Count => Tally {
             count,
             sum: 0,
             least: 0,
             greatest: 0,
-        }),
+        },
         Agg::Sum(measure) | Agg::Min(measure) | Agg::Max(measure) | Agg::Avg(measure) => {
-            Some(tally_of(count, summary_in(&cell.measures, measure)))
+            tally_of(count, summary_in(&cell.measures, measure))
         }
     }
 }

@@ -12,7 +12,7 @@ use cube_model::Agg;
 use group_plan::FactRows;
 
 // The least count, and the least sum, that a tally does not hold.
-const LIMIT: u128 = 1 << 63;
+pub(crate) const LIMIT: u128 = 1 << 63;
 
 /// Whether each column has room for rows at the slots of their groups. It takes no memory.
 pub fn have_room<F: FactRows>(
@@ -73,7 +73,12 @@ fn size_at<F: FactRows>(agg: Agg, rows: &F, place: usize, group_slot: Option<u32
 }
 
 // Whether the tally at each of the slots can take so many numbers more, whose absolute values have a sum.
-fn all_can_take(column: &[Tally], group_slots: &[Option<u32>], count: u128, size: u128) -> bool
+pub(crate) fn all_can_take(
+    column: &[Tally],
+    group_slots: &[Option<u32>],
+    count: u128,
+    size: u128,
+) -> bool
     requires count { count < 2 ^ 64 }
     requires size { size < 2 ^ 63 }
     ensures { result ≡ list_all (λ group_slot. can_take column.now group_slot count size) group_slots.now }

@@ -17,7 +17,7 @@ ghost use Rattle.cuboid_upkeep.specs.Codes.{modes_of};
 ghost use Rattle.cuboid_upkeep.specs.Grouping.{StandFor};
 ghost use Rattle.lattice.specs.Determined.{Serves};
 
-use crate::cell_columns::with_cells;
+use crate::cell_columns::{have_room_for_cells, merge_in_cells};
 use crate::chosen_rows::ChosenRows;
 use crate::columns::{count_in_all, lengthen_all, no_columns};
 use crate::finish::answer_lines;
@@ -127,7 +127,7 @@ impl Fold {
     /// The view has to serve the query. The fifth codes of cells are places among the modes, which only a view that groups
     /// by ship mode looks at. `BadLayout` says that the cells stand for no rows that can be taken: a code is
     /// that of no member, or the sums with them pass their limit. All memory is taken before the first cell is counted:
-    /// that of the columns once more, and for the time of the call some for each cell and each dimension row.
+    /// some for new groups, and for the time of the call some for each cell and each member of the view's levels.
     pub fn add_cells(
         &mut self,
         dims: &Dims,
@@ -157,19 +157,21 @@ impl Fold {
             Err(fault) => return Err(fault),
         };
         let aggregates = self.plan.query().aggregates.as_slice();
-        match with_cells(
-            self.alloc,
+        if !have_room_for_cells(
             columns.as_slice(),
             aggregates,
             cells.as_slice(),
             group_slots.as_slice(),
         ) {
-            Ok(merged) => {
-                self.columns = merged;
-                Ok(())
-            }
-            Err(fault) => Err(fault),
+            return Err(Fault::BadLayout);
         }
+        merge_in_cells(
+            columns.as_mut_slice(),
+            aggregates,
+            cells.as_slice(),
+            group_slots.as_slice(),
+        );
+        Ok(())
     }
 
     // Counts the selected rows of a batch in, all at once. A refusal leaves the fold as it was.

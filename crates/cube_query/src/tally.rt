@@ -88,18 +88,33 @@ impl Tally {
         if other.count.get() == 0 {
             return Ok(self);
         }
-        let count = self.count.get() + other.count.get();
-        if count >= LIMIT {
+        if self.count.get() + other.count.get() >= LIMIT {
             return Err(TooLarge);
         }
         match sum_of(self.sum, other.sum) {
             None => Err(TooLarge),
-            Some(sum) => Ok(Tally {
-                count: Amount::new(count),
-                sum,
-                least: self.least.min(other.least),
-                greatest: self.greatest.max(other.greatest),
-            }),
+            Some(_) => Ok(self.joined(other)),
+        }
+    }
+
+    /// The same where both fit one tally.
+    pub fn joined(self, other: Tally) -> Self
+        requires count { self.count + other.count < 2 ^ 63 }
+        requires sum { FitsSigned w64 (self.sum +ℤ other.sum) }
+        ensures { result ≡ spec.merged self other }
+    {
+        if self.count.get() == 0 {
+            return other;
+        }
+        if other.count.get() == 0 {
+            return self;
+        }
+        let count = self.count.get() + other.count.get();
+        Tally {
+            count: Amount::new(count),
+            sum: self.sum + other.sum,
+            least: self.least.min(other.least),
+            greatest: self.greatest.max(other.greatest),
         }
     }
 

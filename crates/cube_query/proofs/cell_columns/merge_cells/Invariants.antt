@@ -1,4 +1,3 @@
-use Rattle.cube_query.proofs.CellGroups.{cells_are_rows}
 use Rattle.cube_query.proofs.CellMerges.{IsUnderway}
 use Rattle.cube_query.proofs.cell_columns.merge_cells.Given as goal
 

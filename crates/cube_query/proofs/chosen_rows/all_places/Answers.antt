@@ -1,4 +1,4 @@
-use Rattle.std.proofs.Common.{◌≡◌, ◌∙◌, ◌<◌, ◌++◌, ◌∷◌, [], ℕ, List, sym, ap, arith, length}
+use Rattle.std.proofs.Common.{◌∙◌, ◌<◌, ◌++◌, ◌∷◌, [], ℕ, List, sym, ap, arith, length}
 use Rattle.std.proofs.lemmas.List.{length-set, take_more_set}
 use Rattle.cube_query.proofs.Choosing.{range_next}
 use Rattle.cube_query.proofs.chosen_rows.all_places.Goals as goal

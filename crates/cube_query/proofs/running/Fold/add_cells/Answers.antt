@@ -1,25 +1,19 @@
-use Rattle.std.proofs.Common.{◌≡◌, ◌∙◌, ◌≤◌, Err, List, ℕ, Option, Some, [], ◌++◌, length, sym, ap, refl, subst, inl, inr, arith}
-use Rattle.std.specs.Prelude.{slice_get}
-use Rattle.std.specs.List.{AllByRecursion}
+use Rattle.std.proofs.Common.{◌≡◌, ◌∙◌, Err, List, ℕ, [], ◌++◌, length, sym, ap, refl, subst, inl, inr, arith}
 use Rattle.std.specs.Option.{option_map}
-use Rattle.std.specs.declared.alloc.Global.{Global}
-use Rattle.std.specs.declared.vec.Vec.{Vec}
+use Rattle.std.proofs.lemmas.List.{with_items_is}
 use Rattle.cube_model.specs.declared.fault.Fault.TheVariants.{BadLayout}
-use Rattle.cube_model.specs.declared.measure.Agg.{Agg}
-use Rattle.cube_model.specs.declared.query.Query.{Query}
-use Rattle.cuboid_cells.specs.declared.cell.Cell.{Cell}
 use Rattle.cuboid_upkeep.specs.Codes.{modes_of}
 use Rattle.cuboid_upkeep.specs.StandIns.{stood_in}
 use Rattle.group_plan.specs.Plans.{query_of}
 use Rattle.lattice.specs.Determined.{Serves}
-use Rattle.cube_query.specs.CellTallies.{AllHaveCellRoom, with_cells}
+use Rattle.cube_query.specs.CellTallies.{HaveRoomForAll, with_cells}
 use Rattle.cube_query.specs.Columns.{tallies_at}
+use Rattle.cube_query.specs.FoldInvariant.{IsKept}
 use Rattle.cube_query.specs.Groups.{CanTake, FoldState, IsOver, StandsFor}
 use Rattle.cube_query.specs.Slots.{entries_of}
-use Rattle.cube_query.specs.declared.tally.Tally.{Tally}
-use Rattle.cube_query.proofs.CellFolds.{kept_merged, room_for_cells, slots_below, stand_count, stand_known, stands_merged}
+use Rattle.cube_query.proofs.CellFolds.{kept_merged, room_for_cells, same_room, stand_count, stand_known, stands_merged}
 use Rattle.cube_query.proofs.Columnwise.{tallies-length}
-use Rattle.cube_query.proofs.Folds.{kept_ready, shown_ready}
+use Rattle.cube_query.proofs.Folds.{kept_ready, shown, shown_ready}
 use Rattle.cube_query.proofs.Known.{known_behind}
 use Rattle.cube_query.proofs.Marking.{AreGroupSlots-length}
 use Rattle.cube_query.proofs.running.Fold.add_cells.Goals as goal
@@ -36,7 +30,6 @@ pub returns-in-Err-ready-clause-err : goal.returns-in-Err-ready-clause-err
 returns-in-Err-ready-clause-err c =
     let inside = c.self.inside in
     let dims = c.args.dims.now in
-    let modes : List (List ℕ) = modes_of (option_map (λ modes. modes.now) c.args.modes) in
     let over = subst (λ (state : FoldState). IsOver dims state) (sym c.self.view_is) c.requires.over in
     shown_ready dims inside.plan over inside.slots inside.columns.items c.self.invariant c.ready.new.slots c.ready.new.columns.items c.ready.ensures.cover c.ready.ensures.grow c.ready.ensures.same ∙ c.self.view_is
 
@@ -47,11 +40,10 @@ returns-in-Err-ready-clause-refused c = λ bad rows stand can.
     let is : c.in-Err-ready.fault ≡ BadLayout = cc bad in
     c.in-Err-ready.ensures.refused (ap (λ fault. Err fault) is) (stand_known dims modes c.args.cells.now.view c.args.cells.now.cells (stood_in c.in-Ok.rows) c.in-Ok.ensures.ok)
 
-pub with_cells-requires-clause-columns : goal.with_cells-requires-clause-columns
-with_cells-requires-clause-columns c =
+pub have_room_for_cells-requires-clause-columns : goal.have_room_for_cells-requires-clause-columns
+have_room_for_cells-requires-clause-columns c =
     let inside = c.self.inside in
     let dims = c.args.dims.now in
-    let modes : List (List ℕ) = modes_of (option_map (λ modes. modes.now) c.args.modes) in
     let over = subst (λ (state : FoldState). IsOver dims state) (sym c.self.view_is) c.requires.over in
     let entries = entries_of c.ready.new.slots in
     let kept = kept_ready dims inside.plan over inside.slots inside.columns.items c.self.invariant c.ready.new.slots c.ready.new.columns.items c.ready.ensures.cover c.ready.ensures.grow c.ready.ensures.same in
@@ -59,8 +51,8 @@ with_cells-requires-clause-columns c =
     ∙ tallies-length (query_of inside.plan).aggregates c.ready.new.columns.items (length entries) [] (kept.fresh (length entries) (omega arith))
     ∙ sym (ap length (c.as_slice-aggregates.ensures ∙ ap (λ q. q.aggregates) c.query.ensures))
 
-pub with_cells-requires-clause-group_slots : goal.with_cells-requires-clause-group_slots
-with_cells-requires-clause-group_slots c =
+pub have_room_for_cells-requires-clause-group_slots : goal.have_room_for_cells-requires-clause-group_slots
+have_room_for_cells-requires-clause-group_slots c =
     let inside = c.self.inside in
     let dims = c.args.dims.now in
     let modes : List (List ℕ) = modes_of (option_map (λ modes. modes.now) c.args.modes) in
@@ -69,65 +61,15 @@ with_cells-requires-clause-group_slots c =
     ∙ AreGroupSlots-length dims (query_of inside.plan) (entries_of c.ready.new.slots) (stood_in c.in-Ok.rows) c.in-Ok-ready.group_slots.items c.in-Ok-ready.ensures.group_slots
     ∙ stand_count dims modes plain.view plain.cells (stood_in c.in-Ok.rows) c.in-Ok.ensures.ok ∙ sym (ap length c.as_slice-2.ensures)
 
-pub with_cells-requires-clause-within : goal.with_cells-requires-clause-within
-with_cells-requires-clause-within c =
+pub returns-then-not-have_room_for_cells-clause-err : goal.returns-then-not-have_room_for_cells-clause-err
+returns-then-not-have_room_for_cells-clause-err c =
     let inside = c.self.inside in
     let dims = c.args.dims.now in
-    let modes : List (List ℕ) = modes_of (option_map (λ modes. modes.now) c.args.modes) in
-    let plain = c.args.cells.now in
-    let over = subst (λ (state : FoldState). IsOver dims state) (sym c.self.view_is) c.requires.over in
-    let entries = entries_of c.ready.new.slots in
-    let below = slots_below dims inside.plan over inside.slots inside.columns.items c.self.invariant c.ready.new.slots c.ready.new.columns.items c.ready.ensures.cover c.ready.ensures.grow c.ready.ensures.same
-    modes plain (stood_in c.in-Ok.rows) c.in-Ok-ready.group_slots.items c.in-Ok.ensures.ok c.in-Ok-ready.ensures.group_slots in (
-      length entries,
-      λ place slot at. below place slot (ap (λ (list : List (Option ℕ)). slice_get list place) (sym c.as_slice-3.ensures.value) ∙ at),
-      subst (λ (list : List (Vec Tally Global)). AllByRecursion (λ column. length entries ≤ length column.items) list) (sym c.as_slice.ensures.value) c.in-Ok-ready.ensures.long,
-    )
-
-pub invariant_of-self-in-Ok-with_cells : goal.invariant_of-self-in-Ok-with_cells
-invariant_of-self-in-Ok-with_cells c =
-    let inside = c.self.inside in
-    let dims = c.args.dims.now in
-    let modes : List (List ℕ) = modes_of (option_map (λ modes. modes.now) c.args.modes) in
-    let plain = c.args.cells.now in
-    let over = subst (λ (state : FoldState). IsOver dims state) (sym c.self.view_is) c.requires.over in
-    let aggregates : c.as_slice-aggregates.result.now ≡ (query_of inside.plan).aggregates = c.as_slice-aggregates.ensures ∙ ap (λ q. q.aggregates) c.query.ensures in
-    let merged = c.in-Ok-with_cells.merged.items in
-    let is = λ (slot : ℕ). c.in-Ok-with_cells.ensures.ok slot ∙ (λ i. with_cells (aggregates i) slot (c.as_slice-2.ensures i) (c.as_slice-3.ensures.value i) (tallies_at (c.as_slice.ensures.value i) slot)) in
-    kept_merged dims inside.plan over inside.slots inside.columns.items c.self.invariant c.ready.new.slots c.ready.new.columns.items c.ready.ensures.cover c.ready.ensures.grow c.ready.ensures.same
-    modes plain (stood_in c.in-Ok.rows) c.in-Ok-ready.group_slots.items c.in-Ok.ensures.ok c.in-Ok-ready.ensures.group_slots merged is
-
-pub returns-in-Ok-with_cells-clause-ok : goal.returns-in-Ok-with_cells-clause-ok
-returns-in-Ok-with_cells-clause-ok c = λ rows stand.
-    let inside = c.self.inside in
-    let dims = c.args.dims.now in
-    let modes : List (List ℕ) = modes_of (option_map (λ modes. modes.now) c.args.modes) in
-    let plain = c.args.cells.now in
-    let over = subst (λ (state : FoldState). IsOver dims state) (sym c.self.view_is) c.requires.over in
-    let serves = subst (λ (state : FoldState). Serves plain.view state.query) (sym c.self.view_is) c.requires.serves in
-    let aggregates : c.as_slice-aggregates.result.now ≡ (query_of inside.plan).aggregates = c.as_slice-aggregates.ensures ∙ ap (λ q. q.aggregates) c.query.ensures in
-    let merged = c.in-Ok-with_cells.merged.items in
-    let is = λ (slot : ℕ). c.in-Ok-with_cells.ensures.ok slot ∙ (λ i. with_cells (aggregates i) slot (c.as_slice-2.ensures i) (c.as_slice-3.ensures.value i) (tallies_at (c.as_slice.ensures.value i) slot)) in
-    let count = AreGroupSlots-length dims (query_of inside.plan) (entries_of c.ready.new.slots) (stood_in c.in-Ok.rows) c.in-Ok-ready.group_slots.items c.in-Ok-ready.ensures.group_slots
-    ∙ stand_count dims modes plain.view plain.cells (stood_in c.in-Ok.rows) c.in-Ok.ensures.ok in
-    record {
-      query = ap (λ state. state.query) c.self.view_is;
-      stands = λ so_far stands.
-          stands_merged dims inside.plan over inside.slots inside.columns.items c.self.invariant c.ready.new.slots c.ready.new.columns.items c.ready.ensures.cover c.ready.ensures.grow c.ready.ensures.same
-          modes plain (stood_in c.in-Ok.rows) c.in-Ok-ready.group_slots.items c.in-Ok.ensures.ok c.in-Ok-ready.ensures.group_slots merged is
-          count c.one_key_one_group.ensures serves rows stand so_far (subst (λ (state : FoldState). StandsFor dims state so_far) (sym c.self.view_is) stands);
-    }
-
-pub returns-clause-err : goal.returns-clause-err
-returns-clause-err c =
-    let inside = c.self.inside in
-    let dims = c.args.dims.now in
-    let modes : List (List ℕ) = modes_of (option_map (λ modes. modes.now) c.args.modes) in
     let over = subst (λ (state : FoldState). IsOver dims state) (sym c.self.view_is) c.requires.over in
     shown_ready dims inside.plan over inside.slots inside.columns.items c.self.invariant c.ready.new.slots c.ready.new.columns.items c.ready.ensures.cover c.ready.ensures.grow c.ready.ensures.same ∙ c.self.view_is
 
-pub returns-clause-refused : goal.returns-clause-refused
-returns-clause-refused c = λ bad rows stand can.
+pub returns-then-not-have_room_for_cells-clause-refused : goal.returns-then-not-have_room_for_cells-clause-refused
+returns-then-not-have_room_for_cells-clause-refused c = λ bad rows stand can.
     let inside = c.self.inside in
     let dims = c.args.dims.now in
     let modes : List (List ℕ) = modes_of (option_map (λ modes. modes.now) c.args.modes) in
@@ -137,13 +79,71 @@ returns-clause-refused c = λ bad rows stand can.
     let aggregates : c.as_slice-aggregates.result.now ≡ (query_of inside.plan).aggregates = c.as_slice-aggregates.ensures ∙ ap (λ q. q.aggregates) c.query.ensures in
     let room = room_for_cells dims inside.plan over inside.slots inside.columns.items c.self.invariant c.ready.new.slots c.ready.new.columns.items c.ready.ensures.cover c.ready.ensures.grow c.ready.ensures.same
     modes plain (stood_in c.in-Ok.rows) c.in-Ok-ready.group_slots.items c.in-Ok.ensures.ok c.in-Ok-ready.ensures.group_slots rows stand given.0 given.1.0 given.1.1 c.in-Ok-ready.ensures.long in
-    let there : AllHaveCellRoom c.as_slice-aggregates.result.now c.as_slice-2.result.now c.as_slice-3.result.now c.as_slice.result.now =
-    subst (λ (aggs : List Agg). AllHaveCellRoom aggs c.as_slice-2.result.now c.as_slice-3.result.now c.as_slice.result.now) (sym aggregates)
-    (subst (λ (cells : List Cell). AllHaveCellRoom (query_of inside.plan).aggregates cells c.as_slice-3.result.now c.as_slice.result.now) (sym c.as_slice-2.ensures)
-    (subst (λ (list : List (Option ℕ)). AllHaveCellRoom (query_of inside.plan).aggregates plain.cells list c.as_slice.result.now) (sym c.as_slice-3.ensures.value)
-    (subst (λ (columns : List (Vec Tally Global)). AllHaveCellRoom (query_of inside.plan).aggregates plain.cells c.in-Ok-ready.group_slots.items columns) (sym c.as_slice.ensures.value) room))) in
-    let is : c.in-Err-with_cells.fault ≡ BadLayout = cc bad in
-    elim c.in-Err-with_cells.ensures.refused [
-      | inl memory ↦ absurd (cc (is, memory))
-      | inr none ↦ none.1 there
-    ]
+    let there : HaveRoomForAll c.as_slice-aggregates.result.now c.as_slice-2.result.now c.as_slice-3.result.now c.as_slice.result.now =
+    same_room (sym aggregates) (sym c.as_slice-2.ensures) (sym c.as_slice-3.ensures.value) (sym c.as_slice.ensures.value) room in
+    let yes = c.have_room_for_cells.ensures.1 there in
+    absurd (cc (yes, c.if-not-have_room_for_cells.true))
+
+pub merge_in_cells-requires-clause-columns : goal.merge_in_cells-requires-clause-columns
+merge_in_cells-requires-clause-columns c =
+    let inside = c.self.inside in
+    let dims = c.args.dims.now in
+    let over = subst (λ (state : FoldState). IsOver dims state) (sym c.self.view_is) c.requires.over in
+    let entries = entries_of c.ready.new.slots in
+    let kept = kept_ready dims inside.plan over inside.slots inside.columns.items c.self.invariant c.ready.new.slots c.ready.new.columns.items c.ready.ensures.cover c.ready.ensures.grow c.ready.ensures.same in
+    ap length c.as_mut_slice.ensures.value
+    ∙ tallies-length (query_of inside.plan).aggregates c.ready.new.columns.items (length entries) [] (kept.fresh (length entries) (omega arith))
+    ∙ sym (ap length (c.as_slice-aggregates.ensures ∙ ap (λ q. q.aggregates) c.query.ensures))
+
+pub merge_in_cells-requires-clause-group_slots : goal.merge_in_cells-requires-clause-group_slots
+merge_in_cells-requires-clause-group_slots c =
+    let inside = c.self.inside in
+    let dims = c.args.dims.now in
+    let modes : List (List ℕ) = modes_of (option_map (λ modes. modes.now) c.args.modes) in
+    let plain = c.args.cells.now in
+    ap length c.as_slice-5.ensures.value
+    ∙ AreGroupSlots-length dims (query_of inside.plan) (entries_of c.ready.new.slots) (stood_in c.in-Ok.rows) c.in-Ok-ready.group_slots.items c.in-Ok-ready.ensures.group_slots
+    ∙ stand_count dims modes plain.view plain.cells (stood_in c.in-Ok.rows) c.in-Ok.ensures.ok ∙ sym (ap length c.as_slice-4.ensures)
+
+pub merge_in_cells-requires-clause-room : goal.merge_in_cells-requires-clause-room
+merge_in_cells-requires-clause-room c =
+    same_room refl (c.as_slice-2.ensures ∙ sym c.as_slice-4.ensures) (c.as_slice-3.ensures.value ∙ sym c.as_slice-5.ensures.value) (c.as_slice.ensures.value ∙ sym c.as_mut_slice.ensures.value)
+    (c.have_room_for_cells.ensures.0 c.if-not-have_room_for_cells.false)
+
+pub invariant_of-self-2 : goal.invariant_of-self-2
+invariant_of-self-2 c =
+    let inside = c.self.inside in
+    let dims = c.args.dims.now in
+    let modes : List (List ℕ) = modes_of (option_map (λ modes. modes.now) c.args.modes) in
+    let plain = c.args.cells.now in
+    let over = subst (λ (state : FoldState). IsOver dims state) (sym c.self.view_is) c.requires.over in
+    let aggregates : c.as_slice-aggregates.result.now ≡ (query_of inside.plan).aggregates = c.as_slice-aggregates.ensures ∙ ap (λ q. q.aggregates) c.query.ensures in
+    let merged = c.merge_in_cells.new.columns in
+    let is = λ (slot : ℕ). c.merge_in_cells.ensures slot ∙ (λ i. with_cells (aggregates i) slot (c.as_slice-4.ensures i) (c.as_slice-5.ensures.value i) (tallies_at (c.as_mut_slice.ensures.value i) slot)) in
+    let len : length merged ≡ c.ready.new.columns.len = c.merge_in_cells.auto.columns ∙ c.as_mut_slice.ensures.len in
+    subst (IsKept inside.plan c.ready.new.slots) (sym (with_items_is c.ready.new.columns merged len))
+    (kept_merged dims inside.plan over inside.slots inside.columns.items c.self.invariant c.ready.new.slots c.ready.new.columns.items c.ready.ensures.cover c.ready.ensures.grow c.ready.ensures.same
+    modes plain (stood_in c.in-Ok.rows) c.in-Ok-ready.group_slots.items c.in-Ok.ensures.ok c.in-Ok-ready.ensures.group_slots merged is)
+
+pub returns-clause-ok : goal.returns-clause-ok
+returns-clause-ok c = λ rows stand.
+    let inside = c.self.inside in
+    let dims = c.args.dims.now in
+    let modes : List (List ℕ) = modes_of (option_map (λ modes. modes.now) c.args.modes) in
+    let plain = c.args.cells.now in
+    let over = subst (λ (state : FoldState). IsOver dims state) (sym c.self.view_is) c.requires.over in
+    let serves = subst (λ (state : FoldState). Serves plain.view state.query) (sym c.self.view_is) c.requires.serves in
+    let aggregates : c.as_slice-aggregates.result.now ≡ (query_of inside.plan).aggregates = c.as_slice-aggregates.ensures ∙ ap (λ q. q.aggregates) c.query.ensures in
+    let merged = c.merge_in_cells.new.columns in
+    let is = λ (slot : ℕ). c.merge_in_cells.ensures slot ∙ (λ i. with_cells (aggregates i) slot (c.as_slice-4.ensures i) (c.as_slice-5.ensures.value i) (tallies_at (c.as_mut_slice.ensures.value i) slot)) in
+    let len : length merged ≡ c.ready.new.columns.len = c.merge_in_cells.auto.columns ∙ c.as_mut_slice.ensures.len in
+    let count = AreGroupSlots-length dims (query_of inside.plan) (entries_of c.ready.new.slots) (stood_in c.in-Ok.rows) c.in-Ok-ready.group_slots.items c.in-Ok-ready.ensures.group_slots
+    ∙ stand_count dims modes plain.view plain.cells (stood_in c.in-Ok.rows) c.in-Ok.ensures.ok in
+    record {
+      query = ap (λ state. state.query) c.self.view_is;
+      stands = λ so_far stands.
+          subst (λ columns. StandsFor dims (shown inside.plan c.ready.new.slots columns) (so_far ++ rows)) (sym (with_items_is c.ready.new.columns merged len))
+          (stands_merged dims inside.plan over inside.slots inside.columns.items c.self.invariant c.ready.new.slots c.ready.new.columns.items c.ready.ensures.cover c.ready.ensures.grow c.ready.ensures.same
+          modes plain (stood_in c.in-Ok.rows) c.in-Ok-ready.group_slots.items c.in-Ok.ensures.ok c.in-Ok-ready.ensures.group_slots merged is
+          count c.one_key_one_group.ensures serves rows stand so_far (subst (λ (state : FoldState). StandsFor dims state so_far) (sym c.self.view_is) stands));
+    }

@@ -4,10 +4,10 @@ use Rattle.std.specs.Int.{int_min, int_max}
 use Rattle.std.proofs.lemmas.Bool.Decides.{nat_tests}
 use Rattle.cube_query.specs.Tallies.{merged}
 use Rattle.cube_query.specs.declared.tally.Tally.{Tally}
-use Rattle.cube_query.proofs.tally.Tally.merge.Goals as goal
+use Rattle.cube_query.proofs.tally.Tally.joined.Goals as goal
 
-pub returns-in-Some-clause-ok : goal.returns-in-Some-clause-ok
-returns-in-Some-clause-ok c =
+pub returns : goal.returns
+returns c =
     let left = c.args.self in
     let right = c.args.other in
     let all : Tally = record { count = left.count + right.count; sum = left.sum +ℤ right.sum; least = int_min left.least right.least; greatest = int_max left.greatest right.greatest } in
