@@ -1,12 +1,16 @@
 -- What the parts that were read say of the bytes. Our own.
-use Rattle.std.proofs.Common.{◌≡◌, ℕ, Bool, true, false, not, ◌+◌, ◌<◌, List, ◌++◌, length, take, codes, refl, sym, ap, ◌∙◌, arith, length-append}
+use Rattle.std.proofs.Common.{◌≡◌, ℕ, Bool, true, false, not, ◌+◌, ◌<◌, List, [], ◌∷◌, ◌++◌, length, take, codes, All, refl, sym, ap, subst, ◌∙◌, arith, length-append, append_assoc}
 use Rattle.std.proofs.Math.Seq.{take-append_seam}
+use Rattle.std.proofs.lemmas.List.{flat_map_more}
+use Rattle.std.proofs.lemmas.List.Elements.{All-push}
 use Rattle.std.proofs.lemmas.Slice.Eq.{bytes_eq-Decides}
+use Rattle.std.specs.List.{flat_map}
 use Rattle.std.specs.Str.{bytes_eq}
 use Rattle.wire.specs.Spelling.{spelling}
 use Rattle.wire.specs.Reading.{ReadsNumber, TakesBytes}
-use Rattle.catalogue.specs.Catalogue.{header_of}
-use Rattle.catalogue.specs.Reading.{ReadsHeader}
+use Rattle.catalogue.specs.declared.entry.Entry.{Entry}
+use Rattle.catalogue.specs.Catalogue.{FitsFields, entry_of, header_of}
+use Rattle.catalogue.specs.Reading.{ReadsEntries, ReadsEntry, ReadsHeader}
 use Rattle.catalogue.proofs.CallerLemmas.{header_of-append, length-header_of}
 
 -- bytes that a comparison told apart, or found to be the same
@@ -37,4 +41,15 @@ header_read old r0 r1 new part entries root taken name one two = record {
       ∙ ap (λ (rest : List ℕ). codes "CAT1" ++ rest) (one.spelled ∙ ap (λ (rest : List ℕ). spelling 4 entries ++ rest) two.spelled)
       ∙ sym (header_of-append entries root new);
   left = omega (arith, taken.left, one.left, two.left);
+}
+
+-- one more entry was read, behind those before it
+pub one_more : (count : ℕ) (old mid new : List ℕ) (entries after : List Entry) (entry : Entry) → ReadsEntries count old mid entries → ReadsEntry mid new entry
+    → after ≡ entries ++ entry ∷ [] → ReadsEntries (count + 1) old new after
+one_more count old mid new entries after entry before one is = record {
+  fit = subst (All FitsFields) (sym is) (All-push FitsFields entries entry before.fit one.fits);
+  many = ap length is ∙ length-append entries (entry ∷ []) ∙ ap (λ (n : ℕ). n + 1) before.many;
+  spelled = before.spelled ∙ ap (λ (rest : List ℕ). flat_map entry_of entries ++ rest) one.spelled
+      ∙ sym (append_assoc (flat_map entry_of entries) (entry_of entry) new)
+      ∙ ap (λ (front : List ℕ). front ++ new) (flat_map_more entry_of [] entries entry ∙ ap (flat_map entry_of) (sym is));
 }
