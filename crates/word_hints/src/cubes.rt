@@ -1,6 +1,6 @@
 //! The words of a query of one's own.
 use crate::known::Known;
-use crate::said::{Counted, WordHint};
+use crate::said::{Counted, Slip, WordHint};
 use crate::words::{QueryWords, unknown};
 use cube_model::limits::{MOST_AGGREGATES, MOST_COLUMNS, MOST_CONDITIONS, MOST_LISTED_TEXTS};
 use std::alloc::{AllocError, Global};
@@ -67,7 +67,7 @@ fn aggregate_hint(alloc: Global, word: &str) -> Result<Option<WordHint<'_>>, All
     }
     match word.split_once(|sign| sign == ':' || sign == '(') {
         None => Ok(Some(bare_hint(alloc, word)?)),
-        Some((taken, _)) if taken == "count" => Ok(Some(WordHint::CountAlone { word })),
+        Some((taken, _)) if taken == "count" => Ok(Some(Slip::CountAlone.of(word))),
         Some((taken, rest)) => taken_hint(alloc, word, taken, rest),
     }
 }
@@ -87,7 +87,7 @@ fn taken_hint<'a>(
         return unknown(alloc, rest, Known::Measure);
     }
     match rest.strip_suffix(')') {
-        None => Ok(Some(WordHint::NotClosed { word })),
+        None => Ok(Some(Slip::NotClosed.of(word))),
         Some(measure) => unknown(alloc, measure, Known::Measure),
     }
 }
@@ -95,7 +95,7 @@ fn taken_hint<'a>(
 // What is wrong with a word without a sign that is not count.
 fn bare_hint(alloc: Global, word: &str) -> Result<WordHint<'_>, AllocError> {
     let found = unknown(alloc, word, Known::Aggregate)?;
-    Ok(found.unwrap_or(WordHint::NoMeasure { word }))
+    Ok(found.unwrap_or(Slip::NoMeasure.of(word)))
 }
 
 fn conditions_hint<'a>(
@@ -114,7 +114,7 @@ fn conditions_hint<'a>(
 // The name stands before the first sign of either kind.
 fn condition_hint(alloc: Global, word: &str) -> Result<Option<WordHint<'_>>, AllocError> {
     let Some((name, members)) = word.split_once(|sign| sign == '=' || sign == ':') else {
-        return Ok(Some(WordHint::NoSign { word }));
+        return Ok(Some(Slip::NoSign.of(word)));
     };
     let found = unknown(alloc, name, Known::Ranged)?;
     if found.is_some() {
@@ -123,7 +123,7 @@ fn condition_hint(alloc: Global, word: &str) -> Result<Option<WordHint<'_>>, All
     let is_counted = name == "quantity" || name == "discount";
     if word.as_bytes().get(name.len()) == Some(&b'=') {
         return Ok(if is_counted {
-            Some(WordHint::NoList { name })
+            Some(Slip::NoList.of(name))
         } else {
             list_hint(members)
         });
@@ -138,19 +138,19 @@ fn list_hint(members: &str) -> Option<WordHint<'_>> {
 
 fn range_hint<'a>(word: &'a str, members: &'a str, is_counted: bool) -> Option<WordHint<'a>> {
     let Some((low, high)) = members.split_once('|') else {
-        return Some(WordHint::NotTwoEnds { word });
+        return Some(Slip::NotTwoEnds.of(word));
     };
     if high.contains('|') {
-        return Some(WordHint::NotTwoEnds { word });
+        return Some(Slip::NotTwoEnds.of(word));
     }
     if !is_counted {
         return None;
     }
     if !is_small_number(low) {
-        return Some(WordHint::NoNumber { word: low });
+        return Some(Slip::NoNumber.of(low));
     }
     if !is_small_number(high) {
-        return Some(WordHint::NoNumber { word: high });
+        return Some(Slip::NoNumber.of(high));
     }
     None
 }
@@ -191,7 +191,7 @@ fn too_many<'a>(counted: Counted, count: usize, most: usize) -> Option<WordHint<
 fn repeated_column(by: &str) -> Option<WordHint<'_>> {
     for (place, word) in by.split(',').enumerate() {
         if by.split(',').position(|other| other == word) != Some(place) {
-            return Some(WordHint::Twice { word });
+            return Some(Slip::Twice.of(word));
         }
     }
     None

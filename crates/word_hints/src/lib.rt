@@ -9,5 +9,5 @@ mod words;
 
 pub use known::Known;
 pub use nearness::nearest;
-pub use said::{Counted, WordHint};
+pub use said::{Counted, Slip, WordHint};
 pub use words::{QueryWords, hint_of, hint_of_cube};

@@ -22,6 +22,34 @@ impl fmt::Display for Counted {
     }
 }
 
+/// What is wrong with a word of a condition, an aggregate or a group column.
+#[derive(Clone, Copy, Debug, PartialEq, Eq)]
+pub enum Slip {
+    /// A condition has no sign behind its name.
+    NoSign,
+    /// Something that takes a range is given texts.
+    NoList,
+    /// A range has no two ends.
+    NotTwoEnds,
+    /// An end of a range is no number of 0 to 255.
+    NoNumber,
+    /// An aggregate has no measure.
+    NoMeasure,
+    /// A measure stands behind an opening bracket and before no closing one.
+    NotClosed,
+    /// Something stands behind count.
+    CountAlone,
+    /// A group column stands twice.
+    Twice,
+}
+
+impl Slip {
+    // What is wrong with a word.
+    pub(crate) fn of(self, word: &str) -> WordHint<'_> {
+        WordHint::Wrong { word, slip: self }
+    }
+}
+
 /// What is wrong with the words of a query, as one line.
 #[derive(Clone, Copy, Debug, PartialEq, Eq)]
 pub enum WordHint<'a> {
@@ -37,37 +65,10 @@ pub enum WordHint<'a> {
         known: Known,
         near: Option<&'static str>,
     },
-    /// A condition has no sign behind its name.
-    NoSign {
+    /// Something is wrong with a word, of a condition, an aggregate or a group column.
+    Wrong {
         word: &'a str,
-    },
-    /// Something that takes a range is given texts.
-    NoList {
-        name: &'a str,
-    },
-    /// A range has no two ends.
-    NotTwoEnds {
-        word: &'a str,
-    },
-    /// An end of a range is no number of 0 to 255.
-    NoNumber {
-        word: &'a str,
-    },
-    /// An aggregate has no measure.
-    NoMeasure {
-        word: &'a str,
-    },
-    /// A measure stands behind an opening bracket and before no closing one.
-    NotClosed {
-        word: &'a str,
-    },
-    /// Something stands behind count.
-    CountAlone {
-        word: &'a str,
-    },
-    /// A group column stands twice.
-    Twice {
-        word: &'a str,
+        slip: Slip,
     },
     /// There are too many of something.
     TooMany {
@@ -90,27 +91,30 @@ impl fmt::Display for WordHint<'_> {
                 "--query stands alone: no --set, --by, --agg or condition beside it",
             ),
             WordHint::Unknown { word, known, near } => unknown(f, word, *known, *near),
-            WordHint::NoSign { word } => write!(
-                f,
-                "{word}: a condition is ATTRIBUTE=TEXT|TEXT or ATTRIBUTE:LOW|HIGH"
-            ),
-            WordHint::NoList { name } => write!(f, "{name}: a range is wanted, {name}:LOW|HIGH"),
-            WordHint::NotTwoEnds { word } => {
-                write!(f, "{word}: a range has two ends, with a bar between them")
-            }
-            WordHint::NoNumber { word } => write!(f, "{word}: no number of 0 to 255"),
-            WordHint::NoMeasure { word } => {
-                write!(f, "{word}: a measure is wanted, as in {word}:revenue")
-            }
-            WordHint::NotClosed { word } => write!(f, "{word}: a closing bracket is wanted"),
-            WordHint::CountAlone { word } => write!(f, "{word}: count stands without a measure"),
-            WordHint::Twice { word } => write!(f, "{word}: a group column stands once"),
+            WordHint::Wrong { word, slip } => wrong(f, word, *slip),
             WordHint::TooMany {
                 counted,
                 count,
                 most,
             } => write!(f, "{count} {counted}: at most {most}"),
         }
+    }
+}
+
+// A word, and what is wrong with it.
+fn wrong<W: fmt::Write>(f: &mut fmt::Formatter<W>, word: &str, slip: Slip) -> fmt::Result {
+    match slip {
+        Slip::NoSign => write!(
+            f,
+            "{word}: a condition is ATTRIBUTE=TEXT|TEXT or ATTRIBUTE:LOW|HIGH"
+        ),
+        Slip::NoList => write!(f, "{word}: a range is wanted, {word}:LOW|HIGH"),
+        Slip::NotTwoEnds => write!(f, "{word}: a range has two ends, with a bar between them"),
+        Slip::NoNumber => write!(f, "{word}: no number of 0 to 255"),
+        Slip::NoMeasure => write!(f, "{word}: a measure is wanted, as in {word}:revenue"),
+        Slip::NotClosed => write!(f, "{word}: a closing bracket is wanted"),
+        Slip::CountAlone => write!(f, "{word}: count stands without a measure"),
+        Slip::Twice => write!(f, "{word}: a group column stands once"),
     }
 }
 
