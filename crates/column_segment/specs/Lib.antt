@@ -4,4 +4,5 @@ pub mod Columns
 pub mod Decoded
 pub mod Encoding
 pub mod Reading
+pub mod Rows
 pub mod Segment

@@ -3,11 +3,35 @@ ghost use Rattle.std.specs.Prelude.{◌≡◌, ◌-◌, ◌<◌, ◌≤◌, ◌+
 ghost use Rattle.std.specs.List.{range_with_len};
 ghost use Rattle.cube_model.specs.Limits.{most_batch_rows};
 ghost use Rattle.column_segment.specs.Decoded.{HasCodes, IsReadable, amounts_in, figures_in, numbers_in, row_in, texts_in};
+ghost use Rattle.column_segment.specs.Rows.{figures_of, keys_of};
 
 use crate::columns::{AmountColumn, ByteColumn, NumberColumn};
 use crate::layout::{Coded, Layout, amount_chunks, byte_part, number_chunks};
 use cube_model::{Amount, Fault, LineOrder, RowText};
 use std::alloc::Global;
+
+// The keys of a row.
+#[derive(Clone, Copy)]
+struct RowKeys {
+    orderkey: Amount,
+    linenumber: u32,
+    custkey: u32,
+    partkey: u32,
+    suppkey: u32,
+    orderdate: u32,
+}
+
+// The figures of a row.
+#[derive(Clone, Copy)]
+struct RowFigures {
+    quantity: u8,
+    extendedprice: Amount,
+    ordtotalprice: Amount,
+    discount: u8,
+    revenue: Amount,
+    supplycost: Amount,
+    tax: u8,
+}
 
 // Adds so many rows to others, from a place on.
 pub(crate) fn push_each(
@@ -39,19 +63,68 @@ fn row_at(alloc: Global, bytes: &[u8], layout: &Layout, row: usize) -> Result<Li
 {
     let rows = layout.rows;
     let texts = &layout.texts;
-    let orderpriority = text_at(alloc, bytes, rows, &texts.orderpriority, row)?;
-    let shippriority = text_at(alloc, bytes, rows, &texts.shippriority, row)?;
-    let commitdate = text_at(alloc, bytes, rows, &texts.commitdate, row)?;
-    let shipmode = text_at(alloc, bytes, rows, &texts.shipmode, row)?;
+    let (orderpriority, shippriority) = two_texts(
+        alloc,
+        bytes,
+        rows,
+        &texts.orderpriority,
+        &texts.shippriority,
+        row,
+    )?;
+    let (commitdate, shipmode) = two_texts(
+        alloc,
+        bytes,
+        rows,
+        &texts.commitdate,
+        &texts.shipmode,
+        row,
+    )?;
+    let keys = keys_at(bytes, layout, row);
+    let figures = figures_at(bytes, layout, row);
     Ok(LineOrder {
+        orderkey: keys.orderkey,
+        linenumber: keys.linenumber,
+        custkey: keys.custkey,
+        partkey: keys.partkey,
+        suppkey: keys.suppkey,
+        orderdate: keys.orderdate,
+        orderpriority,
+        shippriority,
+        quantity: figures.quantity,
+        extendedprice: figures.extendedprice,
+        ordtotalprice: figures.ordtotalprice,
+        discount: figures.discount,
+        revenue: figures.revenue,
+        supplycost: figures.supplycost,
+        tax: figures.tax,
+        commitdate,
+        shipmode,
+    })
+}
+
+// The keys of a row.
+fn keys_at(bytes: &[u8], layout: &Layout, row: usize) -> RowKeys
+    requires readable { IsReadable bytes.now layout.now }
+    requires within { row < layout.now.rows }
+    ensures { result ≡ keys_of (row_in bytes.now layout.now row) }
+{
+    RowKeys {
         orderkey: amount_at(bytes, layout, AmountColumn::OrderKey, row),
         linenumber: number_at(bytes, layout, NumberColumn::LineNumber, row),
         custkey: number_at(bytes, layout, NumberColumn::CustKey, row),
         partkey: number_at(bytes, layout, NumberColumn::PartKey, row),
         suppkey: number_at(bytes, layout, NumberColumn::SuppKey, row),
         orderdate: number_at(bytes, layout, NumberColumn::OrderDate, row),
-        orderpriority,
-        shippriority,
+    }
+}
+
+// The figures of a row.
+fn figures_at(bytes: &[u8], layout: &Layout, row: usize) -> RowFigures
+    requires readable { IsReadable bytes.now layout.now }
+    requires within { row < layout.now.rows }
+    ensures { result ≡ figures_of (row_in bytes.now layout.now row) }
+{
+    RowFigures {
         quantity: byte_at(bytes, layout, ByteColumn::Quantity, row),
         extendedprice: amount_at(bytes, layout, AmountColumn::ExtendedPrice, row),
         ordtotalprice: amount_at(bytes, layout, AmountColumn::OrdTotalPrice, row),
@@ -59,9 +132,7 @@ fn row_at(alloc: Global, bytes: &[u8], layout: &Layout, row: usize) -> Result<Li
         revenue: amount_at(bytes, layout, AmountColumn::Revenue, row),
         supplycost: amount_at(bytes, layout, AmountColumn::SupplyCost, row),
         tax: byte_at(bytes, layout, ByteColumn::Tax, row),
-        commitdate,
-        shipmode,
-    })
+    }
 }
 
 // The amount of a row in a column.
@@ -89,6 +160,28 @@ fn byte_at(bytes: &[u8], layout: &Layout, column: ByteColumn, row: usize) -> u8
     ensures { result ≡ slice_index (figures_in bytes.now layout.now.rows column) row }
 {
     byte_part(bytes, layout.rows, column)[row]
+}
+
+// The texts of a row in two columns.
+fn two_texts(
+    alloc: Global,
+    bytes: &[u8],
+    rows: usize,
+    one: &Coded,
+    other: &Coded,
+    row: usize,
+) -> Result<(RowText, RowText), Fault>
+    requires few { rows ≤ most_batch_rows }
+    requires one { HasCodes bytes.now rows one.now }
+    requires other { HasCodes bytes.now rows other.now }
+    requires within { row < rows }
+    ensures ok { IfOk result (λ texts. (texts.0 ≡ slice_index_or (texts_in bytes.now rows one.now) row [])
+        × (texts.1 ≡ slice_index_or (texts_in bytes.now rows other.now) row [])) }
+    ensures memory { IfErr result (λ fault. fault ≡ Fault.Memory) }
+{
+    let first = text_at(alloc, bytes, rows, one, row)?;
+    let second = text_at(alloc, bytes, rows, other, row)?;
+    Ok((first, second))
 }
 
 // The text of a row in a column.
