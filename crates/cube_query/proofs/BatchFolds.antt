@@ -19,7 +19,7 @@ use Rattle.cube_query.specs.Limits.{AreFoldable}
 use Rattle.cube_query.specs.Slots.{entries_of, slot_of, AreSlots, CanPlace, Cover, Grow}
 use Rattle.cube_query.specs.WholeBatch.{HaveRoomAt, all_at, has_one_group, with_rows}
 use Rattle.cube_query.specs.declared.slots.Slots.{Slots}
-use Rattle.cube_query.specs.declared.slots.Slots.TheVariants.{Direct, Seen}
+use Rattle.cube_query.specs.declared.slots.Slots.TheVariants.{Direct, Below, Seen}
 use Rattle.cube_query.specs.declared.tally.Tally.{Tally}
 use Rattle.cube_query.proofs.Folds.{HaveRoom-ready, kept_count, kept_cover, kept_numbers, kept_ready, shown, shown_ready, stands_count}
 use Rattle.cube_query.proofs.WholeBatches.{batch_counted, one_at_least, room_at, slots_are}
@@ -27,6 +27,7 @@ use Rattle.cube_query.proofs.WholeBatches.{batch_counted, one_at_least, room_at,
 -- ---- the slot of the first number
 pub can_place : (bound : ℕ) (slots : Slots) → 0 < bound → Cover bound slots → CanPlace slots 0
 can_place bound (Direct count) some cover = omega (arith, some, cover)
+can_place bound (Below table) some cover = omega (arith, some, cover)
 can_place bound (Seen numbers) some cover = tt
 
 below_all : (slot len : ℕ) (columns : List (Vec Tally Global)) → slot < len → AllByRecursion (λ column. len ≤ length column.items) columns

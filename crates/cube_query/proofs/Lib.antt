@@ -9,6 +9,7 @@ pub mod Answered
 pub mod Lists
 pub mod Loops
 pub mod Numbering
+pub mod PlaceTables
 pub mod Marking
 pub mod OneRow
 pub mod Placing

@@ -6,6 +6,7 @@ pub mod FoldInvariant
 pub mod Groups
 pub mod Limits
 pub mod Numbered
+pub mod PlaceTables
 pub mod Ranks
 pub mod Room
 pub mod SegmentRows

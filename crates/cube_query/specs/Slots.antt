@@ -6,7 +6,7 @@ use Rattle.std.specs.Map.{lookup}
 use Rattle.std.specs.Ordering.{nat_cmp}
 use Rattle.cube_query.specs.Numbered.{entries_in}
 use Rattle.cube_query.specs.declared.slots.Slots.{Slots}
-use Rattle.cube_query.specs.declared.slots.Slots.TheVariants.{Direct, Seen}
+use Rattle.cube_query.specs.declared.slots.Slots.TheVariants.{Direct, Below, Seen}
 
 -- a number from the first on, so many of them, each with itself for its slot
 abbrev pub numbers_from : ℕ → ℕ → List (ℕ × ℕ)
@@ -16,6 +16,7 @@ numbers_from first (suc count) = (first, first) ∷ numbers_from (suc first) cou
 -- the numbers that have a slot, ascending, each with its slot
 abbrev pub entries_of : Slots → List (ℕ × ℕ)
 entries_of (Direct count) = numbers_from 0 count
+entries_of (Below table) = entries_in table.numbers
 entries_of (Seen numbers) = entries_in numbers
 
 -- the slot of a number
@@ -33,11 +34,13 @@ pub record AreSlots (bound : ℕ) (entries : List (ℕ × ℕ)) : Type 0 where
 -- there is a slot for a number, or one can be given
 abbrev pub CanPlace : Slots → ℕ → Type 0
 CanPlace (Direct count) number = number < count
+CanPlace (Below table) number = number < table.bound
 CanPlace (Seen numbers) number = Unit {0}
 
--- where slots are there from the start, there is one for each number below the bound
+-- slots that are there from the start are those of the numbers below the bound, and a table is one of these numbers
 abbrev pub Cover : ℕ → Slots → Type 0
 Cover bound (Direct count) = count ≡ bound
+Cover bound (Below table) = table.bound ≡ bound
 Cover bound (Seen numbers) = Unit {0}
 
 -- a new number with the next slot

@@ -13,6 +13,7 @@ mod lines;
 mod moded_rows;
 mod numbers;
 mod order;
+mod place_table;
 mod room;
 mod running;
 mod segment_rows;

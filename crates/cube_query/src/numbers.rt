@@ -77,10 +77,19 @@ impl Numbers {
     pub fn entries(&self, alloc: Global) -> Result<Vec<(u128, u32)>, AllocError>
         ensures { IfOk result (λ entries. entries.items ≡ entries_in self.now) }
     {
-        let mut entries = placed(alloc, self.seen.as_slice())?;
-        entries.sort_unstable();
-        Ok(entries)
+        sorted_entries(alloc, self.seen.as_slice())
     }
+}
+
+/// Numbers, each with its place among them, ascending by number.
+pub fn sorted_entries(alloc: Global, numbers: &[u128]) -> Result<Vec<(u128, u32)>, AllocError>
+    requires few { length numbers.now < 2 ^ 32 }
+    requires once { IsDistinct nat_eq numbers.now }
+    ensures { IfOk result (λ entries. entries.items ≡ entries_in numbers.now) }
+{
+    let mut entries = placed(alloc, numbers)?;
+    entries.sort_unstable();
+    Ok(entries)
 }
 
 // Numbers, each with its place, in the order that they came.

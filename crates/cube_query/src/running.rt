@@ -44,7 +44,7 @@ use std::marker::Model;
 /// borrows nothing: each call is handed the dimensions, which are those that it began with.
 ///
 /// Memory grows with the groups, and not with the rows: with those that there can be, or where these are more than
-/// 65,536, with those that had a row.
+/// 65,536, with those that had a row. Up to 1,048,576 that there can be, it takes four bytes more for each of them.
 #[derive(Drop)]
 pub struct Fold {
     alloc: Global,
@@ -279,7 +279,7 @@ fn begin(alloc: Global, dims: &Dims, query: &Query) -> Result<Fold, AllocError>
     ensures { IfOk result (Begins dims.now query.now) }
 {
     let plan = Plan::new(alloc, dims, query)?;
-    let slots = Slots::new(alloc, plan.group_count());
+    let slots = Slots::new(alloc, plan.group_count())?;
     let columns = no_columns(alloc, query.aggregates.as_slice())?;
     Ok(Fold {
         alloc,

@@ -3,31 +3,40 @@ ghost use Rattle.std.specs.Prelude.{◌≡◌, ℕ, ◌<◌, ◌^◌, length, If
 ghost use Rattle.cube_query.specs.Slots.{entries_of, numbers_from, AreSlots, CanPlace, Cover, Places};
 
 use crate::numbers::Numbers;
+use crate::place_table::PlaceTable;
 use std::alloc::{AllocError, Global};
 
 /// Up to how many numbers each has its slot from the start.
 const MOST_FROM_THE_START: u128 = 65_536;
+
+/// Up to how many numbers a table tells their slots: one of four megabytes.
+const MOST_IN_A_TABLE: u128 = 1_048_576;
 
 /// Which slot the number of a group has.
 #[derive(Drop)]
 pub enum Slots {
     /// Each number below the count, from the start, in the slot with that number.
     Direct(u32),
-    /// The numbers that were seen: the place of each in the order of their first sight is its slot.
+    /// The numbers that were seen, of those below a bound: the place of each in the order of their first sight is its slot.
+    Below(PlaceTable),
+    /// The same with no bound.
     Seen(Numbers),
 }
 
 impl Slots {
     /// Slots for the numbers below a bound.
-    pub fn new(alloc: Global, bound: u128) -> Slots
-        ensures numbers { AreSlots bound (entries_of result) }
-        ensures cover { Cover bound result }
+    pub fn new(alloc: Global, bound: u128) -> Result<Slots, AllocError>
+        ensures numbers { IfOk result (λ slots. AreSlots bound (entries_of slots)) }
+        ensures cover { IfOk result (Cover bound) }
     {
         if bound <= MOST_FROM_THE_START {
-            Slots::Direct(bound as u32)
-        } else {
-            Slots::Seen(Numbers::new(alloc))
+            return Ok(Slots::Direct(bound as u32));
         }
+        if bound <= MOST_IN_A_TABLE {
+            let table = PlaceTable::new(alloc, bound as usize)?;
+            return Ok(Slots::Below(table));
+        }
+        Ok(Slots::Seen(Numbers::new(alloc)))
     }
 
     /// How many slots there are.
@@ -36,6 +45,7 @@ impl Slots {
     {
         match self {
             Slots::Direct(count) => *count as usize,
+            Slots::Below(table) => table.len(),
             Slots::Seen(numbers) => numbers.len(),
         }
     }
@@ -52,6 +62,7 @@ impl Slots {
                 prove!(number < u128::from(*count));
                 Ok(number as u32)
             }
+            Slots::Below(table) => table.place(number),
             Slots::Seen(numbers) => numbers.place(number),
         }
     }
@@ -63,6 +74,7 @@ impl Slots {
     {
         match self {
             Slots::Direct(count) => Ok(Slots::Direct(*count)),
+            Slots::Below(table) => Ok(Slots::Below(table.copy()?)),
             Slots::Seen(numbers) => Ok(Slots::Seen(numbers.copy()?)),
         }
     }
@@ -73,6 +85,7 @@ impl Slots {
     {
         match self {
             Slots::Direct(count) => direct_entries(alloc, *count),
+            Slots::Below(table) => table.entries(alloc),
             Slots::Seen(numbers) => numbers.entries(alloc),
         }
     }
