@@ -3,6 +3,7 @@ use Rattle.std.proofs.Common.{◌≡◌, ◌∙◌, sym, ap, refl, ℕ, ◌<◌,
 use Rattle.std.specs.Prelude.{Option, ◌==◌, not, suc, MatchBool}
 use Rattle.std.proofs.lemmas.Bool.Decides.{nat_tests}
 use Rattle.std.specs.Io.KnownBytes.{Keeps, IsAtEnd}
+use Rattle.cube_model.specs.Limits.{longest_line}
 use Rattle.batch_loader.specs.Lines.{lines_of, onto_first_line}
 use Rattle.batch_loader.specs.Fronts.{with_front, IsFront}
 use Rattle.batch_loader.specs.Reading.{TakesLine, StaysAtEnd}
@@ -45,8 +46,8 @@ IsAtEnd-front (Some (byte ∷ text)) (Some rest) before at_end = absurd (not_emp
 pub record IsReading (old now : Option (List ℕ)) (line : List ℕ) (count capacity : ℕ) : Type 0 where
   pub front : IsFront old now line
   pub grows : count ≤ length line
-  pub short : length line ≤ 8192
-  pub room : 8192 ≤ capacity
+  pub short : length line ≤ longest_line
+  pub room : longest_line ≤ capacity
 
 StaysAtEnd-front : (old now new : Option (List ℕ)) → IsFront old now [] → IsAtEnd now → IsAtEnd new → Keeps now new → StaysAtEnd old new
 StaysAtEnd-front None now new front at_end after keeps = after

@@ -6,6 +6,7 @@ use Rattle.std.specs.Io.KnownBytes.{IsAtEnd}
 use Rattle.cube_model.specs.declared.fault.Fault.{Fault}
 use Rattle.cube_model.specs.declared.fault.Fault.TheVariants.{Memory, Input, FieldTooLong}
 use Rattle.cube_model.specs.declared.fault.Place.TheVariants.{Line}
+use Rattle.cube_model.specs.Limits.{longest_line}
 use Rattle.batch_loader.specs.Lines.{lines_of}
 use Rattle.batch_loader.specs.Rows.{rows_of, next_number, number_after}
 use Rattle.batch_loader.specs.Unread.{Unread}
@@ -24,7 +25,7 @@ IsLongLine (Some text) limit = (line : List ℕ) × (others : List (List ℕ)) �
 -- a line was taken: it is short enough, and counted
 pub record TakesNext (old new : Unread) (line : List ℕ) : Type 0 where
   pub taken : TakesLine old.left new.left line
-  pub short : length line ≤ 8192
+  pub short : length line ≤ longest_line
   pub number : new.number ≡ next_number old.number
   pub fault : new.fault ≡ None
 
@@ -42,7 +43,7 @@ pub record IsAllTaken (old new : Unread) : Type 0 where
 
 -- no line was taken: a read failed, or the next line is too long
 abbrev pub RefusesNext : Unread → Fault → Type 0
-RefusesNext old fault = (fault ≡ Input) ⊎ ((fault ≡ FieldTooLong (Line (next_number old.number)) 0) × IsLongLine old.left 8192)
+RefusesNext old fault = (fault ≡ Input) ⊎ ((fault ≡ FieldTooLong (Line (next_number old.number)) 0) × IsLongLine old.left longest_line)
 
 -- what the next line is, and what is left
 abbrev pub NextGives : Unread → Unread → Result (Option (Bor (List ℕ))) Fault → Type 0

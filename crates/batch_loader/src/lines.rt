@@ -27,6 +27,7 @@ impl<R: Read> Model for Lines<R> {
     ghost use Rattle.std.specs.Prelude.{◌≤◌};
     ghost use Rattle.std.specs.Vec.{vec_capacity};
     ghost use Rattle.std.specs.Io.KnownBytes.{prepend_known};
+    ghost use Rattle.cube_model.specs.Limits.{longest_line};
     ghost use Rattle.batch_loader.specs.Unread.{Unread};
 
     ghost Value = { Unread };
@@ -38,7 +39,7 @@ impl<R: Read> Model for Lines<R> {
       fault = lines.fault;
     } };
 
-    ghost invariant = { λ lines. 8192 ≤ vec_capacity lines.line };
+    ghost invariant = { λ lines. longest_line ≤ vec_capacity lines.line };
 }
 
 impl<R: Read> Lines<R> {

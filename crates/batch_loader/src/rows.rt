@@ -12,6 +12,7 @@ use std::alloc::Global;
 /// A row of a table, which a line of the table's text spells.
 pub trait TableRow {
     ghost use Rattle.std.specs.Prelude.{ℕ, List};
+    ghost use Rattle.cube_model.specs.Limits.{longest_line};
     ghost use Rattle.batch_loader.specs.declared.columns.Column.{Column};
 
     ghost columns: { List Column };
@@ -22,7 +23,7 @@ pub trait TableRow {
     fn read(alloc: Global, line: &[u8], number: u64) -> Result<Self, Fault>
     where
         Self: Sized,
-        requires { length line.now ≤ 8192 }
+        requires { length line.now ≤ longest_line }
         ensures { MatchResult result (λ row. row_of columns of_fields number line.now ≡ Ok row)
             (λ fault. (fault ≡ Fault.Memory) ⊎ (row_of columns of_fields number line.now ≡ Err fault)) };
 }

@@ -1,5 +1,6 @@
 //! The rows of the five tables.
 ghost use Rattle.std.specs.Prelude.{◌≡◌, ◌⊎◌, ◌≤◌, None, IfOk, OnOk, IfErr, IfSome, Err, length};
+ghost use Rattle.cube_model.specs.Limits.{longest_line};
 ghost use Rattle.batch_loader.specs.Columns.{row_of};
 ghost use Rattle.batch_loader.specs.Reading.{PushesNext, PushesRow, RefusesRow, TakesBatch, RefusesBatch, TakesTable, RefusesTable};
 ghost use Rattle.batch_loader.specs.Tables.{customer_row, supplier_row, part_row, date_row, lineorder_row};
@@ -155,7 +156,7 @@ fn push_line<T: TableRow + Drop>(
     number: u64,
     rows: &mut RowBuffer<T>,
 ) -> Result<(), Fault>
-    requires { length line.now ≤ 8192 }
+    requires { length line.now ≤ longest_line }
     ensures ok { OnOk result (PushesRow (row_of T.columns T.of_fields number line.now) rows.old rows.new) }
     ensures err { IfErr result (λ fault. (fault ≡ Fault.Memory) ⊎ (row_of T.columns T.of_fields number line.now ≡ Err fault)) }
 {
