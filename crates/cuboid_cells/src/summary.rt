@@ -46,13 +46,39 @@ impl Summaries {
         ensures fit { IfSome result SummariesFit }
         ensures none { IfNone result (SummariesFit (merged_summaries self other) → ⊥) }
     {
+        let (quantity, extendedprice, revenue) = merge_three(
+            (self.quantity, self.extendedprice, self.revenue),
+            (other.quantity, other.extendedprice, other.revenue),
+        )?;
+        let (supplycost, discounted, profit) = merge_three(
+            (self.supplycost, self.discounted, self.profit),
+            (other.supplycost, other.discounted, other.profit),
+        )?;
         Some(Summaries {
-            quantity: self.quantity.merge(other.quantity)?,
-            extendedprice: self.extendedprice.merge(other.extendedprice)?,
-            revenue: self.revenue.merge(other.revenue)?,
-            supplycost: self.supplycost.merge(other.supplycost)?,
-            discounted: self.discounted.merge(other.discounted)?,
-            profit: self.profit.merge(other.profit)?,
+            quantity,
+            extendedprice,
+            revenue,
+            supplycost,
+            discounted,
+            profit,
         })
     }
+}
+
+// Three of them, each with one of three others. `None` where a sum would pass its type.
+fn merge_three(
+    ones: (Summary, Summary, Summary),
+    others: (Summary, Summary, Summary),
+) -> Option<(Summary, Summary, Summary)>
+    ensures some { IfSome result (λ three. (three.0 ≡ merged_summary ones.0 others.0)
+        × (three.1 ≡ merged_summary ones.1 others.1) × (three.2 ≡ merged_summary ones.2 others.2)) }
+    ensures fits { IfSome result (λ three. SummaryFits three.0 × SummaryFits three.1 × SummaryFits three.2) }
+    ensures none { IfNone result (SummaryFits (merged_summary ones.0 others.0)
+        → SummaryFits (merged_summary ones.1 others.1) → SummaryFits (merged_summary ones.2 others.2) → ⊥) }
+{
+    Some((
+        ones.0.merge(others.0)?,
+        ones.1.merge(others.1)?,
+        ones.2.merge(others.2)?,
+    ))
 }
