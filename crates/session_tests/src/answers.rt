@@ -2,7 +2,7 @@
 use crate::sample::opened;
 use cube_model::{Answer, Fault, Items, Line, Member, Value};
 use sample_star::{Asked, query, text};
-use sector_device::Sectors;
+use sector_device::{MemDisk, Sectors};
 use ssb_reports::{QNumber, query_of};
 use std::alloc::Global;
 use warehouse::Session;
@@ -11,7 +11,7 @@ use warehouse::Session;
 pub(crate) type Lines = &'static [(&'static [&'static str], i64)];
 
 /// What the benchmark's queries answer over one batch of the three sample rows.
-pub(crate) static BENCHMARK: [(QNumber, Lines); 13] = [
+static BENCHMARK: [(QNumber, Lines); 13] = [
     (QNumber::Q11, &[(&[], 2000)]),
     (QNumber::Q12, &[]),
     (QNumber::Q13, &[]),
@@ -102,4 +102,35 @@ pub(crate) fn found<D: Sectors + Drop>(alloc: Global, device: D) -> Result<(u32,
 /// What is to be found with so many batches of the three sample rows.
 pub(crate) fn finding(alloc: Global, batches: u32) -> Result<(u32, Answer), Fault> {
     Ok((batches, answer(alloc, &[(&[], 2000)], batches)?))
+}
+
+/// Whether just this is found on a disk.
+pub(crate) fn is_found(alloc: Global, disk: MemDisk, batches: u32) -> bool {
+    found(alloc, disk) == finding(alloc, batches)
+}
+
+/// Whether a session answers a query of the benchmark as worked by hand, over this many batches.
+fn is_right<D: Sectors>(
+    alloc: Global,
+    session: &mut Session<D>,
+    batches: u32,
+    number: QNumber,
+    lines: Lines,
+) -> Result<bool, Fault> {
+    let found = report(alloc, session, batches, number)?;
+    Ok(found == answer(alloc, lines, batches)?)
+}
+
+/// The first of the benchmark's queries that a session answers otherwise over this many batches.
+pub(crate) fn first_other<D: Sectors>(
+    alloc: Global,
+    session: &mut Session<D>,
+    batches: u32,
+) -> Result<Option<QNumber>, Fault> {
+    for (number, lines) in &BENCHMARK {
+        if !is_right(alloc, session, batches, *number, lines)? {
+            return Ok(Some(*number));
+        }
+    }
+    Ok(None)
 }

@@ -1,11 +1,11 @@
 //! Batches that are submitted in turn, and what comes of them.
 use crate::answers::{answer, ask};
-use crate::sample::{created, status, submit};
-use cube_model::{Agg, Fault, LineOrder, Measure};
+use crate::sample::{created, fresh, status, submit};
+use cube_model::{Agg, Answer, Fault, LineOrder, Measure};
 use sample_star::{Asked, EVERY_ROW, FACTS, FIRST_FACT, Fact, SECOND_FACT, THIRD_FACT, line_order};
 use sector_device::MemDisk;
 use std::alloc::Global;
-use std::test::Fail;
+use warehouse::{Session, Status};
 
 /// Batches in turn, each with its number and what comes of it, and how many batches and rows there are then.
 struct Case {
@@ -141,16 +141,29 @@ const AT_THE_LIMIT: [Fact<'static>; 2] = [
     },
 ];
 
-#[test]
-fn batches_are_taken_or_refused(rt: HostRuntime) -> Result<(), Fail> {
-    for case in &CASES {
-        let mut session = created(rt.alloc(), MemDisk::new(rt.alloc(), 64)?)?;
-        for (number, facts, want) in case.submits {
-            assert_eq!(rt; submit(rt.alloc(), &mut session, *number, facts), *want);
+/// The place of the first submit of a case that comes to another end.
+fn first_other(alloc: Global, session: &mut Session<MemDisk>, case: &Case) -> Option<usize> {
+    for (place, (number, facts, want)) in case.submits.iter().enumerate() {
+        if submit(alloc, session, *number, facts) != *want {
+            return Some(place);
         }
-        assert_eq!(rt; session.status(), Ok(status(case.batches, case.rows)));
     }
-    Ok(())
+    None
+}
+
+/// The same on a new warehouse, and its status then.
+fn told(alloc: Global, case: &Case) -> Result<(Option<usize>, Status), Fault> {
+    let mut session = fresh(alloc)?;
+    let other = first_other(alloc, &mut session, case);
+    Ok((other, session.status()?))
+}
+
+#[test]
+fn batches_are_taken_or_refused(rt: HostRuntime) {
+    for case in &CASES {
+        let wanted = (None, status(case.batches, case.rows));
+        assert_eq!(rt; told(rt.alloc(), case), Ok(wanted));
+    }
 }
 
 const PROFIT: Asked<'static> = Asked {
@@ -158,14 +171,19 @@ const PROFIT: Asked<'static> = Asked {
     ..EVERY_ROW
 };
 
+/// What is answered over the batch at the limit.
+fn sum_at_the_limit(alloc: Global) -> Result<Answer, Fault> {
+    let mut session = fresh(alloc)?;
+    submit(alloc, &mut session, 1, &AT_THE_LIMIT)?;
+    ask(alloc, &mut session, 1, &PROFIT)
+}
+
 #[test]
-fn a_sum_at_the_limit_is_answered(rt: HostRuntime) -> Result<(), Fail> {
-    let mut session = created(rt.alloc(), MemDisk::new(rt.alloc(), 64)?)?;
-    let loaded = submit(rt.alloc(), &mut session, 1, &AT_THE_LIMIT);
-    let found = ask(rt.alloc(), &mut session, 1, &PROFIT);
-    assert_eq!(rt; loaded, Ok(()));
-    assert_eq!(rt; found, answer(rt.alloc(), &[(&[], 1)], 1));
-    Ok(())
+fn a_sum_at_the_limit_is_answered(rt: HostRuntime) {
+    assert_eq!(rt;
+        sum_at_the_limit(rt.alloc()),
+        answer(rt.alloc(), &[(&[], 1)], 1)
+    );
 }
 
 /// So many rows, each the first sample row.
@@ -177,12 +195,17 @@ fn equal_rows(alloc: Global, count: usize) -> Result<Vec<LineOrder>, Fault> {
     Ok(rows)
 }
 
-/// What comes of a batch of so many rows, on a device with room for it, and how many rows there are then.
+/// What comes of a batch, on a device with room for it, and how many rows there are then.
+fn outcome(alloc: Global, rows: &[LineOrder]) -> Result<(Result<(), Fault>, u64), Fault> {
+    let mut session = created(alloc, MemDisk::new(alloc, 10_000)?)?;
+    let answer = session.submit(alloc, 1, rows);
+    Ok((answer, session.status()?.rows))
+}
+
+/// The same of so many rows.
 fn outcome_of_many(alloc: Global, count: usize) -> Result<(Result<(), Fault>, u64), Fault> {
     let rows = equal_rows(alloc, count)?;
-    let mut session = created(alloc, MemDisk::new(alloc, 10_000)?)?;
-    let answer = session.submit(alloc, 1, rows.as_slice());
-    Ok((answer, session.status()?.rows))
+    outcome(alloc, rows.as_slice())
 }
 
 #[test]

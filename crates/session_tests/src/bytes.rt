@@ -1,7 +1,9 @@
 //! The bytes of the device, by hand.
 use crate::changes::sector;
 use crate::sample::{loaded, status};
-use std::test::Fail;
+use cube_model::Fault;
+use std::alloc::Global;
+use warehouse::Status;
 
 /// A sector of some bytes and zeros.
 fn padded(bytes: &[u8]) -> [u8; 512] {
@@ -56,17 +58,21 @@ static SECTORS: [(u32, u32, &[u8]); 9] = [
     (1, 9, b""),
 ];
 
+/// What stands in a sector of a disk with so many batches of the three sample rows.
+fn stored(alloc: Global, batches: u32, place: u32) -> Result<[u8; 512], Fault> {
+    let mut disk = loaded(alloc, batches)?.close();
+    sector(&mut disk, place)
+}
+
 #[test]
-fn superblocks_and_catalogues_are_as_laid_out_by_hand(rt: HostRuntime) -> Result<(), Fail> {
-    for (batches, place, bytes) in SECTORS {
-        let mut disk = loaded(rt.alloc(), batches)?.close();
+fn superblocks_and_catalogues_are_as_laid_out_by_hand(rt: HostRuntime) {
+    for (batches, place, bytes) in &SECTORS {
         assert_eq!(rt;
-            sector(&mut disk, place),
+            stored(rt.alloc(), *batches, *place),
             Ok(padded(bytes)),
             "sector {place} after {batches}"
         );
     }
-    Ok(())
 }
 
 /// A sector, and how the object in it begins: the dimensions of two rows each, and the segments of three.
@@ -79,24 +85,37 @@ static OBJECTS: [(u32, &[u8; 12]); 6] = [
     (7, b"SEG1\x01\x00\x00\x00\x03\x00\x00\x00"),
 ];
 
+/// How a sector of a disk with two batches begins.
+fn beginning(alloc: Global, place: u32) -> Result<[u8; 12], Fault> {
+    let sector = stored(alloc, 2, place)?;
+    let mut bytes = [0; 12];
+    bytes.copy_from_slice(&sector[..12]);
+    Ok(bytes)
+}
+
 #[test]
-fn the_objects_of_two_batches_have_their_places(rt: HostRuntime) -> Result<(), Fail> {
-    let mut disk = loaded(rt.alloc(), 2)?.close();
-    for (place, beginning) in OBJECTS {
-        let found = sector(&mut disk, place)?;
-        assert_eq!(rt; found[..12], beginning[..], "sector {place}");
+fn the_objects_of_two_batches_have_their_places(rt: HostRuntime) {
+    for (place, wanted) in &OBJECTS {
+        assert_eq!(rt;
+            beginning(rt.alloc(), *place),
+            Ok(**wanted),
+            "sector {place}"
+        );
     }
-    Ok(())
 }
 
 /// How many batches, and how many rows they have together.
 const COUNTS: [(u32, u64); 3] = [(0, 0), (1, 3), (2, 6)];
 
+/// The status of a warehouse of so many batches of the three sample rows.
+fn told(alloc: Global, batches: u32) -> Result<Status, Fault> {
+    let session = loaded(alloc, batches)?;
+    session.status()
+}
+
 #[test]
-fn the_status_counts(rt: HostRuntime) -> Result<(), Fail> {
+fn the_status_counts(rt: HostRuntime) {
     for (batches, rows) in COUNTS {
-        let session = loaded(rt.alloc(), batches)?;
-        assert_eq!(rt; session.status(), Ok(status(batches, rows)));
+        assert_eq!(rt; told(rt.alloc(), batches), Ok(status(batches, rows)));
     }
-    Ok(())
 }

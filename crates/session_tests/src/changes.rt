@@ -1,5 +1,5 @@
 //! Devices of which some bytes were changed.
-use crate::sample::loaded;
+use crate::sample::{loaded, opened};
 use cube_model::Fault;
 use sector_device::{MemDisk, Sectors};
 use std::alloc::Global;
@@ -41,4 +41,10 @@ pub(crate) fn changed(alloc: Global, batches: u32, change: Change) -> Result<Mem
     let mut disk = loaded(alloc, batches)?.close();
     make(&mut disk, change)?;
     Ok(disk)
+}
+
+/// How the opening of such a disk is refused, if it is.
+pub(crate) fn refusal(alloc: Global, batches: u32, change: Change) -> Result<Option<Fault>, Fault> {
+    let disk = changed(alloc, batches, change)?;
+    Ok(opened(alloc, disk).err())
 }

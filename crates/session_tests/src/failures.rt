@@ -1,5 +1,5 @@
 //! A submit whose last sync fails, and a failure of each device call in turn.
-use crate::answers::{finding, found, report};
+use crate::answers::{found, is_found, report};
 use crate::calls::{Answers, Restart, answers_with_failure, is_allowed, may_be_found};
 use crate::sample::{loaded, opened, submit};
 use crate::stops::{OPENING, SUBMIT};
@@ -29,29 +29,44 @@ fn refused_by(alloc: Global, session: &mut Session<Fuse<MemDisk>>) -> [Option<Fa
     [second, third, answer, session.status().err()]
 }
 
-#[test]
-fn each_later_call_is_failed(rt: HostRuntime) -> Result<(), Fail> {
-    let mut session = unsynced(rt.alloc(), false)?;
-    let refused = refused_by(rt.alloc(), &mut session);
-    assert_eq!(rt;
-        (refused, session.is_broken()),
-        ([Some(Fault::Failed); 4], true)
-    );
-    assert_eq!(rt;
-        (session.device().failures(), session.close().failures()),
-        (1, 1)
-    );
-    Ok(())
+/// How a session refuses later calls, whether it is broken, and how often its device failed, asked of both.
+type Told = ([Option<Fault>; 4], bool, (u64, u64));
+
+/// What is told of a session that met a failure.
+fn told_later(alloc: Global) -> Result<Told, Fault> {
+    let mut session = unsynced(alloc, false)?;
+    let refused = refused_by(alloc, &mut session);
+    let broken = session.is_broken();
+    let failures = session.device().failures();
+    Ok((refused, broken, (failures, session.close().failures())))
 }
 
 #[test]
-fn an_opening_finds_what_was_not_synced_and_syncs_it(rt: HostRuntime) -> Result<(), Fail> {
-    let session = opened(rt.alloc(), unsynced(rt.alloc(), false)?.close())?;
-    let told = (session.is_broken(), session.status()?.batches);
+fn each_later_call_is_failed(rt: HostRuntime) {
+    assert_eq!(rt;
+        told_later(rt.alloc()),
+        Ok(([Some(Fault::Failed); 4], true, (1, 1)))
+    );
+}
+
+/// A session over what was not synced.
+fn reopened(alloc: Global) -> Result<Session<Fuse<MemDisk>>, Fault> {
+    let device = unsynced(alloc, false)?.close();
+    opened(alloc, device)
+}
+
+/// Whether it is broken, how many batches it has, and whether two are found when it is stopped.
+fn told_again(alloc: Global) -> Result<(bool, u32, bool), Fault> {
+    let session = reopened(alloc)?;
+    let broken = session.is_broken();
+    let batches = session.status()?.batches;
     let disk = session.close().close();
-    assert_eq!(rt; told, (false, 2));
-    assert_eq!(rt; found(rt.alloc(), disk.crash(&[0])), finding(rt.alloc(), 2));
-    Ok(())
+    Ok((broken, batches, is_found(alloc, disk.crash(&[0]), 2)))
+}
+
+#[test]
+fn an_opening_finds_what_was_not_synced_and_syncs_it(rt: HostRuntime) {
+    assert_eq!(rt; told_again(rt.alloc()), Ok((false, 2, true)));
 }
 
 #[test]

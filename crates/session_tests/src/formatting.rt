@@ -1,12 +1,11 @@
 //! Devices on which nothing can be made or opened.
-use crate::answers::{finding, found};
-use crate::changes::{Change, changed};
+use crate::answers::is_found;
+use crate::changes::{Change, changed, refusal};
 use crate::sample::{created, loaded, opened, sample_dims, status, submit};
 use cube_model::Fault;
 use sample_star::FACTS;
 use sector_device::MemDisk;
 use std::alloc::Global;
-use std::test::Fail;
 use warehouse::{Status, create};
 
 /// How a creation on a disk ends, and the disk then.
@@ -18,15 +17,22 @@ fn created_again(alloc: Global, disk: MemDisk) -> Result<(Option<Fault>, MemDisk
     }
 }
 
+/// How a second creation ends on a disk with so many batches of the three sample rows, and whether these are found
+/// then.
+fn second_creation(alloc: Global, batches: u32) -> Result<(Option<Fault>, bool), Fault> {
+    let disk = loaded(alloc, batches)?.close();
+    let (fault, disk) = created_again(alloc, disk)?;
+    Ok((fault, is_found(alloc, disk, batches)))
+}
+
 #[test]
-fn a_second_creation_is_refused(rt: HostRuntime) -> Result<(), Fail> {
+fn a_second_creation_is_refused(rt: HostRuntime) {
     for batches in [0, 1, 2] {
-        let disk = loaded(rt.alloc(), batches)?.close();
-        let (fault, disk) = created_again(rt.alloc(), disk)?;
-        assert_eq!(rt; fault, Some(Fault::AlreadyFormatted));
-        assert_eq!(rt; found(rt.alloc(), disk), finding(rt.alloc(), batches));
+        assert_eq!(rt;
+            second_creation(rt.alloc(), batches),
+            Ok((Some(Fault::AlreadyFormatted), true))
+        );
     }
-    Ok(())
 }
 
 /// How a creation, and an opening, on a new disk of so many sectors end.
@@ -57,29 +63,28 @@ static SUPERBLOCKS: [(Change, Fault); 7] = [
 ];
 
 #[test]
-fn an_invalid_superblock_is_not_opened(rt: HostRuntime) -> Result<(), Fail> {
-    for (change, fault) in SUPERBLOCKS {
-        let disk = changed(rt.alloc(), 0, change)?;
-        assert_eq!(rt; opened(rt.alloc(), disk).err(), Some(fault));
+fn an_invalid_superblock_is_not_opened(rt: HostRuntime) {
+    for (change, fault) in &SUPERBLOCKS {
+        assert_eq!(rt; refusal(rt.alloc(), 0, *change), Ok(Some(*fault)));
     }
-    Ok(())
 }
 
 /// The greatest generation, which is odd.
 const LAST: Change = (1, 16, b"\xff\xff\xff\xff\xff\xff\xff\xff");
 
+/// How a warehouse at that generation refuses a batch, if it does, and its status then.
+fn worn(alloc: Global) -> Result<(Option<Fault>, Status), Fault> {
+    let disk = changed(alloc, 0, LAST)?;
+    let mut session = opened(alloc, disk)?;
+    let refused = submit(alloc, &mut session, 1, &FACTS).err();
+    Ok((refused, session.status()?))
+}
+
 #[test]
-fn the_last_generation_takes_no_batch(rt: HostRuntime) -> Result<(), Fail> {
-    let disk = changed(rt.alloc(), 0, LAST)?;
-    let mut session = opened(rt.alloc(), disk)?;
+fn the_last_generation_takes_no_batch(rt: HostRuntime) {
     let last = Status {
         generation: 18_446_744_073_709_551_615,
         ..status(0, 0)
     };
-    assert_eq!(rt;
-        submit(rt.alloc(), &mut session, 1, &FACTS),
-        Err(Fault::Worn)
-    );
-    assert_eq!(rt; session.status(), Ok(last));
-    Ok(())
+    assert_eq!(rt; worn(rt.alloc()), Ok((Some(Fault::Worn), last)));
 }

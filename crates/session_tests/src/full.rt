@@ -1,52 +1,69 @@
 //! As many batches as a small device takes.
-use crate::answers::{BENCHMARK, answer, report};
+use crate::answers::first_other;
 use crate::sample::{loaded, opened, status, submit};
 use cube_model::Fault;
 use sample_star::FACTS;
 use sector_device::MemDisk;
+use ssb_reports::QNumber;
 use std::alloc::Global;
-use std::test::Fail;
-use warehouse::Session;
+use warehouse::{Session, Status};
 
 /// How many batches of the three sample rows 64 sectors take.
 const MOST: u32 = 51;
 
-/// How many of the benchmark's queries a session answers as worked by hand, over this many batches.
-fn right_answers(
+/// How a batch too many was refused, the first of the benchmark's queries that is answered otherwise then, and the
+/// status.
+type Told = (Option<Fault>, Option<QNumber>, Status);
+
+/// What is to be told.
+fn wanted() -> Told {
+    (Some(Fault::Full), None, status(MOST, 153))
+}
+
+/// How a full session refuses a batch too many.
+fn refusal(alloc: Global, session: &mut Session<MemDisk>) -> Option<Fault> {
+    submit(alloc, session, MOST + 1, &FACTS).err()
+}
+
+/// What is told of a session that refused a batch.
+fn told(
     alloc: Global,
     session: &mut Session<MemDisk>,
-    batches: u32,
-) -> Result<usize, Fault> {
-    let mut right: usize = 0;
-    for (number, lines) in &BENCHMARK {
-        if report(alloc, session, batches, *number)? == answer(alloc, lines, batches)? {
-            right = right.saturating_add(1);
-        }
-    }
-    Ok(right)
+    refused: Option<Fault>,
+) -> Result<Told, Fault> {
+    let other = first_other(alloc, session, MOST)?;
+    Ok((refused, other, session.status()?))
+}
+
+/// What is told of a full session after a first and a second refusal.
+fn told_twice(alloc: Global) -> Result<(Told, Told), Fault> {
+    let mut session = loaded(alloc, MOST)?;
+    let refused = refusal(alloc, &mut session);
+    let first = told(alloc, &mut session, refused)?;
+    let refused = refusal(alloc, &mut session);
+    Ok((first, told(alloc, &mut session, refused)?))
 }
 
 #[test]
-fn one_batch_too_many_leaves_each_answer(rt: HostRuntime) -> Result<(), Fail> {
-    let mut session = loaded(rt.alloc(), MOST)?;
-    for _ in 0..2 {
-        let refused = submit(rt.alloc(), &mut session, MOST + 1, &FACTS);
-        let right = right_answers(rt.alloc(), &mut session, MOST);
-        assert_eq!(rt; (refused, right), (Err(Fault::Full), Ok(13)));
-        assert_eq!(rt; session.status(), Ok(status(MOST, 153)));
-    }
-    Ok(())
+fn one_batch_too_many_leaves_each_answer(rt: HostRuntime) {
+    assert_eq!(rt; told_twice(rt.alloc()), Ok((wanted(), wanted())));
+}
+
+/// A full session that was opened again, and how it refused a batch before.
+fn opened_again(alloc: Global) -> Result<(Option<Fault>, Session<MemDisk>), Fault> {
+    let mut session = loaded(alloc, MOST)?;
+    let refused = refusal(alloc, &mut session);
+    let disk = session.close().crash(&[]);
+    Ok((refused, opened(alloc, disk)?))
+}
+
+/// What is told of it.
+fn told_again(alloc: Global) -> Result<Told, Fault> {
+    let (refused, mut session) = opened_again(alloc)?;
+    told(alloc, &mut session, refused)
 }
 
 #[test]
-fn a_full_device_is_opened_again(rt: HostRuntime) -> Result<(), Fail> {
-    let mut session = loaded(rt.alloc(), MOST)?;
-    let refused = submit(rt.alloc(), &mut session, MOST + 1, &FACTS);
-    let mut session = opened(rt.alloc(), session.close().crash(&[]))?;
-    assert_eq!(rt;
-        (refused, session.status()),
-        (Err(Fault::Full), Ok(status(MOST, 153)))
-    );
-    assert_eq!(rt; right_answers(rt.alloc(), &mut session, MOST), Ok(13));
-    Ok(())
+fn a_full_device_is_opened_again(rt: HostRuntime) {
+    assert_eq!(rt; told_again(rt.alloc()), Ok(wanted()));
 }

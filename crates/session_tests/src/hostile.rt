@@ -1,12 +1,12 @@
 //! Devices with one batch that keep not all rules of the layout.
-use crate::answers::{answer, ask};
-use crate::changes::{Change, changed};
-use crate::sample::opened;
+use crate::answers::ask;
+use crate::changes::{Change, changed, refusal};
+use crate::sample::{opened, status};
 use cube_model::{Attr, Fault};
 use sample_star::{Asked, EVERY_ROW};
 use sector_device::MemDisk;
 use std::alloc::Global;
-use std::test::Fail;
+use warehouse::{Session, Status};
 
 /// The sectors of the dimensions, the segment, the catalogue, and the superblock that stands.
 const CUSTOMERS: u32 = 2;
@@ -45,19 +45,16 @@ static UNOPENED: [Change; 12] = [
 ];
 
 #[test]
-fn nothing_is_opened(rt: HostRuntime) -> Result<(), Fail> {
-    for change in UNOPENED {
-        let disk = changed(rt.alloc(), 1, change)?;
-        let found = opened(rt.alloc(), disk).err();
+fn nothing_is_opened(rt: HostRuntime) {
+    for change in &UNOPENED {
         assert_eq!(rt;
-            found,
-            Some(Fault::BadLayout),
+            refusal(rt.alloc(), 1, *change),
+            Ok(Some(Fault::BadLayout)),
             "{} at {}",
             change.0,
             change.1
         );
     }
-    Ok(())
 }
 
 /// Changes of the segment, which no opening reads, and of what the root tells of it.
@@ -78,44 +75,50 @@ static UNREAD: [Change; 9] = [
     (CATALOGUE, 156, b"\x04\x00\x00\x00"),
 ];
 
-/// How many batches are found on a disk, what is answered over them, and then over none of them.
-fn outcome(alloc: Global, disk: MemDisk) -> Result<(u32, Option<Fault>, bool), Fault> {
+/// How a session refuses a query over its first batch, if it does.
+fn refusal_over_one(alloc: Global, session: &mut Session<MemDisk>) -> Option<Fault> {
+    ask(alloc, session, 1, &BY_REGION).err()
+}
+
+/// Whether its answer over no batch has no line.
+fn has_no_line(alloc: Global, session: &mut Session<MemDisk>) -> Result<bool, Fault> {
+    let answer = ask(alloc, session, 0, &BY_REGION)?;
+    Ok(answer.lines.is_empty())
+}
+
+/// The status of a disk with a change, how a query over its first batch is refused, and whether one over none has no
+/// line.
+fn told(alloc: Global, change: Change) -> Result<(Status, Option<Fault>, bool), Fault> {
+    let disk = changed(alloc, 1, change)?;
     let mut session = opened(alloc, disk)?;
-    let refused = ask(alloc, &mut session, 1, &BY_REGION).err();
-    let none = ask(alloc, &mut session, 0, &BY_REGION)?;
-    Ok((session.status()?.batches, refused, none.lines.is_empty()))
+    let refused = refusal_over_one(alloc, &mut session);
+    let empty = has_no_line(alloc, &mut session)?;
+    Ok((session.status()?, refused, empty))
+}
+
+/// The same with how many batches there are in place of the status.
+fn outcome(alloc: Global, change: Change) -> Result<(u32, Option<Fault>, bool), Fault> {
+    let (status, refused, empty) = told(alloc, change)?;
+    Ok((status.batches, refused, empty))
 }
 
 #[test]
-fn an_opened_segment_is_refused_where_it_is_read(rt: HostRuntime) -> Result<(), Fail> {
-    for change in UNREAD {
-        let disk = changed(rt.alloc(), 1, change)?;
+fn an_opened_segment_is_refused_where_it_is_read(rt: HostRuntime) {
+    for change in &UNREAD {
         assert_eq!(rt;
-            outcome(rt.alloc(), disk),
+            outcome(rt.alloc(), *change),
             Ok((1, Some(Fault::BadLayout), true)),
             "{} at {}",
             change.0,
             change.1
         );
     }
-    Ok(())
 }
 
 #[test]
-fn the_generation_before_is_found(rt: HostRuntime) -> Result<(), Fail> {
-    let disk = changed(rt.alloc(), 1, (SUPERBLOCK, 32, b"\x01"))?;
-    let mut session = opened(rt.alloc(), disk)?;
-    let told = (
-        session.status(),
-        ask(rt.alloc(), &mut session, 0, &BY_REGION),
-    );
+fn the_generation_before_is_found(rt: HostRuntime) {
     assert_eq!(rt;
-        told,
-        (Ok(crate::sample::status(0, 0)), answer(rt.alloc(), &[], 0))
+        told(rt.alloc(), (SUPERBLOCK, 32, b"\x01")),
+        Ok((status(0, 0), Some(Fault::NoSuchPrefix), true))
     );
-    assert_eq!(rt;
-        ask(rt.alloc(), &mut session, 1, &BY_REGION),
-        Err(Fault::NoSuchPrefix)
-    );
-    Ok(())
 }

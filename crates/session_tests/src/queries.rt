@@ -1,23 +1,27 @@
 //! Queries over the first batches of a warehouse.
-use crate::answers::{BENCHMARK, answer, ask, report};
+use crate::answers::{answer, ask, first_other};
 use crate::sample::loaded;
 use cube_model::{Agg, Attr, Fault, Measure};
 use sample_star::{Asked, DISCOUNTED, EVERY_ROW};
-use std::test::Fail;
+use sector_device::MemDisk;
+use ssb_reports::QNumber;
+use std::alloc::Global;
+use warehouse::Session;
 
-#[test]
-fn the_benchmark_is_as_worked_by_hand(rt: HostRuntime) -> Result<(), Fail> {
-    let mut session = loaded(rt.alloc(), 3)?;
+/// Over how many of three batches a query of the benchmark is first answered otherwise than by hand, and which.
+fn first_wrong(alloc: Global) -> Result<Option<(u32, QNumber)>, Fault> {
+    let mut session = loaded(alloc, 3)?;
     for as_of in 0..=3 {
-        for (number, lines) in &BENCHMARK {
-            assert_eq!(rt;
-                report(rt.alloc(), &mut session, as_of, *number),
-                answer(rt.alloc(), lines, as_of),
-                "{number:?} over {as_of}"
-            );
+        if let Some(number) = first_other(alloc, &mut session, as_of)? {
+            return Ok(Some((as_of, number)));
         }
     }
-    Ok(())
+    Ok(None)
+}
+
+#[test]
+fn the_benchmark_is_as_worked_by_hand(rt: HostRuntime) {
+    assert_eq!(rt; first_wrong(rt.alloc()), Ok(None));
 }
 
 const BY_YEAR: Asked<'static> = Asked {
@@ -46,16 +50,34 @@ static REFUSED: [(u32, Asked<'static>, Fault); 6] = [
     (2, REPEATED_COLUMN, Fault::BadQuery),
 ];
 
-#[test]
-fn a_refused_query_leaves_the_session_as_it_was(rt: HostRuntime) -> Result<(), Fail> {
-    let mut session = loaded(rt.alloc(), 2)?;
-    for (as_of, asked, fault) in &REFUSED {
-        let found = ask(rt.alloc(), &mut session, *as_of, asked);
-        assert_eq!(rt; found, Err(*fault), "{asked:?} over {as_of}");
-        assert_eq!(rt;
-            ask(rt.alloc(), &mut session, 2, &BY_YEAR),
-            answer(rt.alloc(), &[(&["1993"], 980), (&["1997"], 2435)], 2)
-        );
+/// Whether a session of two batches tells the revenues of each year.
+fn tells_years(alloc: Global, session: &mut Session<MemDisk>) -> bool {
+    ask(alloc, session, 2, &BY_YEAR) == answer(alloc, &[(&["1993"], 980), (&["1997"], 2435)], 2)
+}
+
+/// How a query over the first batches of a session is refused, if it is.
+fn refusal(
+    alloc: Global,
+    session: &mut Session<MemDisk>,
+    as_of: u32,
+    asked: &Asked<'_>,
+) -> Option<Fault> {
+    ask(alloc, session, as_of, asked).err()
+}
+
+/// The place of the first query that is not refused so, or after which a session of two batches tells no years.
+fn first_taken(alloc: Global) -> Result<Option<usize>, Fault> {
+    let mut session = loaded(alloc, 2)?;
+    for (place, (as_of, asked, fault)) in REFUSED.iter().enumerate() {
+        let refused = refusal(alloc, &mut session, *as_of, asked);
+        if refused != Some(*fault) || !tells_years(alloc, &mut session) {
+            return Ok(Some(place));
+        }
     }
-    Ok(())
+    Ok(None)
+}
+
+#[test]
+fn a_refused_query_leaves_the_session_as_it_was(rt: HostRuntime) {
+    assert_eq!(rt; first_taken(rt.alloc()), Ok(None));
 }

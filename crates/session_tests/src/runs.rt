@@ -6,7 +6,6 @@ use cube_model::{Answer, Fault, Items};
 use sample_star::{Asked, DISCOUNTED, EVERY_ROW, FACTS, FIRST_FACT, Fact, line_orders, query};
 use sector_device::{Fuse, MemDisk};
 use std::alloc::Global;
-use std::test::Fail;
 use warehouse::{Command, Reply, Session, Status, run};
 
 /// A command, as constants can hold it.
@@ -129,12 +128,16 @@ fn wanted(alloc: Global) -> Result<Vec<Heard>, Fault> {
     Ok(replies)
 }
 
+/// What a warehouse of one batch of the three sample rows replies.
+fn replies_over_one(alloc: Global) -> Result<Vec<Heard>, Fault> {
+    let disk = loaded(alloc, 1)?.close();
+    let mut session = opened(alloc, Fuse::new(disk, 0, false, false))?;
+    replies(alloc, &mut session)
+}
+
 #[test]
-fn the_replies_are_as_worked_by_hand(rt: HostRuntime) -> Result<(), Fail> {
-    let disk = loaded(rt.alloc(), 1)?.close();
-    let mut session = opened(rt.alloc(), Fuse::new(disk, 0, false, false))?;
-    assert_eq!(rt; replies(rt.alloc(), &mut session), wanted(rt.alloc()));
-    Ok(())
+fn the_replies_are_as_worked_by_hand(rt: HostRuntime) {
+    assert_eq!(rt; replies_over_one(rt.alloc()), wanted(rt.alloc()));
 }
 
 /// As many refusals as there are commands in the run.
@@ -146,9 +149,13 @@ fn all_failed(alloc: Global) -> Result<Vec<Heard>, Fault> {
     Ok(replies)
 }
 
+/// What a session that met a failure replies.
+fn replies_after_a_failure(alloc: Global) -> Result<Vec<Heard>, Fault> {
+    let mut session = unsynced(alloc, false)?;
+    replies(alloc, &mut session)
+}
+
 #[test]
-fn after_a_failure_each_reply_is_failed(rt: HostRuntime) -> Result<(), Fail> {
-    let mut session = unsynced(rt.alloc(), false)?;
-    assert_eq!(rt; replies(rt.alloc(), &mut session), all_failed(rt.alloc()));
-    Ok(())
+fn after_a_failure_each_reply_is_failed(rt: HostRuntime) {
+    assert_eq!(rt; replies_after_a_failure(rt.alloc()), all_failed(rt.alloc()));
 }

@@ -40,9 +40,15 @@ pub(crate) fn submit<D: Sectors>(
     session.submit(alloc, number, rows.as_slice())
 }
 
-/// A warehouse on a memory disk of 64 sectors, with so many batches of the three sample rows.
+/// A warehouse without batches on a memory disk of 64 sectors.
+pub(crate) fn fresh(alloc: Global) -> Result<Session<MemDisk>, Fault> {
+    let disk = MemDisk::new(alloc, 64)?;
+    created(alloc, disk)
+}
+
+/// The same with so many batches of the three sample rows.
 pub(crate) fn loaded(alloc: Global, batches: u32) -> Result<Session<MemDisk>, Fault> {
-    let mut session = created(alloc, MemDisk::new(alloc, 64)?)?;
+    let mut session = fresh(alloc)?;
     for number in 1..=batches {
         submit(alloc, &mut session, number, &FACTS)?;
     }

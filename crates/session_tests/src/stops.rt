@@ -1,11 +1,10 @@
 //! A second submit, and an opening, that stop after each of their device calls.
-use crate::answers::{finding, found};
+use crate::answers::is_found;
 use crate::sample::{loaded, opened, submit};
 use cube_model::Fault;
 use sample_star::FACTS;
 use sector_device::{Fuse, MemDisk};
 use std::alloc::Global;
-use std::test::Fail;
 use warehouse::open;
 
 /// The calls of an opening: a sync, two slots, one sector of the catalogue, and one of each dimension.
@@ -27,9 +26,12 @@ fn stopped(
     Ok((answer, session.close().close()))
 }
 
-/// How many calls are made, the picks, and how many batches are found then. After one call a sector has two
-/// candidates, after two calls two sectors have, and after four calls that of the superblock.
-const STOPS: [(u64, &[u32], u32); 16] = [
+/// How many calls are made, the picks, and how many batches are found then.
+type Stop = (u64, &'static [u32], u32);
+
+/// After one call a sector has two candidates, after two calls two sectors have, and after four calls that of the
+/// superblock.
+static STOPS: [Stop; 16] = [
     (0, &[], 1),
     (0, &[1, 1], 1),
     (1, &[0], 1),
@@ -48,41 +50,49 @@ const STOPS: [(u64, &[u32], u32); 16] = [
     (5, &[1, 1], 2),
 ];
 
-#[test]
-fn a_stop_leaves_one_batch_or_two(rt: HostRuntime) -> Result<(), Fail> {
-    for (calls, picks, batches) in STOPS {
-        let (answer, disk) = stopped(rt.alloc(), calls, false)?;
-        let done = if calls < SUBMIT {
-            Err(Fault::Device)
-        } else {
-            Ok(())
-        };
-        assert_eq!(rt; answer, done, "after {calls}");
-        assert_eq!(rt;
-            found(rt.alloc(), disk.crash(picks)),
-            finding(rt.alloc(), batches),
-            "after {calls} at {picks:?}"
-        );
+/// How calls are refused, if they are, that are stopped after so many of them.
+fn refusal(made: u64, calls: u64) -> Option<Fault> {
+    if made < calls {
+        Some(Fault::Device)
+    } else {
+        None
     }
-    Ok(())
+}
+
+/// How a second submit is refused that is stopped, if it is, and whether just what it leaves is found.
+fn left(alloc: Global, stop: &Stop, reaches: bool) -> Result<(Option<Fault>, bool), Fault> {
+    let (answer, disk) = stopped(alloc, stop.0, reaches)?;
+    Ok((answer.err(), is_found(alloc, disk.crash(stop.1), stop.2)))
+}
+
+#[test]
+fn a_stop_leaves_one_batch_or_two(rt: HostRuntime) {
+    for stop in &STOPS {
+        let wanted = (refusal(stop.0, SUBMIT), true);
+        assert_eq!(rt; left(rt.alloc(), stop, false), Ok(wanted), "{stop:?}");
+    }
 }
 
 /// A write that fails may have reached the disk. Of the superblock's candidates the newer is then the second batch.
-const REACHING_STOPS: [(u64, u32); 5] = [(0, 1), (1, 1), (2, 1), (3, 2), (4, 2)];
+static REACHING_STOPS: [Stop; 10] = [
+    (0, &[0, 0, 0], 1),
+    (0, &[1, 1, 1], 1),
+    (1, &[0, 0, 0], 1),
+    (1, &[1, 1, 1], 1),
+    (2, &[0, 0, 0], 1),
+    (2, &[1, 1, 1], 1),
+    (3, &[0, 0, 0], 1),
+    (3, &[1, 1, 1], 2),
+    (4, &[0, 0, 0], 1),
+    (4, &[1, 1, 1], 2),
+];
 
 #[test]
-fn a_failing_write_that_reaches_the_disk_leaves_either(rt: HostRuntime) -> Result<(), Fail> {
-    for (calls, newer) in REACHING_STOPS {
-        for (picks, batches) in [([0, 0, 0], 1), ([1, 1, 1], newer)] {
-            let disk = stopped(rt.alloc(), calls, true)?.1.crash(&picks);
-            assert_eq!(rt;
-                found(rt.alloc(), disk),
-                finding(rt.alloc(), batches),
-                "after {calls} at {picks:?}"
-            );
-        }
+fn a_failing_write_that_reaches_the_disk_leaves_either(rt: HostRuntime) {
+    for stop in &REACHING_STOPS {
+        let wanted = (refusal(stop.0, SUBMIT), true);
+        assert_eq!(rt; left(rt.alloc(), stop, true), Ok(wanted), "{stop:?}");
     }
-    Ok(())
 }
 
 /// How an opening ends that is stopped after so many calls, and the disk then.
@@ -94,24 +104,24 @@ fn half_opened(alloc: Global, disk: MemDisk, calls: u64) -> (Option<Fault>, MemD
     }
 }
 
+/// How an opening is refused that is stopped after so many calls on what a stopped submit left, if it is, and whether
+/// just that is found then.
+fn half_opened_after(alloc: Global, stop: &Stop, n: u64) -> Result<(Option<Fault>, bool), Fault> {
+    let (_, disk) = stopped(alloc, stop.0, false)?;
+    let (fault, disk) = half_opened(alloc, disk.crash(stop.1), n);
+    Ok((fault, is_found(alloc, disk.crash(&[1, 1]), stop.2)))
+}
+
 #[test]
-fn an_opening_that_was_stopped_finds_the_same_again(rt: HostRuntime) -> Result<(), Fail> {
-    for (calls, picks, batches) in STOPS {
+fn an_opening_that_was_stopped_finds_the_same_again(rt: HostRuntime) {
+    for stop in &STOPS {
         for n in 0..=OPENING {
-            let disk = stopped(rt.alloc(), calls, false)?.1.crash(picks);
-            let (fault, disk) = half_opened(rt.alloc(), disk, n);
-            let stops = if n < OPENING {
-                Some(Fault::Device)
-            } else {
-                None
-            };
-            assert_eq!(rt; fault, stops, "after {n}");
+            let wanted = (refusal(n, OPENING), true);
             assert_eq!(rt;
-                found(rt.alloc(), disk.crash(&[1, 1])),
-                finding(rt.alloc(), batches),
-                "after {calls} at {picks:?}, then {n}"
+                half_opened_after(rt.alloc(), stop, n),
+                Ok(wanted),
+                "{stop:?}, then {n}"
             );
         }
     }
-    Ok(())
 }
