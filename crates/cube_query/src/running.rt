@@ -45,12 +45,23 @@ use std::marker::Model;
 ///
 /// Memory grows with the groups, and not with the rows: with those that there can be, or where these are more than
 /// 65,536, with those that had a row. Up to 1,048,576 that there can be, it takes four bytes more for each of them.
-#[derive(Drop)]
 pub struct Fold {
     alloc: Global,
     plan: Plan,
     slots: Slots,
     columns: Vec<Vec<Tally>>,
+}
+
+// Written out, so that a proof has one call to follow where a fold is let go.
+impl Drop for Fold {
+    fn drop(self) {
+        let Fold {
+            alloc: _,
+            plan: _,
+            slots: _,
+            columns: _,
+        } = self;
+    }
 }
 
 impl Model for Fold {
