@@ -5,7 +5,6 @@ use dimension_objects::{decode, encode};
 use dimensions::Dims;
 use sample_star::{STAR, Star, dim_rows};
 use std::alloc::Global;
-use std::test::Fail;
 
 const EMPTY: Star<'static> = Star {
     customers: &[],
@@ -14,7 +13,7 @@ const EMPTY: Star<'static> = Star {
     dates: &[],
 };
 
-const ATTRS: [(Axis, u32, Attr, &[u8]); 6] = [
+static ATTRS: [(Axis, u32, Attr, &[u8]); 6] = [
     (Axis::Customer, 2, Attr::CustomerRegion, b"AMERICA"),
     (Axis::Supplier, 1, Attr::SupplierCity, b"UNITED KI5"),
     (Axis::Part, 2, Attr::PartMfgr, b"MFGR#1"),
@@ -28,42 +27,75 @@ fn built(alloc: Global, star: &Star<'_>) -> Result<Dims, Fault> {
     Dims::build(alloc, &rows)
 }
 
-#[test]
-fn bytes_by_hand(rt: HostRuntime) -> Result<(), Fail> {
-    let dims = built(rt.alloc(), &STAR)?;
-    for (axis, wanted) in [
-        (Axis::Customer, CUSTOMERS),
-        (Axis::Supplier, SUPPLIERS),
-        (Axis::Part, PARTS),
-        (Axis::Date, DATES),
-    ] {
-        let found = encode(rt.alloc(), &dims, axis)?;
-        assert!(rt; found.as_slice() == wanted);
+static OBJECTS: [(Axis, &[u8]); 4] = [
+    (Axis::Customer, CUSTOMERS),
+    (Axis::Supplier, SUPPLIERS),
+    (Axis::Part, PARTS),
+    (Axis::Date, DATES),
+];
+
+/// Whether a dimension is spelled so.
+fn is_spelled(alloc: Global, dims: &Dims, axis: Axis, wanted: &[u8]) -> Result<bool, Fault> {
+    let found = encode(alloc, dims, axis)?;
+    Ok(found.as_slice() == wanted)
+}
+
+/// The first dimension of the sample that is spelled otherwise.
+fn first_other_bytes(alloc: Global) -> Result<Option<Axis>, Fault> {
+    let dims = built(alloc, &STAR)?;
+    for (axis, wanted) in &OBJECTS {
+        if !is_spelled(alloc, &dims, *axis, wanted)? {
+            return Ok(Some(*axis));
+        }
     }
-    Ok(())
+    Ok(None)
 }
 
 #[test]
-fn rows_from_bytes(rt: HostRuntime) -> Result<(), Fail> {
-    let dims = decode(rt.alloc(), CUSTOMERS, SUPPLIERS, PARTS, DATES)?;
-    for (axis, key, attr, wanted) in ATTRS {
-        assert!(rt;
-            dims.attribute(axis, key, attr) == Some(wanted),
-            "key {key}"
-        );
-        assert!(rt; dims.row_count(axis) == 2);
+fn bytes_by_hand(rt: HostRuntime) {
+    assert_eq!(rt; first_other_bytes(rt.alloc()), Ok(None));
+}
+
+/// The place of the first attribute that dimensions tell otherwise, or of whose dimension they have not two rows.
+fn first_other(dims: &Dims) -> Option<usize> {
+    for (place, (axis, key, attr, wanted)) in ATTRS.iter().enumerate() {
+        let found = dims.attribute(*axis, *key, *attr);
+        if found != Some(*wanted) || dims.row_count(*axis) != 2 {
+            return Some(place);
+        }
     }
-    Ok(())
+    None
+}
+
+/// The same of the dimensions that the sample objects spell.
+fn first_other_row(alloc: Global) -> Result<Option<usize>, Fault> {
+    let dims = decode(alloc, CUSTOMERS, SUPPLIERS, PARTS, DATES)?;
+    Ok(first_other(&dims))
 }
 
 #[test]
-fn no_rows(rt: HostRuntime) -> Result<(), Fail> {
-    let dims = built(rt.alloc(), &EMPTY)?;
+fn rows_from_bytes(rt: HostRuntime) {
+    assert_eq!(rt; first_other_row(rt.alloc()), Ok(None));
+}
+
+/// How many bytes a dimension of no rows has.
+fn length_of_none(alloc: Global, axis: Axis) -> Result<usize, Fault> {
+    let dims = built(alloc, &EMPTY)?;
+    let found = encode(alloc, &dims, axis)?;
+    Ok(found.len())
+}
+
+/// How many days there are in dimensions of no rows, by way of their objects.
+fn days_of_none(alloc: Global) -> Result<usize, Fault> {
+    let dims = built(alloc, &EMPTY)?;
+    let again = copied(alloc, &dims)?;
+    Ok(again.row_count(Axis::Date))
+}
+
+#[test]
+fn no_rows(rt: HostRuntime) {
     for (axis, wanted) in [(Axis::Customer, 24), (Axis::Part, 24), (Axis::Date, 28)] {
-        let found = encode(rt.alloc(), &dims, axis)?;
-        assert!(rt; found.len() == wanted);
+        assert_eq!(rt; length_of_none(rt.alloc(), axis), Ok(wanted));
     }
-    let again = copied(rt.alloc(), &dims)?;
-    assert!(rt; again.row_count(Axis::Date) == 0);
-    Ok(())
+    assert_eq!(rt; days_of_none(rt.alloc()), Ok(0));
 }
