@@ -2,7 +2,7 @@
 use crate::device;
 use crate::exit::DONE;
 use crate::files::{DimensionFiles, open_dimensions};
-use crate::options::{device as device_word, dimension_tables, number};
+use crate::options::{dimension_tables, number, on_device};
 use crate::output::unwritten;
 use crate::refusal::{Met, Refusal, explained};
 use clap::{ArgMatches, Command};
@@ -36,13 +36,9 @@ It prints 'created 1000000 sectors' once the warehouse is there to stay.";
 /// The words of the command.
 pub fn words<'a>(alloc: Global) -> Result<Command<'a>, AllocError> {
     let sectors = "The sectors of the file, 64 or more";
-    let create = Command::new(alloc, "create")
-        .about(ABOUT)
-        .override_usage(USAGE)
-        .after_help(HELP)
-        .arg(device_word(alloc))?
-        .arg(number(alloc, "sectors", sectors, 0, u32::MAX).required(true))?;
-    dimension_tables(alloc, create)
+    let sectors = number(alloc, "sectors", sectors, 0, u32::MAX).required(true);
+    let create = on_device(alloc, "create", ABOUT, USAGE, HELP)?;
+    dimension_tables(alloc, create.arg(sectors)?)
 }
 
 /// Reads the dimension tables, makes the warehouse, and says so.

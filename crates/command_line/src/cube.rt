@@ -1,5 +1,5 @@
 //! The command `cube`.
-use crate::options::{CUBE_HELP, as_of, cube_words, device};
+use crate::options::{CUBE_HELP, as_of, cube_words, on_device};
 use clap::Command;
 use std::alloc::{AllocError, Global};
 
@@ -10,11 +10,6 @@ const USAGE: &str = "ssbcube cube DEV [--as-of N] [--set SET] [--by A,A] --agg G
 
 /// The words of the command.
 pub fn words<'a>(alloc: Global) -> Result<Command<'a>, AllocError> {
-    let cube = Command::new(alloc, "cube")
-        .about(ABOUT)
-        .override_usage(USAGE)
-        .after_help(CUBE_HELP)
-        .arg(device(alloc))?
-        .arg(as_of(alloc))?;
-    cube_words(alloc, cube)
+    let cube = on_device(alloc, "cube", ABOUT, USAGE, CUBE_HELP)?;
+    cube_words(alloc, cube.arg(as_of(alloc))?)
 }

@@ -17,23 +17,30 @@ pub type Device<F> = Cached<FileDisk<Host<F>, Unread>>;
 /// The sectors that the cache has room for, 512 KiB.
 const CACHED_SECTORS: u32 = 1024;
 
-/// Makes a warehouse without batches in the file of a command, which is made where it is absent.
+/// Makes a warehouse without batches in a file, which is made where it is absent.
 pub fn create<R: Files + AllocGlobal>(
     rt: &R,
     path: &str,
     sectors: u32,
     dims: Dims,
-) -> Result<Session<Device<R::File>>, Met>
+) -> Result<(), Met>
 where
     R::File: FileExt,
 {
     let disk = FileDisk::make(rt, path, sectors)?;
-    let device = cached(rt.alloc(), disk)?;
-    match warehouse::create(rt.alloc(), device, dims) {
-        Ok(session) => {
-            keep_name(rt, path);
-            Ok(session)
-        }
+    let _session = session_made(rt.alloc(), disk, dims)?;
+    keep_name(rt, path);
+    Ok(())
+}
+
+// Makes a warehouse without batches on a disk, behind a cache.
+fn session_made<F: FileExt + OpenFile + Drop>(
+    alloc: Global,
+    disk: FileDisk<Host<F>, Unread>,
+    dims: Dims,
+) -> Result<Session<Device<F>>, Met> {
+    match warehouse::create(alloc, cached(alloc, disk)?, dims) {
+        Ok(session) => Ok(session),
         Err((fault, device)) => Err(met_by(fault, &device)),
     }
 }

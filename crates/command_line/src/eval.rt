@@ -1,7 +1,7 @@
 //! The command `eval`.
 use crate::exit::DONE;
 use crate::files::{DimensionFiles, open, open_dimensions};
-use crate::options::{CUBE_HELP, cube_words, dimension_tables, option};
+use crate::options::{CUBE_HELP, cube_words, described, dimension_tables, option};
 use crate::output::{is_closed, output, unwritten};
 use crate::progress::Progress;
 use crate::query::query_of;
@@ -22,16 +22,18 @@ const USAGE: &str = "ssbcube eval --customer FILE --supplier FILE --part FILE
 
 /// The words of the command.
 pub fn words<'a>(alloc: Global) -> Result<Command<'a>, AllocError> {
-    let eval = Command::new(alloc, "eval")
-        .about(ABOUT)
-        .override_usage(USAGE)
-        .after_help(CUBE_HELP);
-    let eval = dimension_tables(alloc, eval)?;
-    let facts = "The fact table, such as lineorder.tbl";
-    let eval = eval.arg(option(alloc, "lineorder", "FILE", facts).required(true))?;
+    let eval = described(alloc, "eval", ABOUT, USAGE, CUBE_HELP);
+    let eval = with_tables(alloc, eval)?;
     let number = "A query of the benchmark, 1.1 to 4.3";
     let eval = eval.arg(option(alloc, "query", "Q", number))?;
     cube_words(alloc, eval)
+}
+
+// The words of the tables, behind the other words of the command.
+fn with_tables<'a>(alloc: Global, eval: Command<'a>) -> Result<Command<'a>, AllocError> {
+    let facts = "The fact table, such as lineorder.tbl";
+    let facts = option(alloc, "lineorder", "FILE", facts).required(true);
+    dimension_tables(alloc, eval)?.arg(facts)
 }
 
 /// Reads the query's words, opens the files in the order of the command, and writes the report.
@@ -40,13 +42,25 @@ pub fn eval<R: Files + AllocGlobal + Print + Eprint + Clock>(
     given: &ArgMatches<'_>,
     screens: Screens,
 ) -> Result<u8, Refusal> {
-    let (query, dimensions, lineorder) = match opened(rt, given) {
-        Ok(opened) => opened,
-        Err(fault) => return Err(explained(rt, given, Met::from(fault))),
-    };
-    let lineorder = Progress::new(rt, lineorder, screens.errors);
+    match opened(rt, given) {
+        Ok((query, dimensions, lineorder)) => {
+            let lineorder = Progress::new(rt, lineorder, screens.errors);
+            answer(rt, given, &query, dimensions, lineorder)
+        }
+        Err(fault) => Err(explained(rt, given, Met::from(fault))),
+    }
+}
+
+// Writes the report of a query over the files of its tables, and gives the status of the program.
+fn answer<R: Files + AllocGlobal + Print, F: Read + Drop, L: Read + Drop>(
+    rt: &R,
+    given: &ArgMatches<'_>,
+    query: &Query,
+    dimensions: DimensionFiles<F>,
+    lineorder: L,
+) -> Result<u8, Refusal> {
     let mut out = output(rt)?;
-    match report(rt.alloc(), &query, dimensions, lineorder, &mut out) {
+    match report(rt.alloc(), query, dimensions, lineorder, &mut out) {
         Ok(()) => Ok(DONE),
         Err(fault) => not_done(rt, given, fault, out.failure()),
     }

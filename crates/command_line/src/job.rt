@@ -2,7 +2,7 @@
 use crate::device::{self, Device};
 use crate::exit::{DONE, UNFINISHED};
 use crate::load::cut_of;
-use crate::output::{is_closed, output, unwritten};
+use crate::output::{Output, is_closed, output, unwritten};
 use crate::query::query_of;
 use crate::refusal::{Met, Refusal, explained};
 use clap::ArgMatches;
@@ -38,11 +38,10 @@ pub fn perform_job<R: Files + AllocGlobal + Print, L: Read + Drop>(
 where
     R::File: FileExt,
 {
-    let mut session = match device::open(rt, given) {
-        Ok(session) => session,
-        Err(met) => return Err(explained(rt, given, met)),
-    };
-    done_in(rt, given, &mut session, job, lineorder)
+    match device::open(rt, given) {
+        Ok(mut session) => done_in(rt, given, &mut session, job, lineorder),
+        Err(met) => Err(explained(rt, given, met)),
+    }
 }
 
 // Does a job to an open warehouse, and gives the status of the program.
@@ -57,9 +56,39 @@ where
     R::File: FileExt,
 {
     let mut out = output(rt)?;
-    match perform(rt.alloc(), session, job, lineorder, &mut out) {
-        Ok(done) => Ok(exit_of(&Ok(done))),
-        Err(Fault::Output) => not_written(rt, given, out.failure()),
+    done_to(rt, given, session, job, lineorder, &mut out)
+}
+
+// Does a job to an open warehouse, writes what it says, and gives the status of the program.
+fn done_to<R: Files + AllocGlobal + Print, L: Read + Drop>(
+    rt: &R,
+    given: &ArgMatches<'_>,
+    session: &mut Session<Device<R::File>>,
+    job: Job,
+    lineorder: L,
+    out: &mut Output<'_, R>,
+) -> Result<u8, Refusal>
+where
+    R::File: FileExt,
+{
+    let done = perform(rt.alloc(), session, job, lineorder, out);
+    ended(rt, given, session, done, out.failure())
+}
+
+// The status of a job that was done, or its refusal. Standard output may have failed.
+fn ended<R: Files + AllocGlobal>(
+    rt: &R,
+    given: &ArgMatches<'_>,
+    session: &Session<Device<R::File>>,
+    done: Result<bool, Fault>,
+    failure: Option<io::Error>,
+) -> Result<u8, Refusal>
+where
+    R::File: FileExt,
+{
+    match done {
+        Ok(_) => Ok(exit_of(&done)),
+        Err(Fault::Output) => not_written(rt, given, failure),
         Err(fault) => Err(explained(rt, given, met_in(fault, session))),
     }
 }

@@ -2,7 +2,7 @@
 use crate::exit::NO_COMMAND;
 use crate::files::open;
 use crate::job::perform_job;
-use crate::options::{device, number, word};
+use crate::options::{number, on_device, word};
 use crate::progress::Progress;
 use crate::refusal::{Met, Refusal, explained};
 use crate::screens::Screens;
@@ -34,20 +34,17 @@ Examples:
 
 /// The words of the command.
 pub fn words<'a>(alloc: Global) -> Result<Command<'a>, AllocError> {
+    let facts = "The fact table, such as lineorder.tbl";
+    let load = on_device(alloc, "load", ABOUT, USAGE, HELP)?;
+    let load = load.arg(word(alloc, "lineorder", "FILE", facts))?;
+    with_cut(alloc, load)
+}
+
+// The words that say how the file is cut, behind the other words of the command.
+fn with_cut<'a>(alloc: Global, load: Command<'a>) -> Result<Command<'a>, AllocError> {
     let first = "The number of the first batch, 1 or more";
     let rows = "The rows of a batch, 1 to 65536; 65536 if left out";
-    Command::new(alloc, "load")
-        .about(ABOUT)
-        .override_usage(USAGE)
-        .after_help(HELP)
-        .arg(device(alloc))?
-        .arg(word(
-            alloc,
-            "lineorder",
-            "FILE",
-            "The fact table, such as lineorder.tbl",
-        ))?
-        .arg(number(alloc, "first", first, 1, u32::MAX).required(true))?
+    load.arg(number(alloc, "first", first, 1, u32::MAX).required(true))?
         .arg(number(alloc, "rows", rows, 1, MOST_BATCH_ROWS as u32))
 }
 

@@ -37,16 +37,24 @@ The report goes to standard output. A refusal goes to standard error with
 status 1: a line such as 'fault 24 BadQuery', and behind it a line in plain
 words where more is known.";
 
-/// The option and the help of each dimension table.
-const DIMENSION_TABLES: [(&str, &str); 4] = [
-    ("customer", "The customer table, such as customer.tbl"),
-    ("supplier", "The supplier table, such as supplier.tbl"),
-    ("part", "The part table, such as part.tbl"),
-    ("date", "The date table, such as date.tbl"),
+/// The option, the value and the help of each dimension table.
+static DIMENSION_TABLES: [(&str, &str, &str); 4] = [
+    (
+        "customer",
+        "FILE",
+        "The customer table, such as customer.tbl",
+    ),
+    (
+        "supplier",
+        "FILE",
+        "The supplier table, such as supplier.tbl",
+    ),
+    ("part", "FILE", "The part table, such as part.tbl"),
+    ("date", "FILE", "The date table, such as date.tbl"),
 ];
 
 /// The option, the value and the help of each word of a query of one's own but the conditions.
-const CUBE_WORDS: [(&str, &str, &str); 3] = [
+static CUBE_WORDS: [(&str, &str, &str); 3] = [
     (
         "set",
         "SET",
@@ -61,30 +69,62 @@ pub fn dimension_tables<'a>(
     alloc: Global,
     command: Command<'a>,
 ) -> Result<Command<'a>, AllocError> {
-    let mut command = command;
-    for (name, help) in DIMENSION_TABLES {
-        command = command.arg(option(alloc, name, "FILE", help).required(true))?;
-    }
-    Ok(command)
+    with_options(alloc, command, &DIMENSION_TABLES, true)
 }
 
 /// The words of a query of one's own, behind the other words of a command.
 pub fn cube_words<'a>(alloc: Global, command: Command<'a>) -> Result<Command<'a>, AllocError> {
+    let command = with_options(alloc, command, &CUBE_WORDS, false)?;
+    command.arg(conditions(alloc))
+}
+
+// Some options with their values and their help, behind the other words of a command.
+fn with_options<'a>(
+    alloc: Global,
+    command: Command<'a>,
+    options: &[(&'a str, &'a str, &'a str)],
+    is_required: bool,
+) -> Result<Command<'a>, AllocError> {
     let mut command = command;
-    for (name, value, help) in CUBE_WORDS {
-        command = command.arg(option(alloc, name, value, help))?;
+    for &(name, value, help) in options {
+        command = command.arg(option(alloc, name, value, help).required(is_required))?;
     }
-    let conditions = Arg::new(alloc, "condition")
+    Ok(command)
+}
+
+// The conditions of a query of one's own.
+fn conditions<'a>(alloc: Global) -> Arg<'a> {
+    Arg::new(alloc, "condition")
         .value_name("CONDITION")
         .num_args(0..)
         .action(ArgAction::Append)
-        .help("What all rows meet, such as d_year=1997 or 'quantity:0|24'");
-    command.arg(conditions)
+        .help("What all rows meet, such as d_year=1997 or 'quantity:0|24'")
 }
 
-/// The word that names the file of a warehouse.
-pub fn device<'a>(alloc: Global) -> Arg<'a> {
-    word(alloc, "device", "DEV", "The file of the warehouse")
+/// A command without words, and what its help says of it.
+pub fn described<'a>(
+    alloc: Global,
+    name: &'a str,
+    about: &'a str,
+    usage: &'a str,
+    help: &'a str,
+) -> Command<'a> {
+    Command::new(alloc, name)
+        .about(about)
+        .override_usage(usage)
+        .after_help(help)
+}
+
+/// A command whose first word names the file of a warehouse, and what its help says of it.
+pub fn on_device<'a>(
+    alloc: Global,
+    name: &'a str,
+    about: &'a str,
+    usage: &'a str,
+    help: &'a str,
+) -> Result<Command<'a>, AllocError> {
+    let device = word(alloc, "device", "DEV", "The file of the warehouse");
+    described(alloc, name, about, usage, help).arg(device)
 }
 
 /// A word that stands at its place.

@@ -1,5 +1,5 @@
 //! The command `report`.
-use crate::options::{as_of, device, word};
+use crate::options::{as_of, on_device, word};
 use clap::Command;
 use std::alloc::{AllocError, Global};
 
@@ -17,11 +17,8 @@ Examples:
 
 /// The words of the command.
 pub fn words<'a>(alloc: Global) -> Result<Command<'a>, AllocError> {
-    Command::new(alloc, "report")
-        .about(ABOUT)
-        .override_usage(USAGE)
-        .after_help(HELP)
-        .arg(device(alloc))?
-        .arg(word(alloc, "query", "Q", "A query of the benchmark, 1.1 to 4.3"))?
+    let query = "A query of the benchmark, 1.1 to 4.3";
+    on_device(alloc, "report", ABOUT, USAGE, HELP)?
+        .arg(word(alloc, "query", "Q", query))?
         .arg(as_of(alloc))
 }

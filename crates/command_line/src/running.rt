@@ -68,9 +68,24 @@ where
         Some(("eval", given)) => eval::eval(rt, given, screens),
         Some(("create", given)) => create::create(rt, given),
         Some(("load", given)) => load::load(rt, given, screens),
-        Some(("report", given)) => job::ask(rt, given),
-        Some(("cube", given)) => job::ask(rt, given),
-        Some(("status", given)) => job::perform_job(rt, given, Job::Status, io::empty()),
+        Some((name, given)) => consult(rt, name, given),
+        None => Ok(NO_COMMAND),
+    }
+}
+
+// The status of a command that asks a warehouse.
+fn consult<R: Files + AllocGlobal + Print>(
+    rt: &R,
+    name: &str,
+    given: &ArgMatches<'_>,
+) -> Result<u8, Refusal>
+where
+    R::File: FileExt,
+{
+    match name {
+        "report" => job::ask(rt, given),
+        "cube" => job::ask(rt, given),
+        "status" => job::perform_job(rt, given, Job::Status, io::empty()),
         _ => Ok(NO_COMMAND),
     }
 }

@@ -1,5 +1,5 @@
 //! The command `status`.
-use crate::options::device;
+use crate::options::on_device;
 use clap::Command;
 use std::alloc::{AllocError, Global};
 
@@ -16,9 +16,5 @@ Example:
 
 /// The words of the command.
 pub fn words<'a>(alloc: Global) -> Result<Command<'a>, AllocError> {
-    Command::new(alloc, "status")
-        .about(ABOUT)
-        .override_usage(USAGE)
-        .after_help(HELP)
-        .arg(device(alloc))
+    on_device(alloc, "status", ABOUT, USAGE, HELP)
 }
