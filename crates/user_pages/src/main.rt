@@ -19,22 +19,36 @@ const PAGE: &str = "TOUR.md";
 fn main(rt: HostRuntime) -> io::Result<ExitCode> {
     let text = fs::read_to_string(&rt, PAGE)?;
     let steps = steps(rt.alloc(), text.as_str())?;
-    let mut shell = Shell::new();
-    let mut others = 0u64;
-    for step in &steps {
-        if !is_as_printed(&rt, &mut shell, step)? {
-            others = others.saturating_add(1);
-        }
-    }
-    println!(rt;
-        "{} commands, {others} that print other than {PAGE}",
-        steps.len()
-    )?;
+    let others = count_others(&rt, steps.as_slice())?;
+    tell(&rt, steps.len(), others)
+}
+
+// Prints how many commands there are, and how many of them print other than the page, and gives the status to end with.
+fn tell<R: Print>(rt: &R, commands: usize, others: u64) -> io::Result<ExitCode> {
+    println!(rt; "{commands} commands, {others} that print other than {PAGE}")?;
     Ok(if others == 0 {
         ExitCode::SUCCESS
     } else {
         ExitCode::FAILURE
     })
+}
+
+// Runs commands in one shell, and says how many print other than their page.
+fn count_others<R: Files + AllocGlobal + Print + Clock>(
+    rt: &R,
+    steps: &[Step<'_>],
+) -> io::Result<u64>
+where
+    R::File: FileExt,
+{
+    let mut shell = Shell::new();
+    let mut others = 0u64;
+    for step in steps {
+        if !is_as_printed(rt, &mut shell, step)? {
+            others = others.saturating_add(1);
+        }
+    }
+    Ok(others)
 }
 
 // Whether a command prints what its page says. Where not, it prints both.
@@ -47,11 +61,16 @@ where
     R::File: FileExt,
 {
     let found = shell.run(rt, step.command)?;
-    if found.as_slice() == step.printed.as_bytes() {
-        return Ok(true);
+    let is_same = found.as_slice() == step.printed.as_bytes();
+    if !is_same {
+        print_both(rt, step, found.as_slice())?;
     }
+    Ok(is_same)
+}
+
+// Prints a command, what its page says that it prints, and what it prints.
+fn print_both<R: Print>(rt: &R, step: &Step<'_>, found: &[u8]) -> io::Result<()> {
     println!(rt; "$ {}", step.command)?;
     print!(rt; "{}instead of this it prints\n", step.printed)?;
-    rt.write_all(found.as_slice())?;
-    Ok(false)
+    rt.write_all(found)
 }
