@@ -16,8 +16,8 @@ pub struct Example {
     pub lines: &'static str,
 }
 
-/// A query over the sample rows.
-const SAMPLE: Example = Example {
+/// How many sample rows there are, by which other examples are told.
+pub const SAMPLE: Example = Example {
     star: STAR,
     facts: &FACTS,
     asked: EVERY_ROW,

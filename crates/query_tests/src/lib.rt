@@ -12,6 +12,8 @@ mod examples;
 #[cfg(test)]
 mod groupings;
 #[cfg(test)]
+mod one_group;
+#[cfg(test)]
 mod plain;
 #[cfg(test)]
 mod printing;
@@ -29,3 +31,5 @@ mod sorting;
 mod tables;
 #[cfg(test)]
 mod tests;
+#[cfg(test)]
+mod two_batches;

@@ -41,3 +41,9 @@ pub fn printed(alloc: Global, answer: &Answer) -> Result<Vec<u8>, AllocError> {
     }
     Ok(out)
 }
+
+/// Whether these are the lines of an answer.
+pub fn has_lines(alloc: Global, answer: &Answer, lines: &str) -> Result<bool, AllocError> {
+    let printed = printed(alloc, answer)?;
+    Ok(printed.as_slice() == lines.as_bytes())
+}

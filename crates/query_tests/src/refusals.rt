@@ -126,7 +126,8 @@ fn add_to_new(
     add_segment_to_new(alloc, dims, &segment, asked)
 }
 
-fn batch_of(alloc: Global, facts: &[Fact<'_>]) -> Result<Segment, Fault> {
+/// The batch of fact rows, spelled and read back.
+pub fn batch_of(alloc: Global, facts: &[Fact<'_>]) -> Result<Segment, Fault> {
     let rows = line_orders(alloc, facts)?;
     segment_of(alloc, rows.as_slice())
 }
