@@ -330,7 +330,7 @@ fn is_agreed_on(
         return Ok(false);
     };
     let by_halves = answer_by_halves(alloc, dimensions, rows, query)?;
-    Ok(has_lines(alloc, &answer, lines)? && by_halves == Some(answer))
+    Ok(by_halves == answer && has_lines(alloc, &answer, lines)?)
 }
 
 // The same of a query over the sample dimensions.

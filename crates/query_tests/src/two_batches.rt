@@ -11,6 +11,7 @@ use cube_query::Fold;
 use dimensions::{Dims, have_short_texts};
 use sample_star::{Asked, EVERY_ROW, FIRST_FACT, Fact, STAR, dim_rows, query};
 use std::alloc::Global;
+use std::process::Abort;
 use std::test::Fail;
 
 /// Two batches, whether a fold of sums of prices and of discounts takes the second, and the lines of its answer then.
@@ -125,13 +126,20 @@ fn offer(dims: &Dims, fold: &mut Fold, segment: &Segment) -> Result<bool, Fault>
     }
 }
 
-// Whether a fold that begins takes the second of two batches, and its answer then.
+// Whether a fold took a batch, and its answer then.
+#[derive(Debug, Drop)]
+struct Offered {
+    is_taken: bool,
+    answer: Answer,
+}
+
+// What comes of the second of two batches in a fold that begins.
 fn offer_both(
     dims: &Dims,
     fold: &mut Fold,
     first: &Segment,
     second: &Segment,
-) -> Result<(bool, Answer), Fault>
+) -> Result<Offered, Fault>
     requires { StandsFor dims.now fold.old [] }
 {
     if !offer(dims, fold, first)? {
@@ -139,42 +147,78 @@ fn offer_both(
     }
     let is_taken = offer(dims, fold, second)?;
     let answer = fold.finish(dims)?;
-    Ok((is_taken, answer))
+    Ok(Offered { is_taken, answer })
 }
 
-// The same of a new fold of a query.
+// The same in a new fold of a query.
 fn offer_to_new(
     alloc: Global,
     dims: &Dims,
     query: &Query,
     first: &Segment,
     second: &Segment,
-) -> Result<(bool, Answer), Fault> {
+) -> Result<Offered, Fault> {
     let mut fold = Fold::new(alloc, dims, query)?;
     offer_both(dims, &mut fold, first, second)
 }
 
-// The answer over rows that come as two batches, if both are taken.
+// The answer of a fold that begins over two batches.
+fn finish_over_both(
+    dims: &Dims,
+    fold: &mut Fold,
+    first: &Segment,
+    second: &Segment,
+) -> Result<Answer, Fault>
+    requires { StandsFor dims.now fold.old [] }
+{
+    fold.add_segment(dims, first)?;
+    fold.add_segment(dims, second)?;
+    fold.finish(dims)
+}
+
+// The answer of a new fold of a query over them.
+fn answer_over(
+    alloc: Global,
+    dims: &Dims,
+    query: &Query,
+    first: &Segment,
+    second: &Segment,
+) -> Result<Answer, Fault> {
+    let mut fold = Fold::new(alloc, dims, query)?;
+    finish_over_both(dims, &mut fold, first, second)
+}
+
+// The answer over a batch and rows that come as another.
+fn answer_behind(
+    alloc: Global,
+    dims: &Dims,
+    first: &Segment,
+    rows: &[LineOrder],
+    query: &Query,
+) -> Result<Answer, Fault> {
+    let second = segment_of(alloc, rows)?;
+    answer_over(alloc, dims, query, first, &second)
+}
+
+// The answer over rows that come as two batches.
 fn answer_of_halves(
     alloc: Global,
     dims: &Dims,
     rows: &[LineOrder],
     query: &Query,
-) -> Result<Option<Answer>, Fault> {
+) -> Result<Answer, Fault> {
     let middle = rows.len() / 2;
     let first = segment_of(alloc, &rows[..middle])?;
-    let second = segment_of(alloc, &rows[middle..])?;
-    let (is_taken, answer) = offer_to_new(alloc, dims, query, &first, &second)?;
-    Ok(if is_taken { Some(answer) } else { None })
+    answer_behind(alloc, dims, &first, &rows[middle..], query)
 }
 
-/// The answer over rows of which each half comes as a batch; none where the second is refused.
+/// The answer over rows of which each half comes as a batch.
 pub fn answer_by_halves(
     alloc: Global,
     dimensions: &DimRows,
     rows: &[LineOrder],
     query: &Query,
-) -> Result<Option<Answer>, Fault> {
+) -> Result<Answer, Fault> {
     if !have_short_texts(dimensions) {
         return Err(Fault::BadQuery);
     }
@@ -191,22 +235,35 @@ fn is_as_worked_over(
     second: &Segment,
 ) -> Result<bool, Fault> {
     let query = query(alloc, &SUMS)?;
-    let (is_taken, answer) = offer_to_new(alloc, dims, &query, first, second)?;
-    Ok(is_taken == pair.is_taken && has_lines(alloc, &answer, pair.lines)?)
+    let offered = offer_to_new(alloc, dims, &query, first, second)?;
+    Ok(offered.is_taken == pair.is_taken && has_lines(alloc, &offered.answer, pair.lines)?)
+}
+
+fn is_as_worked_behind(
+    alloc: Global,
+    dims: &Dims,
+    pair: &Pair,
+    first: &Segment,
+) -> Result<bool, Fault> {
+    let second = batch_of(alloc, pair.second)?;
+    is_as_worked_over(alloc, dims, pair, first, &second)
 }
 
 fn is_as_worked(alloc: Global, dims: &Dims, pair: &Pair) -> Result<bool, Fault> {
     let first = batch_of(alloc, pair.first)?;
-    let second = batch_of(alloc, pair.second)?;
-    is_as_worked_over(alloc, dims, pair, &first, &second)
+    is_as_worked_behind(alloc, dims, pair, &first)
+}
+
+fn all_are_as_worked(rt: &impl Abort, alloc: Global, dims: &Dims) -> Result<(), Fail> {
+    for pair in &PAIRS {
+        assert!(rt; is_as_worked(alloc, dims, pair)?, "{pair:?}");
+    }
+    Ok(())
 }
 
 #[test]
 fn a_batch_past_the_limit_changes_nothing(rt: HostRuntime) -> Result<(), Fail> {
     let rows = dim_rows(rt.alloc(), &STAR)?;
     let dims = Dims::build(rt.alloc(), &rows)?;
-    for pair in &PAIRS {
-        assert!(rt; is_as_worked(rt.alloc(), &dims, pair)?, "{pair:?}");
-    }
-    Ok(())
+    all_are_as_worked(&rt, rt.alloc(), &dims)
 }
