@@ -8,7 +8,6 @@ use sector_device::MemDisk;
 use ssb_eval::eval_texts;
 use ssb_reports::{QNumber, query_of};
 use std::alloc::Global;
-use std::test::Fail;
 use warehouse::Session;
 use warehouse_jobs::{BatchNumber, BatchRows, Job};
 
@@ -51,60 +50,110 @@ fn three_batches(alloc: Global) -> Result<Session<MemDisk>, Fault> {
     Ok(session)
 }
 
+/// A query of a kind, or of the benchmark.
+#[derive(Clone, Copy)]
+enum Question {
+    Kind(&'static Asked<'static>),
+    Number(QNumber),
+}
+
+impl Question {
+    fn query(self, alloc: Global) -> Result<Query, Fault> {
+        match self {
+            Question::Kind(kind) => query(alloc, kind),
+            Question::Number(number) => query_of(alloc, number),
+        }
+    }
+}
+
+/// The report over the texts of the tables with the first so many fact lines.
+fn over_texts(alloc: Global, question: Question, lines: u32) -> Result<Vec<u8>, Fault> {
+    let query = question.query(alloc)?;
+    evaluated(alloc, &query, lines)
+}
+
+/// The report over the first so many batches of a warehouse, or over all of them.
+fn over_batches(
+    alloc: Global,
+    session: &mut Session<MemDisk>,
+    question: Question,
+    as_of: Option<u32>,
+) -> Result<Vec<u8>, Fault> {
+    let query = question.query(alloc)?;
+    reported(alloc, session, as_of, query)
+}
+
+/// Whether the report over the first so many batches is that over the texts.
+fn is_same(
+    alloc: Global,
+    session: &mut Session<MemDisk>,
+    question: Question,
+    count: u32,
+) -> Result<bool, Fault> {
+    let found = over_batches(alloc, session, question, Some(count))?;
+    Ok(found == over_texts(alloc, question, count)?)
+}
+
+/// Over how many of three batches a report is first another one than that over the texts.
+fn first_other_count(
+    alloc: Global,
+    session: &mut Session<MemDisk>,
+    question: Question,
+) -> Result<Option<u32>, Fault> {
+    for count in 0..=3 {
+        if !is_same(alloc, session, question, count)? {
+            return Ok(Some(count));
+        }
+    }
+    Ok(None)
+}
+
 /// The first kind of query, and how many batches it is asked over, whose report is not that over the texts.
 fn first_other_kind(alloc: Global) -> Result<Option<(usize, u32)>, Fault> {
     let mut session = three_batches(alloc)?;
     for (place, kind) in KINDS.iter().enumerate() {
-        for count in 0..=3 {
-            let found = reported(alloc, &mut session, Some(count), query(alloc, kind)?)?;
-            if found != evaluated(alloc, &query(alloc, kind)?, count)? {
-                return Ok(Some((place, count)));
-            }
+        if let Some(count) = first_other_count(alloc, &mut session, Question::Kind(kind))? {
+            return Ok(Some((place, count)));
         }
     }
     Ok(None)
 }
 
 #[test]
-fn reports_are_those_over_the_texts_as_of_each_prefix(rt: HostRuntime) -> Result<(), Fail> {
-    assert_eq!(rt; first_other_kind(rt.alloc())?, None);
-    Ok(())
+fn reports_are_those_over_the_texts_as_of_each_prefix(rt: HostRuntime) {
+    assert_eq!(rt; first_other_kind(rt.alloc()), Ok(None));
 }
 
 /// The first of the benchmark's queries, and how many batches it is asked over, whose report is not that over the texts.
 fn first_other_number(alloc: Global) -> Result<Option<(usize, u32)>, Fault> {
     let mut session = three_batches(alloc)?;
     for (place, number) in QNumber::ALL.iter().enumerate() {
-        for count in 0..=3 {
-            let found = reported(alloc, &mut session, Some(count), query_of(alloc, *number)?)?;
-            if found != evaluated(alloc, &query_of(alloc, *number)?, count)? {
-                return Ok(Some((place, count)));
-            }
+        if let Some(count) = first_other_count(alloc, &mut session, Question::Number(*number))? {
+            return Ok(Some((place, count)));
         }
     }
     Ok(None)
 }
 
 #[test]
-fn the_thirteen_reports_are_those_over_the_texts(rt: HostRuntime) -> Result<(), Fail> {
-    assert_eq!(rt; first_other_number(rt.alloc())?, None);
-    Ok(())
+fn the_thirteen_reports_are_those_over_the_texts(rt: HostRuntime) {
+    assert_eq!(rt; first_other_number(rt.alloc()), Ok(None));
 }
 
+static BETWEEN_CITIES: Question = Question::Kind(&CITIES);
+
 /// The report over all batches of three.
-fn reported_of_all(alloc: Global) -> Result<Vec<u8>, Fault> {
+fn over_all_batches(alloc: Global) -> Result<Vec<u8>, Fault> {
     let mut session = three_batches(alloc)?;
-    reported(alloc, &mut session, None, query(alloc, &CITIES)?)
+    over_batches(alloc, &mut session, BETWEEN_CITIES, None)
 }
 
 #[test]
-fn a_report_is_over_all_batches_where_none_are_named(rt: HostRuntime) -> Result<(), Fail> {
-    let query = query(rt.alloc(), &CITIES)?;
+fn a_report_is_over_all_batches_where_none_are_named(rt: HostRuntime) {
     assert_eq!(rt;
-        reported_of_all(rt.alloc()),
-        evaluated(rt.alloc(), &query, 3)
+        over_all_batches(rt.alloc()),
+        over_texts(rt.alloc(), BETWEEN_CITIES, 3)
     );
-    Ok(())
 }
 
 const NO_AGGREGATE: Asked<'static> = Asked {
@@ -120,36 +169,53 @@ static REFUSED: [(Option<u32>, Asked<'static>, Fault); 4] = [
     (Some(4_294_967_295), CUBE, Fault::NoSuchPrefix),
 ];
 
-#[test]
-fn a_refused_report_is_not_written(rt: HostRuntime) -> Result<(), Fail> {
-    let mut session = three_batches(rt.alloc())?;
-    for (as_of, kind, fault) in &REFUSED {
-        let query = query(rt.alloc(), kind)?;
-        let mut out = Vec::new(rt.alloc());
-        let done = asked(
-            rt.alloc(),
-            &mut session,
-            Job::Report {
-                as_of: *as_of,
-                query,
-            },
-            &mut out,
-        );
-        assert_eq!(rt; (done, out.len()), (Err(*fault), 0), "{kind:?}");
+/// What comes of a report over the first batches of a warehouse, and how many bytes it writes.
+fn answer_and_length(
+    alloc: Global,
+    session: &mut Session<MemDisk>,
+    as_of: Option<u32>,
+    kind: &Asked<'_>,
+) -> Result<(Result<bool, Fault>, usize), Fault> {
+    let query = query(alloc, kind)?;
+    let mut out = Vec::new(alloc);
+    let done = asked(alloc, session, Job::Report { as_of, query }, &mut out);
+    Ok((done, out.len()))
+}
+
+/// The place of the first report that is not refused so, or is written.
+fn first_written(alloc: Global) -> Result<Option<usize>, Fault> {
+    let mut session = three_batches(alloc)?;
+    for (place, (as_of, kind, fault)) in REFUSED.iter().enumerate() {
+        if answer_and_length(alloc, &mut session, *as_of, kind)? != (Err(*fault), 0) {
+            return Ok(Some(place));
+        }
     }
-    Ok(())
+    Ok(None)
+}
+
+#[test]
+fn a_refused_report_is_not_written(rt: HostRuntime) {
+    assert_eq!(rt; first_written(rt.alloc()), Ok(None));
 }
 
 const NUMBERS: &[u8] = b"batches 3\nrows 3\ntarget 0\ngeneration 4\n";
 
+/// Whether a session tells these numbers.
+fn tells_numbers(alloc: Global, session: &mut Session<MemDisk>) -> Result<bool, Fault> {
+    let mut out = Vec::new(alloc);
+    let yes = asked(alloc, session, Job::Status, &mut out)?;
+    Ok(yes && out.as_slice() == NUMBERS)
+}
+
+/// Whether one of three batches does.
+fn are_told(alloc: Global) -> Result<bool, Fault> {
+    let mut session = three_batches(alloc)?;
+    tells_numbers(alloc, &mut session)
+}
+
 #[test]
-fn the_status_is_a_line_each(rt: HostRuntime) -> Result<(), Fail> {
-    let mut session = three_batches(rt.alloc())?;
-    let mut out = Vec::new(rt.alloc());
-    let done = asked(rt.alloc(), &mut session, Job::Status, &mut out);
-    assert_eq!(rt; done, Ok(true));
-    assert_eq!(rt; out.as_slice(), NUMBERS);
-    Ok(())
+fn the_status_is_a_line_each(rt: HostRuntime) {
+    assert_eq!(rt; are_told(rt.alloc()), Ok(true));
 }
 
 #[test]

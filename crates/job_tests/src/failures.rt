@@ -1,9 +1,12 @@
 //! Readers and writers that fail.
 use crate::given::{asked, created, load};
 use cube_model::Fault;
-use sample_star::{TABLES, Taker, in_sevens};
+use sample_star::{Pieces, TABLES, Taker, in_sevens};
+use sector_device::MemDisk;
 use std::alloc::Global;
+use std::io::Write;
 use std::test::Fail;
+use warehouse::Session;
 use warehouse_jobs::{Job, perform};
 
 static LINES: &[u8] = b"batch 1 rows 1\nbatch 2 rows 1\nbatch 3 rows 1\nbatches 3\n";
@@ -11,19 +14,32 @@ static LINES: &[u8] = b"batch 1 rows 1\nbatch 2 rows 1\nbatch 3 rows 1\nbatches 
 /// The length of the line of a batch.
 const LINE: usize = 15;
 
+/// What comes of a load from a reader, one row a batch, and how many batches stand then.
+fn loaded_from<W: Write>(
+    alloc: Global,
+    session: &mut Session<MemDisk>,
+    reader: Pieces<'_>,
+    out: &mut W,
+) -> Result<(Result<bool, Fault>, u32), Fault> {
+    let done = perform(alloc, session, load(1, 1)?, reader, out);
+    Ok((done, session.status()?.batches))
+}
+
+/// The same on a warehouse without batches.
+fn outcome<W: Write>(
+    alloc: Global,
+    reader: Pieces<'_>,
+    out: &mut W,
+) -> Result<(Result<bool, Fault>, u32), Fault> {
+    let mut session = created(alloc)?;
+    loaded_from(alloc, &mut session, reader, out)
+}
+
 /// Whether a load whose writer has so much room leaves a beginning of the lines, and as many batches as lines were begun.
 /// With just the room of a line its flush fails.
 fn is_taken(alloc: Global, room: usize) -> Result<bool, Fault> {
-    let mut session = created(alloc)?;
     let mut taker = Taker::new(alloc, room);
-    let done = perform(
-        alloc,
-        &mut session,
-        load(1, 1)?,
-        in_sevens(TABLES.lineorder),
-        &mut taker,
-    );
-    let batches = session.status()?.batches as usize;
+    let (done, batches) = outcome(alloc, in_sevens(TABLES.lineorder), &mut taker)?;
     let taken = room.min(LINES.len());
     let end = if room > LINES.len() {
         Ok(true)
@@ -33,7 +49,7 @@ fn is_taken(alloc: Global, room: usize) -> Result<bool, Fault> {
     Ok(
         done == end
             && taker.bytes.as_slice() == &LINES[..taken]
-            && batches == ((taken.max(1) + LINE - 1) / LINE).min(3),
+            && batches as usize == ((taken.max(1) + LINE - 1) / LINE).min(3),
     )
 }
 
@@ -58,13 +74,11 @@ const READS: u32 = TABLES.lineorder.len() as u32 / 7 + 2;
 
 /// How many batches a load leaves whose reader fails at a read, unless it does not answer so or writes other lines.
 fn batches_behind(alloc: Global, read: u32) -> Result<Option<usize>, Fault> {
-    let mut session = created(alloc)?;
     let mut out = Vec::new(alloc);
     let reader = in_sevens(TABLES.lineorder).failing_at(read);
-    let done = perform(alloc, &mut session, load(1, 1)?, reader, &mut out);
-    let batches = session.status()?.batches as usize;
-    let told = batches * LINE;
-    if done == Err(Fault::Input) && told <= LINES.len() && out.as_slice() == &LINES[..told] {
+    let (done, batches) = outcome(alloc, reader, &mut out)?;
+    let batches = batches as usize;
+    if done == Err(Fault::Input) && Some(out.as_slice()) == LINES.get(..batches * LINE) {
         Ok(Some(batches))
     } else {
         Ok(None)
@@ -91,13 +105,18 @@ fn a_failing_reader_is_answered_behind_whole_batches(rt: HostRuntime) -> Result<
 
 static NUMBERS: &[u8] = b"batches 0\nrows 0\ntarget 0\ngeneration 1\n";
 
+/// Whether a writer with so much room fails in a status, behind a beginning of it.
+fn is_cut(alloc: Global, session: &mut Session<MemDisk>, room: usize) -> bool {
+    let mut taker = Taker::new(alloc, room);
+    let done = asked(alloc, session, Job::Status, &mut taker);
+    done == Err(Fault::Output) && Some(taker.bytes.as_slice()) == NUMBERS.get(..room)
+}
+
 /// The least room at which a writer that fails in a status is not answered.
 fn first_wrong_number(alloc: Global) -> Result<Option<usize>, Fault> {
     let mut session = created(alloc)?;
     for room in 0..=NUMBERS.len() {
-        let mut taker = Taker::new(alloc, room);
-        let done = asked(alloc, &mut session, Job::Status, &mut taker);
-        if done != Err(Fault::Output) || taker.bytes.as_slice() != &NUMBERS[..room] {
+        if !is_cut(alloc, &mut session, room) {
             return Ok(Some(room));
         }
     }

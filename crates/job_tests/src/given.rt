@@ -8,12 +8,16 @@ use std::io::Write;
 use warehouse::{Session, create, open};
 use warehouse_jobs::{BatchNumber, BatchRows, Job, perform};
 
+/// The dimensions of the sample star.
+fn sample_dims(alloc: Global) -> Result<Dims, Fault> {
+    let rows = dim_rows(alloc, &STAR)?;
+    Dims::build(alloc, &rows)
+}
+
 /// A warehouse without batches on a memory disk.
 pub(crate) fn created(alloc: Global) -> Result<Session<MemDisk>, Fault> {
-    let rows = dim_rows(alloc, &STAR)?;
-    let dims = Dims::build(alloc, &rows)?;
     let device = MemDisk::new(alloc, 64)?;
-    match create(alloc, device, dims) {
+    match create(alloc, device, sample_dims(alloc)?) {
         Ok(session) => Ok(session),
         Err((fault, _)) => Err(fault),
     }

@@ -3,8 +3,10 @@ use crate::given::{created, loaded};
 use crate::loads::File::{Sample, Text};
 use cube_model::Fault;
 use sample_star::TABLES;
+use sector_device::MemDisk;
 use std::alloc::Global;
 use std::test::Fail;
+use warehouse::Session;
 
 /// The text of a file.
 #[derive(Clone, Copy)]
@@ -124,15 +126,29 @@ static LOADS: [&[Step]; 7] = [
     ],
 ];
 
-/// The first list, and the place in it, of a load that writes another text or comes to another end.
+/// Whether a load writes the text of a step and comes to its end.
+fn is_done(alloc: Global, session: &mut Session<MemDisk>, step: &Step) -> Result<bool, Fault> {
+    let (first, rows, file, lines, end) = *step;
+    let (out, done) = loaded(alloc, session, first, rows, file.text())?;
+    Ok(out.as_slice() == lines.as_bytes() && done == end)
+}
+
+/// The place of the first load of a list that does not.
+fn first_other_step(alloc: Global, steps: &[Step]) -> Result<Option<usize>, Fault> {
+    let mut session = created(alloc)?;
+    for (place, step) in steps.iter().enumerate() {
+        if !is_done(alloc, &mut session, step)? {
+            return Ok(Some(place));
+        }
+    }
+    Ok(None)
+}
+
+/// The first list, and the place in it, of a load that does not.
 fn first_other(alloc: Global) -> Result<Option<(usize, usize)>, Fault> {
     for (list, steps) in LOADS.iter().enumerate() {
-        let mut session = created(alloc)?;
-        for (place, (first, rows, file, lines, end)) in steps.iter().enumerate() {
-            let (out, done) = loaded(alloc, &mut session, *first, *rows, file.text())?;
-            if out.as_slice() != lines.as_bytes() || done != *end {
-                return Ok(Some((list, place)));
-            }
+        if let Some(place) = first_other_step(alloc, steps)? {
+            return Ok(Some((list, place)));
         }
     }
     Ok(None)
