@@ -1,10 +1,10 @@
 // Disks that keep not all rules of the layout.
 use crate::planted::{CATALOGUE, catalogue, superblock, write};
+use crate::steps::opened;
 use cube_model::Fault;
 use object_store::Store;
 use sector_device::{MemDisk, Sectors};
 use std::alloc::Global;
-use std::test::Fail;
 use superblock::{Super, encode};
 
 // The entries, a byte of the catalogue that is changed by a mask, and how many bytes more the superblock says.
@@ -32,22 +32,26 @@ fn refusal(alloc: Global, disk: MemDisk) -> Option<Fault> {
     }
 }
 
-const SOUND: [Image; 3] = [
+// How an image is refused.
+fn refusal_of(alloc: Global, image: &Image) -> Result<Option<Fault>, Fault> {
+    let disk = disk(alloc, image)?;
+    Ok(refusal(alloc, disk))
+}
+
+static SOUND: [Image; 3] = [
     (&[], 0, 0, 0),
     (&[(1, 2, 1), (2, 3, 3584), (9, 11, 27136)], 0, 0, 0),
     (&[(0, 11, 512), (4_294_967_295, 9, 512)], 0, 0, 0),
 ];
 
 #[test]
-fn opens_what_keeps_the_rules(rt: HostRuntime) -> Result<(), Fail> {
+fn opens_what_keeps_the_rules(rt: HostRuntime) {
     for (i, image) in SOUND.iter().enumerate() {
-        let disk = disk(rt.alloc(), image)?;
-        assert_eq!(rt; refusal(rt.alloc(), disk), None, "image {i}");
+        assert_eq!(rt; refusal_of(rt.alloc(), image), Ok(None), "image {i}");
     }
-    Ok(())
 }
 
-const BROKEN: [Image; 15] = [
+static BROKEN: [Image; 15] = [
     // Two objects share a sector.
     (&[(1, 4, 600), (2, 5, 10)], 0, 0, 0),
     (&[(1, 4, 10), (2, 4, 10)], 0, 0, 0),
@@ -72,16 +76,14 @@ const BROKEN: [Image; 15] = [
 ];
 
 #[test]
-fn refuses_each_broken_rule(rt: HostRuntime) -> Result<(), Fail> {
+fn refuses_each_broken_rule(rt: HostRuntime) {
     for (i, image) in BROKEN.iter().enumerate() {
-        let disk = disk(rt.alloc(), image)?;
         assert_eq!(rt;
-            refusal(rt.alloc(), disk),
-            Some(Fault::BadLayout),
+            refusal_of(rt.alloc(), image),
+            Ok(Some(Fault::BadLayout)),
             "image {i}"
         );
     }
-    Ok(())
 }
 
 // A disk with these two superblocks of a catalogue without objects.
@@ -92,8 +94,20 @@ fn headed(alloc: Global, sectors: u32, even: &[u8], odd: &[u8]) -> Result<MemDis
     Ok(disk)
 }
 
+// How it is refused.
+fn refusal_of_headed(
+    alloc: Global,
+    sectors: u32,
+    even: &[u8],
+    odd: &[u8],
+) -> Result<Option<Fault>, Fault> {
+    let disk = headed(alloc, sectors, even, odd)?;
+    Ok(refusal(alloc, disk))
+}
+
 #[test]
-fn tells_why_there_is_no_store(rt: HostRuntime) -> Result<(), Fail> {
+fn tells_why_there_is_no_store(rt: HostRuntime) {
+    let none = [0; 512];
     let good = encode(&superblock(1, 16));
     let mut padding = good;
     padding[40] = 1;
@@ -102,35 +116,47 @@ fn tells_why_there_is_no_store(rt: HostRuntime) -> Result<(), Fail> {
         ..superblock(1, 16)
     });
     let cases = [
-        (63, [0; 512], good, Fault::DeviceSize),
-        (64, [0; 512], [0; 512], Fault::NotFormatted),
-        (64, good, [0; 512], Fault::NotFormatted),
-        (64, [0; 512], padding, Fault::NotFormatted),
-        (64, [0; 512], larger, Fault::DeviceSize),
-        (64, [0; 512], good, Fault::BadLayout),
+        (63, &none, &good, Fault::DeviceSize),
+        (64, &none, &none, Fault::NotFormatted),
+        (64, &good, &none, Fault::NotFormatted),
+        (64, &none, &padding, Fault::NotFormatted),
+        (64, &none, &larger, Fault::DeviceSize),
+        (64, &none, &good, Fault::BadLayout),
     ];
     for (sectors, even, odd, fault) in cases {
-        let disk = headed(rt.alloc(), sectors, &even, &odd)?;
-        assert_eq!(rt; refusal(rt.alloc(), disk), Some(fault), "{fault:?}");
+        assert_eq!(rt;
+            refusal_of_headed(rt.alloc(), sectors, even, odd),
+            Ok(Some(fault))
+        );
     }
-    Ok(())
+}
+
+// A disk with superblocks of two generations, the even one with layout 2.
+fn of_generations(alloc: Global, even: u64, odd: u64) -> Result<MemDisk, Fault> {
+    let even = encode(&Super {
+        layout: 2,
+        ..superblock(even, 16)
+    });
+    let mut disk = headed(alloc, 64, &even, &encode(&superblock(odd, 16)))?;
+    write(&mut disk, CATALOGUE, &catalogue(alloc, &[])?)?;
+    Ok(disk)
+}
+
+// The layout that stands on a disk, and whether its root is the one that was written.
+fn layout_on(alloc: Global, disk: MemDisk) -> Result<(u32, bool), Fault> {
+    let store = opened(alloc, disk)?;
+    Ok((store.layout(), store.root() == b"root".as_slice()))
+}
+
+fn newer_layout(alloc: Global, even: u64, odd: u64) -> Result<(u32, bool), Fault> {
+    let disk = of_generations(alloc, even, odd)?;
+    layout_on(alloc, disk)
 }
 
 // The newer superblock stands, in either slot.
 #[test]
-fn opens_the_newer(rt: HostRuntime) -> Result<(), Fail> {
+fn opens_the_newer(rt: HostRuntime) {
     for (even, odd, layout) in [(2, 1, 2), (2, 3, 1), (4, 5, 1), (6, 5, 2)] {
-        let old = encode(&Super {
-            layout: 2,
-            ..superblock(even, 16)
-        });
-        let mut disk = headed(rt.alloc(), 64, &old, &encode(&superblock(odd, 16)))?;
-        write(&mut disk, CATALOGUE, &catalogue(rt.alloc(), &[])?)?;
-        let store = crate::steps::opened(rt.alloc(), disk)?;
-        assert_eq!(rt;
-            (store.layout(), store.root()),
-            (layout, b"root".as_slice())
-        );
+        assert_eq!(rt; newer_layout(rt.alloc(), even, odd), Ok((layout, true)));
     }
-    Ok(())
 }

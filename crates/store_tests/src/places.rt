@@ -37,33 +37,54 @@ fn padded(bytes: &[u8]) -> [u8; 512] {
 
 // After so many replacements: the generation, the slot of its superblock, the sectors of the catalogue and of the
 // object, and the object.
-const PLACES: [(u8, u64, u8, u32, u32, &[u8; 5]); 4] = [
+static PLACES: [(u8, u64, u8, u32, u32, &[u8; 5]); 4] = [
     (0, 1, 1, 3, 2, b"first"),
     (1, 2, 0, 5, 4, b"aaaaa"),
     (2, 3, 1, 3, 2, b"bbbbb"),
     (3, 4, 0, 5, 4, b"ccccc"),
 ];
 
-#[test]
-fn takes_the_first_fits(rt: HostRuntime) -> Result<(), Fail> {
-    for (times, generation, slot, catalogue, object, bytes) in PLACES {
-        let mut disk = replaced(rt.alloc(), times)?.close();
-        let found = (
-            sector(&mut disk, u32::from(slot)),
-            sector(&mut disk, object),
-        );
-        let superblock = Super {
-            layout: 1,
-            sectors: 64,
-            generation,
-            catalogue,
-            bytes: 28,
-        };
-        let written = superblock::encode(&superblock);
-        assert_eq!(rt; found, (Ok(written), Ok(padded(bytes))), "after {times}");
-        assert_eq!(rt; decode(&written, slot), Some(superblock));
+// The superblock of a generation, with its catalogue from a sector on.
+fn superblock(generation: u64, catalogue: u32) -> Super {
+    Super {
+        layout: 1,
+        sectors: 64,
+        generation,
+        catalogue,
+        bytes: 28,
     }
-    Ok(())
+}
+
+// What stands in two sectors of a store whose object 1 was replaced so many times.
+fn sectors(
+    alloc: Global,
+    times: u8,
+    first: u32,
+    second: u32,
+) -> Result<[Result<[u8; 512], DeviceError>; 2], Fault> {
+    let mut disk = replaced(alloc, times)?.close();
+    Ok([sector(&mut disk, first), sector(&mut disk, second)])
+}
+
+#[test]
+fn takes_the_first_fits(rt: HostRuntime) {
+    for (times, generation, slot, catalogue, object, bytes) in &PLACES {
+        let written = superblock::encode(&superblock(*generation, *catalogue));
+        assert_eq!(rt;
+            sectors(rt.alloc(), *times, u32::from(*slot), *object),
+            Ok([Ok(written), Ok(padded(*bytes))]),
+            "after {times}"
+        );
+    }
+}
+
+#[test]
+fn reads_back_its_superblocks(rt: HostRuntime) {
+    for (_, generation, slot, catalogue, _, _) in &PLACES {
+        let superblock = superblock(*generation, *catalogue);
+        let written = superblock::encode(&superblock);
+        assert_eq!(rt; decode(&written, *slot), Some(superblock));
+    }
 }
 
 // The catalogue of object 1 of five bytes in sector 2, with an empty root.
@@ -79,26 +100,44 @@ fn spells_the_catalogue(rt: HostRuntime) -> Result<(), Fail> {
     Ok(())
 }
 
-#[test]
-fn tells_what_it_holds(rt: HostRuntime) -> Result<(), Fail> {
-    let mut store = replaced(rt.alloc(), 2)?;
-    let told = (
+// How many objects a store has, the sizes of two of them, its layout, and the length of its root.
+type Told = (u32, Option<u64>, Option<u64>, u32, usize);
+
+fn told(store: &Store<MemDisk>) -> Told {
+    (
         store.objects(),
         store.size(1),
         store.size(2),
         store.layout(),
-    );
-    assert_eq!(rt; told, (1, Some(5), None, 1));
-    let bytes = store.get(rt.alloc(), 1)?;
+        store.root().len(),
+    )
+}
+
+// Whether object 1 has just these bytes.
+fn has_bytes(alloc: Global, store: &mut Store<MemDisk>, bytes: &[u8]) -> Result<bool, Fault> {
+    match store.get(alloc, 1)? {
+        Some(found) => Ok(found.as_slice() == bytes),
+        None => Ok(false),
+    }
+}
+
+// What a store tells whose object 1 was replaced twice, and whether it has the bytes that came last.
+fn told_and_held(alloc: Global) -> Result<(Told, bool), Fault> {
+    let mut store = replaced(alloc, 2)?;
+    let told = told(&store);
+    Ok((told, has_bytes(alloc, &mut store, b"bbbbb")?))
+}
+
+#[test]
+fn tells_what_it_holds(rt: HostRuntime) {
     assert_eq!(rt;
-        (store.root().len(), bytes),
-        (0, Some(Vec::from_slice(rt.alloc(), b"bbbbb")?))
+        told_and_held(rt.alloc()),
+        Ok(((1, Some(5), None, 1, 0), true))
     );
-    Ok(())
 }
 
 // A place, a number of bytes, and whether an object of 1,025 bytes has them, with the sectors that are read.
-const RANGES: [(u64, usize, bool, u64); 7] = [
+static RANGES: [(u64, usize, bool, u64); 7] = [
     (511, 2, true, 2),
     (512, 2, true, 1),
     (1024, 1, true, 1),
@@ -108,20 +147,36 @@ const RANGES: [(u64, usize, bool, u64); 7] = [
     (18_446_744_073_709_551_615, 1, false, 0),
 ];
 
-#[test]
-fn reads_the_sectors_of_a_range(rt: HostRuntime) -> Result<(), Fail> {
+// A store of that object, as object 3.
+fn store_of_three_sectors(alloc: Global) -> Result<Store<MemDisk>, Fault> {
     let mut object = [7u8; 1025];
     object[511] = 1;
     object[1024] = 2;
-    let mut store = made(rt.alloc(), 64, 3, &object)?;
-    for (at, len, within, sectors) in RANGES {
-        let before = store.device().reads();
-        let mut to = [0u8; 2];
-        let answer = store.read_at(3, at, &mut to[..len.min(2)]);
-        let told = (answer, store.device().reads().saturating_sub(before));
-        assert_eq!(rt; told, (Ok(within), sectors), "{len} at {at}");
+    made(alloc, 64, 3, &object)
+}
+
+// What it answers where bytes from a place on are read, and how many sectors are read for that.
+fn read(store: &mut Store<MemDisk>, at: u64, len: usize) -> (Result<bool, Fault>, u64) {
+    let before = store.device().reads();
+    let mut to = [0u8; 2];
+    let answer = store.read_at(3, at, &mut to[..len.min(2)]);
+    (answer, store.device().reads().saturating_sub(before))
+}
+
+// The first range, its place and its length, that is read otherwise.
+fn first_other_range(alloc: Global) -> Result<Option<(u64, usize)>, Fault> {
+    let mut store = store_of_three_sectors(alloc)?;
+    for (at, len, within, sectors) in &RANGES {
+        if read(&mut store, *at, *len) != (Ok(*within), *sectors) {
+            return Ok(Some((*at, *len)));
+        }
     }
-    Ok(())
+    Ok(None)
+}
+
+#[test]
+fn reads_the_sectors_of_a_range(rt: HostRuntime) {
+    assert_eq!(rt; first_other_range(rt.alloc()), Ok(None));
 }
 
 // Two bytes of a text, where it has them.

@@ -38,7 +38,7 @@ const NEW: Option<[u8; 5]> = Some(*b"other");
 
 // How many calls are made, the picks, and what is found then. After two, two sectors have two candidates each; after
 // four, the superblock's alone has.
-const STOPS: [(u64, &[u32], Option<[u8; 5]>); 20] = [
+static STOPS: [(u64, &[u32], Option<[u8; 5]>); 20] = [
     (0, &[], OLD),
     (0, &[1, 1], OLD),
     (1, &[0], OLD),
@@ -61,39 +61,44 @@ const STOPS: [(u64, &[u32], Option<[u8; 5]>); 20] = [
     (5, &[1, 0], NEW),
 ];
 
+// How a replacement is refused that is stopped after so many calls, if it is, and what that leaves of object 1.
+fn refused_and_left(
+    alloc: Global,
+    calls: u64,
+    reaches: bool,
+    picks: &[u32],
+) -> Result<(Option<Fault>, Option<[u8; 5]>), Fault> {
+    let (answer, disk) = stopped(alloc, calls, reaches)?;
+    Ok((answer.err(), left(alloc, disk, picks)?))
+}
+
 #[test]
-fn leaves_the_old_or_the_new_object(rt: HostRuntime) -> Result<(), Fail> {
-    for (calls, picks, object) in STOPS {
-        let (answer, disk) = stopped(rt.alloc(), calls, false)?;
-        let done = if calls < 5 {
-            Err(Fault::Device)
+fn leaves_the_old_or_the_new_object(rt: HostRuntime) {
+    for (calls, picks, object) in &STOPS {
+        let refused = if *calls < 5 {
+            Some(Fault::Device)
         } else {
-            Ok(())
+            None
         };
-        assert_eq!(rt; answer, done, "after {calls}");
         assert_eq!(rt;
-            left(rt.alloc(), disk, picks),
-            Ok(object),
+            refused_and_left(rt.alloc(), *calls, false, picks),
+            Ok((refused, *object)),
             "after {calls} at {picks:?}"
         );
     }
-    Ok(())
 }
 
 // A write that fails may have reached the disk: the superblock's is then one of two candidates.
 #[test]
-fn leaves_either_where_a_failing_write_reaches(rt: HostRuntime) -> Result<(), Fail> {
+fn leaves_either_where_a_failing_write_reaches(rt: HostRuntime) {
     let stops = [(0, OLD), (1, OLD), (2, OLD), (3, NEW)];
     for (calls, object) in stops {
-        let (answer, disk) = stopped(rt.alloc(), calls, true)?;
-        assert_eq!(rt; answer, Err(Fault::Device), "after {calls}");
         assert_eq!(rt;
-            left(rt.alloc(), disk, &[1, 1, 1]),
-            Ok(object),
+            refused_and_left(rt.alloc(), calls, true, &[1, 1, 1]),
+            Ok((Some(Fault::Device), object)),
             "after {calls}"
         );
     }
-    Ok(())
 }
 
 // A store whose last sync failed.
