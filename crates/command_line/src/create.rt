@@ -36,9 +36,9 @@ It prints 'created 1000000 sectors' once the warehouse is there to stay.";
 /// The words of the command.
 pub fn words<'a>(alloc: Global) -> Result<Command<'a>, AllocError> {
     let sectors = "The sectors of the file, 64 or more";
-    let sectors = number(alloc, "sectors", sectors, 0, u32::MAX).required(true);
     let create = on_device(alloc, "create", ABOUT, USAGE, HELP)?;
-    dimension_tables(alloc, create.arg(sectors)?)
+    let create = create.arg(number(alloc, "sectors", sectors, 0, u32::MAX).required(true))?;
+    dimension_tables(alloc, create)
 }
 
 /// Reads the dimension tables, makes the warehouse, and says so.

@@ -32,8 +32,8 @@ pub fn words<'a>(alloc: Global) -> Result<Command<'a>, AllocError> {
 // The words of the tables, behind the other words of the command.
 fn with_tables<'a>(alloc: Global, eval: Command<'a>) -> Result<Command<'a>, AllocError> {
     let facts = "The fact table, such as lineorder.tbl";
-    let facts = option(alloc, "lineorder", "FILE", facts).required(true);
-    dimension_tables(alloc, eval)?.arg(facts)
+    let eval = dimension_tables(alloc, eval)?;
+    eval.arg(option(alloc, "lineorder", "FILE", facts).required(true))
 }
 
 /// Reads the query's words, opens the files in the order of the command, and writes the report.
