@@ -6,6 +6,8 @@ mod aggregates;
 #[cfg(test)]
 mod attributes;
 #[cfg(test)]
+mod by_cells;
+#[cfg(test)]
 mod cases;
 #[cfg(test)]
 mod examples;
@@ -13,6 +15,8 @@ mod examples;
 mod groupings;
 #[cfg(test)]
 mod one_group;
+#[cfg(test)]
+mod parts;
 #[cfg(test)]
 mod plain;
 #[cfg(test)]

@@ -49,6 +49,8 @@ pub enum Reach {
     Plain,
     /// Those of every kind.
     Every,
+    /// Those of every kind with no condition on quantity and discount: some view serves each of them.
+    Served,
 }
 
 fn kind(draw: &mut Draw, reach: Reach) -> Kind {
@@ -116,9 +118,18 @@ fn some_texts(
     Ok(Items::from_vec(texts))
 }
 
-fn condition(alloc: Global, draw: &mut Draw, rows: &DimRows) -> Result<Cond, Fault> {
+// Which kind of condition: the first two are on quantity and discount.
+fn way(draw: &mut Draw, reach: Reach) -> u32 {
+    if reach == Reach::Served {
+        2 + draw.below(4)
+    } else {
+        draw.below(6)
+    }
+}
+
+fn condition(alloc: Global, draw: &mut Draw, rows: &DimRows, reach: Reach) -> Result<Cond, Fault> {
     let attr = column(draw);
-    match draw.below(6) {
+    match way(draw, reach) {
         0 => Ok(Cond::Quantity(draw.below(30) as u8, draw.below(60) as u8)),
         1 => Ok(Cond::Discount(draw.below(6) as u8, draw.below(12) as u8)),
         2 | 3 => Ok(Cond::OneOf(attr, some_texts(alloc, draw, rows, attr)?)),
@@ -142,10 +153,15 @@ fn columns(alloc: Global, draw: &mut Draw) -> Result<Items<Attr>, Fault> {
     Ok(Items::from_vec(columns))
 }
 
-fn conditions(alloc: Global, draw: &mut Draw, rows: &DimRows) -> Result<Items<Cond>, Fault> {
+fn conditions(
+    alloc: Global,
+    draw: &mut Draw,
+    rows: &DimRows,
+    reach: Reach,
+) -> Result<Items<Cond>, Fault> {
     let mut conditions = Vec::new(alloc);
     for _ in 0..draw.below(4) {
-        conditions.push(condition(alloc, draw, rows)?)?;
+        conditions.push(condition(alloc, draw, rows, reach)?)?;
     }
     Ok(Items::from_vec(conditions))
 }
@@ -178,10 +194,10 @@ pub fn random_query(
     reach: Reach,
 ) -> Result<Query, Fault> {
     let columns = columns(alloc, draw)?;
-    let conditions = conditions(alloc, draw, rows)?;
+    let conditions = conditions(alloc, draw, rows, reach)?;
     let aggregates = aggregates(alloc, draw, reach)?;
     let kind = kind(draw, reach);
-    let may_sort = kind == Kind::Plain && reach == Reach::Every;
+    let may_sort = kind == Kind::Plain && reach != Reach::Plain;
     let order = if may_sort {
         order(draw, columns.as_slice(), aggregates.as_slice())
     } else {

@@ -139,19 +139,23 @@ pub fn some_keys(draw: &mut Draw, rows: &DimRows) -> Option<Keys> {
     })
 }
 
+static SHIP_MODES: [&str; 7] = ["AIR", "RAIL", "TRUCK", "", "SHIP", "MAIL", "AIR "];
+
 fn fact_row(alloc: Global, draw: &mut Draw, keys: Keys, limit: u64) -> Result<LineOrder, Fault>
     requires { 0 < limit }
 {
+    let quantity = draw.below(51) as u8;
     let fact = Fact {
         custkey: keys.customer,
         partkey: keys.part,
         suppkey: keys.supplier,
         orderdate: keys.date,
-        quantity: draw.below(51) as u8,
+        quantity,
         extendedprice: draw.money(limit),
         discount: draw.below(11) as u8,
         revenue: draw.money(limit),
         supplycost: draw.money(limit),
+        shipmode: SHIP_MODES[usize::from(quantity % 7)],
         ..FIRST_FACT
     };
     line_order(alloc, &fact)
