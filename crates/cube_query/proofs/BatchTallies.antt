@@ -13,7 +13,6 @@ use Rattle.cube_model.specs.declared.measure.Measure.{Measure}
 use Rattle.cube_model.specs.declared.rows.LineOrder.{LineOrder}
 use Rattle.column_kernels.specs.Extremes.{extremes_of}
 use Rattle.cube_query.specs.Tallies.{number_of, tally_of}
-use Rattle.cube_query.specs.declared.tally.Tally.{Tally}
 use Rattle.cube_query.proofs.Sums.{FitsSigned-small, nat_abs-total}
 
 -- no extremes, no number

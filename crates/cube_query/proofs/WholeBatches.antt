@@ -1,5 +1,5 @@
 -- The selected rows of a batch in the one group of a query.
-use Rattle.std.proofs.Common.{◌≡◌, ◌≢◌, ◌∙◌, sym, ap, refl, subst, ℕ, zero, suc, ◌+◌, ◌<◌, ◌≤◌, ◌^◌, ◌&&◌, ◌==◌, Bool, true, false, cond, Option, Some, None, List, [], ◌∷◌, ◌++◌, map, length, length-append, take, get_or, arith, append-nil}
+use Rattle.std.proofs.Common.{◌≡◌, ◌≢◌, ◌∙◌, sym, ap, refl, subst, ℕ, zero, suc, ◌+◌, ◌<◌, ◌≤◌, ◌^◌, ◌&&◌, ◌==◌, Bool, true, false, cond, Some, List, [], ◌∷◌, ◌++◌, map, length, take, get_or, arith, append-nil}
 use Rattle.std.specs.Prelude.{nat_abs, nat_le, nat_lt, slice_set}
 use Rattle.std.specs.List.{All, count_by, filter, list_all}
 use Rattle.std.specs.declared.alloc.Global.{Global}
@@ -18,12 +18,12 @@ use Rattle.cube_model.specs.declared.rows.LineOrder.{LineOrder}
 use Rattle.column_kernels.specs.Masks.{selected}
 use Rattle.column_kernels.proofs.CallerLemmas.{count_selected}
 use Rattle.column_segment.specs.Segment.{FitColumns}
-use Rattle.group_plan.specs.Numbers.{IsNumber, group_count, key_at}
+use Rattle.group_plan.specs.Numbers.{group_count, key_at}
 use Rattle.group_plan.specs.Parts.{holds_in}
-use Rattle.group_plan.specs.Plans.{AreBounds, is_within}
+use Rattle.group_plan.specs.Plans.{AreBounds}
 use Rattle.group_plan.specs.declared.bounds.Bounds.{Bounds}
 use Rattle.cube_query.specs.Chosen.{KeepSelected, lies_within}
-use Rattle.cube_query.specs.Columns.{HasRoom, can_add, chosen, no_tally, size_of, slotted, tallies_at, tally_at}
+use Rattle.cube_query.specs.Columns.{can_add, chosen, no_tally, size_of, slotted, tallies_at, tally_at}
 use Rattle.cube_query.specs.FoldInvariant.{AreGroupSlots, CountIn, HaveRoom, IsGroupSlot}
 use Rattle.cube_query.specs.Slots.{slot_of}
 use Rattle.cube_query.specs.Tallies.{merged, number_of, tallies_of, tally_of}

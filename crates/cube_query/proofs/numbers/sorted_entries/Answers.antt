@@ -1,6 +1,6 @@
-use Rattle.std.proofs.Common.{◌≡◌, subst, map}
+use Rattle.std.proofs.Common.{subst}
 use Rattle.std.specs.List.Sorted.{IsPermutation}
-use Rattle.cube_query.proofs.Numbering.{place_in, sorted_entries}
+use Rattle.cube_query.proofs.Numbering.{sorted_entries}
 use Rattle.cube_query.proofs.numbers.sorted_entries.Goals as goal
 
 pub returns : goal.returns
