@@ -54,23 +54,25 @@ pub struct DimRows {
 }
 
 /// A row of the fact table, whole. Amounts of money are in the generator's whole units.
+///
+/// The fields stand by size and not in the order of the table: a row is laid out as it is declared, so no byte is lost between them.
 #[derive(Debug, PartialEq, Eq, Drop)]
 pub struct LineOrder {
     pub orderkey: Amount,
+    pub extendedprice: Amount,
+    pub ordtotalprice: Amount,
+    pub revenue: Amount,
+    pub supplycost: Amount,
     pub linenumber: u32,
     pub custkey: u32,
     pub partkey: u32,
     pub suppkey: u32,
     pub orderdate: u32,
+    pub quantity: u8,
+    pub discount: u8,
+    pub tax: u8,
     pub orderpriority: RowText,
     pub shippriority: RowText,
-    pub quantity: u8,
-    pub extendedprice: Amount,
-    pub ordtotalprice: Amount,
-    pub discount: u8,
-    pub revenue: Amount,
-    pub supplycost: Amount,
-    pub tax: u8,
     pub commitdate: RowText,
     pub shipmode: RowText,
 }

@@ -210,31 +210,29 @@ module _ (dimensions : DimRows) (plan : Plan) (over : IsPlanOver dimensions plan
       let both = length-append so_far rows in
       let counts = count_total-rows dimensions modes plain.view plain.cells rows stand_for.group (apart plain.cells stand_for.ascending) in
       let few_in = count_in-le plain.cells group_slots in
+      λ k h default column.
+      let agg = get_or aggs k default in
+      let number = number_of agg in
+      let total = range_of_agg (so_far ++ rows) foldable.in_range agg in
+      let sums = sum_by-append (size agg) so_far rows in
+      let sizes = size_total-rows dimensions modes plain.view agg plain.cells rows stand_for.group (apart plain.cells stand_for.ascending) in
+      let small_in = size_in-le agg plain.cells group_slots in
+      let p = is_selected dimensions query.conditions in
       record {
         few = omega (arith, counts, few_in, foldable.few, both);
-        columns_have = λ k h default column.
-            let agg = get_or aggs k default in
-            let number = number_of agg in
-            let total = range_of_agg (so_far ++ rows) foldable.in_range agg in
-            let sums = sum_by-append (size agg) so_far rows in
-            let sizes = size_total-rows dimensions modes plain.view agg plain.cells rows stand_for.group (apart plain.cells stand_for.ascending) in
-            let small_in = size_in-le agg plain.cells group_slots in
-            let p = is_selected dimensions query.conditions in
-            record {
-              small = omega (arith, sizes, small_in, total, sums);
-              each = λ place slot at.
-                  let found = AreGroupSlots-at dimensions (query_of plan) entries stand group_slots are place slot at in
-                  let key = key_at dimensions query.columns found.0 in
-                  let q = λ (row : LineOrder). list_any (eq_by_cmp key_cmp key) (keys_of dimensions query row) in
-                  let own = rows_at dimensions query key so_far in
-                  let within = grow.slots.within found.0 slot found.1 in
-                  let tally : tally_at (get_or longer k column).items slot ≡ tally_of (map number own) =
-                  tallies-one aggs longer slot own (tallied.each found.0 slot found.1) k h default column in (
-                    omega (arith, within, All-at (λ (column : Vec Tally Global). length entries ≤ length column.items) longer long k (omega (arith, h, many)) column),
-                    (
-                      omega (arith, ap (λ (t : Tally). t.count) tally, foldable.few, both, length-map own number, length-filter-le q (filter p so_far), length-filter-le p so_far, counts, few_in),
-                      omega (arith, ap (λ (t : Tally). nat_abs t.sum) tally, nat_abs-total number own, sum_by-filter (size agg) q (filter p so_far), sum_by-filter (size agg) p so_far, total, sums, sizes, small_in),
-                    ),
-                  );
-            };
+        small = omega (arith, sizes, small_in, total, sums);
+        each = λ place slot at.
+            let found = AreGroupSlots-at dimensions (query_of plan) entries stand group_slots are place slot at in
+            let key = key_at dimensions query.columns found.0 in
+            let q = λ (row : LineOrder). list_any (eq_by_cmp key_cmp key) (keys_of dimensions query row) in
+            let own = rows_at dimensions query key so_far in
+            let within = grow.slots.within found.0 slot found.1 in
+            let tally : tally_at (get_or longer k column).items slot ≡ tally_of (map number own) =
+            tallies-one aggs longer slot own (tallied.each found.0 slot found.1) k h default column in (
+              omega (arith, within, All-at (λ (column : Vec Tally Global). length entries ≤ length column.items) longer long k (omega (arith, h, many)) column),
+              (
+                omega (arith, ap (λ (t : Tally). t.count) tally, foldable.few, both, length-map own number, length-filter-le q (filter p so_far), length-filter-le p so_far, counts, few_in),
+                omega (arith, ap (λ (t : Tally). nat_abs t.sum) tally, nat_abs-total number own, sum_by-filter (size agg) q (filter p so_far), sum_by-filter (size agg) p so_far, total, sums, sizes, small_in),
+              ),
+            );
       }

@@ -3,7 +3,9 @@ use Rattle.std.proofs.Common.{◌≡◌, ◌≢◌, ◌∙◌, sym, ap, refl, su
 use Rattle.std.specs.Prelude.{◌==◌, nat_abs, slice_get}
 use Rattle.std.specs.Int.{int_min, int_max}
 use Rattle.std.specs.List.{list_all}
+use Rattle.std.proofs.Math.ListN.{drop_of_length-le}
 use Rattle.std.proofs.lemmas.Bool.Decides.{nat_tests}
+use Rattle.std.proofs.lemmas.List.{drop_more}
 use Rattle.std.specs.declared.alloc.Global.{Global}
 use Rattle.std.specs.declared.vec.Vec.{Vec}
 use Rattle.cube_model.specs.declared.measure.Agg.{Agg}
@@ -57,23 +59,6 @@ module _ (agg : Agg) where
       × ((slot : ℕ) → after_cells agg slot (drop count cells) (drop count group_slots) (tally_at now slot) ≡ after_cells agg slot cells group_slots (tally_at old slot))
       × (HaveCellRoom agg cells group_slots old → HaveCellRoom agg (drop count cells) (drop count group_slots) now)
 
--- what is left behind one more
-pub drop-one : {X : Type 0} (xs : List X) (n : ℕ) (d : X) → n < length xs → drop n xs ≡ get_or xs n d ∷ drop (n + 1) xs
-drop-one xs n d h =
-    let next : suc n ≡ n + 1 = omega arith in
-    drop-next xs n d h ∙ ap (λ (m : ℕ). get_or xs n d ∷ drop m xs) next
-  where
-    drop-next : {X : Type 0} (xs : List X) (n : ℕ) (d : X) → n < length xs → drop n xs ≡ get_or xs n d ∷ drop (suc n) xs
-    drop-next [] n d h = absurd (omega (arith, h))
-    drop-next (x ∷ xs) zero d h = refl
-    drop-next (x ∷ xs) (suc n) d h = drop-next xs n d (omega (arith, h))
-
-pub drop-past : {X : Type 0} (xs : List X) (n : ℕ) → length xs ≤ n → drop n xs ≡ []
-drop-past [] zero h = refl
-drop-past [] (suc n) h = refl
-drop-past (x ∷ xs) zero h = absurd (omega (arith, h))
-drop-past (x ∷ xs) (suc n) h = drop-past xs n (omega (arith, h))
-
 module _ (agg : Agg) (cells : List Cell) (group_slots : List (Option ℕ)) (same : length group_slots ≡ length cells) (old now : List Tally) (count : ℕ) (h : count < length cells)
     (underway : IsUnderway agg cells group_slots old count now) where
   abbrev cell : Cell
@@ -83,10 +68,10 @@ module _ (agg : Agg) (cells : List Cell) (group_slots : List (Option ℕ)) (same
   group_slot = get_or group_slots count None
 
   left_cells : drop count cells ≡ cell ∷ drop (count + 1) cells
-  left_cells = drop-one cells count no_cell h
+  left_cells = drop_more cells count no_cell h
 
   left_slots : drop count group_slots ≡ group_slot ∷ drop (count + 1) group_slots
-  left_slots = drop-one group_slots count None (omega (arith, h, same))
+  left_slots = drop_more group_slots count None (omega (arith, h, same))
 
   pub room_here : HaveCellRoom agg cells group_slots old → HaveCellRoom agg (cell ∷ drop (count + 1) cells) (group_slot ∷ drop (count + 1) group_slots) now
   room_here room =
@@ -107,7 +92,7 @@ module _ (agg : Agg) (cells : List Cell) (group_slots : List (Option ℕ)) (same
 pub all_merged : (agg : Agg) (cells : List Cell) (group_slots : List (Option ℕ)) (old now : List Tally) (count : ℕ) → length cells ≤ count → IsUnderway agg cells group_slots old count now
     → (slot : ℕ) → tally_at now slot ≡ after_cells agg slot cells group_slots (tally_at old slot)
 all_merged agg cells group_slots old now count h underway slot =
-    sym (ap (λ (cs : List Cell). after_cells agg slot cs (drop count group_slots) (tally_at now slot)) (drop-past cells count h)) ∙ underway.1 slot
+    sym (ap (λ (cs : List Cell). after_cells agg slot cs (drop count group_slots) (tally_at now slot)) (drop_of_length-le cells h)) ∙ underway.1 slot
 
 -- ---- all columns
 
@@ -155,10 +140,10 @@ module _ (cells : List Cell) (group_slots : List (Option ℕ)) where
 -- ---- the sums of the cells that have a slot
 module _ (cells : List Cell) (group_slots : List (Option ℕ)) (same : length group_slots ≡ length cells) (count : ℕ) (h : count < length cells) where
   here_cells : drop count cells ≡ get_or cells count no_cell ∷ drop (count + 1) cells
-  here_cells = drop-one cells count no_cell h
+  here_cells = drop_more cells count no_cell h
 
   here_slots : drop count group_slots ≡ get_or group_slots count None ∷ drop (count + 1) group_slots
-  here_slots = drop-one group_slots count None (omega (arith, h, same))
+  here_slots = drop_more group_slots count None (omega (arith, h, same))
 
   pub count_next : count_in (drop count cells) (drop count group_slots)
       ≡ count_in (get_or cells count no_cell ∷ []) (get_or group_slots count None ∷ []) + count_in (drop (count + 1) cells) (drop (count + 1) group_slots)
@@ -183,10 +168,10 @@ module _ (cells : List Cell) (group_slots : List (Option ℕ)) (same : length gr
       one cell cells (Some slot) group_slots = omega arith
 
 pub count_past : (cells : List Cell) (group_slots : List (Option ℕ)) (count : ℕ) → length cells ≤ count → count_in (drop count cells) (drop count group_slots) ≡ 0
-count_past cells group_slots count h = ap (λ (cs : List Cell). count_in cs (drop count group_slots)) (drop-past cells count h)
+count_past cells group_slots count h = ap (λ (cs : List Cell). count_in cs (drop count group_slots)) (drop_of_length-le cells h)
 
 pub size_past : (agg : Agg) (cells : List Cell) (group_slots : List (Option ℕ)) (count : ℕ) → length cells ≤ count → size_in agg (drop count cells) (drop count group_slots) ≡ 0
-size_past agg cells group_slots count h = ap (λ (cs : List Cell). size_in agg cs (drop count group_slots)) (drop-past cells count h)
+size_past agg cells group_slots count h = ap (λ (cs : List Cell). size_in agg cs (drop count group_slots)) (drop_of_length-le cells h)
 
 -- ---- how far a merge goes
 abbrev joined : Tally → Tally → Tally
@@ -287,8 +272,9 @@ cell_room agg (cell ∷ cells) (Some own ∷ group_slots) column can =
 
 -- ---- what the tests say together
 module _ (agg : Agg) (cells : List Cell) (group_slots : List (Option ℕ)) (column : List Tally) (count : ℕ) (count_is : count ≡ count_in cells group_slots) (size : ℕ) (size_is : size ≡ size_in agg cells group_slots) where
-  pub room_there : size < 2 ^ 63 → list_all (λ group_slot. can_take column group_slot count size) group_slots ≡ true → HasRoomForAll agg cells group_slots column
-  room_there small all = record {
+  pub room_there : count < 2 ^ 63 → size < 2 ^ 63 → list_all (λ group_slot. can_take column group_slot count size) group_slots ≡ true → HasRoomForAll agg cells group_slots column
+  room_there few small all = record {
+    few = omega (arith, few, count_is);
     small = omega (arith, small, size_is);
     each = λ place slot at.
         let here = each_takes column count size group_slots all place slot at in
@@ -305,7 +291,7 @@ module _ (agg : Agg) (cells : List Cell) (group_slots : List (Option ℕ)) (colu
 pub room_now : (aggs : List Agg) (cells : List Cell) (group_slots : List (Option ℕ)) (old now : List (Vec Tally Global)) (n : ℕ) → n < length aggs → HaveRoomForAll aggs cells group_slots old
     → AreMergedBelow n aggs cells group_slots old now → (agg : Agg) (column : Vec Tally Global) → HasRoomForAll (get_or aggs n agg) cells group_slots (get_or now n column).items
 room_now aggs cells group_slots old now n h room below agg column =
-    subst (λ (c : Vec Tally Global). HasRoomForAll (get_or aggs n agg) cells group_slots c.items) (sym (below.kept n (omega arith) column)) (room.columns_have n h agg column)
+    subst (λ (c : Vec Tally Global). HasRoomForAll (get_or aggs n agg) cells group_slots c.items) (sym (below.kept n (omega arith) column)) (room n h agg column)
 
 -- ---- a slot of no cell
 untouched : (agg : Agg) (slot bound : ℕ) (cells : List Cell) (group_slots : List (Option ℕ)) (tally : Tally) → AreBelow bound group_slots → bound ≤ slot

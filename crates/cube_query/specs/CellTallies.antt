@@ -96,13 +96,13 @@ size_in agg (cell ∷ cells) (Some slot ∷ group_slots) = nat_abs (cell_tally a
 
 -- the slot of each cell lies in the column, and its tally can take all cells that have a slot
 pub record HasRoomForAll (agg : Agg) (cells : List Cell) (group_slots : List (Option ℕ)) (column : List Tally) : Type 0 where
+  pub few : count_in cells group_slots < 2 ^ 63
   pub small : size_in agg cells group_slots < 2 ^ 63
   pub each : (place slot : ℕ) → slice_get group_slots place ≡ Some (Some slot) → (slot < length column)
       × (((tally_at column slot).count + count_in cells group_slots < 2 ^ 63)
       × (nat_abs (tally_at column slot).sum + size_in agg cells group_slots < 2 ^ 63))
 
 -- and so it is in each column
-pub record HaveRoomForAll (aggs : List Agg) (cells : List Cell) (group_slots : List (Option ℕ)) (columns : List (Vec Tally Global)) : Type 0 where
-  pub few : count_in cells group_slots < 2 ^ 63
-  pub columns_have : (k : ℕ) → k < length aggs → (agg : Agg) (column : Vec Tally Global)
-      → HasRoomForAll (slice_index_or aggs k agg) cells group_slots (slice_index_or columns k column).items
+abbrev pub HaveRoomForAll : List Agg → List Cell → List (Option ℕ) → List (Vec Tally Global) → Type 0
+HaveRoomForAll aggs cells group_slots columns = (k : ℕ) → k < length aggs → (agg : Agg) (column : Vec Tally Global)
+    → HasRoomForAll (slice_index_or aggs k agg) cells group_slots (slice_index_or columns k column).items

@@ -1,5 +1,5 @@
 //! Cells of a cuboid, merged into the tallies at the slots of their groups.
-ghost use Rattle.std.specs.Prelude.{◌≡◌, ◌↔◌, ◌≤◌, ◌<◌, ◌^◌, ℕ, [], ◌∷◌, length, Some, IsTrue, MatchOption};
+ghost use Rattle.std.specs.Prelude.{◌≡◌, ◌⊎◌, ◌↔◌, ◌≤◌, ◌<◌, ◌^◌, ℕ, [], ◌∷◌, length, Some, IsTrue, MatchOption};
 ghost use Rattle.cube_query.specs.CellTallies.{AreBelow, HasCellRoom, HasRoomForAll, HaveCellRoom, HaveRoomForAll, MergesCells, cell_tally, count_in, counted, size_in, summary_in, with_cell, with_cells};
 ghost use Rattle.cube_query.specs.Columns.{tallies_at};
 
@@ -19,56 +19,59 @@ pub fn have_room_for_cells(
     requires group_slots { length group_slots.now ≡ length cells.now }
     ensures { IsTrue result ↔ HaveRoomForAll aggs.now cells.now group_slots.now columns.now }
 {
-    let Some(count) = count_in(cells, group_slots) else {
-        return false;
-    };
     for place in 0..aggs.len() {
-        if !has_room_for_cells(
-            columns[place].as_slice(),
-            aggs[place],
-            cells,
-            group_slots,
-            count,
-        ) {
+        if !has_room_for_cells(columns[place].as_slice(), aggs[place], cells, group_slots) {
             return false;
         }
     }
     true
 }
 
-// Whether a column has room for cells of so many rows at the slots of their groups.
+// Whether a column has room for cells at the slots of their groups.
 fn has_room_for_cells(
     column: &[Tally],
     agg: Agg,
     cells: &[Cell],
     group_slots: &[Option<u32>],
-    count: u128,
 ) -> bool
-    requires group_slots { length group_slots.now ≡ length cells.now }
-    requires count { count ≡ count_in cells.now group_slots.now }
-    requires few { count < 2 ^ 63 }
+    requires { length group_slots.now ≡ length cells.now }
     ensures { IsTrue result ↔ HasRoomForAll agg cells.now group_slots.now column.now }
 {
-    match size_in(agg, cells, group_slots) {
-        Some(size) => all_can_take(column, group_slots, count, size),
+    match weight_in(agg, cells, group_slots) {
+        Some(weight) => all_can_take(column, group_slots, weight.count, weight.size),
         None => false,
     }
 }
 
-// How many rows the cells that have a slot stand for, unless they are too many.
-fn count_in(cells: &[Cell], group_slots: &[Option<u32>]) -> Option<u128>
+// What cells add to tallies, at most.
+#[derive(Clone, Copy)]
+struct Weight {
+    // How many rows they stand for.
+    count: u128,
+    // The absolute values of their sums together.
+    size: u128,
+}
+
+// The weight of the cells that have a slot, unless they are too many rows or their sums too large. Each cell is read once.
+fn weight_in(agg: Agg, cells: &[Cell], group_slots: &[Option<u32>]) -> Option<Weight>
     requires { length group_slots.now ≡ length cells.now }
-    ensures { MatchOption result (2 ^ 63 ≤ count_in cells.now group_slots.now)
-        (λ count. (count ≡ count_in cells.now group_slots.now) × (count < 2 ^ 63)) }
+    ensures { MatchOption result ((2 ^ 63 ≤ count_in cells.now group_slots.now) ⊎ (2 ^ 63 ≤ size_in agg cells.now group_slots.now))
+        (λ weight. ((weight.count ≡ count_in cells.now group_slots.now) × (weight.count < 2 ^ 63))
+        × ((weight.size ≡ size_in agg cells.now group_slots.now) × (weight.size < 2 ^ 63))) }
 {
     let mut count = 0;
+    let mut size = 0;
     for place in 0..cells.len() {
         count += count_at(&cells[place], group_slots[place]);
         if count >= LIMIT {
             return None;
         }
+        size += size_at(agg, &cells[place], group_slots[place]);
+        if size >= LIMIT {
+            return None;
+        }
     }
-    Some(count)
+    Some(Weight { count, size })
 }
 
 // How many rows a cell stands for, if it has a slot.
@@ -80,22 +83,6 @@ fn count_at(cell: &Cell, group_slot: Option<u32>) -> u128
         None => 0,
         Some(_) => u128::from(cell.count),
     }
-}
-
-// The absolute values of the sums of the cells that have a slot together, unless they are too large.
-fn size_in(agg: Agg, cells: &[Cell], group_slots: &[Option<u32>]) -> Option<u128>
-    requires { length group_slots.now ≡ length cells.now }
-    ensures { MatchOption result (2 ^ 63 ≤ size_in agg cells.now group_slots.now)
-        (λ size. (size ≡ size_in agg cells.now group_slots.now) × (size < 2 ^ 63)) }
-{
-    let mut size = 0;
-    for place in 0..cells.len() {
-        size += size_at(agg, &cells[place], group_slots[place]);
-        if size >= LIMIT {
-            return None;
-        }
-    }
-    Some(size)
 }
 
 // The absolute value of the sum of a cell, if it has a slot.

@@ -18,6 +18,7 @@ pub struct Cell {
 
 impl Cell {
     /// Two cells of one key as one. `None` where a number would pass its type.
+    #[inline]
     pub fn merge(self, other: Cell) -> Option<Cell>
         ensures some { IfSome result (λ cell. cell ≡ merged self other) }
         ensures fits { IfSome result CellFits }

@@ -13,6 +13,7 @@ pub struct Summary {
 
 impl Summary {
     /// Two of them as one. `None` where the sum would pass its type.
+    #[inline]
     pub fn merge(self, other: Summary) -> Option<Summary>
         ensures some { IfSome result (λ summary. summary ≡ merged_summary self other) }
         ensures fits { IfSome result SummaryFits }
@@ -41,6 +42,7 @@ pub struct Summaries {
 
 impl Summaries {
     /// Those of two sets of rows as those of both. `None` where a sum would pass its type.
+    #[inline]
     pub fn merge(self, other: Summaries) -> Option<Summaries>
         ensures some { IfSome result (λ measures. measures ≡ merged_summaries self other) }
         ensures fit { IfSome result SummariesFit }
@@ -66,6 +68,7 @@ impl Summaries {
 }
 
 // Three of them, each with one of three others. `None` where a sum would pass its type.
+#[inline]
 fn merge_three(
     ones: (Summary, Summary, Summary),
     others: (Summary, Summary, Summary),

@@ -1,5 +1,5 @@
 -- Tables of codes lead from a row of a dimension to the code of its member.
-use Rattle.std.proofs.Common.{◌≡◌, ◌∙◌, sym, ap, refl, subst, ℕ, zero, suc, ◌<◌, ◌≤◌, List, [], ◌∷◌, length, get_or, Option, Some, None, arith}
+use Rattle.std.proofs.Common.{◌≡◌, ◌∙◌, sym, ap, refl, ℕ, zero, suc, ◌<◌, List, [], ◌∷◌, length, get_or, Some, None, arith}
 use Rattle.cube_model.specs.declared.attr.Axis.{Axis}
 use Rattle.cube_model.specs.declared.attr.Axis.TheVariants.{Customer, Supplier, Part, Date}
 use Rattle.cube_model.specs.declared.rows.DimRows.{DimRows}
@@ -7,7 +7,7 @@ use Rattle.cube_model.specs.Places.{row_count_of}
 use Rattle.dictionary.specs.Columns.{codes_of}
 use Rattle.dimensions.specs.Coded.{AreGoodRows, texts_at_places}
 use Rattle.dimensions.specs.Columns.{code_at}
-use Rattle.dimensions.specs.Shapes.{lower_of, lowers_of}
+use Rattle.dimensions.specs.Shapes.{lower_of}
 use Rattle.dimensions.specs.Shown.{rows_on}
 use Rattle.dimensions.specs.TextRows.{TextRow, column_of}
 use Rattle.dimensions.proofs.AttributeLaws.{count_on}
@@ -15,7 +15,7 @@ use Rattle.lattice.specs.declared.level.Level.{Level}
 use Rattle.lattice.specs.declared.level.Level.TheVariants.{All}
 use Rattle.lattice.specs.Levels.{level_attribute}
 use Rattle.cuboid_upkeep.specs.Codes.{level_column, member_code}
-use Rattle.cuboid_upkeep.specs.Tables.{LeadToMembers, Leads}
+use Rattle.cuboid_upkeep.specs.Tables.{LeadToMembers}
 use Rattle.cuboid_upkeep.proofs.Coded.{code_below, few_days, in_level_column, in_no_column, read_above, read_at_row}
 
 -- below two lower columns there is none

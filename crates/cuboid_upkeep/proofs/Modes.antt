@@ -1,5 +1,5 @@
 -- The codes of ship modes.
-use Rattle.std.proofs.Common.{◌≡◌, ◌∙◌, sym, ap, refl, subst, inl, inr, ℕ, ◌+◌, ◌==◌, ◌<◌, ◌≤◌, Bool, true, false, cond, List, [], ◌∷◌, ◌++◌, map, length, length-append, get_or, Option, Some, None, arith, All}
+use Rattle.std.proofs.Common.{◌≡◌, ◌∙◌, sym, ap, refl, subst, inl, inr, ℕ, ◌+◌, ◌==◌, ◌<◌, ◌≤◌, Bool, true, false, cond, List, [], ◌∷◌, ◌++◌, length, length-append, get_or, Some, None, arith, All}
 use Rattle.std.specs.Prelude.{slice_get}
 use Rattle.std.specs.List.{position_or_len}
 use Rattle.std.specs.Str.{bytes_eq}
@@ -8,7 +8,6 @@ use Rattle.std.proofs.lemmas.Bool.{cases_lt}
 use Rattle.std.proofs.lemmas.List.{get_or_append_left, length_push}
 use Rattle.std.proofs.lemmas.Option.{slice_get-get_or}
 use Rattle.std.proofs.lemmas.List.Elements.{All-filter, All-head, All-tail}
-use Rattle.cube_model.specs.declared.attr.Axis.{Axis}
 use Rattle.cube_model.specs.declared.attr.Axis.TheVariants.{Customer, Supplier, Part, Date}
 use Rattle.cube_model.specs.declared.rows.DimRows.{DimRows}
 use Rattle.cube_model.specs.declared.rows.LineOrder.{LineOrder}
@@ -18,12 +17,10 @@ use Rattle.dictionary.proofs.CallerLemmas.{absent, place_append, place_behind, p
 use Rattle.dimensions.proofs.KeyLaws.{place_of_some}
 use Rattle.std.proofs.lemmas.List.Quantifiers.{position-Some}
 use Rattle.lattice.specs.declared.view.View.{View}
-use Rattle.cuboid_cells.specs.declared.cell.Cell.{Cell}
-use Rattle.cuboid_cells.specs.declared.key.Key.{Key}
 use Rattle.cuboid_cells.specs.Cells.{number_of}
 use Rattle.cuboid_cells.specs.Limits.{all_code}
 use Rattle.cuboid_upkeep.specs.Codes.{IsMode, mode_code}
-use Rattle.cuboid_upkeep.specs.Grouping.{HasMembers, StandFor, cell_over, code_on, key_of, rows_of, summaries_over}
+use Rattle.cuboid_upkeep.specs.Grouping.{HasMembers, cell_over, code_on, key_of, rows_of, summaries_over}
 use Rattle.cuboid_upkeep.specs.Lawful.{ModesAreAddedBehind}
 use Rattle.cuboid_upkeep.specs.StandIns.{IsCodeOfMode}
 use Rattle.cuboid_upkeep.specs.Tables.{AreModeEntries, IsModeEntry}

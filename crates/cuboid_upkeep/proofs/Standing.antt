@@ -1,11 +1,9 @@
 -- Rows that stand in for cells.
-use Rattle.std.proofs.Common.{◌≡◌, ◌∙◌, sym, ap, refl, subst, ℕ, zero, suc, ◌==◌, ◌<◌, Bool, true, false, List, [], ◌∷◌, map, get_or, Option, Some, None, pos, arith, All}
+use Rattle.std.proofs.Common.{◌≡◌, ◌∙◌, sym, ap, refl, ℕ, zero, suc, ◌==◌, ◌<◌, Bool, true, false, List, [], ◌∷◌, ◌++◌, map, drop, get_or, Option, Some, None, pos, arith, All}
 use Rattle.std.specs.Prelude.{◌&&◌, unwrap_or}
-use Rattle.std.specs.List.{Contains, filter, list_all, position_or_len}
+use Rattle.std.specs.List.{Contains, list_all}
 use Rattle.std.specs.Option.{is_some, option_map}
-use Rattle.std.proofs.lemmas.Bool.{cases_lt}
 use Rattle.std.proofs.lemmas.List.Elements.{All-filter, All-head, All-tail, Contains-get_or}
-use Rattle.std.proofs.lemmas.List.Sums.{passes_at_first}
 use Rattle.cube_model.specs.declared.attr.Axis.{Axis}
 use Rattle.cube_model.specs.declared.attr.Axis.TheVariants.{Customer, Supplier, Part, Date}
 use Rattle.cube_model.specs.declared.measure.Measure.{Measure}
@@ -18,16 +16,16 @@ use Rattle.cube_model.specs.Places.{row_count_of, row_index_of}
 use Rattle.group_plan.specs.Numbers.{IsKnown}
 use Rattle.group_plan.specs.Rows.{no_row}
 use Rattle.lattice.specs.declared.level.Level.{Level}
-use Rattle.lattice.specs.declared.view.View.{View}
 use Rattle.cuboid_cells.specs.declared.cell.Cell.{Cell}
 use Rattle.cuboid_cells.specs.declared.key.Key.{Key}
-use Rattle.cuboid_cells.specs.Cells.{AreProper, IsCellOf, IsModeCode, PlainCells, cell_at, number_of}
+use Rattle.cuboid_cells.specs.Cells.{AreProper, IsCellOf, IsModeCode, PlainCells, number_of}
 use Rattle.dictionary.specs.Columns.{place_of, text_at}
 use Rattle.dictionary.proofs.CallerLemmas.{text_at_place}
-use Rattle.cuboid_upkeep.specs.Codes.{IsMode, member_code, mode_code, modes_of}
+use Rattle.cuboid_upkeep.specs.Codes.{IsMode, mode_code, modes_of}
 use Rattle.cuboid_upkeep.specs.Grouping.{HasMembers, StandFor, cell_over, key_of, rows_of}
-use Rattle.cuboid_upkeep.specs.StandIns.{AreKeysOf, AreStandIns, HasCode, HaveAllCodes, IsCodeOfMode, IsStandIn, has_keys, key_at, stand_in, stood_in}
+use Rattle.cuboid_upkeep.specs.StandIns.{AreKeysOf, AreStandIns, HasCode, HaveAllCodes, IsCodeOfMode, IsStandIn, has_keys, key_at, keys_of, stand_in, stood_in}
 use Rattle.cuboid_upkeep.specs.declared.member_keys.MemberKeys.{MemberKeys}
+use Rattle.cuboid_upkeep.specs.declared.stand_ins.CellKeys.{CellKeys}
 use Rattle.cuboid_upkeep.specs.declared.stand_ins.StandIns.{StandIns}
 use Rattle.cuboid_upkeep.proofs.Sorted.{ascending_apart, only_one}
 
@@ -114,7 +112,7 @@ module _ (dimensions : DimRows) (modes : List (List ℕ)) (plain : PlainCells) (
     mode_is : (code : ℕ) → IsCodeOfMode modes code → IsMode modes (text_at modes code)
     mode_is code is = record { among = omega (arith, is.among, is.again); below = omega (arith, is.below, is.again) }
 
-    one_stands : (cell : Cell) → IsCellOf plain.view cell → (plain.view.ship_mode ≡ true → IsCodeOfMode modes cell.key.ship_mode) → has_keys customers suppliers parts dates cell ≡ true → IsStandIn dimensions modes plain.view cell (stand_in modes customers suppliers parts dates cell)
+    one_stands : (cell : Cell) → IsCellOf plain.view cell → (plain.view.ship_mode ≡ true → IsCodeOfMode modes cell.key.ship_mode) → has_keys customers suppliers parts dates cell ≡ true → IsStandIn dimensions modes plain.view cell (stand_in modes (keys_of customers suppliers parts dates cell))
     one_stands cell of_view there has =
         let a = is_some (key_at customers cell.key.customer) in
         let b = is_some (key_at suppliers cell.key.supplier) in
@@ -138,14 +136,14 @@ module _ (dimensions : DimRows) (modes : List (List ℕ)) (plain : PlainCells) (
             → row_index_of dimensions Supplier (unwrap_or (key_at suppliers cell.key.supplier) 0) < row_count_of dimensions Supplier
             → row_index_of dimensions Part (unwrap_or (key_at parts cell.key.part) 0) < row_count_of dimensions Part
             → row_index_of dimensions Date (unwrap_or (key_at dates cell.key.date) 0) < row_count_of dimensions Date
-            → row_index_of dimensions axis (key_on axis (stand_in modes customers suppliers parts dates cell)) < row_count_of dimensions axis
+            → row_index_of dimensions axis (key_on axis (stand_in modes (keys_of customers suppliers parts dates cell))) < row_count_of dimensions axis
         known_on Customer p q r s = p
         known_on Supplier p q r s = q
         known_on Part p q r s = r
         known_on Date p q r s = s
 
     all_stand : (cells : List Cell) → All (IsCellOf plain.view) cells → (plain.view.ship_mode ≡ true → All (λ (cell : Cell). IsCodeOfMode modes cell.key.ship_mode) cells) → list_all (has_keys customers suppliers parts dates) cells ≡ true
-        → AreStandIns dimensions modes plain.view cells (map (stand_in modes customers suppliers parts dates) cells)
+        → AreStandIns dimensions modes plain.view cells (map (stand_in modes) (map (keys_of customers suppliers parts dates) cells))
     all_stand [] each there has = tt
     all_stand (cell ∷ cells) each there has =
         let p = has_keys customers suppliers parts dates cell in
@@ -155,7 +153,7 @@ module _ (dimensions : DimRows) (modes : List (List ℕ)) (plain : PlainCells) (
         )
 
     pub they_stand : AreProper plain → list_all (has_keys customers suppliers parts dates) plain.cells ≡ true
-        → AreStandIns dimensions modes plain.view plain.cells (map (stand_in modes customers suppliers parts dates) plain.cells)
+        → AreStandIns dimensions modes plain.view plain.cells (map (stand_in modes) (map (keys_of customers suppliers parts dates) plain.cells))
     they_stand proper has = all_stand plain.cells proper.rules.each modes_there has
 
 -- ---- all else is nought
@@ -164,25 +162,25 @@ module _ (dimensions : DimRows) (modes : List (List ℕ)) (plain : PlainCells) (
 abbrev given : StandIns → List (List ℕ)
 given rows = modes_of (option_map (λ modes. modes.now) rows.modes)
 
-pub same_else : {X : Type 0} (f : Cell → LineOrder) (g : LineOrder → X) (x : X) → ((cell : Cell) → x ≡ g (f cell)) → x ≡ g no_row
-    → (cells : List Cell) (place : ℕ) → x ≡ g (get_or (map f cells) place no_row)
-same_else f g x each none [] place = none
-same_else f g x each none (cell ∷ cells) zero = each cell
-same_else f g x each none (cell ∷ cells) (suc place) = same_else f g x each none cells place
+pub same_else : {X : Type 0} (f : CellKeys → LineOrder) (g : LineOrder → X) (x : X) → ((keys : CellKeys) → x ≡ g (f keys)) → x ≡ g no_row
+    → (each : List CellKeys) (place : ℕ) → x ≡ g (get_or (map f each) place no_row)
+same_else f g x is none [] place = none
+same_else f g x is none (keys ∷ each) zero = is keys
+same_else f g x is none (keys ∷ each) (suc place) = same_else f g x is none each place
 
 pub no_quantity : (rows : StandIns) (place : ℕ) → 0 ≡ (get_or (stood_in rows) place no_row).quantity
-no_quantity rows place = same_else (stand_in (given rows) rows.customers rows.suppliers rows.parts rows.dates) (λ (row : LineOrder). row.quantity) 0 (λ cell. refl) refl rows.cells.now place
+no_quantity rows place = same_else (stand_in (given rows)) (λ (row : LineOrder). row.quantity) 0 (λ keys. refl) refl rows.keys.items place
 
 pub no_discount : (rows : StandIns) (place : ℕ) → 0 ≡ (get_or (stood_in rows) place no_row).discount
-no_discount rows place = same_else (stand_in (given rows) rows.customers rows.suppliers rows.parts rows.dates) (λ (row : LineOrder). row.discount) 0 (λ cell. refl) refl rows.cells.now place
+no_discount rows place = same_else (stand_in (given rows)) (λ (row : LineOrder). row.discount) 0 (λ keys. refl) refl rows.keys.items place
 
-no_measures : (measure : Measure) (modes : List (List ℕ)) (customers suppliers parts dates : MemberKeys) (cell : Cell) → pos 0 ≡ measure_of measure (stand_in modes customers suppliers parts dates cell)
-no_measures Quantity modes customers suppliers parts dates cell = refl
-no_measures ExtendedPrice modes customers suppliers parts dates cell = refl
-no_measures Revenue modes customers suppliers parts dates cell = refl
-no_measures SupplyCost modes customers suppliers parts dates cell = refl
-no_measures Discounted modes customers suppliers parts dates cell = refl
-no_measures Profit modes customers suppliers parts dates cell = refl
+no_measures : (measure : Measure) (modes : List (List ℕ)) (keys : CellKeys) → pos 0 ≡ measure_of measure (stand_in modes keys)
+no_measures Quantity modes keys = refl
+no_measures ExtendedPrice modes keys = refl
+no_measures Revenue modes keys = refl
+no_measures SupplyCost modes keys = refl
+no_measures Discounted modes keys = refl
+no_measures Profit modes keys = refl
 
 none_behind : (measure : Measure) → pos 0 ≡ measure_of measure no_row
 none_behind Quantity = refl
@@ -193,5 +191,11 @@ none_behind Discounted = refl
 none_behind Profit = refl
 
 pub no_measure : (measure : Measure) (rows : StandIns) (place : ℕ) → pos 0 ≡ measure_of measure (get_or (stood_in rows) place no_row)
-no_measure measure rows place = same_else (stand_in (given rows) rows.customers rows.suppliers rows.parts rows.dates) (measure_of measure) (pos 0)
-    (no_measures measure (given rows) rows.customers rows.suppliers rows.parts rows.dates) (none_behind measure) rows.cells.now place
+no_measure measure rows place = same_else (stand_in (given rows)) (measure_of measure) (pos 0) (no_measures measure (given rows)) (none_behind measure) rows.keys.items place
+
+-- ---- the keys of cells, one after another
+
+-- those of the cells before a place, all of which pass
+pub record AreGathered (p : Cell → Bool) (f : Cell → CellKeys) (cells : List Cell) (place : ℕ) (keys : List CellKeys) : Type 0 where
+  pub all : keys ++ map f (drop place cells) ≡ map f cells
+  pub passing : list_all p (drop place cells) ≡ list_all p cells

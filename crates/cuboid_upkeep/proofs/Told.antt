@@ -1,6 +1,6 @@
 -- Where two rows of a dimension have one member at a level, they have one text of each attribute that the level determines.
-use Rattle.std.proofs.Common.{◌≡◌, ◌∙◌, sym, ap, refl, subst, ℕ, ◌<◌, ◌≤◌, List, [], map, length, get_or, Option, Some, None, arith}
-use Rattle.std.proofs.lemmas.List.{get_or-map, length-map}
+use Rattle.std.proofs.Common.{◌≡◌, ◌∙◌, sym, ap, refl, subst, ℕ, ◌<◌, ◌≤◌, List, [], length, get_or, Some, arith}
+use Rattle.std.proofs.lemmas.List.{get_or-map}
 use Rattle.cube_model.specs.declared.attr.Attr.{Attr}
 use Rattle.cube_model.specs.declared.attr.Attr.TheVariants.{CustomerCity, CustomerNation, CustomerRegion, SupplierCity, SupplierNation, SupplierRegion, PartBrand1, PartCategory, PartMfgr, DateKey, DateYearmonthnum, DateYear, DateYearmonth, DateWeeknuminyear}
 use Rattle.cube_model.specs.declared.rows.DimRows.{DimRows}
@@ -19,7 +19,7 @@ use Rattle.dimensions.proofs.CodedRules.{determined}
 use Rattle.dimensions.proofs.CodedTexts.{IsDetermined}
 use Rattle.dimensions.proofs.ColumnLaws.{code_at-text}
 use Rattle.lattice.specs.declared.level.Level.{Level}
-use Rattle.lattice.specs.declared.level.Level.TheVariants.{Lowest, Middle, Highest, All}
+use Rattle.lattice.specs.declared.level.Level.TheVariants.{Lowest, Middle, Highest}
 use Rattle.lattice.specs.Determined.{highest_level}
 use Rattle.lattice.specs.Levels.{height}
 use Rattle.cuboid_upkeep.specs.Codes.{member_code}

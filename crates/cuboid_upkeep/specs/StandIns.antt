@@ -14,6 +14,7 @@ use Rattle.cuboid_cells.specs.Limits.{all_code}
 use Rattle.cuboid_upkeep.specs.Codes.{IsMode, member_code, modes_of}
 use Rattle.cuboid_upkeep.specs.Grouping.{key_of}
 use Rattle.cuboid_upkeep.specs.declared.member_keys.MemberKeys.{MemberKeys}
+use Rattle.cuboid_upkeep.specs.declared.stand_ins.CellKeys.{CellKeys}
 use Rattle.cuboid_upkeep.specs.declared.stand_ins.StandIns.{StandIns}
 
 -- the key at a code, if there is one
@@ -56,21 +57,31 @@ has_keys customers suppliers parts dates cell =
     is_some (key_at customers cell.key.customer) && (is_some (key_at suppliers cell.key.supplier)
     && (is_some (key_at parts cell.key.part) && is_some (key_at dates cell.key.date)))
 
+-- these keys, and the code of the ship mode
+abbrev pub keys_of : MemberKeys → MemberKeys → MemberKeys → MemberKeys → Cell → CellKeys
+keys_of customers suppliers parts dates cell = record {
+  customer = unwrap_or (key_at customers cell.key.customer) 0;
+  supplier = unwrap_or (key_at suppliers cell.key.supplier) 0;
+  part = unwrap_or (key_at parts cell.key.part) 0;
+  date = unwrap_or (key_at dates cell.key.date) 0;
+  ship_mode = cell.key.ship_mode;
+}
+
 -- a code is that of a mode, whose text has this code
 pub record IsCodeOfMode (modes : List (List ℕ)) (code : ℕ) : Type 0 where
   pub among : code < length modes
   pub again : place_of modes (text_at modes code) ≡ code
   pub below : code < all_code
 
--- a fact row of the keys and the ship mode at the codes of a cell, and of noughts
-abbrev pub stand_in : List (List ℕ) → MemberKeys → MemberKeys → MemberKeys → MemberKeys → Cell → LineOrder
-stand_in modes customers suppliers parts dates cell = record {
+-- a fact row of these keys and of the ship mode of a code, and of noughts
+abbrev pub stand_in : List (List ℕ) → CellKeys → LineOrder
+stand_in modes keys = record {
   orderkey = 0;
   linenumber = 0;
-  custkey = unwrap_or (key_at customers cell.key.customer) 0;
-  partkey = unwrap_or (key_at parts cell.key.part) 0;
-  suppkey = unwrap_or (key_at suppliers cell.key.supplier) 0;
-  orderdate = unwrap_or (key_at dates cell.key.date) 0;
+  custkey = keys.customer;
+  partkey = keys.part;
+  suppkey = keys.supplier;
+  orderdate = keys.date;
   orderpriority = [];
   shippriority = [];
   quantity = 0;
@@ -81,14 +92,12 @@ stand_in modes customers suppliers parts dates cell = record {
   supplycost = 0;
   tax = 0;
   commitdate = [];
-  shipmode = text_at modes cell.key.ship_mode;
+  shipmode = text_at modes keys.ship_mode;
 }
 
 -- the rows that stand in for cells
 abbrev pub stood_in : StandIns → List LineOrder
-stood_in rows =
-    let modes = modes_of (option_map (λ modes. modes.now) rows.modes) in
-    map (stand_in modes rows.customers rows.suppliers rows.parts rows.dates) rows.cells.now
+stood_in rows = map (stand_in (modes_of (option_map (λ modes. modes.now) rows.modes))) rows.keys.items
 
 -- a row has known keys, a ship mode that is one of the modes where the view groups by it, and the key of a cell
 pub record IsStandIn (dimensions : DimRows) (modes : List (List ℕ)) (view : View) (cell : Cell) (row : LineOrder) : Type 0 where

@@ -1,12 +1,12 @@
 //! Rows that stand in for cells.
-ghost use Rattle.std.specs.Prelude.{◌≡◌, ◌⊎◌, ◌↔◌, List, true, IfErr, IfOk, IsTrue, map};
+ghost use Rattle.std.specs.Prelude.{◌≡◌, ◌⊎◌, ◌↔◌, List, true, false, IfErr, IfOk, IsTrue, MatchOption, map};
 ghost use Rattle.std.specs.List.{All, list_all};
 ghost use Rattle.std.specs.Option.{option_map};
 ghost use Rattle.cube_model.specs.declared.rows.LineOrder.{LineOrder};
 ghost use Rattle.group_plan.specs.Numbers.{IsKnown};
 ghost use Rattle.cuboid_upkeep.specs.Codes.{modes_of};
 ghost use Rattle.cuboid_upkeep.specs.Grouping.{StandFor};
-ghost use Rattle.cuboid_upkeep.specs.StandIns.{AreStandIns, IsCodeOfMode, has_keys, stood_in};
+ghost use Rattle.cuboid_upkeep.specs.StandIns.{AreStandIns, IsCodeOfMode, has_keys, keys_of, stood_in};
 
 use crate::member_keys::{MemberKeys, keys_of_members};
 use cube_model::{Axis, Fault, Measure};
@@ -18,14 +18,22 @@ use group_plan::FactRows;
 use lattice::View;
 use std::alloc::Global;
 
+/// The keys of a row that stands in for a cell, and the code of its ship mode.
+#[derive(Clone, Copy)]
+pub struct CellKeys {
+    pub customer: u32,
+    pub supplier: u32,
+    pub part: u32,
+    pub date: u32,
+    pub ship_mode: u16,
+}
+
 /// Rows that stand in for cells, of which no row is made: each has the members of its cell, and is of noughts else.
+///
+/// A cell is read once, for its keys, which lie close together.
 #[derive(Drop)]
 pub struct StandIns<'a> {
-    cells: &'a [Cell],
-    customers: MemberKeys,
-    suppliers: MemberKeys,
-    parts: MemberKeys,
-    dates: MemberKeys,
+    keys: Vec<CellKeys>,
     modes: Option<&'a Dictionary>,
 }
 
@@ -37,7 +45,7 @@ pub struct StandIns<'a> {
 pub fn stand_ins_of<'a>(
     alloc: Global,
     dims: &Dims,
-    cells: &'a Cells,
+    cells: &Cells,
     modes: Option<&'a Dictionary>,
 ) -> Result<StandIns<'a>, Fault>
     ensures ok { IfOk result (λ rows. AreStandIns dims.now
@@ -55,17 +63,8 @@ pub fn stand_ins_of<'a>(
     let parts = keys_of_members(alloc, dims, Axis::Part, view.part)?;
     let dates = keys_of_members(alloc, dims, Axis::Date, view.date)?;
     let cells = cells.as_slice();
-    if !have_keys(cells, &customers, &suppliers, &parts, &dates) {
-        return Err(Fault::BadLayout);
-    }
-    Ok(StandIns {
-        cells,
-        customers,
-        suppliers,
-        parts,
-        dates,
-        modes,
-    })
+    let keys = keys_of_cells(alloc, cells, &customers, &suppliers, &parts, &dates)?;
+    Ok(StandIns { keys, modes })
 }
 
 // Whether the fifth code of each cell is that of a mode, where the view groups by ship mode.
@@ -95,21 +94,48 @@ fn is_mode(modes: Option<&Dictionary>, code: u16) -> bool
     true
 }
 
-// Whether there are keys at all codes of each cell.
-fn have_keys(
+// The keys at the codes of each cell, or `BadLayout` where there is none at a code.
+fn keys_of_cells(
+    alloc: Global,
     cells: &[Cell],
     customers: &MemberKeys,
     suppliers: &MemberKeys,
     parts: &MemberKeys,
     dates: &MemberKeys,
-) -> bool
-    ensures { result ≡ list_all (has_keys customers.now suppliers.now parts.now dates.now) cells.now }
+) -> Result<Vec<CellKeys>, Fault>
+    ensures ok { IfOk result (λ keys. (list_all (has_keys customers.now suppliers.now parts.now dates.now) cells.now ≡ true)
+        × (keys.items ≡ map (keys_of customers.now suppliers.now parts.now dates.now) cells.now)) }
+    ensures refused { IfErr result (λ fault. (fault ≡ Fault.Memory) ⊎ ((fault ≡ Fault.BadLayout)
+        × (list_all (has_keys customers.now suppliers.now parts.now dates.now) cells.now ≡ false))) }
 {
-    cells.iter().all(|cell| {
-        customers.key_at(cell.key.customer).is_some()
-            && suppliers.key_at(cell.key.supplier).is_some()
-            && parts.key_at(cell.key.part).is_some()
-            && dates.key_at(cell.key.date).is_some()
+    let mut keys = Vec::with_capacity(alloc, cells.len())?;
+    for cell in cells {
+        let Some(own) = keys_of_cell(cell, customers, suppliers, parts, dates) else {
+            return Err(Fault::BadLayout);
+        };
+        keys.push(own)?;
+    }
+    Ok(keys)
+}
+
+// The keys at the codes of a cell, unless there is none at a code.
+fn keys_of_cell(
+    cell: &Cell,
+    customers: &MemberKeys,
+    suppliers: &MemberKeys,
+    parts: &MemberKeys,
+    dates: &MemberKeys,
+) -> Option<CellKeys>
+    ensures { MatchOption result (has_keys customers.now suppliers.now parts.now dates.now cell.now ≡ false)
+        (λ keys. (has_keys customers.now suppliers.now parts.now dates.now cell.now ≡ true)
+        × (keys ≡ keys_of customers.now suppliers.now parts.now dates.now cell.now)) }
+{
+    Some(CellKeys {
+        customer: customers.key_at(cell.key.customer)?,
+        supplier: suppliers.key_at(cell.key.supplier)?,
+        part: parts.key_at(cell.key.part)?,
+        date: dates.key_at(cell.key.date)?,
+        ship_mode: cell.key.ship_mode,
     })
 }
 
@@ -117,18 +143,17 @@ impl<'a> FactRows for StandIns<'a> {
     ghost rows = { stood_in };
 
     fn count(&self) -> usize {
-        self.cells.len()
+        self.keys.len()
     }
 
     fn key(&self, place: usize, axis: Axis) -> u32 {
-        let key = self.cells[place].key;
-        let found = match axis {
-            Axis::Customer => self.customers.key_at(key.customer),
-            Axis::Supplier => self.suppliers.key_at(key.supplier),
-            Axis::Part => self.parts.key_at(key.part),
-            Axis::Date => self.dates.key_at(key.date),
-        };
-        found.unwrap_or(0)
+        let keys = self.keys[place];
+        match axis {
+            Axis::Customer => keys.customer,
+            Axis::Supplier => keys.supplier,
+            Axis::Part => keys.part,
+            Axis::Date => keys.date,
+        }
     }
 
     fn quantity(&self, _place: usize) -> u8 {

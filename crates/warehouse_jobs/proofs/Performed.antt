@@ -6,6 +6,9 @@ use Rattle.cube_model.specs.declared.fault.Fault.{Fault}
 use Rattle.cube_model.specs.declared.query.Query.{Query}
 use Rattle.warehouse_objects.specs.Warehouse.{Warehouse}
 use Rattle.warehouse.specs.declared.session.Session.{Session}
+use Rattle.warehouse_jobs.specs.declared.job.Job.{Job}
+use Rattle.warehouse_jobs.specs.declared.job.Job.TheVariants.{Load, Report, Status}
+use Rattle.warehouse_jobs.specs.Jobs.{Performs}
 use Rattle.warehouse_jobs.specs.Loading.{Loads}
 use Rattle.warehouse_jobs.specs.Reporting.{Reports, Tells}
 
@@ -13,7 +16,7 @@ abbrev Says : Result Unit Fault → Result Bool Fault → Type 0
 Says done result = MatchResult done (λ _. result ≡ Ok true) (λ fault. result ≡ Err fault)
 
 module _ {D : Type 0} (g : Ghosts D) (w : Warehouse) (old new : Session D g) (before after : Option (List ℕ)) where
-  pub yes-loads : (first size : ℕ) (text : List ℕ) (done : Result Unit Fault) (result : Result Bool Fault) → Says done result → Loads g w first size text old new before after done → Loads g w first size text old new before after result
+  yes-loads : (first size : ℕ) (text : List ℕ) (done : Result Unit Fault) (result : Result Bool Fault) → Says done result → Loads g w first size text old new before after done → Loads g w first size text old new before after result
   yes-loads first size text (Ok wrote) result is loads = rw is (record {
     done = loads.done;
     next = loads.next;
@@ -41,10 +44,15 @@ module _ {D : Type 0} (g : Ghosts D) (w : Warehouse) (old new : Session D g) (be
     leaves = loads.leaves;
   })
 
-  pub yes-reports : (as_of : Option ℕ) (query : Query) (done : Result Unit Fault) (result : Result Bool Fault) → Says done result → Reports g w as_of query old new before after done → Reports g w as_of query old new before after result
+  yes-reports : (as_of : Option ℕ) (query : Query) (done : Result Unit Fault) (result : Result Bool Fault) → Says done result → Reports g w as_of query old new before after done → Reports g w as_of query old new before after result
   yes-reports as_of query (Ok wrote) result is reports = rw is (record { ends = reports.ends; leaves = reports.leaves })
   yes-reports as_of query (Err fault) result is reports = rw is (record { ends = reports.ends; leaves = reports.leaves })
 
-  pub yes-tells : (done : Result Unit Fault) (result : Result Bool Fault) → Says done result → Tells g w old new before after done → Tells g w old new before after result
+  yes-tells : (done : Result Unit Fault) (result : Result Bool Fault) → Says done result → Tells g w old new before after done → Tells g w old new before after result
   yes-tells (Ok wrote) result is tells = rw is tells
   yes-tells (Err fault) result is tells = rw is tells
+
+  pub yes-performs : (text : List ℕ) (job : Job) (done : Result Unit Fault) (result : Result Bool Fault) → Says done result → Performs g w text job old new before after done → Performs g w text job old new before after result
+  yes-performs text (Load first rows) done result is performs = yes-loads first rows text done result is performs
+  yes-performs text (Report as_of query) done result is performs = yes-reports as_of query done result is performs
+  yes-performs text Status done result is performs = yes-tells done result is performs

@@ -1,8 +1,10 @@
 //! Loading the fact rows of a file.
-ghost use Rattle.std.specs.Prelude.{◌≡◌, ◌≤◌, ℕ, List, Some, None, IfOk, IfErr};
+ghost use Rattle.std.specs.Prelude.{◌≡◌, ◌≤◌, ℕ, List, Some, None, length, IfOk, IfErr};
+ghost use Rattle.ssb_reports.specs.Writing.{Writes};
 ghost use Rattle.warehouse_objects.specs.Warehouse.{Warehouse};
 ghost use Rattle.warehouse.specs.Session.{device_of, IsAt};
 ghost use Rattle.warehouse_jobs.specs.Loading.{DoesBatch, Loads, Refuses, TakesIn};
+ghost use Rattle.warehouse_jobs.specs.Printed.{count_line};
 
 use crate::job::{BatchNumber, BatchRows};
 use crate::printing::{write_batch, write_count};
@@ -57,11 +59,19 @@ fn load_lines<D: Sectors, R: Read, W: Write>(
         let number = first.saturating_add(done);
         rows = read_batch_into(alloc, lines, size, rows)?;
         if rows.is_empty() {
-            return write_count(out, session.status()?.batches);
+            return end(session, out);
         }
         load_batch(alloc, session, number, rows.as_slice(), out)?;
     }
     Err(Fault::TooManyBatches) // no load has so many steps
+}
+
+// Writes how many batches the warehouse has.
+fn end<D: Sectors, W: Write>(session: &Session<D>, out: &mut W) -> Result<(), Fault>
+    ensures { (w : Warehouse) → IsAt D.Sectors session.now w → D.keeps_word (device_of session.now)
+        → Writes (W.contents out.old) (W.contents out.new) result (count_line (length w.batches)) }
+{
+    write_count(out, session.status()?.batches)
 }
 
 // Does the batch of a number, and then writes its line.

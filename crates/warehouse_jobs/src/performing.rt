@@ -43,10 +43,25 @@ pub fn perform<D: Sectors, R: Read + Drop, W: Write>(
     if session.is_broken() {
         return Err(Fault::Failed);
     }
+    yes(do_job(alloc, session, job, lineorder, out))
+}
+
+// Does a job.
+fn do_job<D: Sectors, R: Read + Drop, W: Write>(
+    alloc: Global,
+    session: &mut Session<D>,
+    job: Job,
+    lineorder: R,
+    out: &mut W,
+) -> Result<(), Fault>
+    ensures performs { (w : Warehouse) (text : List ℕ) → IsAt D.Sectors session.old w → R.remaining lineorder ≡ Some text → D.keeps_word (device_of session.new)
+        → Performs D.Sectors w text job session.old session.new (W.contents out.old) (W.contents out.new) result }
+    ensures word { D.keeps_word (device_of session.new) → D.keeps_word (device_of session.old) }
+{
     match job {
-        Job::Load { first, rows } => yes(load(alloc, session, first, rows, lineorder, out)),
-        Job::Report { as_of, query } => yes(report(alloc, session, as_of, &query, out)),
-        Job::Status => yes(tell(session, out)),
+        Job::Load { first, rows } => load(alloc, session, first, rows, lineorder, out),
+        Job::Report { as_of, query } => report(alloc, session, as_of, &query, out),
+        Job::Status => tell(session, out),
     }
 }
 

@@ -16,7 +16,7 @@ returns-then-not-has_room_for_cells c =
     let column = c.index-columns-place.result in (
       λ t. absurd (cc t),
       λ all.
-          let here = subst (λ (other : Vec Tally Global). HasRoomForAll (get_or c.args.aggs.now i Count) cells group_slots other.items) (sym c.index-columns-place.is) (all.columns_have i c.loop-place-test.true Count column) in
+          let here = subst (λ (other : Vec Tally Global). HasRoomForAll (get_or c.args.aggs.now i Count) cells group_slots other.items) (sym c.index-columns-place.is) (all i c.loop-place-test.true Count column) in
           let room = subst (λ items. HasRoomForAll (get_or c.args.aggs.now i Count) cells group_slots items) (sym c.as_slice.ensures.value) here in
           let yes = c.has_room_for_cells.ensures.1 room in
           absurd (cc (yes, c.if-not-has_room_for_cells.true)),
@@ -40,6 +40,6 @@ loop-place-preserved c =
 
 pub returns : goal.returns
 returns c = (
-  λ t. record { few = omega (arith, c.in-Some.ensures.0, c.in-Some.ensures.1); columns_have = λ k h agg column. c.loop-place.invariant k (omega (arith, h, c.loop-place-test.false)) agg column },
+  λ t k h agg column. c.loop-place.invariant k (omega (arith, h, c.loop-place-test.false)) agg column,
   λ all. search rules,
 )

@@ -3,7 +3,6 @@ use Rattle.std.specs.Option.{option_map}
 use Rattle.cuboid_upkeep.specs.Codes.{modes_of}
 use Rattle.cuboid_upkeep.specs.Tables.{IsModeEntry}
 use Rattle.std.proofs.Common.{subst}
-use Rattle.dictionary.specs.Columns.{text_at}
 use Rattle.cuboid_upkeep.proofs.Modes.{all_entries, one_entry_more}
 use Rattle.cuboid_upkeep.proofs.key_tables.mode_entries.Goals as goal
 

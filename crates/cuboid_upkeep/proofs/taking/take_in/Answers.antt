@@ -1,4 +1,4 @@
-use Rattle.std.proofs.Common.{◌≡◌, ◌⊎◌, ◌∙◌, ap, inr, refl, subst, ℕ, List}
+use Rattle.std.proofs.Common.{◌≡◌, ◌⊎◌, inr, refl, subst, ℕ, List}
 use Rattle.cube_model.specs.declared.fault.Fault.{Fault}
 use Rattle.cuboid_cells.specs.declared.cell.Cell.{Cell}
 use Rattle.cuboid_upkeep.specs.Steps.{AreKeyed, HasKeyAt, MergesAt, Overflows, OverflowsAt, TakesIn}

@@ -5,7 +5,7 @@ use Rattle.cube_model.specs.declared.fault.Fault.{Fault}
 use Rattle.cuboid_cells.specs.Cells.{PlainCells}
 use Rattle.cuboid_upkeep.specs.Codes.{modes_of}
 use Rattle.cuboid_upkeep.specs.Grouping.{StandFor}
-use Rattle.cuboid_upkeep.specs.Steps.{AreGrouped, AreUnfit}
+use Rattle.cuboid_upkeep.specs.Steps.{AreUnfit}
 use Rattle.cuboid_upkeep.specs.Tables.{modes_in}
 use Rattle.cuboid_upkeep.proofs.Sorted.{they_are_proper, they_stand}
 use Rattle.cuboid_upkeep.proofs.upkeep.cells_of.Goals as goal

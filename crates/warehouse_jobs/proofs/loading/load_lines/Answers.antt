@@ -1,4 +1,4 @@
-use Rattle.std.proofs.Common.{◌≡◌, ◌+◌, ◌≤◌, [], ◌∷◌, ◌++◌, length, true, false, refl, sym, ap, ◌∙◌, Err, rules, arith}
+use Rattle.std.proofs.Common.{◌≡◌, ◌+◌, ◌≤◌, [], ◌∷◌, ◌++◌, length, refl, ap, ◌∙◌, rules, arith}
 use Rattle.std.proofs.lemmas.List.{length_push}
 use Rattle.std.proofs.lemmas.Result.{err_from_is_err_and}
 use Rattle.warehouse_jobs.specs.Loading.{with_batch, with_batches}
@@ -24,19 +24,13 @@ returns-in_err-rows-clause-loads g c w text at left k =
     loads-unread g.D.Sectors w c.args.first c.args.size text c.args.session.now c.loop-done.session (g.W.Write.contents c.args.out.now) (g.W.Write.contents c.loop-done.out) c.loop-done.lines th.0 th.2 _ _
     c.requires.some (c.in_err-rows.ensures.refused c.loop-done.invariant.fault) (err_from_is_err_and _ c.from_residual.ensures.1)
 
-pub returns-in_err-status-clause-loads : goal.returns-in_err-status-clause-loads
-returns-in_err-status-clause-loads g c w text at left k =
-    let th = c.loop-done.invariant.through w text at left k in
-    let bad : true ≡ false = sym (c.in_err-status.ensures.failed.0 (ap (λ f. Err f) c.in_err-status.ensures.only)) ∙ th.2.at.fine in
-    absurd (cc)
-
 pub returns-then-is_empty-clause-loads : goal.returns-then-is_empty-clause-loads
 returns-then-is_empty-clause-loads g c w text at left k =
     let th = c.loop-done.invariant.through w text at left k in
     let none : length c.in_ok-rows.rows ≡ 0 = search rules in
     loads-closed g.D.Sectors w c.args.first c.args.size text c.args.session.now c.loop-done.session (g.W.Write.contents c.args.out.now) (g.W.Write.contents c.loop-done.out) c.loop-done.lines th.0 th.2
-    (g.W.Write.contents c.write_count.new.out) c.read_batch_into.new.lines c.in_ok-rows.rows c.in_ok-status.field-0.batches _ c.requires.some none c.in_ok-rows.ensures.taken
-    (c.in_ok-status.ensures.ok (with_batches w c.args.first th.0) th.2.at k).batches c.write_count.ensures
+    (g.W.Write.contents c.end.new.out) c.read_batch_into.new.lines c.in_ok-rows.rows _ _ c.requires.some none c.in_ok-rows.ensures.taken
+    refl (c.end.ensures (with_batches w c.args.first th.0) th.2.at k)
 
 pub returns-in_err-load_batch-clause-loads : goal.returns-in_err-load_batch-clause-loads
 returns-in_err-load_batch-clause-loads g c w text at left k =

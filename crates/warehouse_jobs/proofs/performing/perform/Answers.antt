@@ -1,17 +1,7 @@
-use Rattle.warehouse_jobs.proofs.Performed.{yes-loads, yes-reports, yes-tells}
+use Rattle.warehouse_jobs.proofs.Performed.{yes-performs}
 use Rattle.warehouse_jobs.proofs.performing.perform.Goals as goal
 
-pub returns-in-Load-clause-performs : goal.returns-in-Load-clause-performs
-returns-in-Load-clause-performs g c w text at left k =
-    rw c.in-Load.is (yes-loads g.D.Sectors w c.args.session.now c.load.new.session (g.W.Write.contents c.args.out.now) (g.W.Write.contents c.load.new.out) c.in-Load.first c.in-Load.rows text c.load.result c.yes.result
-    c.yes.ensures (c.load.ensures.loads w text at left k))
-
-pub returns-in-Report-clause-performs : goal.returns-in-Report-clause-performs
-returns-in-Report-clause-performs g c w text at left k =
-    rw c.in-Report.is (yes-reports g.D.Sectors w c.args.session.now c.report.new.session (g.W.Write.contents c.args.out.now) (g.W.Write.contents c.report.new.out) c.in-Report.as_of c.in-Report.query c.report.result c.yes-in-Report.result
-    c.yes-in-Report.ensures (c.report.ensures.reports w at k))
-
-pub returns-in-Status-clause-performs : goal.returns-in-Status-clause-performs
-returns-in-Status-clause-performs g c w text at left k =
-    rw c.in-Status.is (yes-tells g.D.Sectors w c.args.session.now c.args.session.now (g.W.Write.contents c.args.out.now) (g.W.Write.contents c.tell.new.out) c.tell.result c.yes-in-Status.result
-    c.yes-in-Status.ensures (c.tell.ensures w at k))
+pub returns-clause-performs : goal.returns-clause-performs
+returns-clause-performs g c w text at left k =
+    yes-performs g.D.Sectors w c.args.session.now c.do_job.new.session (g.W.Write.contents c.args.out.now) (g.W.Write.contents c.do_job.new.out) text c.args.job c.do_job.result c.yes.result c.yes.ensures
+    (c.do_job.ensures.performs w text at left k)
