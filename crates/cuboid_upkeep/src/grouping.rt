@@ -34,7 +34,7 @@ pub(crate) fn group_rows<F: ModeRows>(
     let mut guesses = Guesses::new(alloc);
     for place in 0..rows.count() {
         let cell = row_cell(dims, view, tables, rows, place)?;
-        take_in(&mut numbers, &mut cells, &mut guesses, cell)?;
+        take_in(&mut numbers, &mut cells, &mut guesses, &cell)?;
     }
     Ok(cells)
 }

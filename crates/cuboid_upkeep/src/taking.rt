@@ -15,13 +15,13 @@ pub(crate) fn take_in(
     numbers: &mut IndexSet<u128>,
     cells: &mut Vec<Cell>,
     guesses: &mut Guesses,
-    cell: Cell,
+    cell: &Cell,
 ) -> Result<(), Fault>
     requires { AreKeyed numbers.old.keys cells.old.items }
     ensures keyed { OnOk result (AreKeyed numbers.new.keys cells.new.items) }
-    ensures ok { OnOk result (TakesIn cells.old.items cell cells.new.items) }
+    ensures ok { OnOk result (TakesIn cells.old.items cell.now cells.new.items) }
     ensures refused { IfErr result (λ fault. (fault ≡ Fault.Memory)
-        ⊎ ((fault ≡ Fault.BadLayout) × Overflows cells.old.items cell)) }
+        ⊎ ((fault ≡ Fault.BadLayout) × Overflows cells.old.items cell.now)) }
 {
     let guess = guesses.guess(cell.key);
     if has_key(cells, guess, cell.key) {
@@ -35,20 +35,20 @@ fn find_and_take_in(
     numbers: &mut IndexSet<u128>,
     cells: &mut Vec<Cell>,
     guesses: &mut Guesses,
-    cell: Cell,
+    cell: &Cell,
 ) -> Result<(), Fault>
     requires { AreKeyed numbers.old.keys cells.old.items }
     ensures keyed { OnOk result (AreKeyed numbers.new.keys cells.new.items) }
-    ensures ok { OnOk result (TakesIn cells.old.items cell cells.new.items) }
+    ensures ok { OnOk result (TakesIn cells.old.items cell.now cells.new.items) }
     ensures refused { IfErr result (λ fault. (fault ≡ Fault.Memory)
-        ⊎ ((fault ≡ Fault.BadLayout) × Overflows cells.old.items cell)) }
+        ⊎ ((fault ≡ Fault.BadLayout) × Overflows cells.old.items cell.now)) }
 {
     let Ok((place, _)) = numbers.insert_full(cell.key.number()) else {
         return Err(Fault::Memory);
     };
     guesses.keep(cell.key, place);
     if place >= cells.len() {
-        cells.push(cell)?;
+        cells.push(*cell)?;
         return Ok(());
     }
     merge_at(cells, place, cell)
@@ -64,12 +64,12 @@ fn has_key(cells: &[Cell], place: usize, key: Key) -> bool
 
 // Merges a cell into the one at a place. `BadLayout` where a number would pass its type.
 #[inline]
-fn merge_at(cells: &mut Vec<Cell>, place: usize, cell: Cell) -> Result<(), Fault>
+fn merge_at(cells: &mut Vec<Cell>, place: usize, cell: &Cell) -> Result<(), Fault>
     requires { place < length cells.old.items }
-    ensures ok { OnOk result (MergesAt cells.old.items place cell cells.new.items) }
-    ensures refused { IfErr result (λ fault. (fault ≡ Fault.BadLayout) × OverflowsAt cells.old.items place cell) }
+    ensures ok { OnOk result (MergesAt cells.old.items place cell.now cells.new.items) }
+    ensures refused { IfErr result (λ fault. (fault ≡ Fault.BadLayout) × OverflowsAt cells.old.items place cell.now) }
 {
-    let Some(both) = cells[place].merge(cell) else {
+    let Some(both) = cells[place].merge(*cell) else {
         return Err(Fault::BadLayout);
     };
     cells[place] = both;
