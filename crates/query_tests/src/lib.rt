@@ -10,6 +10,10 @@ mod by_cells;
 #[cfg(test)]
 mod cases;
 #[cfg(test)]
+mod cells_at_limits;
+#[cfg(test)]
+mod cells_by_hand;
+#[cfg(test)]
 mod examples;
 #[cfg(test)]
 mod groupings;
@@ -37,3 +41,5 @@ mod tables;
 mod tests;
 #[cfg(test)]
 mod two_batches;
+#[cfg(test)]
+mod written_cells;
