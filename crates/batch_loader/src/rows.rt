@@ -1,9 +1,12 @@
 //! How a line becomes a row.
 ghost use Rattle.std.specs.Prelude.{◌≡◌, ◌⊎◌, ◌≤◌, Ok, Err, MatchResult, IfOk, IfErr, length};
 ghost use Rattle.batch_loader.specs.Columns.{row_of};
+ghost use Rattle.batch_loader.specs.LineFields.{texts_of};
+ghost use Rattle.batch_loader.specs.Parsing.{AreNumbers};
+ghost use Rattle.batch_loader.specs.Tables.{lineorder_columns, lineorder_of_fields};
 
 use crate::columns::{CUSTOMER, DATE, LINEORDER, PART, SUPPLIER, numbers_of};
-use crate::line_fields::fields;
+use crate::line_fields::{LineFields, fields};
 use cube_model::{
     Amount, CustomerRow, DateRow, Fault, Items, LineOrder, PartRow, RowText, SupplierRow, Text,
 };
@@ -125,28 +128,42 @@ impl TableRow for LineOrder {
     fn read(alloc: Global, line: &[u8], number: u64) -> Result<Self, Fault> {
         let fields = fields::<17>(line, number)?;
         let numbers = numbers_of(&LINEORDER, &fields, number)?;
-        let (orderpriority, shippriority) = row_texts(alloc, fields.get(6), fields.get(7))?;
-        let (commitdate, shipmode) = row_texts(alloc, fields.get(15), fields.get(16))?;
-        Ok(LineOrder {
-            orderkey: Amount::new(numbers[0]),
-            linenumber: numbers[1] as u32,
-            custkey: numbers[2] as u32,
-            partkey: numbers[3] as u32,
-            suppkey: numbers[4] as u32,
-            orderdate: numbers[5] as u32,
-            orderpriority,
-            shippriority,
-            quantity: numbers[8] as u8,
-            extendedprice: Amount::new(numbers[9]),
-            ordtotalprice: Amount::new(numbers[10]),
-            discount: numbers[11] as u8,
-            revenue: Amount::new(numbers[12]),
-            supplycost: Amount::new(numbers[13]),
-            tax: numbers[14] as u8,
-            commitdate,
-            shipmode,
-        })
+        line_order(alloc, &fields, &numbers)
     }
+}
+
+// The fact row of a line's fields, whose numbers were read. It can only fail for want of memory.
+#[inline]
+fn line_order(
+    alloc: Global,
+    fields: &LineFields<'_, 17>,
+    numbers: &[u64; 17],
+) -> Result<LineOrder, Fault>
+    requires { AreNumbers 0 lineorder_columns (texts_of fields.now) numbers.now }
+    ensures ok { IfOk result (λ row. row ≡ lineorder_of_fields (texts_of fields.now)) }
+    ensures err { IfErr result (λ fault. fault ≡ Fault.Memory) }
+{
+    let (orderpriority, shippriority) = row_texts(alloc, fields.get(6), fields.get(7))?;
+    let (commitdate, shipmode) = row_texts(alloc, fields.get(15), fields.get(16))?;
+    Ok(LineOrder {
+        orderkey: Amount::new(numbers[0]),
+        linenumber: numbers[1] as u32,
+        custkey: numbers[2] as u32,
+        partkey: numbers[3] as u32,
+        suppkey: numbers[4] as u32,
+        orderdate: numbers[5] as u32,
+        orderpriority,
+        shippriority,
+        quantity: numbers[8] as u8,
+        extendedprice: Amount::new(numbers[9]),
+        ordtotalprice: Amount::new(numbers[10]),
+        discount: numbers[11] as u8,
+        revenue: Amount::new(numbers[12]),
+        supplycost: Amount::new(numbers[13]),
+        tax: numbers[14] as u8,
+        commitdate,
+        shipmode,
+    })
 }
 
 /// A copy of a field as a text of its own.
