@@ -1,6 +1,6 @@
 //! A cell.
-ghost use Rattle.std.specs.Prelude.{◌≡◌, ◌↔◌, IfNone, IfSome, IsTrue};
-ghost use Rattle.cuboid_cells.specs.Cells.{CellFits, IsCellOf};
+ghost use Rattle.std.specs.Prelude.{◌≡◌, ◌↔◌, false, IsTrue};
+ghost use Rattle.cuboid_cells.specs.Cells.{CellFits, IsCellOf, KeyFits};
 ghost use Rattle.cuboid_cells.specs.Merges.{merged};
 
 use crate::key::Key;
@@ -17,18 +17,19 @@ pub struct Cell {
 }
 
 impl Cell {
-    /// Two cells of one key as one. `None` where a number would pass its type.
+    /// Takes in the cell of other rows, of its own key. False where a number would pass its type; what it is then is not said.
     #[inline]
-    pub fn merge(self, other: Cell) -> Option<Cell>
-        ensures some { IfSome result (λ cell. cell ≡ merged self other) }
-        ensures fits { IfSome result CellFits }
-        ensures none { IfNone result (CellFits (merged self other) → ⊥) }
+    pub fn merge_in(&mut self, other: &Cell) -> bool
+        ensures ok { IsTrue result → self.new ≡ merged self.old other.now }
+        ensures fits { IsTrue result → CellFits self.new }
+        ensures refused { result ≡ false → CellFits (merged self.old other.now) → ⊥ }
     {
-        Some(Cell {
-            key: self.key,
-            count: self.count.checked_add(other.count)?,
-            measures: self.measures.merge(other.measures)?,
-        })
+        key_fits(self.key);
+        let Some(count) = self.count.checked_add(other.count) else {
+            return false;
+        };
+        self.count = count;
+        self.measures.merge_in(&other.measures)
     }
 
     // Whether it keeps the rules of a cell of a view.
@@ -38,3 +39,9 @@ impl Cell {
         self.key.is_of(view) && self.count >= 1
     }
 }
+
+// The codes of a key fit their fields, as its type says.
+#[inline]
+fn key_fits(_key: Key)
+    ensures { KeyFits _key }
+{}

@@ -78,14 +78,15 @@ fn next_step<'a>(one: &'a [Cell], other: &'a [Cell]) -> Result<Option<Step<'a>>,
             other: other_left,
         }));
     }
-    match left.merge(*right) {
-        None => Err(Fault::BadLayout),
-        Some(cell) => Ok(Some(Step {
-            cell,
-            one: one_left,
-            other: other_left,
-        })),
+    let mut cell = *left;
+    if !cell.merge_in(right) {
+        return Err(Fault::BadLayout);
     }
+    Ok(Some(Step {
+        cell,
+        one: one_left,
+        other: other_left,
+    }))
 }
 
 // The step where the first list is empty.

@@ -1,5 +1,5 @@
 //! What a cell keeps of the measures of its rows.
-ghost use Rattle.std.specs.Prelude.{◌≡◌, IfNone, IfSome};
+ghost use Rattle.std.specs.Prelude.{◌≡◌, false, IsTrue};
 ghost use Rattle.cuboid_cells.specs.Cells.{SummariesFit, SummaryFits};
 ghost use Rattle.cuboid_cells.specs.Merges.{merged_summaries, merged_summary};
 
@@ -12,18 +12,20 @@ pub struct Summary {
 }
 
 impl Summary {
-    /// Two of them as one. `None` where the sum would pass its type.
+    /// Takes in what is kept of other rows. False where the sum would pass its type; what it is then is not said.
     #[inline]
-    pub fn merge(self, other: Summary) -> Option<Summary>
-        ensures some { IfSome result (λ summary. summary ≡ merged_summary self other) }
-        ensures fits { IfSome result SummaryFits }
-        ensures none { IfNone result (SummaryFits (merged_summary self other) → ⊥) }
+    pub fn merge_in(&mut self, other: &Summary) -> bool
+        ensures ok { IsTrue result → self.new ≡ merged_summary self.old other.now }
+        ensures fits { IsTrue result → SummaryFits self.new }
+        ensures refused { result ≡ false → SummaryFits (merged_summary self.old other.now) → ⊥ }
     {
-        Some(Summary {
-            sum: self.sum.checked_add(other.sum)?,
-            least: self.least.min(other.least),
-            greatest: self.greatest.max(other.greatest),
-        })
+        let Some(sum) = self.sum.checked_add(other.sum) else {
+            return false;
+        };
+        self.sum = sum;
+        self.least = self.least.min(other.least);
+        self.greatest = self.greatest.max(other.greatest);
+        true
     }
 }
 
@@ -41,47 +43,18 @@ pub struct Summaries {
 }
 
 impl Summaries {
-    /// Those of two sets of rows as those of both. `None` where a sum would pass its type.
+    /// Takes in those of other rows. False where a sum would pass its type; what they are then is not said.
     #[inline]
-    pub fn merge(self, other: Summaries) -> Option<Summaries>
-        ensures some { IfSome result (λ measures. measures ≡ merged_summaries self other) }
-        ensures fit { IfSome result SummariesFit }
-        ensures none { IfNone result (SummariesFit (merged_summaries self other) → ⊥) }
+    pub fn merge_in(&mut self, other: &Summaries) -> bool
+        ensures ok { IsTrue result → self.new ≡ merged_summaries self.old other.now }
+        ensures fit { IsTrue result → SummariesFit self.new }
+        ensures refused { result ≡ false → SummariesFit (merged_summaries self.old other.now) → ⊥ }
     {
-        let (quantity, extendedprice, revenue) = merge_three(
-            (self.quantity, self.extendedprice, self.revenue),
-            (other.quantity, other.extendedprice, other.revenue),
-        )?;
-        let (supplycost, discounted, profit) = merge_three(
-            (self.supplycost, self.discounted, self.profit),
-            (other.supplycost, other.discounted, other.profit),
-        )?;
-        Some(Summaries {
-            quantity,
-            extendedprice,
-            revenue,
-            supplycost,
-            discounted,
-            profit,
-        })
+        self.quantity.merge_in(&other.quantity)
+            && self.extendedprice.merge_in(&other.extendedprice)
+            && self.revenue.merge_in(&other.revenue)
+            && self.supplycost.merge_in(&other.supplycost)
+            && self.discounted.merge_in(&other.discounted)
+            && self.profit.merge_in(&other.profit)
     }
-}
-
-// Three of them, each with one of three others. `None` where a sum would pass its type.
-#[inline]
-fn merge_three(
-    ones: (Summary, Summary, Summary),
-    others: (Summary, Summary, Summary),
-) -> Option<(Summary, Summary, Summary)>
-    ensures some { IfSome result (λ three. (three.0 ≡ merged_summary ones.0 others.0)
-        × (three.1 ≡ merged_summary ones.1 others.1) × (three.2 ≡ merged_summary ones.2 others.2)) }
-    ensures fits { IfSome result (λ three. SummaryFits three.0 × SummaryFits three.1 × SummaryFits three.2) }
-    ensures none { IfNone result (SummaryFits (merged_summary ones.0 others.0)
-        → SummaryFits (merged_summary ones.1 others.1) → SummaryFits (merged_summary ones.2 others.2) → ⊥) }
-{
-    Some((
-        ones.0.merge(others.0)?,
-        ones.1.merge(others.1)?,
-        ones.2.merge(others.2)?,
-    ))
 }

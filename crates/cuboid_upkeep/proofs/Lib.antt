@@ -13,3 +13,4 @@ mod Keyed
 mod Leading
 mod Modes
 mod Taken
+mod RowKeys

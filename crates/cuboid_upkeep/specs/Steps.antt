@@ -5,19 +5,32 @@ use Rattle.cube_model.specs.declared.fault.Fault.{Fault}
 use Rattle.cube_model.specs.declared.fault.Fault.TheVariants.{BadLayout, Memory, TooManyCells}
 use Rattle.cube_model.specs.declared.rows.DimRows.{DimRows}
 use Rattle.cube_model.specs.declared.rows.LineOrder.{LineOrder}
+use Rattle.group_plan.specs.Rows.{row_at}
 use Rattle.lattice.specs.declared.view.View.{View}
 use Rattle.lattice.specs.Views.{index_of}
 use Rattle.cuboid_cells.specs.declared.cell.Cell.{Cell}
 use Rattle.cuboid_cells.specs.declared.key.Key.{Key}
-use Rattle.cuboid_cells.specs.Cells.{CellFits, IsCellOf, cell_at, number_of}
+use Rattle.cuboid_cells.specs.Cells.{CellFits, IsCellOf, IsKeyOf, KeyFits, cell_at, number_of}
 use Rattle.cuboid_cells.specs.Limits.{most_cells}
 use Rattle.cuboid_cells.specs.Merges.{merged, merged_if_any}
-use Rattle.cuboid_upkeep.specs.Grouping.{Group, HasMembers, NumbersFit, PassType, StandFor, cell_over}
+use Rattle.cuboid_upkeep.specs.Grouping.{Group, HasMembers, NumbersFit, PassType, StandFor, cell_over, key_of}
 
 -- a cell of a view whose numbers fit their fields
 pub record IsGood (view : View) (cell : Cell) : Type 0 where
   pub is_cell : IsCellOf view cell
   pub fits : CellFits cell
+
+-- the key of a fact row, which has its members
+pub record IsRowKey (dimensions : DimRows) (modes : List (List ℕ)) (view : View) (row : LineOrder) (key : Key) : Type 0 where
+  pub is : key ≡ key_of dimensions modes view row
+  pub of : IsKeyOf view key
+  pub fits : KeyFits key
+  pub members : HasMembers dimensions modes view row
+
+-- the keys of the first of some fact rows, so many
+pub record AreRowKeys (dimensions : DimRows) (modes : List (List ℕ)) (view : View) (rows : List LineOrder) (count : ℕ) (keys : List Key) : Type 0 where
+  pub many : length keys ≡ count
+  pub each : (place : ℕ) → place < count → (key : Key) → key ≡ slice_index_or keys place key → IsRowKey dimensions modes view (row_at rows place) key
 
 -- the cell of one fact row, which has its members
 pub record IsCellOfRow (dimensions : DimRows) (modes : List (List ℕ)) (view : View) (row : LineOrder) (cell : Cell) : Type 0 where

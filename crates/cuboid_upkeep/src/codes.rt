@@ -1,20 +1,24 @@
 //! The codes of members.
 ghost use Rattle.std.specs.Prelude.{◌≡◌, ◌↔◌, ◌<◌, ◌≤◌, ℕ, Some, IfNone, IfSome, IsTrue, length};
-ghost use Rattle.cube_model.specs.Places.{row_count_of, row_index_of};
+ghost use Rattle.cube_model.specs.Places.{row_count_of};
 ghost use Rattle.dimensions.specs.Coded.{AreGoodRows};
 ghost use Rattle.dimensions.specs.Columns.{code_at};
 ghost use Rattle.dimensions.specs.Shapes.{lowers_of};
 ghost use Rattle.dimensions.specs.Shown.{rows_on};
 ghost use Rattle.dimensions.specs.TextRows.{column_of};
+ghost use Rattle.group_plan.specs.Numbers.{IsKnownOn};
+ghost use Rattle.group_plan.specs.Rows.{row_at};
 ghost use Rattle.lattice.specs.declared.level.Level.TheVariants as level;
 ghost use Rattle.lattice.specs.Levels.{level_attribute};
 ghost use Rattle.cuboid_cells.specs.Cells.{IsCodeAt};
 ghost use Rattle.cuboid_cells.specs.Limits.{all_code};
 ghost use Rattle.cuboid_upkeep.specs.Codes.{level_column, member_code};
+ghost use Rattle.cuboid_upkeep.specs.Grouping.{code_on};
 
 use cube_model::{Axis, valid_rows_keep_the_rules};
 use cuboid_cells::limits::ALL_CODE;
 use dimensions::{Dims, lower_column};
+use group_plan::FactRows;
 use lattice::Level;
 
 // Where the codes of the members of a level stand.
@@ -80,25 +84,33 @@ impl<'a> LevelCodes<'a> {
         }
     }
 
-    // The code of the member that a key has. Nothing where the level has members and no row has the key.
+    // The code of the member that the row at a place has. Nothing where the level has members and the row's key has none.
     #[inline]
-    pub(crate) fn code(self, dims: &Dims, axis: Axis, grouped: Level, key: u32) -> Option<u16>
+    pub(crate) fn code<F: FactRows>(
+        self,
+        dims: &Dims,
+        axis: Axis,
+        grouped: Level,
+        rows: &F,
+        place: usize,
+    ) -> Option<u16>
         requires codes { AreCodesOf dims.now axis grouped self }
-        ensures some { IfSome result (λ code. code ≡ member_code dims.now axis grouped (row_index_of dims.now axis key)) }
+        requires place { place < length (F.rows rows.now) }
+        ensures some { IfSome result (λ code. code ≡ code_on dims.now axis grouped (row_at (F.rows rows.now) place)) }
         ensures apart { IfSome result (IsCodeAt grouped) }
         ensures known { IfSome result (λ code. (grouped ≡ level.All → ⊥)
-            → row_index_of dims.now axis key < row_count_of dims.now axis) }
+            → IsKnownOn dims.now (row_at (F.rows rows.now) place) axis) }
         ensures none { IfNone result ((grouped ≡ level.All → ⊥)
-            × (row_count_of dims.now axis ≤ row_index_of dims.now axis key)) }
+            × (IsKnownOn dims.now (row_at (F.rows rows.now) place) axis → ⊥)) }
     {
         if is_all(grouped) {
             return Some(ALL_CODE);
         }
-        let place = dims.row_index(axis, key);
-        if place >= dims.row_count(axis) {
+        let own = dims.row_index(axis, rows.key(place, axis));
+        if own >= dims.row_count(axis) {
             return None;
         }
-        Some(self.read(place))
+        Some(self.read(own))
     }
 }
 

@@ -7,11 +7,12 @@ ghost use Rattle.cuboid_upkeep.specs.Tables.{AreTablesOf, modes_in};
 use crate::guesses::Guesses;
 use crate::key_tables::KeyTables;
 use crate::row_cell::row_cell;
+use crate::row_keys::row_keys;
 use crate::taking::take_in;
 use cube_model::Fault;
 use cuboid_cells::Cell;
 use dimensions::Dims;
-use group_plan::{FactRows, ModeRows};
+use group_plan::ModeRows;
 use indexmap::IndexSet;
 use lattice::View;
 use std::alloc::Global;
@@ -29,11 +30,12 @@ pub(crate) fn group_rows<F: ModeRows>(
     ensures refused { IfErr result (λ fault. (fault ≡ Fault.Memory)
         ⊎ ((fault ≡ Fault.BadLayout) × AreUnfit dims.now (modes_in tables.now) view (F.rows rows.now))) }
 {
+    let keys = row_keys(alloc, dims, view, tables, rows)?;
     let mut numbers = IndexSet::new(alloc);
     let mut cells = Vec::new(alloc);
     let mut guesses = Guesses::new(alloc);
     for place in 0..rows.count() {
-        let cell = row_cell(dims, view, tables, rows, place)?;
+        let cell = row_cell(keys[place], rows, place)?;
         take_in(&mut numbers, &mut cells, &mut guesses, &cell)?;
     }
     Ok(cells)

@@ -8,6 +8,7 @@ mod key_tables;
 mod laws;
 mod member_keys;
 mod row_cell;
+mod row_keys;
 mod stand_ins;
 mod taking;
 mod upkeep;

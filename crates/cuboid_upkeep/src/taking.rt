@@ -69,9 +69,8 @@ fn merge_at(cells: &mut Vec<Cell>, place: usize, cell: &Cell) -> Result<(), Faul
     ensures ok { OnOk result (MergesAt cells.old.items place cell.now cells.new.items) }
     ensures refused { IfErr result (λ fault. (fault ≡ Fault.BadLayout) × OverflowsAt cells.old.items place cell.now) }
 {
-    let Some(both) = cells[place].merge(*cell) else {
+    if !cells[place].merge_in(cell) {
         return Err(Fault::BadLayout);
-    };
-    cells[place] = both;
+    }
     Ok(())
 }

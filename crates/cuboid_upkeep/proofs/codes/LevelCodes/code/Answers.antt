@@ -6,20 +6,20 @@ use Rattle.cuboid_upkeep.proofs.Coded.{not_all}
 use Rattle.cuboid_upkeep.proofs.codes.LevelCodes.code.Goals as goal
 
 pub read-requires : goal.read-requires
-read-requires c =
-    let place : ℕ = c.row_index-place.result in
+read-requires g c =
+    let own : ℕ = c.row_index-own.result in
     let apart = λ (is : c.args.grouped ≡ level.All). absurd (cc (c.is_all.ensures.1 is, c.if-is_all.false)) in
-    let within : place < row_count_of c.args.dims.now c.args.axis = omega (arith, c.if-place-row_count.false, c.row_count.ensures.count) in
+    let within : own < row_count_of c.args.dims.now c.args.axis = omega (arith, c.if-own-row_count.false, c.row_count.ensures.count) in
     let lead = c.requires.codes apart in
-    let below = lead.below place within in
-    (member_code c.args.dims.now c.args.axis c.args.grouped place, lead.leads place within, omega (arith, below))
+    let below = lead.below own within in
+    (member_code c.args.dims.now c.args.axis c.args.grouped own, lead.leads own within, omega (arith, below))
 
 pub returns-clause-apart : goal.returns-clause-apart
-returns-clause-apart c =
-    let place : ℕ = c.row_index-place.result in
+returns-clause-apart g c =
+    let own : ℕ = c.row_index-own.result in
     let apart = λ (is : c.args.grouped ≡ level.All). absurd (cc (c.is_all.ensures.1 is, c.if-is_all.false)) in
-    let within : place < row_count_of c.args.dims.now c.args.axis = omega (arith, c.if-place-row_count.false, c.row_count.ensures.count) in
+    let within : own < row_count_of c.args.dims.now c.args.axis = omega (arith, c.if-own-row_count.false, c.row_count.ensures.count) in
     let lead = c.requires.codes apart in
-    let below = lead.below place within in
-    let same = c.read.ensures (member_code c.args.dims.now c.args.axis c.args.grouped place) (lead.leads place within) in
+    let below = lead.below own within in
+    let same = c.read.ensures (member_code c.args.dims.now c.args.axis c.args.grouped own) (lead.leads own within) in
     not_all c.args.grouped c.read.result apart (omega (arith, same, below))
