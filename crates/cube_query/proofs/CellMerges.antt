@@ -1,5 +1,5 @@
 -- Cells that are merged into the tallies of a column.
-use Rattle.std.proofs.Common.{◌≡◌, ◌≢◌, ◌∙◌, sym, ap, refl, subst, ℕ, zero, suc, ◌+◌, ◌<◌, ◌≤◌, ◌^◌, pos, ◌+ℤ◌, Bool, true, false, cond, List, [], ◌∷◌, map, length, length-set, drop, get_or, Option, Some, None, arith, slice_set, get_or-set_same, get_or-set_other, below_more}
+use Rattle.std.proofs.Common.{◌≡◌, ◌≢◌, ◌∙◌, sym, ap, refl, subst, ℕ, suc, ◌+◌, ◌<◌, ◌≤◌, ◌^◌, pos, ◌+ℤ◌, Bool, true, false, cond, List, [], ◌∷◌, map, length, length-set, drop, get_or, Option, Some, None, arith, slice_set, get_or-set_same, get_or-set_other, below_more}
 use Rattle.std.specs.Prelude.{◌==◌, nat_abs, slice_get}
 use Rattle.std.specs.Int.{int_min, int_max}
 use Rattle.std.specs.List.{list_all}

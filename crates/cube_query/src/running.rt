@@ -90,10 +90,7 @@ impl Fold {
         ensures only { IfErr result (λ fault. fault ≢ Fault.BadQuery → fault ≡ Fault.Memory) }
     {
         query.check()?;
-        match begin(alloc, dims, query) {
-            Ok(fold) => Ok(fold),
-            Err(_) => Err(Fault::Memory),
-        }
+        Ok(begin(alloc, dims, query)?)
     }
 
     /// Counts fact rows in. A refusal leaves the fold as it was.
@@ -157,16 +154,10 @@ impl Fold {
         ensures only { IfErr result (λ fault. (fault ≡ Fault.Memory) ⊎ (fault ≡ Fault.BadLayout)) }
     {
         one_key_one_group(dims);
-        let rows = match stand_ins_of(self.alloc, dims, cells, modes) {
-            Ok(rows) => rows,
-            Err(fault) => return Err(fault),
-        };
+        let rows = stand_ins_of(self.alloc, dims, cells, modes)?;
         let columns = &mut self.columns;
         let slots = &mut self.slots;
-        let group_slots = match ready(self.alloc, dims, &self.plan, slots, columns, &rows) {
-            Ok(group_slots) => group_slots,
-            Err(fault) => return Err(fault),
-        };
+        let group_slots = ready(self.alloc, dims, &self.plan, slots, columns, &rows)?;
         let aggregates = self.plan.query().aggregates.as_slice();
         if !have_room_for_cells(
             columns.as_slice(),
@@ -213,25 +204,18 @@ impl Fold {
         }
         let columns = &mut self.columns;
         let slots = &mut self.slots;
-        let slot = match ready_for_one(slots, columns) {
-            Ok(slot) => slot,
-            Err(_) => return Err(Fault::Memory),
-        };
+        let slot = ready_for_one(slots, columns)?;
         let aggregates = self.plan.query().aggregates.as_slice();
-        match with_batch(
+        let merged = with_batch(
             self.alloc,
             columns.as_slice(),
             aggregates,
             slot,
             segment,
             mask,
-        ) {
-            Ok(merged) => {
-                self.columns = merged;
-                Ok(())
-            }
-            Err(fault) => Err(fault),
-        }
+        )?;
+        self.columns = merged;
+        Ok(())
     }
 
     // Counts fact rows in, wherever they stand. A refusal leaves the fold as it was.
@@ -244,10 +228,7 @@ impl Fold {
     {
         let columns = &mut self.columns;
         let slots = &mut self.slots;
-        let group_slots = match ready(self.alloc, dims, &self.plan, slots, columns, rows) {
-            Ok(group_slots) => group_slots,
-            Err(fault) => return Err(fault),
-        };
+        let group_slots = ready(self.alloc, dims, &self.plan, slots, columns, rows)?;
         let aggregates = self.plan.query().aggregates.as_slice();
         if !have_room(columns.as_slice(), aggregates, rows, group_slots.as_slice()) {
             return Err(Fault::BadLayout);
@@ -271,16 +252,14 @@ impl Fold {
     {
         let plan = self.plan.over(dims);
         let query = self.plan.query();
-        match answer_lines(
+        let lines = answer_lines(
             self.alloc,
             &plan,
             query,
             self.columns.as_slice(),
             &self.slots,
-        ) {
-            Ok(lines) => Ok(Answer { lines }),
-            Err(fault) => Err(fault),
-        }
+        )?;
+        Ok(Answer { lines })
     }
 }
 
@@ -323,14 +302,9 @@ fn ready<F: FactRows>(
     ensures grow { Grow (group_count dims.now (query_of plan.now).columns) (entries_of slots.old)
         (entries_of slots.new) }
 {
-    let group_slots = match group_slots_of(alloc, &plan.over(dims), slots, rows) {
-        Ok(group_slots) => group_slots,
-        Err(fault) => return Err(fault),
-    };
-    match lengthen_all(columns.as_mut_slice(), slots.len()) {
-        Ok(()) => Ok(group_slots),
-        Err(_) => Err(Fault::Memory),
-    }
+    let group_slots = group_slots_of(alloc, &plan.over(dims), slots, rows)?;
+    lengthen_all(columns.as_mut_slice(), slots.len())?;
+    Ok(group_slots)
 }
 
 // Makes all ready for the one group of a query: its slot, and a place for each slot. Nothing is counted yet.

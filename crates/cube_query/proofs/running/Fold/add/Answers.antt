@@ -1,3 +1,4 @@
+use Rattle.std.proofs.lemmas.Result.{err_from_is_err_and}
 use Rattle.cube_model.specs.declared.fault.Fault.TheVariants.{BadLayout}
 use Rattle.std.proofs.Common.{◌≡◌, ◌∙◌, Err, List, [], ◌++◌, length, sym, ap, subst, arith}
 use Rattle.std.proofs.lemmas.List.{with_items_is}
@@ -14,24 +15,26 @@ use Rattle.cube_query.proofs.Known.{known_behind}
 use Rattle.cube_query.proofs.Marking.{AreGroupSlots-length}
 use Rattle.cube_query.proofs.running.Fold.add.Goals as goal
 
-pub returns-in-Err-clause-err : goal.returns-in-Err-clause-err
-returns-in-Err-clause-err g c =
+pub returns-in_err-group_slots-clause-err : goal.returns-in_err-group_slots-clause-err
+returns-in_err-group_slots-clause-err g c =
+    let p = err_from_is_err_and c.from_residual.result c.from_residual.ensures.1 in
     let inside = c.self.inside in
     let dims = c.args.dims.now in
     let rows = g.F.FactRows.rows c.args.rows.now in
     let over = subst (λ (state : FoldState). IsOver dims state) (sym c.self.view_is) c.requires in
-    shown_ready dims inside.plan over inside.slots inside.columns.items c.self.invariant c.ready.new.slots c.ready.new.columns.items c.ready.ensures.cover c.ready.ensures.grow c.ready.ensures.same ∙ c.self.view_is
+    rw (p.1) (shown_ready dims inside.plan over inside.slots inside.columns.items c.self.invariant c.ready.new.slots c.ready.new.columns.items c.ready.ensures.cover c.ready.ensures.grow c.ready.ensures.same ∙ c.self.view_is)
 
-pub returns-in-Err-clause-refused : goal.returns-in-Err-clause-refused
-returns-in-Err-clause-refused g c =
+pub returns-in_err-group_slots-clause-refused : goal.returns-in_err-group_slots-clause-refused
+returns-in_err-group_slots-clause-refused g c =
     let inside = c.self.inside in
     let dims = c.args.dims.now in
     let rows = g.F.FactRows.rows c.args.rows.now in
     let over = subst (λ (state : FoldState). IsOver dims state) (sym c.self.view_is) c.requires in
-    λ bad can.
+    let p = err_from_is_err_and c.from_residual.result c.from_residual.ensures.1 in
+    rw (p.1, p.2) (λ bad can.
     let given = subst (λ (state : FoldState). CanTake dims state rows) (sym c.self.view_is) can in
-    let is : c.in-Err.fault ≡ BadLayout = cc bad in
-    c.in-Err.ensures.refused (ap (λ fault. Err fault) is) (known_behind dims 1 given.0 rows given.1.1.known)
+    let is : c.in_err-group_slots.field-0.0 ≡ BadLayout = cc bad in
+    c.in_err-group_slots.ensures.refused (ap (λ fault. Err fault) is) (known_behind dims 1 given.0 rows given.1.1.known))
 
 pub have_room-requires-clause-columns : goal.have_room-requires-clause-columns
 have_room-requires-clause-columns g c =
@@ -51,7 +54,7 @@ have_room-requires-clause-group_slots g c =
     let dims = c.args.dims.now in
     let rows = g.F.FactRows.rows c.args.rows.now in
     let over = subst (λ (state : FoldState). IsOver dims state) (sym c.self.view_is) c.requires in
-    ap length c.as_slice-2.ensures.value ∙ AreGroupSlots-length dims (query_of inside.plan) (entries_of c.ready.new.slots) rows c.in-Ok.group_slots.items c.in-Ok.ensures.group_slots
+    ap length c.as_slice-2.ensures.value ∙ AreGroupSlots-length dims (query_of inside.plan) (entries_of c.ready.new.slots) rows c.in_ok-group_slots.group_slots.items c.in_ok-group_slots.ensures.group_slots
 
 pub returns-then-not-have_room-clause-err : goal.returns-then-not-have_room-clause-err
 returns-then-not-have_room-clause-err g c =
@@ -68,12 +71,12 @@ returns-then-not-have_room-clause-refused g c =
     let rows = g.F.FactRows.rows c.args.rows.now in
     let over = subst (λ (state : FoldState). IsOver dims state) (sym c.self.view_is) c.requires in
     let longer = c.ready.new.columns.items in
-    let group_slots = c.in-Ok.group_slots.items in
+    let group_slots = c.in_ok-group_slots.group_slots.items in
     let aggregates : c.as_slice-aggregates.result.now ≡ (query_of inside.plan).aggregates = c.as_slice-aggregates.ensures ∙ ap (λ q. q.aggregates) c.query.ensures in
     λ bad can.
     let given = subst (λ (state : FoldState). CanTake dims state rows) (sym c.self.view_is) can in
     let room = HaveRoom-ready dims inside.plan over inside.slots inside.columns.items c.self.invariant c.ready.new.slots c.ready.new.columns.items c.ready.ensures.cover c.ready.ensures.grow c.ready.ensures.same
-    rows group_slots c.in-Ok.ensures.group_slots given.0 given.1.0 given.1.1 c.in-Ok.ensures.long in
+    rows group_slots c.in_ok-group_slots.ensures.group_slots given.0 given.1.0 given.1.1 c.in_ok-group_slots.ensures.long in
     let there = subst (λ ms. HaveRoom c.as_slice-aggregates.result.now c.as_slice.result.now rows ms) (sym c.as_slice-2.ensures.value)
     (subst (λ (columns : List (Vec Tally Global)). HaveRoom c.as_slice-aggregates.result.now columns rows group_slots) (sym c.as_slice.ensures.value)
     (subst (λ aggs. HaveRoom aggs longer rows group_slots) (sym aggregates) room)) in
@@ -98,7 +101,7 @@ count_in_all-requires-clause-group_slots g c =
     let dims = c.args.dims.now in
     let rows = g.F.FactRows.rows c.args.rows.now in
     let over = subst (λ (state : FoldState). IsOver dims state) (sym c.self.view_is) c.requires in
-    ap length c.as_slice-3.ensures.value ∙ AreGroupSlots-length dims (query_of inside.plan) (entries_of c.ready.new.slots) rows c.in-Ok.group_slots.items c.in-Ok.ensures.group_slots
+    ap length c.as_slice-3.ensures.value ∙ AreGroupSlots-length dims (query_of inside.plan) (entries_of c.ready.new.slots) rows c.in_ok-group_slots.group_slots.items c.in_ok-group_slots.ensures.group_slots
 
 pub count_in_all-requires-clause-room : goal.count_in_all-requires-clause-room
 count_in_all-requires-clause-room g c =
@@ -107,7 +110,7 @@ count_in_all-requires-clause-room g c =
     let rows = g.F.FactRows.rows c.args.rows.now in
     let over = subst (λ (state : FoldState). IsOver dims state) (sym c.self.view_is) c.requires in
     let longer = c.ready.new.columns.items in
-    let group_slots = c.in-Ok.group_slots.items in
+    let group_slots = c.in_ok-group_slots.group_slots.items in
     let aggregates : c.as_slice-aggregates.result.now ≡ (query_of inside.plan).aggregates = c.as_slice-aggregates.ensures ∙ ap (λ q. q.aggregates) c.query.ensures in
     let room = c.have_room.ensures.0 c.if-not-have_room.false in
     subst (λ ms. HaveRoom c.as_slice-aggregates.result.now c.as_mut_slice.result.now rows ms) (c.as_slice-2.ensures.value ∙ sym c.as_slice-3.ensures.value)
@@ -120,7 +123,7 @@ invariant_of-self-2 g c =
     let rows = g.F.FactRows.rows c.args.rows.now in
     let over = subst (λ (state : FoldState). IsOver dims state) (sym c.self.view_is) c.requires in
     let longer = c.ready.new.columns.items in
-    let group_slots = c.in-Ok.group_slots.items in
+    let group_slots = c.in_ok-group_slots.group_slots.items in
     let aggregates : c.as_slice-aggregates.result.now ≡ (query_of inside.plan).aggregates = c.as_slice-aggregates.ensures ∙ ap (λ q. q.aggregates) c.query.ensures in
     let new = c.count_in_all.new.columns in
     let count = subst (λ aggs. CountIn aggs rows group_slots longer new) aggregates
@@ -128,7 +131,7 @@ invariant_of-self-2 g c =
     (subst (λ ms. CountIn c.as_slice-aggregates.result.now rows ms c.as_mut_slice.result.now new) c.as_slice-3.ensures.value c.count_in_all.ensures)) in
     let len : length new ≡ c.ready.new.columns.len = c.count_in_all.auto.columns ∙ c.as_mut_slice.ensures.len in
     let kept = kept_count dims inside.plan over inside.slots inside.columns.items c.self.invariant c.ready.new.slots c.ready.new.columns.items c.ready.ensures.cover c.ready.ensures.grow c.ready.ensures.same
-    rows group_slots c.in-Ok.ensures.group_slots new count in
+    rows group_slots c.in_ok-group_slots.ensures.group_slots new count in
     subst (IsKept inside.plan c.ready.new.slots) (sym (with_items_is c.ready.new.columns new len)) kept
 
 pub returns-clause-ok : goal.returns-clause-ok
@@ -138,7 +141,7 @@ returns-clause-ok g c =
     let rows = g.F.FactRows.rows c.args.rows.now in
     let over = subst (λ (state : FoldState). IsOver dims state) (sym c.self.view_is) c.requires in
     let longer = c.ready.new.columns.items in
-    let group_slots = c.in-Ok.group_slots.items in
+    let group_slots = c.in_ok-group_slots.group_slots.items in
     let aggregates : c.as_slice-aggregates.result.now ≡ (query_of inside.plan).aggregates = c.as_slice-aggregates.ensures ∙ ap (λ q. q.aggregates) c.query.ensures in
     let new = c.count_in_all.new.columns in
     let count = subst (λ aggs. CountIn aggs rows group_slots longer new) aggregates
@@ -150,5 +153,5 @@ returns-clause-ok g c =
       stands = λ so_far stands.
           subst (λ columns. StandsFor dims (shown inside.plan c.ready.new.slots columns) (so_far ++ rows)) (sym (with_items_is c.ready.new.columns new len))
           (stands_count dims inside.plan over inside.slots inside.columns.items c.self.invariant c.ready.new.slots c.ready.new.columns.items c.ready.ensures.cover c.ready.ensures.grow c.ready.ensures.same
-          rows group_slots c.in-Ok.ensures.group_slots new count so_far (subst (λ (state : FoldState). StandsFor dims state so_far) (sym c.self.view_is) stands));
+          rows group_slots c.in_ok-group_slots.ensures.group_slots new count so_far (subst (λ (state : FoldState). StandsFor dims state so_far) (sym c.self.view_is) stands));
     }

@@ -3,6 +3,7 @@ use Rattle.std.specs.List.{AllByRecursion}
 use Rattle.std.proofs.lemmas.List.{length-map}
 use Rattle.std.specs.declared.alloc.Global.{Global}
 use Rattle.std.specs.declared.vec.Vec.{Vec}
+use Rattle.std.proofs.lemmas.Result.{err_from_is_err_and}
 use Rattle.cube_model.specs.Selection.{is_selected}
 use Rattle.cube_model.specs.declared.fault.Fault.TheVariants.{BadLayout}
 use Rattle.cube_model.specs.declared.measure.Agg.{Agg}
@@ -36,14 +37,15 @@ ready_for_one-requires c =
     let one = subst (λ (state : FoldState). has_one_group state.query ≡ true) (sym c.self.view_is) c.requires.one_group in
     place_first c.args.dims.now inside.plan over inside.slots inside.columns.items c.self.invariant one
 
-pub returns-in-Err-clause-err : goal.returns-in-Err-clause-err
-returns-in-Err-clause-err c =
+pub returns-in_err-slot-clause-err : goal.returns-in_err-slot-clause-err
+returns-in_err-slot-clause-err c =
+    let p = err_from_is_err_and c.from_residual.result c.from_residual.ensures.1 in
     let inside = c.self.inside in
     let over = subst (λ (state : FoldState). IsOver c.args.dims.now state) (sym c.self.view_is) c.requires.over in
     let one = subst (λ (state : FoldState). has_one_group state.query ≡ true) (sym c.self.view_is) c.requires.one_group in
     let found = c.ready_for_one.ensures in
-    shown_one c.args.dims.now inside.plan over inside.slots inside.columns.items c.self.invariant one c.ready_for_one.new.slots c.ready_for_one.new.columns.items found.cover found.grow found.same
-    ∙ c.self.view_is
+    rw (p.1) (shown_one c.args.dims.now inside.plan over inside.slots inside.columns.items c.self.invariant one c.ready_for_one.new.slots c.ready_for_one.new.columns.items found.cover found.grow found.same
+    ∙ c.self.view_is)
 
 pub with_batch-requires-clause-columns : goal.with_batch-requires-clause-columns
 with_batch-requires-clause-columns c =
@@ -67,12 +69,12 @@ with_batch-requires-clause-within c =
     let over = subst (λ (state : FoldState). IsOver c.args.dims.now state) (sym c.self.view_is) c.requires.over in
     let one = subst (λ (state : FoldState). has_one_group state.query ≡ true) (sym c.self.view_is) c.requires.one_group in
     let found = c.ready_for_one.ensures in
-    subst (λ (list : List (Vec Tally Global)). AllByRecursion (λ column. c.in-Ok.slot < length column.items) list) (sym c.as_slice.ensures.value)
+    subst (λ (list : List (Vec Tally Global)). AllByRecursion (λ column. c.in_ok-slot.slot < length column.items) list) (sym c.as_slice.ensures.value)
     (slot_within c.args.dims.now inside.plan over inside.slots inside.columns.items c.self.invariant one c.ready_for_one.new.slots c.ready_for_one.new.columns.items found.cover found.grow found.same
-    c.in-Ok.slot c.in-Ok.ensures.slot c.in-Ok.ensures.long)
+    c.in_ok-slot.slot c.in_ok-slot.ensures.slot c.in_ok-slot.ensures.long)
 
-pub invariant_of-self-in-Ok-with_batch : goal.invariant_of-self-in-Ok-with_batch
-invariant_of-self-in-Ok-with_batch c =
+pub invariant_of-self-2 : goal.invariant_of-self-2
+invariant_of-self-2 c =
     let inside = c.self.inside in
     let dims = c.args.dims.now in
     let rows = c.args.segment.now.rows in
@@ -81,13 +83,13 @@ invariant_of-self-in-Ok-with_batch c =
     let found = c.ready_for_one.ensures in
     let aggregates : c.as_slice-aggregates.result.now ≡ (query_of inside.plan).aggregates = c.as_slice-aggregates.ensures ∙ ap (λ q. q.aggregates) c.query.ensures in
     let marks = c.requires.mask ∙ ap (λ (state : FoldState). map (is_selected dims state.query.conditions) rows) (sym c.self.view_is) in
-    let is = λ (other : ℕ). c.in-Ok-with_batch.ensures.ok other
-    ∙ (λ i. with_rows (aggregates i) (selected c.args.mask.now rows) c.in-Ok.slot other (tallies_at (c.as_slice.ensures.value i) other)) in
+    let is = λ (other : ℕ). c.in_ok-merged.ensures.ok other
+    ∙ (λ i. with_rows (aggregates i) (selected c.args.mask.now rows) c.in_ok-slot.slot other (tallies_at (c.as_slice.ensures.value i) other)) in
     kept_batch dims inside.plan over inside.slots inside.columns.items c.self.invariant one c.ready_for_one.new.slots c.ready_for_one.new.columns.items found.cover found.grow found.same
-    c.in-Ok.slot c.in-Ok.ensures.slot c.args.mask.now rows marks c.in-Ok-with_batch.merged.items is
+    c.in_ok-slot.slot c.in_ok-slot.ensures.slot c.args.mask.now rows marks c.in_ok-merged.merged.items is
 
-pub returns-in-Ok-with_batch-clause-ok : goal.returns-in-Ok-with_batch-clause-ok
-returns-in-Ok-with_batch-clause-ok c =
+pub returns-clause-ok : goal.returns-clause-ok
+returns-clause-ok c =
     let inside = c.self.inside in
     let dims = c.args.dims.now in
     let old = c.args.self.now in
@@ -99,26 +101,29 @@ returns-in-Ok-with_batch-clause-ok c =
     let aggregates : c.as_slice-aggregates.result.now ≡ (query_of inside.plan).aggregates = c.as_slice-aggregates.ensures ∙ ap (λ q. q.aggregates) c.query.ensures in
     let marks = c.requires.mask ∙ ap (λ (state : FoldState). map (is_selected dims state.query.conditions) rows) (sym c.self.view_is) in
     let own = c.requires.mask in
-    let is = λ (other : ℕ). c.in-Ok-with_batch.ensures.ok other
-    ∙ (λ i. with_rows (aggregates i) (selected mask rows) c.in-Ok.slot other (tallies_at (c.as_slice.ensures.value i) other)) in
+    let is = λ (other : ℕ). c.in_ok-merged.ensures.ok other
+    ∙ (λ i. with_rows (aggregates i) (selected mask rows) c.in_ok-slot.slot other (tallies_at (c.as_slice.ensures.value i) other)) in
     takes_all (Ok (tt {0})) dims old (selected mask rows) rows _ (mask_keeps dims old.query.conditions mask rows own) (record {
       query = ap (λ state. state.query) c.self.view_is;
       stands = λ so_far stands.
           stands_batch dims inside.plan over inside.slots inside.columns.items c.self.invariant one c.ready_for_one.new.slots c.ready_for_one.new.columns.items found.cover found.grow found.same
-          c.in-Ok.slot c.in-Ok.ensures.slot mask rows marks c.in-Ok-with_batch.merged.items is so_far (subst (λ (state : FoldState). StandsFor dims state so_far) (sym c.self.view_is) stands);
+          c.in_ok-slot.slot c.in_ok-slot.ensures.slot mask rows marks c.in_ok-merged.merged.items is so_far (subst (λ (state : FoldState). StandsFor dims state so_far) (sym c.self.view_is) stands);
     })
 
-pub returns-in-Err-with_batch-clause-err : goal.returns-in-Err-with_batch-clause-err
-returns-in-Err-with_batch-clause-err c =
+pub returns-in_err-merged-clause-err : goal.returns-in_err-merged-clause-err
+returns-in_err-merged-clause-err c =
+    let p = err_from_is_err_and c.from_residual-in_err-merged.result c.from_residual-in_err-merged.ensures.1 in
     let inside = c.self.inside in
     let over = subst (λ (state : FoldState). IsOver c.args.dims.now state) (sym c.self.view_is) c.requires.over in
     let one = subst (λ (state : FoldState). has_one_group state.query ≡ true) (sym c.self.view_is) c.requires.one_group in
     let found = c.ready_for_one.ensures in
-    shown_one c.args.dims.now inside.plan over inside.slots inside.columns.items c.self.invariant one c.ready_for_one.new.slots c.ready_for_one.new.columns.items found.cover found.grow found.same
-    ∙ c.self.view_is
+    rw (p.1) (shown_one c.args.dims.now inside.plan over inside.slots inside.columns.items c.self.invariant one c.ready_for_one.new.slots c.ready_for_one.new.columns.items found.cover found.grow found.same
+    ∙ c.self.view_is)
 
-pub returns-in-Err-with_batch-clause-refused : goal.returns-in-Err-with_batch-clause-refused
-returns-in-Err-with_batch-clause-refused c = λ bad can.
+pub returns-in_err-merged-clause-refused : goal.returns-in_err-merged-clause-refused
+returns-in_err-merged-clause-refused c =
+    let p = err_from_is_err_and c.from_residual-in_err-merged.result c.from_residual-in_err-merged.ensures.1 in
+    rw (p.1, p.2) (λ bad can.
     let inside = c.self.inside in
     let dims = c.args.dims.now in
     let old = c.args.self.now in
@@ -134,15 +139,15 @@ returns-in-Err-with_batch-clause-refused c = λ bad can.
     let given = subst (λ (state : FoldState). CanTake dims state (selected mask rows)) (sym c.self.view_is) fewer in
     let any = some_selected mask rows (ap length own ∙ length-map rows (is_selected dims old.query.conditions)) (λ none. c.if-count-eq0.false (c.count.ensures ∙ none)) in
     let room = room_one dims inside.plan over inside.slots inside.columns.items c.self.invariant one c.ready_for_one.new.slots c.ready_for_one.new.columns.items found.cover found.grow found.same
-    c.in-Ok.slot c.in-Ok.ensures.slot mask rows marks given.0 given.1.0 given.1.1 c.in-Ok.ensures.long any in
-    let there : HaveRoomAt c.as_slice-aggregates.result.now c.as_slice.result.now c.in-Ok.slot (selected mask rows) =
-    subst (λ (aggs : List Agg). HaveRoomAt aggs c.as_slice.result.now c.in-Ok.slot (selected mask rows)) (sym aggregates)
-    (subst (λ (columns : List (Vec Tally Global)). HaveRoomAt (query_of inside.plan).aggregates columns c.in-Ok.slot (selected mask rows)) (sym c.as_slice.ensures.value) room) in
-    let is : c.in-Err-with_batch.fault ≡ BadLayout = cc bad in
-    elim c.in-Err-with_batch.ensures.refused [
+    c.in_ok-slot.slot c.in_ok-slot.ensures.slot mask rows marks given.0 given.1.0 given.1.1 c.in_ok-slot.ensures.long any in
+    let there : HaveRoomAt c.as_slice-aggregates.result.now c.as_slice.result.now c.in_ok-slot.slot (selected mask rows) =
+    subst (λ (aggs : List Agg). HaveRoomAt aggs c.as_slice.result.now c.in_ok-slot.slot (selected mask rows)) (sym aggregates)
+    (subst (λ (columns : List (Vec Tally Global)). HaveRoomAt (query_of inside.plan).aggregates columns c.in_ok-slot.slot (selected mask rows)) (sym c.as_slice.ensures.value) room) in
+    let is : c.in_err-merged.field-0.0 ≡ BadLayout = cc bad in
+    elim c.in_err-merged.ensures.refused [
       | inl memory ↦ absurd (cc (is, memory))
       | inr none ↦ none.1 there
-    ]
+    ])
 
 pub invariant_of-self : goal.invariant_of-self
 invariant_of-self c =
@@ -152,8 +157,8 @@ invariant_of-self c =
     let found = c.ready_for_one.ensures in
     kept_one c.args.dims.now inside.plan over inside.slots inside.columns.items c.self.invariant one c.ready_for_one.new.slots c.ready_for_one.new.columns.items found.cover found.grow found.same
 
-pub invariant_of-self-in-Err-with_batch : goal.invariant_of-self-in-Err-with_batch
-invariant_of-self-in-Err-with_batch c =
+pub invariant_of-self-in_err-merged : goal.invariant_of-self-in_err-merged
+invariant_of-self-in_err-merged c =
     let inside = c.self.inside in
     let over = subst (λ (state : FoldState). IsOver c.args.dims.now state) (sym c.self.view_is) c.requires.over in
     let one = subst (λ (state : FoldState). has_one_group state.query ≡ true) (sym c.self.view_is) c.requires.one_group in

@@ -1,4 +1,5 @@
 use Rattle.std.proofs.Common.{◌≡◌, ◌∙◌, Err, sym, ap, subst}
+use Rattle.std.proofs.lemmas.Result.{err_from_is_err_and}
 use Rattle.cube_model.specs.declared.fault.Fault.TheVariants.{BadLayout}
 use Rattle.cube_model.specs.Answers.{answer}
 use Rattle.cube_query.specs.FoldInvariant.{AreTallied, IsFold}
@@ -25,8 +26,8 @@ answer_lines-requires-clause-fold c =
     subst (λ (asked : Asked). IsFold asked.dimensions asked.query inside.slots c.as_slice.result.now) (sym c.over-plan.ensures)
     (subst (IsFold dims query inside.slots) (sym c.as_slice.ensures.value) fold)
 
-pub returns-in-Ok-clause-answer : goal.returns-in-Ok-clause-answer
-returns-in-Ok-clause-answer c = λ rows stands.
+pub returns-clause-answer : goal.returns-clause-answer
+returns-clause-answer c = λ rows stands.
     let dims = c.args.dims.now in
     let inside = c.self.inside in
     let query = query_of inside.plan in
@@ -34,13 +35,15 @@ returns-in-Ok-clause-answer c = λ rows stands.
     let is = subst (λ (state : FoldState). IsFoldOver dims state) (sym c.self.view_is) c.requires in
     let here = subst (λ (state : FoldState). StandsFor dims state rows) (sym c.self.view_is) stands in
     let tallied : AreTallied dims (finest query) entries inside.columns.items rows = tallied_for dims inside.plan is.1.over inside.slots inside.columns.items c.self.invariant rows here in
-    let lines : c.in-Ok.lines ≡ (answer query dims rows).lines =
-    subst (λ (asked : Asked). AreTallied asked.dimensions (finest asked.query) entries c.as_slice.result.now rows → c.in-Ok.lines ≡ (answer asked.query asked.dimensions rows).lines) c.over-plan.ensures (c.in-Ok.ensures.lines rows)
+    let lines : c.in_ok-lines.lines ≡ (answer query dims rows).lines =
+    subst (λ (asked : Asked). AreTallied asked.dimensions (finest asked.query) entries c.as_slice.result.now rows → c.in_ok-lines.lines ≡ (answer asked.query asked.dimensions rows).lines) c.over-plan.ensures (c.in_ok-lines.ensures.lines rows)
     (subst (λ columns. AreTallied dims (finest query) entries columns rows) (sym c.as_slice.ensures.value) tallied) in
     (λ i. record { lines = lines i }) ∙ ap (λ q. answer q dims rows) (ap (λ (state : FoldState). state.query) c.self.view_is)
 
-pub returns-in-Err-clause-refused : goal.returns-in-Err-clause-refused
-returns-in-Err-clause-refused c = λ bad can.
+pub returns-in_err-lines-clause-refused : goal.returns-in_err-lines-clause-refused
+returns-in_err-lines-clause-refused c =
+    let p = err_from_is_err_and c.from_residual.result c.from_residual.ensures.1 in
+    rw (p.1, p.2) (λ bad can.
     let dims = c.args.dims.now in
     let inside = c.self.inside in
     let query = query_of inside.plan in
@@ -49,8 +52,8 @@ returns-in-Err-clause-refused c = λ bad can.
     let given = subst (λ (state : FoldState). IsFoldable dims state) (sym c.self.view_is) can in
     let rows = given.0 in
     let tallied : AreTallied dims (finest query) entries inside.columns.items rows = tallied_for dims inside.plan is.1.over inside.slots inside.columns.items c.self.invariant rows given.1.0 in
-    let fault : c.in-Err.fault ≡ BadLayout = cc bad in
-    c.in-Err.ensures.refused (ap (λ f. Err f) fault) rows
+    let fault : c.in_err-lines.field-0.0 ≡ BadLayout = cc bad in
+    c.in_err-lines.ensures.refused (ap (λ f. Err f) fault) rows
     (subst (λ (asked : Asked). AreTallied asked.dimensions (finest asked.query) entries c.as_slice.result.now rows) (sym c.over-plan.ensures)
     (subst (λ columns. AreTallied dims (finest query) entries columns rows) (sym c.as_slice.ensures.value) tallied))
-    (subst (λ (asked : Asked). AreFoldable asked.dimensions rows) (sym c.over-plan.ensures) given.1.1)
+    (subst (λ (asked : Asked). AreFoldable asked.dimensions rows) (sym c.over-plan.ensures) given.1.1))
