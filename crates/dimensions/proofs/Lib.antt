@@ -6,6 +6,7 @@ pub mod CodedRules
 pub mod CodedTables
 pub mod CodedTexts
 pub mod ColumnLaws
+pub mod CountedKeys
 pub mod GoodLaws
 pub mod KeyLaws
 pub mod KeyMapLaws

@@ -4,6 +4,7 @@ ghost use Rattle.std.specs.List.{position_or_len};
 ghost use Rattle.cube_model.specs.Limits.{most_dimension_rows};
 ghost use Rattle.dimensions.specs.Coded.{AreDistinct};
 
+use crate::counted::{first_counted, place_counted};
 use crate::key_map::KeyMap;
 use cube_model::Fault;
 use std::alloc::Global;
@@ -14,17 +15,21 @@ use std::marker::Model;
 pub struct KeyIndex {
     keys: Vec<u32>,
     map: KeyMap,
+    // The first key, where it is known that they count on from it.
+    first: Option<u32>,
 }
 
 impl Model for KeyIndex {
-    ghost use Rattle.std.specs.Prelude.{◌≡◌, ◌==◌, ◌<◌, ◌^◌, ℕ, List, position, vec_len};
-    ghost use Rattle.dimensions.specs.KeyMaps.{row_index_in};
+    ghost use Rattle.std.specs.Prelude.{◌≡◌, ◌==◌, ◌<◌, ◌^◌, ℕ, List, IfSome, position, vec_len};
+    ghost use Rattle.dimensions.specs.KeyMaps.{CountOn, row_index_in};
 
     ghost Value = { List ℕ };
 
     ghost view = { λ p. p.keys.items };
 
-    ghost invariant = { λ p. (vec_len p.keys < 2 ^ 32) × ((key : ℕ) → row_index_in p.map key ≡ position (λ other. other == key) p.keys.items) };
+    ghost invariant = { λ p. (vec_len p.keys < 2 ^ 32)
+        × ((key : ℕ) → row_index_in p.map key ≡ position (λ other. other == key) p.keys.items)
+        × IfSome p.first (λ first. CountOn first p.keys.items) };
 }
 
 impl KeyIndex {
@@ -35,6 +40,7 @@ impl KeyIndex {
         KeyIndex {
             keys: Vec::new(alloc),
             map: KeyMap::new(alloc),
+            first: None,
         }
     }
 
@@ -51,7 +57,8 @@ impl KeyIndex {
                 return Ok(None);
             }
         }
-        Ok(Some(KeyIndex { keys, map }))
+        let first = first_counted(&keys);
+        Ok(Some(KeyIndex { keys, map, first }))
     }
 
     /// The keys.
@@ -73,6 +80,16 @@ impl KeyIndex {
     pub fn row_index(&self, key: u32) -> usize
         ensures { result ≡ position_or_len (λ other. other == key) self.now }
     {
+        match self.first {
+            Some(first) => place_counted(first, self.len(), key),
+            None => self.mapped_index(key),
+        }
+    }
+
+    // The same, looked up in the map.
+    fn mapped_index(&self, key: u32) -> usize
+        ensures { result ≡ position_or_len (λ other. other == key) self.now }
+    {
         match self.map.row_index(key) {
             None => self.len(),
             Some(row) => row as usize,
@@ -87,6 +104,7 @@ impl KeyIndex {
         ensures memory { IfErr result (λ fault. fault ≡ Fault.Memory) }
     {
         let row = self.keys.len() as u32;
+        self.first = None;
         self.keys.push(key)?;
         match self.map.put(key, row) {
             Ok(()) => Ok(()),
@@ -97,12 +115,14 @@ impl KeyIndex {
         }
     }
 
-    /// Reads the row indexes direct, at the key, from now on, if the keys lie close together. It can only fail for want of memory.
+    /// Tells the row indexes by the keys from now on, if these count on from the first, and reads them direct, at the key, if they
+    /// lie close together. It can only fail for want of memory.
     pub fn densify(&mut self, alloc: Global) -> Result<(), Fault>
         ensures keys { self.new ≡ self.old }
         ensures memory { IfErr result (λ fault. fault ≡ Fault.Memory) }
     {
         self.map.densify(alloc, self.keys.as_slice())?;
+        self.first = first_counted(&self.keys);
         Ok(())
     }
 }

@@ -3,6 +3,7 @@
 
 mod coded;
 mod column;
+mod counted;
 mod dimension;
 mod dims;
 mod key_index;
