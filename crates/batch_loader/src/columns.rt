@@ -57,6 +57,7 @@ pub const LINEORDER: [Column; 17] = [
 ];
 
 /// Reads the numbers of a line's fields, from left to right, and refuses the first field that does not fit its column.
+#[inline(always)]
 pub fn numbers_of<const N: usize>(
     columns: &[Column; N],
     fields: &LineFields<'_, N>,

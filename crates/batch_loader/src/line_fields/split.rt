@@ -8,6 +8,7 @@ use super::bars::{first_window, next_bar};
 use cube_model::Fault;
 
 /// The fields of a line with a number. A line spells N fields where it has N parts between its bars, or one more that is empty.
+#[inline(always)]
 pub fn fields<const N: usize>(line: &[u8], number: u64) -> Result<LineFields<'_, N>, Fault>
     ensures { MatchResult result (λ fields. fields_of N line.now ≡ Some (texts_of fields)) (λ fault. (fields_of N line.now ≡ None) × (fault ≡ Fault.FieldCount number)) }
 {
