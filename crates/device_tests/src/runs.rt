@@ -144,17 +144,17 @@ fn writes_neighbours_at_once_and_others_alone(rt: HostRuntime) -> Result<(), Fai
     Ok(())
 }
 
-// How many of the first 300 sectors are written in how many calls before the sync, and with it.
+// In how many calls all 1,000 sectors are written before the sync, and with it.
 fn fill(rt: &HostRuntime) -> Result<(u64, u64), Fail> {
     let mut order = Vec::new(rt.alloc());
-    for i in 0..300 {
+    for i in 0..1000 {
         order.push(i)?;
     }
     writes_for(rt, &order)
 }
 
 #[test]
-fn writes_a_long_run_by_128(rt: HostRuntime) -> Result<(), Fail> {
-    assert_eq!(rt; fill(&rt)?, (2, 3));
+fn writes_a_long_run_by_512(rt: HostRuntime) -> Result<(), Fail> {
+    assert_eq!(rt; fill(&rt)?, (1, 2));
     Ok(())
 }

@@ -9,8 +9,8 @@ use crate::{RawFile, Start};
 use std::alloc::Global;
 use std::io;
 
-/// How many neighbouring sectors are written at once at most: 64 KiB.
-const RUN: usize = 128;
+/// How many neighbouring sectors are written at once at most: 256 KiB.
+const RUN: usize = 512;
 
 /// Neighbouring sectors that were to be written and are not yet, or none.
 #[derive(Drop)]

@@ -18,7 +18,7 @@ use std::io;
 /// given from memory when they are asked for. It takes memory for them then; where there is none, and where the
 /// call fails, it reads one sector at a time.
 ///
-/// A sector that is written is kept in memory as long as those that follow are written behind it, up to 128 of them, and
+/// A sector that is written is kept in memory as long as those that follow are written behind it, up to 512 of them, and
 /// they are written in one call: before any other sector is written or read, and before a sync. Where that call
 /// fails, it is the later write, read or sync that fails. Where there is no memory, a sector is written at once.
 #[derive(Drop)]
