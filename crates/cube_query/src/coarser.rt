@@ -75,10 +75,8 @@ fn target_of(
         → Grow (group_count plan.now.dimensions plan.now.query.columns) first (entries_of slots.old)
         → Grow (group_count plan.now.dimensions plan.now.query.columns) first (entries_of slots.new) }
 {
-    match slots.place(plan.with_all(column, source.0)) {
-        Ok(target) => Ok(target),
-        Err(error) => Err(error),
-    }
+    let target = slots.place(plan.with_all(column, source.0))?;
+    Ok(target)
 }
 
 // The slots of the groups with ALL in a column. Those that have none are given one.

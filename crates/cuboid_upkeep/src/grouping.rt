@@ -1,7 +1,9 @@
 //! Grouping fact rows by the levels of a view.
-ghost use Rattle.std.specs.Prelude.{◌≡◌, ◌⊎◌, IfErr, IfOk};
+ghost use Rattle.std.specs.Prelude.{◌≡◌, ◌⊎◌, ℕ, List, IfErr, IfOk, length};
 ghost use Rattle.cube_model.specs.declared.fault.Fault.{Fault};
-ghost use Rattle.cuboid_upkeep.specs.Steps.{AreGrouped, AreUnfit};
+ghost use Rattle.cube_model.specs.declared.rows.DimRows.{DimRows};
+ghost use Rattle.lattice.specs.declared.view.View.{View};
+ghost use Rattle.cuboid_upkeep.specs.Steps.{AreGrouped, AreRowKeys, AreUnfit};
 ghost use Rattle.cuboid_upkeep.specs.Tables.{AreTablesOf, modes_in};
 
 use crate::guesses::Guesses;
@@ -10,7 +12,7 @@ use crate::row_cell::row_cell;
 use crate::row_keys::row_keys;
 use crate::taking::take_in;
 use cube_model::Fault;
-use cuboid_cells::Cell;
+use cuboid_cells::{Cell, Key};
 use dimensions::Dims;
 use group_plan::ModeRows;
 use indexmap::IndexSet;
@@ -31,10 +33,24 @@ pub(crate) fn group_rows<F: ModeRows>(
         ⊎ ((fault ≡ Fault.BadLayout) × AreUnfit dims.now (modes_in tables.now) view (F.rows rows.now))) }
 {
     let keys = row_keys(alloc, dims, view, tables, rows)?;
+    group_keyed(alloc, keys.as_slice(), rows)
+}
+
+// The same by the keys of the rows.
+fn group_keyed<F: ModeRows>(alloc: Global, keys: &[Key], rows: &F) -> Result<Vec<Cell>, Fault>
+    requires { length keys.now ≡ length (F.rows rows.now) }
+    ensures ok { IfOk result (λ cells. (dimensions : DimRows) (modes : List (List ℕ)) (view : View)
+        → AreRowKeys dimensions modes view (F.rows rows.now) (length (F.rows rows.now)) keys.now
+        → AreGrouped dimensions modes view (F.rows rows.now) cells.items) }
+    ensures refused { IfErr result (λ fault. (fault ≡ Fault.Memory) ⊎ ((fault ≡ Fault.BadLayout)
+        × ((dimensions : DimRows) (modes : List (List ℕ)) (view : View)
+        → AreRowKeys dimensions modes view (F.rows rows.now) (length (F.rows rows.now)) keys.now
+        → AreUnfit dimensions modes view (F.rows rows.now)))) }
+{
     let mut numbers = IndexSet::new(alloc);
     let mut cells = Vec::new(alloc);
     let mut guesses = Guesses::new(alloc);
-    for place in 0..rows.count() {
+    for place in 0..keys.len() {
         let cell = row_cell(keys[place], rows, place)?;
         take_in(&mut numbers, &mut cells, &mut guesses, &cell)?;
     }

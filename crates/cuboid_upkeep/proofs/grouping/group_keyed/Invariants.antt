@@ -1,0 +1,13 @@
+use Rattle.std.proofs.Common.{ℕ, List, length, take}
+use Rattle.cube_model.specs.declared.rows.DimRows.{DimRows}
+use Rattle.lattice.specs.declared.view.View.{View}
+use Rattle.cuboid_upkeep.specs.Steps.{AreKeyed, AreRowKeys}
+use Rattle.cuboid_upkeep.proofs.Grouped.{Grouping}
+use Rattle.cuboid_upkeep.proofs.grouping.group_keyed.Given as goal
+
+abbrev pub invariant-loop-place : goal.invariant-loop-place
+invariant-loop-place g l =
+    let rows = g.F.FactRows.rows l.rows in
+    AreKeyed l.numbers.keys l.cells.items
+    × ((dimensions : DimRows) (modes : List (List ℕ)) (view : View) → AreRowKeys dimensions modes view rows (length rows) l.keys
+    → Grouping dimensions modes view (take l.place rows) l.numbers.keys l.cells.items)
