@@ -178,3 +178,13 @@ pub(crate) fn code_count(dims: &Dims, axis: Axis, grouped: Level) -> usize
         Some(column) => dims.texts(axis, column).len(),
     }
 }
+
+// How many codes the keys of rows have for a level: one where all members are together.
+pub(crate) fn member_count(dims: &Dims, axis: Axis, grouped: Level) -> u32 {
+    if is_all(grouped) {
+        return 1;
+    }
+    valid_rows_keep_the_rules();
+    dims.row_count(axis);
+    code_count(dims, axis, grouped) as u32
+}

@@ -6,7 +6,7 @@ ghost use Rattle.lattice.specs.declared.view.View.{View};
 ghost use Rattle.cuboid_upkeep.specs.Steps.{AreGrouped, AreRowKeys, AreUnfit};
 ghost use Rattle.cuboid_upkeep.specs.Tables.{AreTablesOf, modes_in};
 
-use crate::guesses::Guesses;
+use crate::guesses::{Guesses, Weights};
 use crate::key_tables::KeyTables;
 use crate::row_cell::row_cell;
 use crate::row_keys::row_keys;
@@ -33,11 +33,16 @@ pub(crate) fn group_rows<F: ModeRows>(
         ⊎ ((fault ≡ Fault.BadLayout) × AreUnfit dims.now (modes_in tables.now) view (F.rows rows.now))) }
 {
     let keys = row_keys(alloc, dims, view, tables, rows)?;
-    group_keyed(alloc, keys.as_slice(), rows)
+    group_keyed(alloc, Weights::of(dims, view), keys.as_slice(), rows)
 }
 
 // The same by the keys of the rows.
-fn group_keyed<F: ModeRows>(alloc: Global, keys: &[Key], rows: &F) -> Result<Vec<Cell>, Fault>
+fn group_keyed<F: ModeRows>(
+    alloc: Global,
+    weights: Weights,
+    keys: &[Key],
+    rows: &F,
+) -> Result<Vec<Cell>, Fault>
     requires { length keys.now ≡ length (F.rows rows.now) }
     ensures ok { IfOk result (λ cells. (dimensions : DimRows) (modes : List (List ℕ)) (view : View)
         → AreRowKeys dimensions modes view (F.rows rows.now) (length (F.rows rows.now)) keys.now
@@ -49,7 +54,7 @@ fn group_keyed<F: ModeRows>(alloc: Global, keys: &[Key], rows: &F) -> Result<Vec
 {
     let mut numbers = IndexSet::new(alloc);
     let mut cells = Vec::new(alloc);
-    let mut guesses = Guesses::new(alloc);
+    let mut guesses = Guesses::new(alloc, weights);
     for place in 0..keys.len() {
         let cell = row_cell(keys[place], rows, place)?;
         take_in(&mut numbers, &mut cells, &mut guesses, &cell)?;

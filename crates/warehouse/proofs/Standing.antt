@@ -40,8 +40,7 @@ module _ {D : Type 0} (g : Ghosts D) (w : Warehouse) where
   content_leaves old new content stands leaves =
       leaves_weaker (λ (c : Content). c ≡ content) (λ (c : Content). Stands c w) old new (λ k c e. subst (λ (x : Content). Stands x w) (sym e) (stands k)) leaves
 
-  pub as_before_leaves : (old new : Store D g) → ((stores.disk_of g old).keeps_word → Stands (stores.content_of g old) w) → stores.IsAsBefore g old new
-      → Leaves (stores.disk_of g old) (stores.disk_of g old) (λ c. c ≡ stores.content_of g old) → Leaves (stores.disk_of g old) (stores.disk_of g new) (λ c. Stands c w)
-  as_before_leaves old new stands same leaves =
-      subst (λ (d : D). Leaves (stores.disk_of g old) (disk g d) (λ c. Stands c w)) (sym same.device)
-      (content_leaves (stores.disk_of g old) (stores.disk_of g old) (stores.content_of g old) stands leaves)
+  -- a store that is as it was shows what it showed
+  pub as_before_leaves : (old new : Store D g) → stores.IsAsBefore g old new
+      → Leaves (stores.disk_of g old) (stores.disk_of g old) (λ c. Stands c w) → Leaves (stores.disk_of g old) (stores.disk_of g new) (λ c. Stands c w)
+  as_before_leaves old new same leaves = subst (λ (d : D). Leaves (stores.disk_of g old) (disk g d) (λ c. Stands c w)) (sym same.device) leaves

@@ -1,11 +1,13 @@
 //! Adding a batch to a warehouse.
-ghost use Rattle.std.specs.Prelude.{◌≡◌, ◌≢◌, ◌⊎◌, ◌↔◌, true, IfErr, OnOk, IsErrOf};
+ghost use Rattle.std.specs.Prelude.{◌≡◌, ◌≢◌, ◌<◌, ◌⊎◌, ◌↔◌, true, false, length, IfOk, IfErr, OnOk, IsErrOf};
 ghost use Rattle.cube_model.specs.declared.fault.Fault.TheVariants.{Device, Failed};
 ghost use Rattle.cube_model.specs.Admission.{IsAdmissible};
+ghost use Rattle.wire.specs.Limits.{most_objects};
 ghost use Rattle.object_store.specs.Disk.{Leaves};
 ghost use Rattle.warehouse_objects.specs.Warehouse.{Warehouse, loaded};
 ghost use Rattle.warehouse_objects.specs.Stands.{Stands};
-ghost use Rattle.warehouse.specs.Session.{has_failed, device_of, disk_of, IsAt, Breaks, SubmitRefuses};
+ghost use Rattle.warehouse.specs.Prepared.{IsPrepared, Prepares};
+ghost use Rattle.warehouse.specs.Session.{has_failed, content_of, device_of, disk_of, IsAt, Breaks, SubmitRefuses};
 
 use crate::prepared::{Prepared, kept_is_what_stands};
 use crate::session::Session;
@@ -39,14 +41,7 @@ impl<D: Sectors> Session<D> {
         ensures device { IsErrOf result Device → Breaks D.Sectors self.old self.new }
         ensures word { D.keeps_word (device_of self.new) → D.keeps_word (device_of self.old) }
     {
-        if self.store.is_broken() {
-            return Err(Fault::Failed);
-        }
-        kept_is_what_stands(&self.dims, &self.root);
-        if self.store.objects() as usize >= MOST_OBJECTS {
-            return Err(Fault::BadLayout); // more than a warehouse has
-        }
-        let prepared = match Prepared::of(alloc, &self.dims, &self.root, number, rows) {
+        let prepared = match self.prepared(alloc, number, rows) {
             Ok(prepared) => prepared,
             Err(fault) => return Err(fault),
         };
@@ -64,5 +59,26 @@ impl<D: Sectors> Session<D> {
             }
             Err(fault) => Err(fault),
         }
+    }
+
+    // What a further batch puts on the device, or the first cause to refuse it. No device call is made.
+    fn prepared(&self, alloc: Global, number: u32, rows: &[LineOrder]) -> Result<Prepared, Fault>
+        ensures fine { IfOk result (λ _. has_failed self.now ≡ false) }
+        ensures few { IfOk result (λ _. length (content_of D.Sectors self.now).objects < most_objects) }
+        ensures ready { IfOk result (IsPrepared self.now.root number rows.now) }
+        ensures model { (w : Warehouse) → IsAt D.Sectors self.now w → D.keeps_word (device_of self.now) → Prepares w number rows.now result }
+        ensures failed { IsErrOf result Failed ↔ (has_failed self.now ≡ true) }
+        ensures device { IsErrOf result Device → ⊥ }
+        ensures leaves { (w : Warehouse) → IsAt D.Sectors self.now w
+            → Leaves (disk_of D.Sectors self.now) (disk_of D.Sectors self.now) (λ c. Stands c w) }
+    {
+        if self.is_broken() {
+            return Err(Fault::Failed);
+        }
+        kept_is_what_stands(&self.dims, &self.root);
+        if self.store.objects() as usize >= MOST_OBJECTS {
+            return Err(Fault::BadLayout); // more than a warehouse has
+        }
+        Prepared::of(alloc, &self.dims, &self.root, number, rows)
     }
 }

@@ -19,15 +19,7 @@ use Rattle.warehouse.proofs.session.Session.submit.Goals as goal
 
 pub returns-in-Err-clause-causes : goal.returns-in-Err-clause-causes
 returns-in-Err-clause-causes g c cause w at k =
-    let s = c.args.self.now in
-    let content = stores.content_of g.D.Sectors s.store in
-    let agree = c.kept_is_what_stands.ensures.agrees content w (s.loaded at.fine k) (at.stands k) in
-    ⊎_elim (λ refused. inl refused) (λ memory. inr (memory.0, inl memory.1)) (c.in-Err.ensures.model w agree.rows_are agree.root_is)
-
-pub returns-then-objects-ge-MOST_OBJECTS-clause-causes : goal.returns-then-objects-ge-MOST_OBJECTS-clause-causes
-returns-then-objects-ge-MOST_OBJECTS-clause-causes g c cause w at k =
-    let stands = at.stands k in
-    absurd (omega (arith, stands.few, stands.root.proper.most_batches, length-map w.batches (λ (batch : List LineOrder). length batch), c.objects.ensures, c.if-objects-ge-MOST_OBJECTS.true))
+    ⊎_elim (λ refused. inl refused) (λ memory. inr (memory.0, inl memory.1)) (c.in-Err.ensures.model w at k)
 
 pub commit-requires-clause-puts : goal.commit-requires-clause-puts
 commit-requires-clause-puts g c =
@@ -48,10 +40,10 @@ pub commit-requires-clause-few : goal.commit-requires-clause-few
 commit-requires-clause-few g c =
     let s = c.args.self.now in
     let content = stores.content_of g.D.Sectors s.store in
-    few_more content ((c.segment_id.result, c.as_slice.result.now) ∷ []) c.as_slice-2.result.now c.number.result refl (omega (arith, c.objects.ensures, c.if-objects-ge-MOST_OBJECTS.false))
+    few_more content ((c.segment_id.result, c.as_slice.result.now) ∷ []) c.as_slice-2.result.now c.number.result refl c.in-Ok.ensures.few
 
-pub invariant_of-self-in-Ok-commit : goal.invariant_of-self-in-Ok-commit
-invariant_of-self-in-Ok-commit g c =
+pub invariant_of-self : goal.invariant_of-self
+invariant_of-self g c =
     record {
       loaded = λ fine k.
           let s = c.args.self.now in
@@ -89,7 +81,7 @@ returns-in-Ok-commit-clause-leaves g c w at =
     let puts : List (ℕ × List ℕ) = (c.segment_id.result, c.as_slice.result.now) ∷ [] in
     let puts_are = put_is c.segment_id.result c.args.number c.as_slice.result.now c.args.rows.now c.segment_id.ensures (c.as_slice.ensures.value ∙ ready.segment) in
     let bytes_are = c.as_slice-2.ensures.value ∙ ready.spelled.spelled in
-    let model : g.D.Sectors.keeps_word (stores.device_of s.store) → IsAdmissible w.rows w.batches c.args.number c.args.rows.now × (p.root ≡ root_of (loaded w c.args.rows.now)) = λ k. let agree = c.kept_is_what_stands.ensures.agrees content w (s.loaded at.fine k) (at.stands k) in c.in-Ok.ensures.model w agree.rows_are agree.root_is in
+    let model : g.D.Sectors.keeps_word (stores.device_of s.store) → IsAdmissible w.rows w.batches c.args.number c.args.rows.now × (p.root ≡ root_of (loaded w c.args.rows.now)) = λ k. c.in-Ok.ensures.model w at k in
     submit_leaves content puts c.as_slice-2.result.now c.number.result c.args.number c.args.rows.now p.root puts_are bytes_are c.number.ensures w (stores.disk_of g.D.Sectors s.store) (stores.disk_of g.D.Sectors c.commit.new.self) at.stands (λ k. model k) ready.fits (c.commit.ensures.leaves at.fine)
 
 pub returns-in-Err-commit-clause-leaves : goal.returns-in-Err-commit-clause-leaves
@@ -101,7 +93,7 @@ returns-in-Err-commit-clause-leaves g c w at =
     let puts : List (ℕ × List ℕ) = (c.segment_id.result, c.as_slice.result.now) ∷ [] in
     let puts_are = put_is c.segment_id.result c.args.number c.as_slice.result.now c.args.rows.now c.segment_id.ensures (c.as_slice.ensures.value ∙ ready.segment) in
     let bytes_are = c.as_slice-2.ensures.value ∙ ready.spelled.spelled in
-    let model : g.D.Sectors.keeps_word (stores.device_of s.store) → IsAdmissible w.rows w.batches c.args.number c.args.rows.now × (p.root ≡ root_of (loaded w c.args.rows.now)) = λ k. let agree = c.kept_is_what_stands.ensures.agrees content w (s.loaded at.fine k) (at.stands k) in c.in-Ok.ensures.model w agree.rows_are agree.root_is in
+    let model : g.D.Sectors.keeps_word (stores.device_of s.store) → IsAdmissible w.rows w.batches c.args.number c.args.rows.now × (p.root ≡ root_of (loaded w c.args.rows.now)) = λ k. c.in-Ok.ensures.model w at k in
     submit_leaves content puts c.as_slice-2.result.now c.number.result c.args.number c.args.rows.now p.root puts_are bytes_are c.number.ensures w (stores.disk_of g.D.Sectors s.store) (stores.disk_of g.D.Sectors c.commit.new.self) at.stands (λ k. model k) ready.fits (c.commit.ensures.leaves at.fine)
 
 pub returns-in-Ok-commit-clause-ok : goal.returns-in-Ok-commit-clause-ok
@@ -113,7 +105,7 @@ returns-in-Ok-commit-clause-ok g c w at =
     let puts : List (ℕ × List ℕ) = (c.segment_id.result, c.as_slice.result.now) ∷ [] in
     let puts_are = put_is c.segment_id.result c.args.number c.as_slice.result.now c.args.rows.now c.segment_id.ensures (c.as_slice.ensures.value ∙ ready.segment) in
     let bytes_are = c.as_slice-2.ensures.value ∙ ready.spelled.spelled in
-    let model : g.D.Sectors.keeps_word (stores.device_of s.store) → IsAdmissible w.rows w.batches c.args.number c.args.rows.now × (p.root ≡ root_of (loaded w c.args.rows.now)) = λ k. let agree = c.kept_is_what_stands.ensures.agrees content w (s.loaded at.fine k) (at.stands k) in c.in-Ok.ensures.model w agree.rows_are agree.root_is in
+    let model : g.D.Sectors.keeps_word (stores.device_of s.store) → IsAdmissible w.rows w.batches c.args.number c.args.rows.now × (p.root ≡ root_of (loaded w c.args.rows.now)) = λ k. c.in-Ok.ensures.model w at k in
     let word = (c.commit.ensures.leaves at.fine).word in (
       is_at g.D.Sectors _ (loaded w c.args.rows.now) c.in-Ok-commit.ensures.fine.1 (λ k. subst (λ (x : Content). Stands x (loaded w c.args.rows.now)) (sym (c.in-Ok-commit.ensures.ok k))
           (stands_after content puts c.as_slice-2.result.now c.number.result c.args.number c.args.rows.now p.root puts_are bytes_are c.number.ensures w (at.stands (word k)) (model (word k)).0 ready.fits (model (word k)).1)),
@@ -124,7 +116,7 @@ pub returns-in-Err-commit-clause-refused : goal.returns-in-Err-commit-clause-ref
 returns-in-Err-commit-clause-refused g c cause w at =
     let same = c.in-Err-commit.ensures.refused cause in (
       session_at g.D.Sectors w _ (as_before_at g.D.Sectors w c.args.self.now.store c.commit.new.self (store_at g.D.Sectors w c.args.self.now at) same),
-      as_before_leaves g.D.Sectors w c.args.self.now.store c.commit.new.self at.stands same (c.is_broken.ensures.leaves at.fine),
+      as_before_leaves g.D.Sectors w c.args.self.now.store c.commit.new.self same (c.in-Ok.ensures.leaves w at),
     )
 
 pub returns-in-Err-commit-clause-causes : goal.returns-in-Err-commit-clause-causes
@@ -136,7 +128,7 @@ returns-in-Err-commit-clause-causes g c cause w at k =
     let puts : List (ℕ × List ℕ) = (c.segment_id.result, c.as_slice.result.now) ∷ [] in
     let puts_are = put_is c.segment_id.result c.args.number c.as_slice.result.now c.args.rows.now c.segment_id.ensures (c.as_slice.ensures.value ∙ ready.segment) in
     let bytes_are = c.as_slice-2.ensures.value ∙ ready.spelled.spelled in
-    let model : g.D.Sectors.keeps_word (stores.device_of s.store) → IsAdmissible w.rows w.batches c.args.number c.args.rows.now × (p.root ≡ root_of (loaded w c.args.rows.now)) = λ k. let agree = c.kept_is_what_stands.ensures.agrees content w (s.loaded at.fine k) (at.stands k) in c.in-Ok.ensures.model w agree.rows_are agree.root_is in
+    let model : g.D.Sectors.keeps_word (stores.device_of s.store) → IsAdmissible w.rows w.batches c.args.number c.args.rows.now × (p.root ≡ root_of (loaded w c.args.rows.now)) = λ k. c.in-Ok.ensures.model w at k in
     let word = (c.commit.ensures.leaves at.fine).word in
     inr (
       (model (word k)).0,
