@@ -7,6 +7,7 @@ use Rattle.cube_model.specs.declared.rows.LineOrder.{LineOrder}
 use Rattle.cube_model.specs.Places.{row_count_of, row_index_of}
 use Rattle.dictionary.specs.Columns.{place_of, text_at}
 use Rattle.group_plan.specs.Numbers.{IsKnown}
+use Rattle.group_plan.specs.Rows.{no_row}
 use Rattle.lattice.specs.declared.level.Level.{Level}
 use Rattle.lattice.specs.declared.view.View.{View}
 use Rattle.cuboid_cells.specs.declared.cell.Cell.{Cell}
@@ -75,23 +76,11 @@ pub record IsCodeOfMode (modes : List (List ℕ)) (code : ℕ) : Type 0 where
 
 -- a fact row of these keys and of the ship mode of a code, and of noughts
 abbrev pub stand_in : List (List ℕ) → CellKeys → LineOrder
-stand_in modes keys = record {
-  orderkey = 0;
-  linenumber = 0;
+stand_in modes keys = record no_row {
   custkey = keys.customer;
   partkey = keys.part;
   suppkey = keys.supplier;
   orderdate = keys.date;
-  orderpriority = [];
-  shippriority = [];
-  quantity = 0;
-  extendedprice = 0;
-  ordtotalprice = 0;
-  discount = 0;
-  revenue = 0;
-  supplycost = 0;
-  tax = 0;
-  commitdate = [];
   shipmode = text_at modes keys.ship_mode;
 }
 
