@@ -8,6 +8,9 @@ mod Header
 mod Parts
 mod Passes
 mod Refused
+mod OneColumn
+mod MoreReads
+mod Shared
 mod Short
 mod Sourced
 mod Tests

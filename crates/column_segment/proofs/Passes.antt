@@ -53,7 +53,7 @@ header_same text number other rows others one two =
 
 -- ---- the columns of numbers
 
-abbrev Sections : List Column → ℕ → ℕ → List LineOrder → List ℕ → Type 0
+abbrev pub Sections : List Column → ℕ → ℕ → List LineOrder → List ℕ → Type 0
 Sections [] place n rows xs = Unit {0}
 Sections (column ∷ columns) place n rows xs = (take (column.width * n) (drop (place * n) xs) ≡ number_column rows column) × Sections columns (place + column.width) n rows xs
 
@@ -106,6 +106,11 @@ module _ (text : List ℕ) (number : ℕ) (rows : List LineOrder) (is : IsSegmen
   numbers_long : length (flat_map (number_column rows) number_columns) ≡ 63 * length rows
   numbers_long = length-columns number_columns rows
 
+  pub segment_sections : Sections number_columns 0 (length rows) rows (drop 12 text)
+  segment_sections =
+      let start : 0 * length rows ≡ 0 = omega arith in
+      sections number_columns 0 (length rows) rows (drop 12 text) (flat_map (text_column rows) text_columns) refl (ap (λ (m : ℕ). drop m (drop 12 text)) start ∙ left)
+
   amount_column : (place : ℕ) (column : AmountColumn) → take (8 * length rows) (drop (place * length rows) (drop 12 text)) ≡ number_column rows (amounts column)
       → All (FitsColumn (amounts column)) rows → all_below (2 ^ 63) (map (from_le_bytes w64) (first_chunks 8 (length rows) (column_bytes place 8 (length rows) text))) ≡ true
   amount_column place column stands fit =
@@ -119,8 +124,7 @@ module _ (text : List ℕ) (number : ℕ) (rows : List LineOrder) (is : IsSegmen
 
   pub has_numbers : HasNumbers text (length rows)
   has_numbers =
-      let start : 0 * length rows ≡ 0 = omega arith in
-      let s = sections number_columns 0 (length rows) rows (drop 12 text) (flat_map (text_column rows) text_columns) refl (ap (λ (m : ℕ). drop m (drop 12 text)) start ∙ left) in
+      let s = segment_sections in
       let f = is.fits in
       record {
         room = omega (

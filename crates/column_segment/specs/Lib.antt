@@ -4,5 +4,6 @@ pub mod Columns
 pub mod Decoded
 pub mod Encoding
 pub mod Reading
+pub mod Replaced
 pub mod Rows
 pub mod Segment

@@ -104,3 +104,11 @@ impl TextColumn {
         }
     }
 }
+
+/// A column of numbers, of any width.
+#[derive(Clone, Copy, Debug, PartialEq, Eq)]
+pub enum FactColumn {
+    Amount(AmountColumn),
+    Number(NumberColumn),
+    Figure(ByteColumn),
+}

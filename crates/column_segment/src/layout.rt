@@ -4,8 +4,9 @@ ghost use Rattle.std.specs.Int.{from_le_bytes, w16};
 ghost use Rattle.std.specs.Simd.{first_chunks};
 ghost use Rattle.cube_model.specs.Limits.{most_batch_rows};
 ghost use Rattle.column_segment.specs.Decoded.{amount_place, byte_place, codes_in, coded_of, column_bytes, number_place};
+ghost use Rattle.column_segment.specs.Replaced.{place_of, width_of};
 
-use crate::columns::{AmountColumn, ByteColumn, NumberColumn, TextColumn};
+use crate::columns::{AmountColumn, ByteColumn, FactColumn, NumberColumn, TextColumn};
 use dictionary::Dictionary;
 
 /// How many bytes stand before the columns: the name, the batch's number, how many rows.
@@ -105,6 +106,29 @@ fn part(bytes: &[u8], rows: usize, place: usize, width: usize) -> &[u8]
 {
     let columns = bytes.split_at(HEADER_BYTES).1;
     columns.split_at(place * rows).1.split_at(width * rows).0
+}
+
+/// How many bytes of a row stand in the columns before one.
+pub(crate) fn place_of(column: FactColumn) -> usize
+    ensures value { result ≡ place_of column }
+    ensures within { result + width_of column ≤ 63 }
+{
+    match column {
+        FactColumn::Amount(column) => amount_place(column),
+        FactColumn::Number(column) => number_place(column),
+        FactColumn::Figure(column) => byte_place(column),
+    }
+}
+
+/// How many bytes of a row stand in a column.
+pub(crate) fn width_of(column: FactColumn) -> usize
+    ensures { result ≡ width_of column }
+{
+    match column {
+        FactColumn::Amount(_) => 8,
+        FactColumn::Number(_) => 4,
+        FactColumn::Figure(_) => 1,
+    }
 }
 
 // How many bytes of a row stand in the columns before one of amounts.

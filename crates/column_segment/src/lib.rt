@@ -10,13 +10,14 @@ mod gathering;
 mod laws;
 mod layout;
 mod reading;
+mod replacing;
 mod rows;
 mod segment;
 mod sources;
 mod sums;
 
 pub use batch::is_batch;
-pub use columns::{AmountColumn, ByteColumn, NumberColumn, TextColumn};
+pub use columns::{AmountColumn, ByteColumn, FactColumn, NumberColumn, TextColumn};
 pub use encoding::encode;
 pub use laws::bytes_are_one_batch;
 pub use segment::{Segment, decode};

@@ -6,6 +6,7 @@ ghost use Rattle.cube_model.specs.declared.rows.LineOrder.{LineOrder};
 ghost use Rattle.column_kernels.specs.Checks.{all_below};
 ghost use Rattle.column_segment.specs.Decoded.{IsDecoded, amounts_in};
 ghost use Rattle.column_segment.specs.Reading.{BeginsWithCodes, BeginsWithNoColumn, HasColumn, HasHeader, HasLast, HasNumbers, HasTexts, SpellNoTexts, SpellNone};
+ghost use Rattle.column_segment.specs.Replaced.{IsChecked};
 ghost use Rattle.column_segment.specs.declared.columns.TextColumn.TheVariants.{CommitDate, ShipMode};
 ghost use Rattle.column_segment.specs.Segment.{IsSegment};
 
@@ -21,14 +22,15 @@ use wire::Cursor;
 
 // The number of a batch, and how many rows it has.
 #[derive(Clone, Copy)]
-struct Header {
-    number: u32,
-    rows: usize,
+pub(crate) struct Header {
+    pub(crate) number: u32,
+    pub(crate) rows: usize,
 }
 
 // How the bytes of a batch are laid out.
 pub(crate) fn read_layout(alloc: Global, bytes: &[u8]) -> Result<Layout, Fault>
     ensures ok { IfOk result (IsDecoded bytes.now) }
+    ensures checked { IfOk result (IsChecked bytes.now) }
     ensures refused { IfErr result (λ fault. (fault ≡ Fault.Memory) ⊎ ((fault ≡ Fault.BadLayout)
         × ((number : ℕ) (rows : List LineOrder) → ¬ IsSegment bytes.now number rows))) }
 {
@@ -44,8 +46,14 @@ pub(crate) fn read_layout(alloc: Global, bytes: &[u8]) -> Result<Layout, Fault>
     })
 }
 
+/// What was checked of bytes makes them a batch. It does nothing.
+pub(crate) fn checked_is_decoded(bytes: &[u8], layout: &Layout)
+    requires { IsChecked bytes.now layout.now }
+    ensures { IsDecoded bytes.now layout.now }
+{}
+
 // What stands before the columns.
-fn read_header(bytes: &[u8]) -> Result<Header, Fault>
+pub(crate) fn read_header(bytes: &[u8]) -> Result<Header, Fault>
     ensures ok { IfOk result (λ header. HasHeader bytes.now header.number header.rows) }
     ensures fault { IsOkUnless result Fault.BadLayout }
     ensures none { IsErr result → (number rows : ℕ) → ¬ HasHeader bytes.now number rows }
@@ -78,7 +86,7 @@ fn has_numbers(bytes: &[u8], rows: usize) -> bool
 }
 
 // Whether each number of a column is an amount.
-fn fits(bytes: &[u8], rows: usize, column: AmountColumn) -> bool
+pub(crate) fn fits(bytes: &[u8], rows: usize, column: AmountColumn) -> bool
     requires few { rows ≤ most_batch_rows }
     requires room { 12 + 63 * rows ≤ length bytes.now }
     ensures { result ≡ all_below (2 ^ 63) (amounts_in bytes.now rows column) }

@@ -1,5 +1,5 @@
 //! A batch as the bytes that it was read from, which are kept and looked at as columns.
-ghost use Rattle.std.specs.Prelude.{◌≡◌, ◌↔◌, ◌⊎◌, ◌++◌, ◌<◌, ℕ, List, All, length, map, take, drop, IsTrue, IfErr, IfOk, IsOkUnless, OnOk};
+ghost use Rattle.std.specs.Prelude.{◌≡◌, ◌↔◌, ◌⊎◌, ◌++◌, ◌<◌, ℕ, List, All, length, map, take, drop, IsTrue, IfErr, IfOk, IsOkUnless, IsSomeAnd, MatchResult, OnOk};
 ghost use Rattle.cube_model.specs.declared.fault.Fault.{Fault};
 ghost use Rattle.cube_model.specs.declared.rows.LineOrder.{LineOrder};
 ghost use Rattle.std.specs.Int.{from_le_bytes, w16, w32};
@@ -10,12 +10,15 @@ ghost use Rattle.dictionary.specs.Columns.{text_at};
 ghost use Rattle.column_kernels.specs.Masks.{lies_in, selected};
 ghost use Rattle.column_kernels.specs.Sums.{numbers_of};
 ghost use Rattle.column_segment.specs.Columns.{amount_of, byte_of, number_of, text_of};
+ghost use Rattle.column_segment.specs.Replaced.{AgreeOn};
 ghost use Rattle.column_segment.specs.Segment.{FitColumns, IsBatch, IsSegment};
+ghost use Rattle.wire.specs.Runs.{HasRead, IsRefused};
 
-use crate::columns::{AmountColumn, ByteColumn, NumberColumn, TextColumn};
+use crate::columns::{AmountColumn, ByteColumn, FactColumn, NumberColumn, TextColumn};
 use crate::extremes::selected_extremes;
 use crate::layout::{Layout, amount_chunks, byte_part, code_chunks, number_chunks};
-use crate::reading::read_layout;
+use crate::reading::{checked_is_decoded, read_layout};
+use crate::replacing::replace_columns;
 use crate::rows::push_each;
 use crate::sums::selected_sum;
 use column_kernels::Mask;
@@ -23,6 +26,7 @@ use cube_model::{Fault, LineOrder, Measure};
 use dictionary::Dictionary;
 use std::alloc::Global;
 use std::marker::Model;
+use wire::Source;
 
 /// A batch whose bytes were checked: its number, and its rows in order.
 pub struct Segment {
@@ -46,10 +50,11 @@ impl Model for Segment {
     ghost Value = { Batch };
 
     ghost use Rattle.column_segment.specs.Decoded.{IsDecoded, rows_in};
+    ghost use Rattle.column_segment.specs.Replaced.{IsChecked};
 
     ghost view = { λ s. record { number = s.layout.number; rows = rows_in s.bytes.items s.layout } };
 
-    ghost invariant = { λ s. IsDecoded s.bytes.items s.layout };
+    ghost invariant = { λ s. IsDecoded s.bytes.items s.layout × IsChecked s.bytes.items s.layout };
 }
 
 /// The batch that has these bytes.
@@ -103,6 +108,29 @@ impl Segment {
     {
         let left = self.layout.rows.saturating_sub(from);
         push_each(alloc, &self.bytes, &self.layout, from, most.min(left), to)
+    }
+
+    /// The batch with some columns replaced by those of another batch, of a number and of as many rows, which a source has at
+    /// an id. Of the other batch nothing is read but its header and these columns.
+    ///
+    /// `BadLayout` where the header is another, where the text ends before the columns do, or where an amount is none. What is
+    /// not read is not checked.
+    pub fn with_columns_from<S: Source>(
+        self,
+        source: &mut S,
+        id: u32,
+        number: u32,
+        columns: &[FactColumn],
+    ) -> Result<Segment, Fault>
+        ensures ok { IfOk result (λ segment. S.keeps_word source.new → IsSomeAnd (S.texts source.old id) (λ bytes.
+            (other : ℕ) (rows : List LineOrder) → IsSegment bytes other rows → (other ≡ number) × AgreeOn columns.now segment.rows rows)) }
+        ensures run { MatchResult result (λ _. HasRead S.Source source.old source.new)
+            (λ fault. ((fault ≡ Fault.BadLayout) × HasRead S.Source source.old source.new) ⊎ IsRefused S.Source fault source.old source.new) }
+    {
+        let Segment { mut bytes, layout } = self;
+        replace_columns(source, id, number, bytes.as_mut_slice(), &layout, columns)?;
+        checked_is_decoded(bytes.as_slice(), &layout);
+        Ok(Segment { bytes, layout })
     }
 
     /// A column of amounts, eight bytes a row, the lowest byte first.

@@ -34,3 +34,4 @@ mod BatchTallies
 mod CellGroups
 mod CellFolds
 mod WholeBatches
+mod AskedRows

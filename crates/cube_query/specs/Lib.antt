@@ -1,3 +1,4 @@
+pub mod Asked
 pub mod CellTallies
 pub mod Chosen
 pub mod Coarser

@@ -2,6 +2,7 @@
 #![tactic(auto)]
 
 mod answer;
+mod asked;
 mod cell_columns;
 mod chosen_rows;
 mod coarser;
@@ -22,6 +23,7 @@ mod tally;
 mod whole_batch;
 
 pub use answer::fold;
+pub use asked::agreeing_rows_are_the_same;
 pub use fraction::fraction_of;
 pub use moded_rows::RowsWithModes;
 pub use running::Fold;

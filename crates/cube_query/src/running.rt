@@ -6,6 +6,7 @@ ghost use Rattle.cube_model.specs.Answers.{answer};
 ghost use Rattle.cube_model.specs.Proper.{IsProper};
 ghost use Rattle.cube_model.specs.Selection.{is_selected};
 ghost use Rattle.cube_model.specs.declared.rows.LineOrder.{LineOrder};
+ghost use Rattle.cube_query.specs.Asked.{asked_columns};
 ghost use Rattle.cube_query.specs.Columns.{tallies_at};
 ghost use Rattle.cube_query.specs.Groups.{StandsFor, Begins, CanTake, IsFoldOver, IsFoldable, IsOver, Takes};
 ghost use Rattle.group_plan.specs.Numbers.{group_count, IsKnown};
@@ -17,6 +18,7 @@ ghost use Rattle.cuboid_upkeep.specs.Codes.{modes_of};
 ghost use Rattle.cuboid_upkeep.specs.Grouping.{StandFor};
 ghost use Rattle.lattice.specs.Determined.{Serves};
 
+use crate::asked::asked_columns;
 use crate::cell_columns::{have_room_for_cells, merge_in_cells};
 use crate::chosen_rows::ChosenRows;
 use crate::columns::{count_in_all, lengthen_all, no_columns};
@@ -28,7 +30,7 @@ use crate::slots::Slots;
 use crate::tally::Tally;
 use crate::whole_batch::{has_one_group, selected_rows, with_batch};
 use column_kernels::Mask;
-use column_segment::Segment;
+use column_segment::{FactColumn, Segment};
 use cube_model::{Answer, Fault, LineOrder, Query};
 use cuboid_cells::Cells;
 use cuboid_upkeep::{one_key_one_group, stand_ins_of};
@@ -91,6 +93,14 @@ impl Fold {
     {
         query.check()?;
         Ok(begin(alloc, dims, query)?)
+    }
+
+    /// The columns of fact rows at which its query looks, in the order of their places.
+    pub fn asked_columns(&self) -> Result<Vec<FactColumn>, Fault>
+        ensures ok { IfOk result (λ columns. columns.items ≡ asked_columns self.now.query) }
+        ensures memory { IfErr result (λ fault. fault ≡ Fault.Memory) }
+    {
+        Ok(asked_columns(self.alloc, self.plan.query())?)
     }
 
     /// Counts fact rows in. A refusal leaves the fold as it was.

@@ -12,6 +12,8 @@ mod hostile;
 #[cfg(test)]
 mod lengths;
 #[cfg(test)]
+mod replaced;
+#[cfg(test)]
 mod sources;
 #[cfg(test)]
 mod sums;

@@ -12,9 +12,9 @@ use wire::{SliceSource, Source};
 
 // Bytes that stand at every id, if there are any, of which so many parts can be read before a read is refused.
 #[derive(Debug, Drop)]
-struct Refusing<'a> {
-    bytes: Option<&'a [u8]>,
-    left: usize,
+pub(crate) struct Refusing<'a> {
+    pub(crate) bytes: Option<&'a [u8]>,
+    pub(crate) left: usize,
 }
 
 impl<'a> Source for Refusing<'a> {

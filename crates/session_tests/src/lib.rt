@@ -6,6 +6,8 @@ mod answers;
 #[cfg(test)]
 mod batches;
 #[cfg(test)]
+mod behind;
+#[cfg(test)]
 mod bytes;
 #[cfg(test)]
 mod calls;

@@ -1,7 +1,6 @@
 -- Batches that are read and counted one after another.
-use Rattle.std.proofs.Common.{◌≡◌, ◌⊎◌, ⊎_elim, get_or, map, inl, inr, Vec, Global, IfOk, ◌+◌, ◌≤◌, suc, ℕ, List, [], ◌∷◌, ◌++◌, Option, Some, None, length, take, slice_get, Result, Ok, Err, IfErr, IsErrOf, OnOk, refl, sym, ◌∙◌, ap, subst, arith, length-append}
-use Rattle.std.specs.Option.{option_map}
-use Rattle.std.proofs.lemmas.List.{length-take-le}
+use Rattle.std.proofs.Common.{◌≡◌, ◌⊎◌, ⊎_elim, get_or, map, ◌+◌, ◌≤◌, suc, ℕ, List, ◌++◌, Option, Some, None, length, take, slice_get, Result, Ok, Err, IfErr, IsErrOf, OnOk, refl, sym, ◌∙◌, ap, subst, arith}
+use Rattle.std.specs.Option.{IfSome, IsSomeAnd, MatchOption, option_map}
 use Rattle.std.proofs.lemmas.Option.{get_or_from_slice_get, slice_get-map, slice_get_within}
 use Rattle.cube_model.specs.Admission.{all_rows}
 use Rattle.cube_model.specs.declared.fault.Fault.{Fault}
@@ -9,6 +8,8 @@ use Rattle.cube_model.specs.declared.fault.Fault.TheVariants.{BadLayout, Device,
 use Rattle.cube_model.specs.declared.rows.DimRows.{DimRows}
 use Rattle.cube_model.specs.declared.rows.LineOrder.{LineOrder}
 use Rattle.object_store.specs.Content.{Content, bytes_of}
+use Rattle.column_segment.specs.declared.columns.FactColumn.{FactColumn}
+use Rattle.column_segment.specs.Replaced.{AgreeOn}
 use Rattle.column_segment.specs.Segment.{IsSegment, segment_of}
 use Rattle.column_segment.proofs.CallerLemmas.{IsSegment-one}
 use Rattle.cube_query.specs.Groups.{CanTake, FoldState, StandsFor}
@@ -59,6 +60,26 @@ module _ (c : Content) (w : Warehouse) (stands : Stands c w) where
       pub never_missing : bytes_of c id ≡ None → ⊥
       never_missing none = let both : None ≡ Some (segment_of (before + 1) batch) = sym none ∙ sym at_id ∙ batch_bytes before batch here in cc
 
+    -- the batch there agrees with rows, if what was read of its bytes does
+    pub batch_agrees : (columns : List FactColumn) (rows : List LineOrder)
+        → IsSomeAnd (bytes_of c id) (λ bytes. (other : ℕ) (others : List LineOrder) → IsSegment bytes other others → (other ≡ number) × AgreeOn columns rows others)
+        → (batch : List LineOrder) × (slice_get w.batches before ≡ Some batch) × AgreeOn columns rows batch
+    batch_agrees columns rows found = by (bytes_of c id) refl found
+      where
+        none_there : (bytes : List ℕ) → bytes_of c id ≡ Some bytes → slice_get w.batches before ≡ None → ⊥
+        none_there bytes at none =
+            let both : None ≡ Some bytes = sym (stands.objects (65537 + before) ∙ object_batch w before ∙ ap (option_map (segment_of (before + 1))) none) ∙ at_id ∙ at in cc
+
+        by_batch : (bytes : List ℕ) → bytes_of c id ≡ Some bytes → ((other : ℕ) (others : List LineOrder) → IsSegment bytes other others → (other ≡ number) × AgreeOn columns rows others)
+            → (o : Option (List LineOrder)) → slice_get w.batches before ≡ o → (batch : List LineOrder) × (slice_get w.batches before ≡ Some batch) × AgreeOn columns rows batch
+        by_batch bytes at agree None none = absurd (none_there bytes at none)
+        by_batch bytes at agree (Some batch) here = (batch, here, (agree number batch (segment_there batch here bytes at)).1)
+
+        by : (o : Option (List ℕ)) → bytes_of c id ≡ o → IsSomeAnd o (λ bytes. (other : ℕ) (others : List LineOrder) → IsSegment bytes other others → (other ≡ number) × AgreeOn columns rows others)
+            → (batch : List LineOrder) × (slice_get w.batches before ≡ Some batch) × AgreeOn columns rows batch
+        by None at none = absurd none
+        by (Some bytes) at agree = by_batch bytes at agree (slice_get w.batches before) refl
+
   -- a batch can be taken behind those before it
   pub can_take_there : (dims : DimRows) (fold : FoldState) (before : ℕ) (batch rows : List LineOrder) → dims ≡ w.rows → slice_get w.batches before ≡ Some batch
       → rows ≡ batch → StandsFor dims fold (all_rows (take before w.batches)) → CanTake dims fold rows
@@ -103,3 +124,11 @@ never_device P cause = ⊎_elim (λ (memory : Device ≡ Memory). absurd cc) (λ
 
 pub err_fault : {X : Type 0} (one other : Fault) → IsErrOf {T = X} (Err one) other → one ≡ other
 err_fault one other is = cc
+
+-- ---- what was found
+
+pub some_of : {X : Type 0} (P : X → Type 0) (found : Option X) (x : X) → found ≡ Some x → IfSome found P → P x
+some_of {X} P found x is holds = subst (λ (o : Option X). IfSome o P) is holds
+
+pub none_of : {X : Type 0} (A : Type 0) (B : X → Type 0) (found : Option X) → found ≡ None → MatchOption found A B → A
+none_of {X} A B found is holds = subst (λ (o : Option X). MatchOption o A B) is holds

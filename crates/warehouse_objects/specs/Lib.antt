@@ -1,3 +1,4 @@
+pub mod Counted
 pub mod Warehouse
 pub mod Stands
 pub mod Lawful

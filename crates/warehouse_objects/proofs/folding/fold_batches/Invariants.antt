@@ -15,6 +15,6 @@ invariant-loop-before g l =
       still : IsStill g.D.Sectors l.initial.store l.store;
       leaves : Leaves (disk_of g.D.Sectors l.initial.store) (disk_of g.D.Sectors l.store) (λ c. c ≡ first);
       query : l.fold.query ≡ l.initial.fold.query;
-      folded : (batches : List (List LineOrder)) × StandsFor l.dims l.fold (all_rows batches)
-          × (g.D.Sectors.keeps_word (device_of l.store) → (w : Warehouse) → Stands first w → batches ≡ take l.before w.batches);
+      some : (rows : List LineOrder) × StandsFor l.dims l.fold rows;
+      own : g.D.Sectors.keeps_word (device_of l.store) → (w : Warehouse) → Stands first w → StandsFor l.dims l.fold (all_rows (take l.before w.batches));
     }

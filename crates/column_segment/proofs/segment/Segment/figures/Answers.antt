@@ -9,5 +9,5 @@ pub returns : goal.returns
 returns c =
     let rows : ℕ = c.self.inside.layout.rows in
     c.byte_part.ensures.value ∙ ap (column_bytes (byte_place c.args.column) 1 rows) c.deref.ensures.value
-    ∙ sym (byte_values c.self.inside.bytes.items c.self.inside.layout c.self.invariant.readable.room c.args.column)
+    ∙ sym (byte_values c.self.inside.bytes.items c.self.inside.layout c.self.invariant.0.readable.room c.args.column)
     ∙ ap (λ (batch : Batch). map (byte_of c.args.column) batch.rows) c.self.view_is

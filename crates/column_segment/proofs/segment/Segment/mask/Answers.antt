@@ -14,7 +14,7 @@ returns-clause-ok c =
     IfOk-weaker c.of_ranges.result _ _
     (λ mask is.
     is
-    ∙ marks_are text layout c.self.invariant c.args.quantity c.args.discount c.byte_part-quantities.result.now c.byte_part-discounts.result.now
+    ∙ marks_are text layout c.self.invariant.0 c.args.quantity c.args.discount c.byte_part-quantities.result.now c.byte_part-discounts.result.now
     (c.byte_part-quantities.ensures.value ∙ ap (column_bytes 28 1 layout.rows) c.deref.ensures.value)
     (c.byte_part-discounts.ensures.value ∙ ap (column_bytes 45 1 layout.rows) c.deref-2.ensures.value)
     ∙ ap (λ (batch : Batch). map (λ (row : LineOrder). lies_in c.args.quantity c.args.discount row.quantity row.discount) batch.rows) c.self.view_is)

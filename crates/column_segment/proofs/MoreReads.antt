@@ -1,0 +1,32 @@
+-- Columns that are read one behind the other. Our own.
+use Rattle.std.proofs.Common.{◌≡◌, ◌⊎◌, ℕ, zero, suc, ◌<◌, List, [], ◌∷◌, Result, Ok, Err, inl, inr, get_or, length, take, sym, subst, arith}
+use Rattle.std.specs.List.{AllByRecursion}
+use Rattle.std.specs.Result.{IsErrAnd, MatchResult}
+use Rattle.cube_model.specs.declared.fault.Fault.{Fault}
+use Rattle.cube_model.specs.declared.fault.Fault.TheVariants.{BadLayout}
+use Rattle.wire.specs.declared.source.Source.{Ghosts}
+use Rattle.wire.specs.Runs.{HasRead, IsRefused}
+use Rattle.wire.proofs.CallerLemmas.{HasRead-then, IsRefused-later}
+
+-- ---- how a run of reads ends
+
+abbrev pub Ends : {S : Type 0} → Ghosts S → S → S → Fault → Type 0
+Ends g from to fault = ((fault ≡ BadLayout) × HasRead g from to) ⊎ IsRefused g fault from to
+
+module _ {S : Type 0} (g : Ghosts S) (join : (a b c : S) → g.reads a b → g.reads b c → g.reads a c)
+    (later : (fault : Fault) (a b c : S) → g.reads a b → g.fails fault b c → g.fails fault a c) (old mid new : S) (read : HasRead g old mid) where
+  ends_behind : (fault : Fault) → Ends g mid new fault → Ends g old new fault
+  ends_behind fault (inl bad) = inl (bad.0, HasRead-then g join old mid new read bad.1)
+  ends_behind fault (inr refused) = inr (IsRefused-later g later fault old mid new read refused)
+
+  -- a refusal behind reads, handed on
+  pub ends_later : {T : Type 0} (result : Result T Fault) (fault : Fault) → IsErrAnd result (λ own. own ≡ fault) → Ends g mid new fault → MatchResult result (λ _. HasRead g old new) (Ends g old new)
+  ends_later (Ok value) fault is ends = absurd is
+  ends_later (Err own) fault is ends = subst (λ (f : Fault). Ends g old new f) (sym is) (ends_behind fault ends)
+
+-- ---- what holds of one more
+
+pub one_more : {X : Type 0} (P Q : X → Type 0) (xs : List X) (i : ℕ) (d : X) → i < length xs → ((x : X) → P x → Q x) → AllByRecursion P (take i xs) → Q (get_or xs i d) → AllByRecursion Q (take (suc i) xs)
+one_more P Q [] i d lt so all own = absurd (omega arith)
+one_more P Q (x ∷ xs) zero d lt so all own = (own, tt)
+one_more P Q (x ∷ xs) (suc i) d lt so all own = (so x all.0, one_more P Q xs i d (omega (arith, lt)) so all.1 own)

@@ -1,0 +1,13 @@
+use Rattle.std.proofs.Common.{◌≡◌, ◌≤◌, ◌+◌, ◌*◌, ℕ, List, Some, length, take}
+use Rattle.std.specs.List.{AllByRecursion}
+use Rattle.column_segment.specs.Replaced.{IsChecked, ShareColumn}
+use Rattle.wire.specs.Runs.{HasRead}
+use Rattle.column_segment.proofs.replacing.replace_columns.Given as goal
+
+abbrev pub invariant-loop-i : goal.invariant-loop-i
+invariant-loop-i g l = record {
+  checked : IsChecked l.bytes l.layout;
+  read : HasRead g.S.Source l.initial.source l.source;
+  shared : g.S.Source.keeps_word l.source → (text : List ℕ) → g.S.Source.texts l.initial.source l.id ≡ Some text → 12 + 63 * l.layout.rows ≤ length text
+      → AllByRecursion (ShareColumn l.layout.rows l.bytes text) (take l.i l.columns);
+}
