@@ -1,14 +1,18 @@
 -- Reading the fields of a line, column by column.
-use Rattle.std.proofs.Common.{◌≡◌, ◌∙◌, sym, ap, subst, refl, ℕ, ◌+◌, ◌<◌, ◌≤◌, List, [], ◌∷◌, length, get_or, get_or-set_other, get_or-set_same, drop, arith, below_more, Some, None}
-use Rattle.std.specs.Prelude.{suc, zero, slice_set, slice_index_or, Option}
+use Rattle.std.proofs.Common.{◌≡◌, ◌∙◌, sym, ap, subst, refl, ℕ, ◌+◌, ◌<◌, ◌≤◌, Bool, true, false, cond, List, [], ◌∷◌, length, get_or, get_or-set_other, get_or-set_same, drop, arith, below_more, Some, None}
+use Rattle.std.specs.Prelude.{suc, zero, ◌&&◌, nat_lt, nat_le, slice_set, slice_index, slice_index_or, Option}
+use Rattle.std.specs.List.{list_all}
+use Rattle.std.proofs.lemmas.Bool.Decides.{nat_tests}
 use Rattle.std.proofs.Math.ListN.{drop_of_length-le, length-set}
 use Rattle.cube_model.specs.declared.fault.Fault.{Fault}
 use Rattle.cube_model.specs.Causes.{first_cause}
+use Rattle.cube_model.specs.Limits.{longest_text}
 use Rattle.batch_loader.specs.declared.columns.Column.{Column}
-use Rattle.batch_loader.specs.declared.columns.Column.TheVariants.{Skipped}
+use Rattle.batch_loader.specs.declared.columns.Column.TheVariants.{Number, Text, Skipped}
 use Rattle.batch_loader.specs.Columns.{field_fault, fields_fault, number_in, text_in}
 use Rattle.batch_loader.specs.Fields.{parts_at}
-use Rattle.batch_loader.specs.Parsing.{FitsColumn, AreNumbers}
+use Rattle.batch_loader.specs.Numbers.{is_digit, value_of, spells_number, number_of}
+use Rattle.batch_loader.specs.Parsing.{FitsColumn, AreNumbers, ReadsField, ReadsFields}
 
 pub length-parts_at : (line ends : List ℕ) (from : ℕ) → length (parts_at line from ends) ≡ length ends
 length-parts_at line [] from = refl
@@ -94,3 +98,58 @@ pub IsRead-numbers : (line n : ℕ) (columns : List Column) (fields : List (List
 IsRead-numbers line n columns fields numbers place last before =
     AreNumbers-from 0 columns fields numbers
     (λ k less. subst (λ n. FitsColumn (slice_index_or columns k Skipped) (number_in fields n) (get_or numbers n 0)) (sym (omega arith)) (before.numbers_fit k (omega (arith, before.columns_count))))
+
+-- a number that a text spells
+record IsSpelled (limit number : ℕ) (text : List ℕ) : Type 0 where
+  pub value : number ≡ value_of text
+  pub within : number ≤ limit
+  pub spells : spells_number limit text ≡ true
+
+spelled : (limit number : ℕ) (text : List ℕ) → Some number ≡ number_of limit text → IsSpelled limit number text
+spelled limit number text is =
+    let parts = by_tests (nat_lt 0 (length text)) (list_all is_digit text) (nat_le (value_of text) limit) (value_of text) is in
+    record { value = parts.0; within = at_most (value_of text) parts.0 parts.1; spells = parts.2 }
+  where
+    by_tests : (some digits small : Bool) (value : ℕ) → Some number ≡ cond (some && (digits && small)) (Some value) None
+        → (number ≡ value) × (small ≡ true) × ((some && (digits && small)) ≡ true)
+    by_tests true true true value is = (cc, refl, refl)
+    by_tests true true false value is = absurd (cc)
+    by_tests true false small value is = absurd (cc)
+    by_tests false digits small value is = absurd (cc)
+
+    at_most : (value : ℕ) → number ≡ value → nat_le value limit ≡ true → number ≤ limit
+    at_most value same small = grind (arith, nat_tests)
+
+-- fields that are read are the numbers that they spell
+pub ReadsFields-numbers : (place : ℕ) (columns : List Column) (fields : List (List ℕ)) (numbers : List ℕ) → ReadsFields place columns fields numbers → AreNumbers place columns fields numbers
+ReadsFields-numbers place [] fields numbers read = tt
+ReadsFields-numbers place (column ∷ columns) fields numbers read =
+    (fits column (text_in fields place) (slice_index numbers place) read.0, ReadsFields-numbers (suc place) columns fields numbers read.1)
+  where
+    fits : (column : Column) (text : List ℕ) (number : ℕ) → ReadsField column text number → FitsColumn column (value_of text) number
+    fits (Number limit) text number is = let number_is = spelled limit number text is in (number_is.value, number_is.within)
+    fits Text text number is = tt
+    fits Skipped text number is = tt
+
+-- a field that is read has no fault
+ReadsField-fits : (line place : ℕ) (column : Column) (text : List ℕ) (number : ℕ) → ReadsField column text number → field_fault line place column text ≡ None
+ReadsField-fits line place (Number limit) text number is = rw (spelled limit number text is).spells refl
+ReadsField-fits line place Text text number is = rw (short (length text) is) refl
+  where
+    short : (n : ℕ) → n ≤ longest_text → nat_lt longest_text n ≡ false
+    short n small = grind (arith, nat_tests)
+ReadsField-fits line place Skipped text number is = refl
+
+-- fields that are read have no fault
+pub ReadsFields-fits : (line place : ℕ) (columns : List Column) (fields : List (List ℕ)) (numbers : List ℕ) → length fields ≡ place + length columns
+    → ReadsFields place columns fields numbers → fields_fault line (place + 1) columns (drop place fields) ≡ None
+ReadsFields-fits line place [] fields numbers count read = refl
+ReadsFields-fits line place (column ∷ columns) fields numbers count read =
+    ap (λ texts. fields_fault line (place + 1) (column ∷ columns) texts) (drop_next fields [] place (omega arith))
+    ∙ ap (λ cause. first_cause (cause ∷ fields_fault line (place + 1 + 1) columns (drop (place + 1) fields) ∷ [])) (ReadsField-fits line (place + 1) column (text_in fields place) (slice_index numbers place) read.0)
+    ∙ only_cause (fields_fault line (place + 1 + 1) columns (drop (place + 1) fields))
+    ∙ ap (λ next. fields_fault line (next + 1) columns (drop next fields)) (one_more place)
+    ∙ ReadsFields-fits line (suc place) columns fields numbers (omega arith) read.1
+  where
+    one_more : (place : ℕ) → place + 1 ≡ suc place
+    one_more place = omega arith

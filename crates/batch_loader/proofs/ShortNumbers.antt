@@ -1,55 +1,16 @@
 -- Numbers of at most eight digits, by the bytes of a number.
-use Rattle.std.proofs.Common.{◌≡◌, ◌∙◌, sym, ap, subst, refl, ℕ, ◌+◌, ◌-◌, ◌*◌, ◌/◌, ◌%◌, ◌^◌, ◌<◌, ◌≤◌, Bool, true, false, cond, List, [], ◌∷◌, ◌++◌, length, map, get_or, take, drop, slice_range, arith, Some, None, w64}
-use Rattle.std.specs.Prelude.{◌&&◌, nat_le, nat_lt, suc, zero, replicate, slice_index}
-use Rattle.std.specs.Int.{bit_at, trailing_ones}
+use Rattle.std.proofs.Common.{◌≡◌, ◌∙◌, sym, ap, subst, refl, ℕ, ◌+◌, ◌-◌, ◌*◌, ◌/◌, ◌%◌, ◌^◌, ◌<◌, ◌≤◌, Bool, true, false, cond, List, [], ◌∷◌, ◌++◌, length, get_or, take, drop, slice_range, arith, Some, None, shr-shr}
+use Rattle.std.specs.Prelude.{◌&&◌, nat_le, nat_lt, suc, zero, min, max, replicate, slice_index}
+use Rattle.std.specs.Int.RustNames.{bit_and, bit_or}
+use Rattle.std.proofs.lemmas.Nat.Bits.{bit_at_and, bit_at_or, bit_at-lt}
+use Rattle.std.specs.Int.{bit_at}
 use Rattle.std.specs.List.{list_all}
-use Rattle.std.specs.Simd.Lanes.{number_l, mask_l, chunk}
+use Rattle.std.specs.Simd.Lanes.{number_l, Each1}
 use Rattle.std.proofs.lemmas.Bool.Decides.{nat_tests}
-use Rattle.std.proofs.lemmas.Nat.Bits.{bit_at-trailing_ones}
-use Rattle.std.proofs.lemmas.Simd.{map-map, mask_l-lt, length-chunk}
+use Rattle.std.proofs.lemmas.Nat.{mod-pow-add, field_of, shl-shr, shr_le}
 use Rattle.batch_loader.specs.Numbers.{is_digit, value_of, number_of}
-use Rattle.batch_loader.specs.ShortNumbers.{AreDigits, IsSpread, decimal_of}
-use Rattle.batch_loader.proofs.Windows.{bit_at-window}
+use Rattle.batch_loader.specs.ShortNumbers.{AreDigits, IsSpread, decimal_of, raised}
 use Rattle.batch_loader.proofs.Digits.{drop_next}
-
--- a test of a byte as a bit
-
-abbrev is_near : ℕ → Bool
-is_near byte = nat_lt ((byte + 208) % 256) 10
-
-abbrev near_bit : ℕ → ℕ
-near_bit byte = cond (is_near byte) 1 0
-
-set_near : (b : Bool) → cond {A = ℕ} b 1 0 ≡ 1 → b ≡ true
-set_near true is = refl
-set_near false is = absurd (omega arith)
-
-near_zero : (byte : ℕ) → byte < 256 → near_bit byte ≡ 1 → (48 ≤ byte) × (byte ≤ 57)
-near_zero byte small set =
-    let near = less ((byte + 208) % 256) (set_near (is_near byte) set) in
-    (omega arith, omega arith)
-  where
-    less : (n : ℕ) → nat_lt n 10 ≡ true → n < 10
-    less n is = grind (arith, nat_tests)
-
--- the digits that the lowest bits count
-pub AreDigits-counted : (text lanes : List ℕ) (start bits : ℕ) → start + 8 ≤ length text → ((i : ℕ) → get_or text i 0 < 256) → lanes ≡ map (λ byte. (byte + 208) % 256) (chunk start 8 text)
-    → bits ≡ mask_l (map (λ digit. nat_lt digit 10) lanes) → (count : ℕ) → count ≤ trailing_ones w64 bits → count ≤ 8 → AreDigits text start count
-AreDigits-counted text lanes start bits room bytes is bits_are count counted few =
-    let same : bits ≡ mask_l (map is_near (chunk start 8 text)) =
-    bits_are ∙ ap (λ list. mask_l (map (λ digit. nat_lt digit 10) list)) is ∙ ap mask_l (map-map (λ digit. nat_lt digit 10) (λ byte. (byte + 208) % 256) (chunk start 8 text)) in
-    let small : mask_l (map is_near (chunk start 8 text)) < 2 ^ 8 = subst (λ n. mask_l (map is_near (chunk start 8 text)) < 2 ^ n) (length-near start text room) (mask_l-lt (map is_near (chunk start 8 text))) in
-    let low : bits < 256 = omega (arith, same, small) in
-    let ones = bit_at-trailing_ones w64 bits (omega arith) in
-    λ k below. near_zero (slice_index text (start + k)) (bytes (start + k))
-    (sym (bit_at-window is_near text (chunk start 8 text) start 8 k room (omega arith) refl) ∙ ap (λ n. bit_at n k) (sym same) ∙ ones.2 k (omega arith))
-  where
-    length-map : {A B : Type 0} (f : A → B) (items : List A) → length (map f items) ≡ length items
-    length-map f [] = refl
-    length-map f (item ∷ items) = ap suc (length-map f items)
-
-    length-near : (start : ℕ) (text : List ℕ) → start + 8 ≤ length text → length (map is_near (chunk start 8 text)) ≡ 8
-    length-near start text room = length-map is_near (chunk start 8 text) ∙ length-chunk start 8 text room
 
 -- the value of eight digits
 
@@ -225,6 +186,166 @@ part-is text start end order within = ap (λ n. take (end - start) (drop n text)
 
 abbrev pub little_word : List ℕ → ℕ → ℕ
 little_word text start = slice_index text start + slice_index text (start + 1) * 256 + slice_index text (start + 2) * 65536 + slice_index text (start + 3) * 16777216 + slice_index text (start + 4) * 4294967296 + slice_index text (start + 5) * 1099511627776 + slice_index text (start + 6) * 281474976710656 + slice_index text (start + 7) * 72057594037927936
+
+-- the marks of a number's bytes are the highest bits of these bytes and of what they are raised to
+pub marks_at : (number k : ℕ) → k < 8 → bit_at (bit_and (bit_or (raised number) number) 9259542123273814144) (8 * k + 7) ≡ max (bit_at number (8 * k + 7)) (bit_at (raised number) (8 * k + 7))
+marks_at number k below =
+    bit_at_and (bit_or (raised number) number) 9259542123273814144 (8 * k + 7)
+    ∙ joined (bit_at (bit_or (raised number) number) (8 * k + 7)) (bit_at (raised number) (8 * k + 7)) (bit_at number (8 * k + 7)) (bit_at 9259542123273814144 (8 * k + 7))
+    (bit_at_or (raised number) number (8 * k + 7)) (bit_at-lt (raised number) (8 * k + 7)) (bit_at-lt number (8 * k + 7)) (highest k below)
+  where
+    joined : (both a b mask : ℕ) → both ≡ max a b → a < 2 → b < 2 → mask ≡ 1 → min both mask ≡ max b a
+    joined both a b mask is one two set = omega arith
+
+    highest : (k : ℕ) → k < 8 → bit_at 9259542123273814144 (8 * k + 7) ≡ 1
+    highest zero below = refl
+    highest (suc zero) below = refl
+    highest (suc (suc zero)) below = refl
+    highest (suc (suc (suc zero))) below = refl
+    highest (suc (suc (suc (suc zero)))) below = refl
+    highest (suc (suc (suc (suc (suc zero))))) below = refl
+    highest (suc (suc (suc (suc (suc (suc zero)))))) below = refl
+    highest (suc (suc (suc (suc (suc (suc (suc zero))))))) below = refl
+    highest (suc (suc (suc (suc (suc (suc (suc (suc more)))))))) below = absurd (omega arith)
+
+-- digits by the marks of bytes that are none
+
+-- a byte so many times over, as a number
+abbrev repeated : ℕ → ℕ → ℕ
+repeated byte zero = 0
+repeated byte (suc n) = byte + 256 * repeated byte n
+
+-- a number with so many bytes below it
+abbrev up : ℕ → ℕ → ℕ
+up zero number = number
+up (suc n) number = 256 * up n number
+
+-- what holds of the other bytes once the first one is taken off
+record IsFirst (byte number sum others over lower round more : ℕ) : Type 0 where
+  pub low : 48 ≤ byte
+  pub high : byte ≤ 57
+  pub others_are : number / 256 + lower ≡ others + over
+  pub sum_is : sum / 256 + round ≡ number / 256 + more
+
+first_digit : (byte number sum others over lower round more : ℕ) → byte < 256 → number + (48 + 256 * lower) ≡ byte + 256 * others + 256 * over → sum + 256 * round ≡ number + (118 + 256 * more)
+    → number / 128 % 2 ≡ 0 → sum / 128 % 2 ≡ 0 → IsFirst byte number sum others over lower round more
+first_digit byte number sum others over lower round more small is total one two = record {
+  low = omega arith;
+  high = omega arith;
+  others_are = omega arith;
+  sum_is = omega arith;
+}
+
+next_mark : (number k : ℕ) → bit_at number (8 * suc k + 7) ≡ 0 → bit_at (number / 256) (8 * k + 7) ≡ 0
+next_mark number k none = ap (λ n. n % 2) (shr-shr number 8 (8 * k + 7) ∙ ap (λ place. number / 2 ^ place) (eight_more k)) ∙ none
+  where
+    eight_more : (k : ℕ) → 8 + (8 * k + 7) ≡ 8 * suc k + 7
+    eight_more k = omega arith
+
+-- the lowest bytes are digits, as far as none has a mark
+unmarked : (bytes : List ℕ) (number sum p q count : ℕ) → Each1 (λ byte. byte < 256) bytes
+    → number + repeated 48 (length bytes) ≡ number_l 256 bytes + up (length bytes) p → sum + up (length bytes) q ≡ number + repeated 118 (length bytes)
+    → ((k : ℕ) → k < count → (bit_at number (8 * k + 7) ≡ 0) × (bit_at sum (8 * k + 7) ≡ 0))
+    → (k : ℕ) → k < count → k < length bytes → (48 ≤ get_or bytes k 0) × (get_or bytes k 0 ≤ 57)
+unmarked [] number sum p q count small is total marks k below inside = absurd (omega arith)
+unmarked (byte ∷ bytes) number sum p q count small is total marks zero below inside =
+    let first = first_digit byte number sum (number_l 256 bytes) (up (length bytes) p) (repeated 48 (length bytes)) (up (length bytes) q) (repeated 118 (length bytes))
+    small.0 is total (marks 0 below).0 (marks 0 below).1 in
+    (first.low, first.high)
+unmarked (byte ∷ bytes) number sum p q count small is total marks (suc k) below inside =
+    let first = first_digit byte number sum (number_l 256 bytes) (up (length bytes) p) (repeated 48 (length bytes)) (up (length bytes) q) (repeated 118 (length bytes))
+    small.0 is total (marks 0 (omega arith)).0 (marks 0 (omega arith)).1 in
+    unmarked bytes (number / 256) (sum / 256) p q (count - 1) small.1 first.others_are first.sum_is
+    (λ k less. (next_mark number k (marks (suc k) (omega arith)).0, next_mark sum k (marks (suc k) (omega arith)).1)) k (omega arith) (omega arith)
+
+-- a number whose lowest bits are shifted out of 64 had none of them
+low_bits : (number count k : ℕ) → 0 < count → count ≤ 8 → number * 2 ^ (64 - 8 * count) % 18446744073709551616 ≡ 0 → k < count → bit_at number (8 * k + 7) ≡ 0
+low_bits number count k some few none below =
+    let whole : number % 2 ^ (8 * count) ≡ 0 = sym (field_of (number * 2 ^ (64 - 8 * count)) (8 * count) (64 - 8 * count)
+    ∙ ap (λ n. n % 2 ^ (8 * count)) (shl-shr number (64 - 8 * count)))
+    ∙ ap (λ place. number * 2 ^ (64 - 8 * count) % 2 ^ place / 2 ^ (64 - 8 * count)) (all count few)
+    ∙ ap (λ n. n / 2 ^ (64 - 8 * count)) none ∙ nothing (64 - 8 * count) in
+    let part : number / 2 ^ (8 * k + 7) % 2 ^ (8 * count - (8 * k + 7)) ≡ 0 = sym (field_of number (8 * count - (8 * k + 7)) (8 * k + 7))
+    ∙ ap (λ place. number % 2 ^ place / 2 ^ (8 * k + 7)) (parts count k below) ∙ ap (λ n. n / 2 ^ (8 * k + 7)) whole ∙ nothing (8 * k + 7) in
+    lowest (number / 2 ^ (8 * k + 7)) (8 * count - (8 * k + 7)) (omega arith) part
+  where
+    all : (count : ℕ) → count ≤ 8 → 8 * count + (64 - 8 * count) ≡ 64
+    all count few = omega arith
+
+    parts : (count k : ℕ) → k < count → 8 * count - (8 * k + 7) + (8 * k + 7) ≡ 8 * count
+    parts count k below = omega arith
+
+    nothing : (place : ℕ) → 0 / 2 ^ place ≡ 0
+    nothing place = omega (arith, shr_le 0 place)
+
+    one_more : (width : ℕ) → width + 1 ≡ suc width
+    one_more width = omega arith
+
+    lowest : (n width : ℕ) → 0 < width → n % 2 ^ width ≡ 0 → n % 2 ≡ 0
+    lowest n zero some is = absurd (omega arith)
+    lowest n (suc width) some is = omega (arith, sym (mod-pow-add n width 1) ∙ ap (λ place. n % 2 ^ place) (one_more width) ∙ is)
+
+wrapped : (n : ℕ) → n % 18446744073709551616 + up 8 (n / 18446744073709551616) ≡ n
+wrapped n = omega arith
+
+module _ (b : ℕ → ℕ) (byte : (k : ℕ) → b k < 256) where
+  bytes_are-small : (n k : ℕ) → Each1 (λ byte. byte < 256) (bytes_from n k b)
+  bytes_are-small zero k = tt
+  bytes_are-small (suc n) k = (byte k, bytes_are-small n (suc k))
+
+  byte-at : (n k j : ℕ) → j < n → get_or (bytes_from n k b) j 0 ≡ b (k + j)
+  byte-at zero k j below = absurd (omega arith)
+  byte-at (suc n) k zero below = ap b (same k)
+    where
+      same : (k : ℕ) → k ≡ k + 0
+      same k = omega arith
+  byte-at (suc n) k (suc j) below = byte-at n (suc k) j (omega arith) ∙ ap b (next k j)
+    where
+      next : (k j : ℕ) → suc k + j ≡ k + suc j
+      next k j = omega arith
+
+  word-is : word_of b ≡ number_l 256 (bytes_from 8 0 b)
+  word-is = omega arith
+
+abbrev pub less_zeros : ℕ → ℕ
+less_zeros word = (word + (18446744073709551616 - 3472328296227680304)) % 18446744073709551616
+
+-- so many bytes of a text are digits where none of them has a mark
+pub AreDigits-unmarked : (text : List ℕ) (start count word others : ℕ) → 0 < count → count ≤ 8 → start + 8 ≤ length text → ((i : ℕ) → get_or text i 0 < 256)
+    → word ≡ little_word text start
+    → ((k : ℕ) → k < 8 → bit_at others (8 * k + 7) ≡ max (bit_at (less_zeros word) (8 * k + 7)) (bit_at (raised (less_zeros word)) (8 * k + 7)))
+    → others * 2 ^ (64 - 8 * count) % 18446744073709551616 ≡ 0 → AreDigits text start count
+AreDigits-unmarked text start count word others some few room bytes word_is marks out = λ k below.
+    subst (λ byte. (48 ≤ byte) × (byte ≤ 57)) (at k (omega arith))
+    (unmarked (bytes_from 8 0 (λ j. slice_index text (start + j))) (less_zeros word) (raised (less_zeros word)) (1 - (word + (18446744073709551616 - 3472328296227680304)) / 18446744073709551616)
+    ((less_zeros word + 8536140394893047414) / 18446744073709551616) count
+    (bytes_are-small (λ j. slice_index text (start + j)) (λ j. bytes (start + j)) 8 0) (number_is word (λ j. slice_index text (start + j)) (λ j. bytes (start + j)) same) (wrapped (less_zeros word + 8536140394893047414))
+    (λ k less. both_zero _ _ (sym (marks k (omega arith)) ∙ low_bits others count k some few out less)) k below (omega arith))
+  where
+    nothing_more : (start : ℕ) → start ≡ start + 0
+    nothing_more start = omega arith
+
+    same : word ≡ word_of (λ j. slice_index text (start + j))
+    same = word_is ∙ ap (λ n. slice_index text n + slice_index text (start + 1) * 256 + slice_index text (start + 2) * 65536 + slice_index text (start + 3) * 16777216 + slice_index text (start + 4) * 4294967296 + slice_index text (start + 5) * 1099511627776 + slice_index text (start + 6) * 281474976710656 + slice_index text (start + 7) * 72057594037927936) (nothing_more start)
+
+    from_nothing : (k : ℕ) → 0 + k ≡ k
+    from_nothing k = omega arith
+
+    at : (k : ℕ) → k < 8 → get_or (bytes_from 8 0 (λ j. slice_index text (start + j))) k 0 ≡ slice_index text (start + k)
+    at k below = byte-at (λ j. slice_index text (start + j)) (λ j. bytes (start + j)) 8 0 k below ∙ ap (λ j. slice_index text (start + j)) (from_nothing k)
+
+    both_zero : (a b : ℕ) → max a b ≡ 0 → (a ≡ 0) × (b ≡ 0)
+    both_zero a b none = (omega (arith, none), omega (arith, none))
+
+    number_is : (word : ℕ) (b : ℕ → ℕ) → ((k : ℕ) → b k < 256) → word ≡ word_of b
+        → less_zeros word + repeated 48 8 ≡ number_l 256 (bytes_from 8 0 b) + up 8 (1 - (word + (18446744073709551616 - 3472328296227680304)) / 18446744073709551616)
+    number_is word b byte is = less word small ∙ ap (λ n. n + up 8 (1 - (word + (18446744073709551616 - 3472328296227680304)) / 18446744073709551616)) (is ∙ word-is b byte)
+      where
+        small : word < 18446744073709551616
+        small = omega (arith, is, byte 0, byte 1, byte 2, byte 3, byte 4, byte 5, byte 6, byte 7)
+
+        less : (word : ℕ) → word < 18446744073709551616 → less_zeros word + repeated 48 8 ≡ word + up 8 (1 - (word + (18446744073709551616 - 3472328296227680304)) / 18446744073709551616)
+        less word small = omega arith
 
 -- the value of some digits of a text
 pub short-value : (text : List ℕ) (start count word value : ℕ) → 0 < count → count ≤ 8 → start + 8 ≤ length text → ((i : ℕ) → get_or text i 0 < 256) → AreDigits text start count

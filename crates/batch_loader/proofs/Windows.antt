@@ -165,6 +165,17 @@ bar_from-none text from first bars within empty last window =
     bar_from-is text from (length text) within (omega arith)
     (λ k after less. no_bar (slice_index text k) (none_before text from first bars 64 (omega arith) (no_bits bars empty) window k after (omega arith))) (λ inside. absurd (omega arith))
 
+-- where a bar is still to come the place is not past the end
+pub still_within : (from end bars : ℕ) → (end < from → bars ≡ 0) → bars ≢ 0 → from ≤ end
+still_within from end bars past some =
+    (elim (nat_le from end) as (λ b. nat_le from end ≡ b → from ≤ end) [ true ↦ λ is. reached is | false ↦ λ is. absurd (some (past (missed is))) ]) refl
+  where
+    reached : nat_le from end ≡ true → from ≤ end
+    reached is = grind (arith, nat_tests)
+
+    missed : nat_le from end ≡ false → end < from
+    missed is = grind (arith, nat_tests)
+
 get_or-map : {A B : Type 0} (f : A → B) (items : List A) (k : ℕ) (a : A) (b : B) → k < length items → get_or (map f items) k b ≡ f (get_or items k a)
 get_or-map f [] k a b below = absurd (omega arith)
 get_or-map f (item ∷ items) zero a b below = refl

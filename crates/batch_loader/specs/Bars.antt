@@ -1,6 +1,7 @@
 -- The bars of a text behind a place, by the bits of a number.
-use Rattle.std.specs.Prelude.{◌≡◌, ℕ, ◌+◌, ◌<◌, ◌≤◌, ◌==◌, nat_le, List, cond, slice_index}
+use Rattle.std.specs.Prelude.{◌≡◌, ℕ, ◌+◌, ◌<◌, ◌≤◌, ◌==◌, nat_le, List, cond, length, slice_index}
 use Rattle.std.specs.Int.{bit_at}
+use Rattle.batch_loader.specs.Fields.{bar_from}
 
 -- 1 where the byte at a place is a bar (124), and else 0, also past the end
 abbrev pub bar_bit : List ℕ → ℕ → ℕ
@@ -11,3 +12,11 @@ pub record AreBarsBehind (text : List ℕ) (from first bars : ℕ) : Type 0 wher
   pub near : from ≤ first + 64
   pub none : (place : ℕ) → from ≤ place → place < first → bar_bit text place ≡ 0
   pub bits : (k : ℕ) → k < 64 → bit_at bars k ≡ cond (nat_le from (first + k)) (bar_bit text (first + k)) 0
+
+-- the part of a text from a place on ends at its first bar, or with the text; the bits are the bars behind it, and behind the last part there are none
+pub record EndsPart (text : List ℕ) (from end first bars : ℕ) : Type 0 where
+  pub start : from ≤ length text
+  pub end_is : end ≡ bar_from text from
+  pub within : end ≤ length text
+  pub bars_behind : end < length text → AreBarsBehind text (end + 1) first bars
+  pub none : length text ≤ end → bars ≡ 0

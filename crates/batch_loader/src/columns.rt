@@ -1,8 +1,8 @@
 //! The columns of the five tables, and what they make of a line's fields.
-ghost use Rattle.std.specs.Prelude.{◌≡◌, ◌<◌, ◌+◌, Some, None, IfOk, IfErr};
+ghost use Rattle.std.specs.Prelude.{◌≡◌, ◌<◌, ◌+◌, Some, None, IfSome, IfOk, IfErr};
 ghost use Rattle.batch_loader.specs.Columns.{field_fault, fields_fault, number_in, text_in};
 ghost use Rattle.batch_loader.specs.LineFields.{texts_of};
-ghost use Rattle.batch_loader.specs.Parsing.{AreNumbers, FitsColumn};
+ghost use Rattle.batch_loader.specs.Parsing.{AreNumbers, FitsColumn, ReadsField};
 
 use crate::line_fields::LineFields;
 use cube_model::limits::LONGEST_TEXT;
@@ -28,13 +28,17 @@ pub enum Column {
     Skipped,
 }
 
-const KEY: Column = Column::Number(KEY_LIMIT);
+/// A key or a line number.
+pub const KEY: Column = Column::Number(KEY_LIMIT);
 
-const AMOUNT: Column = Column::Number(AMOUNT_LIMIT);
+/// An amount of money.
+pub const AMOUNT: Column = Column::Number(AMOUNT_LIMIT);
 
-const SMALL: Column = Column::Number(SMALL_LIMIT);
+/// A small count.
+pub const SMALL: Column = Column::Number(SMALL_LIMIT);
 
-const TEXT: Column = Column::Text;
+/// A text that is kept.
+pub const TEXT: Column = Column::Text;
 
 const SKIPPED: Column = Column::Skipped;
 
@@ -103,5 +107,22 @@ fn read_field<const N: usize>(
             Ok(0)
         }
         Column::Skipped => Ok(0),
+    }
+}
+
+/// The same, with nothing in place of the fault of a field that does not fit its column.
+#[inline(always)]
+pub fn fitting<const N: usize>(
+    column: Column,
+    fields: &LineFields<'_, N>,
+    place: usize,
+) -> Option<u64>
+    requires { place < N }
+    ensures { IfSome result (ReadsField column (text_in (texts_of fields.now) place)) }
+{
+    match column {
+        Column::Number(limit) => fields.number(place, limit),
+        Column::Text if fields.get(place).len() > LONGEST_TEXT => None,
+        Column::Text | Column::Skipped => Some(0),
     }
 }

@@ -8,6 +8,7 @@ mod split;
 
 use crate::numbers::number_between;
 pub use split::fields;
+pub(crate) use split::fields_in;
 
 /// The N fields of a line: the line, and where each field ends.
 #[derive(Clone, Copy, Drop)]
@@ -30,7 +31,7 @@ impl<'a, const N: usize> LineFields<'a, N> {
     }
 
     /// The number up to a limit that a field spells, if it spells one.
-    #[inline]
+    #[inline(always)]
     pub(crate) fn number(&self, place: usize, limit: u64) -> Option<u64>
         requires { place < N }
         ensures { result ≡ number_of limit (slice_index_or (texts_of self.now) place []) }

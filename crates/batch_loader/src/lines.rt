@@ -7,39 +7,42 @@ ghost use Rattle.std.specs.Io.BufRead.{Rests};
 ghost use Rattle.batch_loader.specs.contracts.lines.Lines.{the_row};
 
 use crate::reading::{LINE_LIMIT, LineFault, read_line};
-use crate::window::Window;
+use crate::window::{Window, line_at_front};
 use cube_model::{Fault, Place};
 use std::alloc::Global;
 use std::io::Read;
 use std::marker::Model;
 
 /// The lines of what a reader has left.
+///
+/// The line that was taken last lies in front of the window still, with its LF, if any byte is taken there, and else in the buffer.
 #[derive(Drop)]
 pub struct Lines<R: Read> {
     reader: R,
     window: Window,
-    line: Vec<u8>,
+    taken: usize,
+    buffer: Vec<u8>,
     number: u64,
     fault: Option<Fault>,
 }
 
 impl<R: Read> Model for Lines<R> {
-    ghost use Rattle.std.specs.Prelude.{◌≤◌};
+    ghost use Rattle.std.specs.Prelude.{◌≤◌, length, drop};
     ghost use Rattle.std.specs.Vec.{vec_capacity};
     ghost use Rattle.std.specs.Io.KnownBytes.{prepend_known};
     ghost use Rattle.cube_model.specs.Limits.{longest_line};
-    ghost use Rattle.batch_loader.specs.Unread.{Unread};
+    ghost use Rattle.batch_loader.specs.Unread.{Unread, line_in};
 
     ghost Value = { Unread };
 
     ghost view = { λ lines. record {
-      left = prepend_known lines.window (R.remaining lines.reader);
-      line = lines.line.items;
+      left = prepend_known (drop lines.taken lines.window) (R.remaining lines.reader);
+      line = line_in lines.taken lines.window lines.buffer.items;
       number = lines.number;
       fault = lines.fault;
     } };
 
-    ghost invariant = { λ lines. longest_line ≤ vec_capacity lines.line };
+    ghost invariant = { λ lines. (lines.taken ≤ length lines.window) × (longest_line ≤ vec_capacity lines.buffer) };
 }
 
 impl<R: Read> Lines<R> {
@@ -53,11 +56,12 @@ impl<R: Read> Lines<R> {
         ensures err { IfErr result (λ fault. fault ≡ Fault.Memory) }
     {
         let window = Window::new(alloc)?;
-        let line = Vec::with_capacity(alloc, LINE_LIMIT)?;
+        let buffer = Vec::with_capacity(alloc, LINE_LIMIT)?;
         Ok(Lines {
             reader,
             window,
-            line,
+            taken: 0,
+            buffer,
             number: 0,
             fault: None,
         })
@@ -67,7 +71,10 @@ impl<R: Read> Lines<R> {
     pub(crate) fn line(&self) -> &[u8]
         ensures { result.now ≡ self.now.line }
     {
-        self.line.as_slice()
+        if self.taken == 0 {
+            return self.buffer.as_slice();
+        }
+        &self.window.rest()[..self.taken - 1]
     }
 
     /// How many lines were taken, which is the number of the line that was taken last.
@@ -105,7 +112,13 @@ impl<R: Read> Lines<R> {
         if let Some(fault) = self.fault {
             return Err(fault);
         }
-        let found = read_line(&mut self.reader, &mut self.window, &mut self.line);
+        self.window.skip(self.taken);
+        self.taken = line_at_front(&self.window);
+        if self.taken > 0 {
+            self.number = self.number.saturating_add(1);
+            return Ok(true);
+        }
+        let found = read_line(&mut self.reader, &mut self.window, &mut self.buffer);
         if found != Ok(false) {
             self.number = self.number.saturating_add(1);
         }
@@ -125,7 +138,7 @@ impl<R: Read> Lines<R> {
         ensures* after_borrow { sem 𝓛 (Rests (the_row R.row R.Read) self.entry (λ new. NextGives self.old new result)) }
     {
         if self.advance()? {
-            Ok(Some(self.line.as_slice()))
+            Ok(Some(self.line()))
         } else {
             Ok(None)
         }

@@ -4,17 +4,17 @@ ghost use Rattle.batch_loader.specs.Numbers.{number_of, value_of};
 
 mod short;
 
-use short::{digit_count, short_value};
+use short::{are_digits, short_value};
 
 /// The number up to a limit that a part of a text spells, if it spells one.
-#[inline]
+#[inline(always)]
 pub fn number_between(text: &[u8], start: usize, end: usize, limit: u64) -> Option<u64>
     requires order { start ≤ end }
     requires within { end ≤ length text.now }
     ensures { result ≡ number_of limit (slice_range text.now start end) }
 {
     let count = end - start;
-    if count == 0 || count > 8 || text.len() - start < 8 || digit_count(text, start) < count {
+    if count == 0 || count > 8 || start + 8 > text.len() || !are_digits(text, start, count) {
         return number(&text[start..end], limit);
     }
     let value = short_value(text, start, count);

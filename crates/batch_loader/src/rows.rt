@@ -1,12 +1,14 @@
 //! How a line becomes a row.
-ghost use Rattle.std.specs.Prelude.{◌≡◌, ◌⊎◌, ◌≤◌, Ok, Err, MatchResult, IfOk, IfErr, length};
-ghost use Rattle.batch_loader.specs.Columns.{row_of};
+ghost use Rattle.std.specs.Prelude.{◌≡◌, ◌⊎◌, ◌≤◌, ℕ, Some, None, Ok, Err, MatchResult, IfSome, IfOk, IfErr, length};
+ghost use Rattle.batch_loader.specs.Columns.{fields_fault, row_of};
 ghost use Rattle.batch_loader.specs.LineFields.{texts_of};
 ghost use Rattle.batch_loader.specs.Parsing.{AreNumbers};
 ghost use Rattle.batch_loader.specs.Tables.{lineorder_columns, lineorder_of_fields};
 
-use crate::columns::{CUSTOMER, DATE, LINEORDER, PART, SUPPLIER, numbers_of};
-use crate::line_fields::{LineFields, fields};
+use crate::columns::{
+    AMOUNT, CUSTOMER, DATE, KEY, LINEORDER, PART, SMALL, SUPPLIER, TEXT, fitting, numbers_of,
+};
+use crate::line_fields::{LineFields, fields, fields_in};
 use cube_model::{
     Amount, CustomerRow, DateRow, Fault, Items, LineOrder, PartRow, RowText, SupplierRow, Text,
 };
@@ -126,10 +128,62 @@ impl TableRow for LineOrder {
     ghost of_fields = { lineorder_of_fields };
 
     fn read(alloc: Global, line: &[u8], number: u64) -> Result<Self, Fault> {
-        let fields = fields::<17>(line, number)?;
-        let numbers = numbers_of(&LINEORDER, &fields, number)?;
+        let Some(fields) = fields_in::<17>(line) else {
+            return Err(Fault::FieldCount { line: number });
+        };
+        let numbers = line_order_numbers(&fields, number)?;
         line_order(alloc, &fields, &numbers)
     }
+}
+
+// The numbers of a fact row's fields, or the fault of the first field that does not fit its column.
+#[inline(always)]
+fn line_order_numbers(fields: &LineFields<'_, 17>, line: u64) -> Result<[u64; 17], Fault>
+    ensures fits { IfOk result (λ _. fields_fault line 1 lineorder_columns (texts_of fields.now) ≡ None) }
+    ensures numbers { IfOk result (AreNumbers 0 lineorder_columns (texts_of fields.now)) }
+    ensures refused { IfErr result (λ fault. fields_fault line 1 lineorder_columns (texts_of fields.now) ≡ Some fault) }
+{
+    match fitting_numbers(fields) {
+        Some(numbers) => Ok(numbers),
+        None => numbers_by_columns(fields, line),
+    }
+}
+
+// The numbers of a fact row's fields, or nothing where a field does not fit its column. A loop over the columns would tell them apart anew in each row.
+#[inline(always)]
+fn fitting_numbers(fields: &LineFields<'_, 17>) -> Option<[u64; 17]>
+    ensures fits { IfSome result (λ _. (line : ℕ) → fields_fault line 1 lineorder_columns (texts_of fields.now) ≡ None) }
+    ensures numbers { IfSome result (AreNumbers 0 lineorder_columns (texts_of fields.now)) }
+{
+    Some([
+        fitting(AMOUNT, fields, 0)?,
+        fitting(KEY, fields, 1)?,
+        fitting(KEY, fields, 2)?,
+        fitting(KEY, fields, 3)?,
+        fitting(KEY, fields, 4)?,
+        fitting(KEY, fields, 5)?,
+        fitting(TEXT, fields, 6)?,
+        fitting(TEXT, fields, 7)?,
+        fitting(SMALL, fields, 8)?,
+        fitting(AMOUNT, fields, 9)?,
+        fitting(AMOUNT, fields, 10)?,
+        fitting(SMALL, fields, 11)?,
+        fitting(AMOUNT, fields, 12)?,
+        fitting(AMOUNT, fields, 13)?,
+        fitting(SMALL, fields, 14)?,
+        fitting(TEXT, fields, 15)?,
+        fitting(TEXT, fields, 16)?,
+    ])
+}
+
+// The same column by column, which finds the fault.
+#[inline(never)]
+fn numbers_by_columns(fields: &LineFields<'_, 17>, line: u64) -> Result<[u64; 17], Fault>
+    ensures fits { IfOk result (λ _. fields_fault line 1 lineorder_columns (texts_of fields.now) ≡ None) }
+    ensures numbers { IfOk result (AreNumbers 0 lineorder_columns (texts_of fields.now)) }
+    ensures refused { IfErr result (λ fault. fields_fault line 1 lineorder_columns (texts_of fields.now) ≡ Some fault) }
+{
+    numbers_of(&LINEORDER, fields, line)
 }
 
 // The fact row of a line's fields, whose numbers were read. It can only fail for want of memory.

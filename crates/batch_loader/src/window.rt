@@ -1,8 +1,9 @@
 //! Bytes that were read ahead.
-ghost use Rattle.std.specs.Prelude.{◌≡◌, ◌<◌, ◌≤◌, ℕ, List, [], Option, Ok, false, MatchBool, IfOk, length, drop};
+ghost use Rattle.std.specs.Prelude.{◌≡◌, ◌<◌, ◌≤◌, ◌+◌, ◌-◌, ℕ, List, [], Option, Ok, false, MatchBool, IfOk, length, take, drop};
 ghost use Rattle.std.specs.Vec.{vec_capacity};
 ghost use Rattle.std.specs.Io.KnownBytes.{IsAtEnd, Keeps, prepend_known};
 ghost use Rattle.batch_loader.specs.Fronts.{IsFront, TakesPart};
+ghost use Rattle.batch_loader.specs.Reading.{TakesLine};
 
 use crate::reading::LINE_LIMIT;
 use memchr::memchr;
@@ -76,6 +77,18 @@ impl Window {
                 Ok(count > 0)
             }
         }
+    }
+}
+
+/// How many bytes the line at the front has with its LF, or 0 where the window has no LF, or the line is too long.
+pub fn line_at_front(window: &Window) -> usize
+    ensures within { result ≤ length window.now }
+    ensures short { result ≤ LINE_LIMIT + 1 }
+    ensures line { (left : Option (List ℕ)) → 0 < result → TakesLine (prepend_known window.now left) (prepend_known (drop result window.now) left) (take (result - 1) window.now) }
+{
+    match memchr(b'\n', window.rest()) {
+        Some(at) if at <= LINE_LIMIT => at + 1,
+        _ => 0,
     }
 }
 

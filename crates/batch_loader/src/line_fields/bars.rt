@@ -1,9 +1,8 @@
 //! The bars of a line, one after the other.
-ghost use Rattle.std.specs.Prelude.{◌≡◌, ◌≢◌, ◌+◌, ◌-◌, ◌<◌, ◌≤◌, ◌==◌, ℕ, length, map};
+ghost use Rattle.std.specs.Prelude.{◌≡◌, ◌≢◌, ◌+◌, ◌-◌, ◌<◌, ◌≤◌, ◌==◌, ℕ, List, MatchOption, length, map};
 ghost use Rattle.std.specs.Int.{bit_at};
 ghost use Rattle.std.specs.Simd.Lanes.{mask_l};
-ghost use Rattle.batch_loader.specs.Bars.{AreBarsBehind, bar_bit};
-ghost use Rattle.batch_loader.specs.Fields.{bar_from};
+ghost use Rattle.batch_loader.specs.Bars.{AreBarsBehind, EndsPart, bar_bit};
 
 use std::simd::prelude::*;
 
@@ -28,41 +27,44 @@ pub fn first_window(text: &[u8]) -> Window
     }
 }
 
-/// The place of the first bar from a place on, or the length of the text, and the window of the bars behind it.
+/// The place of the first bar from a place on, or the length of the text, and the window of the bars behind it; or nothing for a place past the end.
 #[inline(always)]
-pub fn next_bar(text: &[u8], from: usize, window: Window) -> (usize, Window)
-    requires within { from ≤ length text.now }
-    requires bars { AreBarsBehind text.now from window.first window.bars }
-    ensures bar { result.0 ≡ bar_from text.now from }
-    ensures within { result.0 ≤ length text.now }
-    ensures bars { result.0 < length text.now → AreBarsBehind text.now (result.0 + 1) result.1.first result.1.bars }
+pub fn next_end(text: &[u8], from: usize, window: Window) -> Option<(usize, Window)>
+    requires bars { from ≤ length text.now → AreBarsBehind text.now from window.first window.bars }
+    requires past { length text.now < from → window.bars ≡ 0 }
+    ensures { MatchOption result (length text.now < from) (λ next. EndsPart text.now from next.0 next.1.first next.1.bars) }
 {
-    let window = with_bar(text, from, window);
-    if window.bars == 0 {
-        return (text.len(), window);
+    // Mostly the next bar is in the window at hand.
+    if window.bars != 0 {
+        let (bit, behind) = lowest_bar(window);
+        return Some((window.first + bit, behind));
     }
+    if from > text.len() {
+        return None;
+    }
+    let window = later_window(text, from, window);
+    if window.bars == 0 {
+        return Some((text.len(), window));
+    }
+    let (bit, behind) = lowest_bar(window);
+    Some((window.first + bit, behind))
+}
+
+/// The first bar of a window, by its place in the window, and the window of those behind it.
+#[inline(always)]
+fn lowest_bar(window: Window) -> (usize, Window)
+    requires { window.bars ≢ 0 }
+    ensures { (text : List ℕ) (from : ℕ) → AreBarsBehind text from window.first window.bars → EndsPart text from (window.first + result.0) result.1.first result.1.bars }
+{
     let bit = lowest(window.bars);
     let behind = Window {
         first: window.first,
         bars: without(window.bars, bit),
     };
-    (window.first + bit, behind)
+    (bit, behind)
 }
 
-/// The first window with a bar from a place on, or the last window. Mostly it is the window at hand.
-#[inline(always)]
-fn with_bar(text: &[u8], from: usize, window: Window) -> Window
-    requires bars { AreBarsBehind text.now from window.first window.bars }
-    ensures bars { AreBarsBehind text.now from result.first result.bars }
-    ensures none { result.bars ≡ 0 → length text.now ≤ result.first + 64 }
-{
-    if window.bars != 0 {
-        return window;
-    }
-    later_window(text, from, window)
-}
-
-/// The same, window by window.
+/// The first window with a bar from a place on, or the last window.
 #[inline(never)]
 fn later_window(text: &[u8], from: usize, window: Window) -> Window
     requires bars { AreBarsBehind text.now from window.first window.bars }

@@ -1,10 +1,10 @@
 //! Splitting a line at its bars.
-ghost use Rattle.std.specs.Prelude.{◌≡◌, Some, None, MatchResult};
+ghost use Rattle.std.specs.Prelude.{◌≡◌, Some, None, MatchOption, MatchResult};
 ghost use Rattle.batch_loader.specs.Fields.{without_cr, fields_of};
 ghost use Rattle.batch_loader.specs.LineFields.{texts_of};
 
 use super::LineFields;
-use super::bars::{first_window, next_bar};
+use super::bars::{first_window, next_end};
 use cube_model::Fault;
 
 /// The fields of a line with a number. A line spells N fields where it has N parts between its bars, or one more that is empty.
@@ -12,23 +12,33 @@ use cube_model::Fault;
 pub fn fields<const N: usize>(line: &[u8], number: u64) -> Result<LineFields<'_, N>, Fault>
     ensures { MatchResult result (λ fields. fields_of N line.now ≡ Some (texts_of fields)) (λ fault. (fields_of N line.now ≡ None) × (fault ≡ Fault.FieldCount number)) }
 {
+    match fields_in(line) {
+        Some(fields) => Ok(fields),
+        None => Err(Fault::FieldCount { line: number }),
+    }
+}
+
+/// The fields of a line, if it spells N of them.
+#[inline(always)]
+pub fn fields_in<const N: usize>(line: &[u8]) -> Option<LineFields<'_, N>>
+    ensures { MatchOption result (fields_of N line.now ≡ None) (λ fields. fields_of N line.now ≡ Some (texts_of fields)) }
+{
     let text = without_cr(line);
     let mut ends = [0usize; N];
     let mut from = 0;
     let mut window = first_window(text);
     for place in 0..N {
-        if from > text.len() {
-            return Err(Fault::FieldCount { line: number });
-        }
-        let (end, behind) = next_bar(text, from, window);
+        let Some((end, behind)) = next_end(text, from, window) else {
+            return None;
+        };
         ends[place] = end;
         from = end + 1;
         window = behind;
     }
     if from < text.len() {
-        return Err(Fault::FieldCount { line: number });
+        return None;
     }
-    Ok(LineFields { line: text, ends })
+    Some(LineFields { line: text, ends })
 }
 
 /// A line without its CR.

@@ -1,11 +1,9 @@
 //! Numbers of at most eight digits, all digits at once.
-ghost use Rattle.std.specs.Prelude.{◌≡◌, ◌≤◌, ◌+◌, ◌*◌, ◌/◌, ◌%◌, ◌^◌, ◌<◌, ℕ, List, length, map, nat_lt, slice_range};
-ghost use Rattle.std.specs.Simd.Lanes.{mask_l};
+ghost use Rattle.std.specs.Prelude.{◌≡◌, ◌≤◌, ◌+◌, ◌*◌, ◌/◌, ◌%◌, ◌^◌, ◌<◌, ℕ, List, length, max, true, slice_range};
+ghost use Rattle.std.specs.Int.{bit_at};
 ghost use Rattle.std.specs.Slice.Scan.{little_endian};
 ghost use Rattle.batch_loader.specs.Numbers.{value_of};
-ghost use Rattle.batch_loader.specs.ShortNumbers.{AreDigits, IsSpread, decimal_of};
-
-use std::simd::prelude::*;
+ghost use Rattle.batch_loader.specs.ShortNumbers.{AreDigits, IsSpread, decimal_of, raised};
 
 /// How far behind a number's lower half the upper one lies.
 const HALF: u64 = 4_294_967_296;
@@ -13,32 +11,30 @@ const HALF: u64 = 4_294_967_296;
 /// Eight digits 0.
 const ZEROS: u64 = 0x3030_3030_3030_3030;
 
-/// How many of the eight bytes from a place on are digits, before the first one that is not; or more than eight where all are.
+/// What brings eight bytes above nine to their highest bits.
+const TO_HIGHEST: u64 = 0x7676_7676_7676_7676;
+
+/// The highest bits of eight bytes.
+const HIGHEST_BITS: u64 = 0x8080_8080_8080_8080;
+
+/// Whether so many of the eight bytes from a place on are digits.
 #[inline(always)]
-pub fn digit_count(text: &[u8], start: usize) -> usize
-    requires { start + 8 ≤ length text.now }
-    ensures { (count : ℕ) → count ≤ result → count ≤ 8 → AreDigits text.now start count }
+pub fn are_digits(text: &[u8], start: usize, count: usize) -> bool
+    requires some { 0 < count }
+    requires few { count ≤ 8 }
+    requires room { start + 8 ≤ length text.now }
+    ensures { result ≡ true → AreDigits text.now start count }
 {
-    let digits = digits_of_lanes(behind_zero(u8x8::from_slice(&text[start..])));
-    digits.trailing_ones() as usize
+    let others = marks_above_nine(word_at(text, start).wrapping_sub(ZEROS));
+    others << (64 - 8 * count) == 0
 }
 
-/// How far each lane stands behind the digit 0, round the numbers of 8 bits.
+/// Marks of a number's bytes, at their highest bits. The lowest byte above nine has one, and the bytes below it have none.
 #[inline(always)]
-fn behind_zero(lanes: u8x8) -> u8x8
-    requires { length lanes ≡ 8 }
-    ensures { result ≡ map (λ byte. (byte + 208) % 256) lanes }
+fn marks_above_nine(number: u64) -> u64
+    ensures { (k : ℕ) → k < 8 → bit_at result (8 * k + 7) ≡ max (bit_at number (8 * k + 7)) (bit_at (raised number) (8 * k + 7)) }
 {
-    lanes - u8x8::splat(b'0')
-}
-
-/// A bit for each lane below 10.
-#[inline(always)]
-fn digits_of_lanes(lanes: u8x8) -> u64
-    requires { length lanes ≡ 8 }
-    ensures { result ≡ mask_l (map (λ digit. nat_lt digit 10) lanes) }
-{
-    lanes.simd_lt(u8x8::splat(10)).to_bitmask()
+    (number.wrapping_add(TO_HIGHEST) | number) & HIGHEST_BITS
 }
 
 /// The value of at most eight digits from a place on.
