@@ -1,12 +1,14 @@
 //! Cells of the sample rows by ship mode as well, worked out by hand.
+ghost use Rattle.std.specs.Prelude.{◌≡◌};
+
 use crate::grouped::FIRST_AND_THIRD;
 use crate::sample::{FIRST, SECOND, THIRD};
-use cube_model::Fault;
+use cube_model::{Agg, Fault, Items, Kind, Query};
 use cuboid_cells::{Cell, Cells, Key, Summaries};
-use cuboid_upkeep::{add_rows, stand_ins_of};
+use cuboid_upkeep::{CellNumbers, add_rows};
 use dictionary::Dictionary;
 use dimensions::Dims;
-use group_plan::{FactRows, RowSlice};
+use group_plan::{Plan, RowSlice};
 use lattice::View;
 use sample_star::{FACTS, STAR, dim_rows, line_orders};
 use std::alloc::Global;
@@ -136,8 +138,23 @@ fn refuses_rows_of_no_mode(rt: HostRuntime) -> Result<(), Fail> {
     Ok(())
 }
 
-// How many rows stand in for the cells of the sample rows.
-fn stand_ins(
+// How many cells have a number, until one has a code of no member.
+fn numbered(numbers: &CellNumbers, cells: &Cells) -> Result<usize, Fault>
+    requires { cells.now.view ≡ numbers.now.view }
+{
+    let mut count: usize = 0;
+    let _view = cells.view();
+    for cell in cells.as_slice() {
+        if numbers.number(cell).is_err() {
+            return Err(Fault::BadLayout);
+        }
+        count = count.saturating_add(1);
+    }
+    Ok(count)
+}
+
+// How many cells of the sample rows have a number by a query of one group.
+fn numbered_cells(
     alloc: Global,
     dims: &Dims,
     texts: Option<&[&[u8]]>,
@@ -146,8 +163,24 @@ fn stand_ins(
     let modes = modes_of(alloc, texts.unwrap_or(&[]))?;
     let cells = grouped(alloc, index)?;
     let given = if texts.is_some() { Some(&modes) } else { None };
-    let rows = stand_ins_of(alloc, dims, &cells, given)?;
-    Ok(rows.count())
+    let query = count_of_all(alloc)?;
+    query.check()?;
+    let plan = Plan::new(alloc, dims, &query)?;
+    let numbers = CellNumbers::of(alloc, dims, &plan, cells.view(), given)?;
+    numbered(&numbers, &cells)
+}
+
+// The count of all rows.
+fn count_of_all(alloc: Global) -> Result<Query, Fault> {
+    let mut aggregates = Items::new(alloc);
+    aggregates.push(Agg::Count)?;
+    Ok(Query {
+        kind: Kind::Plain,
+        columns: Items::new(alloc),
+        conditions: Items::new(alloc),
+        aggregates,
+        order: None,
+    })
 }
 
 // How many cells the sample rows have.
@@ -156,7 +189,7 @@ fn many(index: u16) -> usize {
 }
 
 #[test]
-fn cells_of_no_mode_have_no_stand_ins(rt: HostRuntime) -> Result<(), Fail> {
+fn cells_of_no_mode_have_no_numbers(rt: HostRuntime) -> Result<(), Fail> {
     let dims = dims_of(rt.alloc())?;
     for (texts, view, some) in GIVEN {
         let want = if some {
@@ -165,7 +198,7 @@ fn cells_of_no_mode_have_no_stand_ins(rt: HostRuntime) -> Result<(), Fail> {
             Err(Fault::BadLayout)
         };
         assert_eq!(rt;
-            stand_ins(rt.alloc(), &dims, texts, view),
+            numbered_cells(rt.alloc(), &dims, texts, view),
             want,
             "view {view}"
         );

@@ -29,6 +29,7 @@ pub mod Targets
 pub mod Passes
 pub mod Ends
 mod CellMerges
+mod CellSlots
 mod BatchFolds
 mod BatchTallies
 mod CellGroups

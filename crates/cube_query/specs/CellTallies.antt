@@ -1,6 +1,7 @@
 -- Cells of a cuboid as tallies, merged into those at the slots of their groups. Our own.
-use Rattle.std.specs.Prelude.{◌≡◌, ℕ, ◌+◌, ◌^◌, ◌<◌, ◌==◌, cond, pos, nat_abs, ◌+ℤ◌, FitsSigned, List, [], ◌∷◌, length, slice_get, slice_set, slice_index_or, Option, Some, None}
+use Rattle.std.specs.Prelude.{◌≡◌, ℕ, ◌+◌, ◌^◌, ◌<◌, ◌≤◌, ◌==◌, true, cond, pos, nat_abs, ◌+ℤ◌, FitsSigned, List, [], ◌∷◌, ◌++◌, length, slice_get, slice_set, slice_index_or, Option, Some, None}
 use Rattle.std.specs.Int.{w64}
+use Rattle.std.specs.List.{list_all}
 use Rattle.std.specs.declared.alloc.Global.{Global}
 use Rattle.std.specs.declared.vec.Vec.{Vec}
 use Rattle.cube_model.specs.declared.measure.Agg.{Agg}
@@ -11,7 +12,9 @@ use Rattle.cuboid_cells.specs.declared.cell.Cell.{Cell}
 use Rattle.cuboid_cells.specs.declared.summary.Summaries.{Summaries}
 use Rattle.cuboid_cells.specs.declared.summary.Summary.{Summary}
 use Rattle.cube_query.specs.Columns.{tally_at}
+use Rattle.cube_query.specs.Room.{can_take}
 use Rattle.cube_query.specs.Tallies.{merged}
+use Rattle.cube_query.specs.declared.cell_columns.Weight.{Weight}
 use Rattle.cube_query.specs.declared.tally.Tally.{Tally}
 
 -- what is kept of a measure
@@ -106,3 +109,22 @@ pub record HasRoomForAll (agg : Agg) (cells : List Cell) (group_slots : List (Op
 abbrev pub HaveRoomForAll : List Agg → List Cell → List (Option ℕ) → List (Vec Tally Global) → Type 0
 HaveRoomForAll aggs cells group_slots columns = (k : ℕ) → k < length aggs → (agg : Agg) (column : Vec Tally Global)
     → HasRoomForAll (slice_index_or aggs k agg) cells group_slots (slice_index_or columns k column).items
+
+-- no less than what the cells that have a slot add to tallies: their rows, and the absolute values of their sums by each aggregate
+pub record AreWithin (aggs : List Agg) (cells : List Cell) (group_slots : List (Option ℕ)) (weight : Weight) : Type 0 where
+  pub count : count_in cells group_slots ≤ weight.count
+  pub sizes : (k : ℕ) → k < length aggs → (agg : Agg) → size_in (slice_index_or aggs k agg) cells group_slots ≤ weight.size
+
+-- so it is unless the cells weigh more than a tally holds
+abbrev pub IsMost : List Agg → List Cell → List (Option ℕ) → Weight → Type 0
+IsMost aggs cells group_slots weight = weight.count < 2 ^ 63 → weight.size < 2 ^ 63 → AreWithin aggs cells group_slots weight
+
+-- a weight with one cell more is still one of the most
+abbrev pub Weighs : List Agg → Cell → Option ℕ → Weight → Weight → Type 0
+Weighs aggs cell group_slot old new = (cells : List Cell) (group_slots : List (Option ℕ)) → length group_slots ≡ length cells
+    → IsMost aggs cells group_slots old → IsMost aggs (cells ++ cell ∷ []) (group_slots ++ group_slot ∷ []) new
+
+-- the tallies of all columns at slots can take so many numbers more, whose absolute values have a sum
+abbrev pub AllTake : List (Vec Tally Global) → List (Option ℕ) → ℕ → ℕ → Type 0
+AllTake columns group_slots count size = (k : ℕ) → k < length columns → (column : Vec Tally Global)
+    → list_all (λ group_slot. can_take (slice_index_or columns k column).items group_slot count size) group_slots ≡ true

@@ -1,4 +1,5 @@
 pub mod Asked
+pub mod CellSlots
 pub mod CellTallies
 pub mod Chosen
 pub mod Coarser

@@ -1,15 +1,104 @@
 //! Cells of a cuboid, merged into the tallies at the slots of their groups.
-ghost use Rattle.std.specs.Prelude.{◌≡◌, ◌⊎◌, ◌↔◌, ◌≤◌, ◌<◌, ◌^◌, ℕ, [], ◌∷◌, length, Some, IsTrue, MatchOption};
-ghost use Rattle.cube_query.specs.CellTallies.{AreBelow, HasCellRoom, HasRoomForAll, HaveCellRoom, HaveRoomForAll, MergesCells, cell_tally, count_in, counted, size_in, summary_in, with_cell, with_cells};
+ghost use Rattle.std.specs.Prelude.{◌≡◌, ◌⊎◌, ◌↔◌, ◌≤◌, ◌<◌, ◌^◌, ℕ, [], ◌∷◌, length, nat_abs, slice_index_or, Some, IsTrue, MatchOption};
+ghost use Rattle.cube_model.specs.declared.measure.Agg.{Agg};
+ghost use Rattle.cube_query.specs.CellTallies.{AllTake, AreBelow, HasCellRoom, HasRoomForAll, HaveCellRoom, HaveRoomForAll, IsMost, MergesCells, Weighs, cell_tally, count_in, counted, size_in, summary_in, with_cell, with_cells};
 ghost use Rattle.cube_query.specs.Columns.{tallies_at};
 
-use crate::room::{LIMIT, all_can_take};
+use crate::room::{LIMIT, all_can_take, slots_can_take};
 use crate::tally::Tally;
 use cube_model::{Agg, Amount, Measure};
 use cuboid_cells::{Cell, Summaries, Summary};
 
-/// Whether each column has room for cells at the slots of their groups. It takes no memory.
+/// What cells add to tallies, at most.
+#[derive(Clone, Copy)]
+pub struct Weight {
+    /// How many rows they stand for.
+    pub count: u128,
+    /// The absolute values of their sums together.
+    pub size: u128,
+}
+
+impl Weight {
+    /// That of no cell.
+    pub fn none() -> Weight
+        ensures { result ≡ record { count = 0; size = 0 } }
+    {
+        Weight { count: 0, size: 0 }
+    }
+
+    /// The weight with a cell more, if the cell has a slot, by all aggregates. It rises no further where it is more than a
+    /// tally holds.
+    #[inline]
+    pub fn with(self, aggs: &[Agg], cell: &Cell, group_slot: Option<u32>) -> Weight
+        ensures { Weighs aggs.now cell.now group_slot self result }
+    {
+        let Some(_) = group_slot else {
+            return self;
+        };
+        if self.count >= LIMIT {
+            return self;
+        }
+        if self.size >= LIMIT {
+            return self;
+        }
+        Weight {
+            count: self.count + u128::from(cell.count),
+            size: self.size + sizes_of(aggs, cell),
+        }
+    }
+}
+
+// The absolute values of the sums of a cell by all aggregates together.
+fn sizes_of(aggs: &[Agg], cell: &Cell) -> u128
+    ensures each { (k : ℕ) → k < length aggs.now → (agg : Agg)
+        → nat_abs (cell_tally (slice_index_or aggs.now k agg) cell.now).sum ≤ result }
+    ensures small { result ≤ 2 ^ 127 }
+{
+    let mut size = 0;
+    for agg in aggs {
+        size += size_of(*agg, cell);
+    }
+    size
+}
+
+/// Whether each column has room for cells at the slots of their groups, which add no more than a weight. It takes no memory.
+///
+/// The weight tells it mostly. The cells are read only where it is too much for a column.
 pub fn have_room_for_cells(
+    columns: &[Vec<Tally>],
+    aggs: &[Agg],
+    cells: &[Cell],
+    group_slots: &[Option<u32>],
+    weight: Weight,
+) -> bool
+    requires columns { length columns.now ≡ length aggs.now }
+    requires group_slots { length group_slots.now ≡ length cells.now }
+    requires most { IsMost aggs.now cells.now group_slots.now weight }
+    ensures { IsTrue result ↔ HaveRoomForAll aggs.now cells.now group_slots.now columns.now }
+{
+    have_room_for_weight(columns, group_slots, weight)
+        || have_room_for_each(columns, aggs, cells, group_slots)
+}
+
+// Whether each column has room for a weight at slots.
+fn have_room_for_weight(columns: &[Vec<Tally>], group_slots: &[Option<u32>], weight: Weight) -> bool
+    ensures fits { IsTrue result → (weight.count < 2 ^ 63) × (weight.size < 2 ^ 63) }
+    ensures take { IsTrue result → AllTake columns.now group_slots.now weight.count weight.size }
+{
+    if weight.count >= LIMIT || weight.size >= LIMIT {
+        return false;
+    }
+    for place in 0..columns.len() {
+        let column = columns[place].as_slice();
+        if !slots_can_take(column, group_slots, weight.count, weight.size) {
+            return false;
+        }
+    }
+    true
+}
+
+// Whether each column has room for cells at the slots of their groups, by what they add to it.
+fn have_room_for_each(
     columns: &[Vec<Tally>],
     aggs: &[Agg],
     cells: &[Cell],
@@ -41,15 +130,6 @@ fn has_room_for_cells(
         Some(weight) => all_can_take(column, group_slots, weight.count, weight.size),
         None => false,
     }
-}
-
-// What cells add to tallies, at most.
-#[derive(Clone, Copy)]
-struct Weight {
-    // How many rows they stand for.
-    count: u128,
-    // The absolute values of their sums together.
-    size: u128,
 }
 
 // The weight of the cells that have a slot, unless they are too many rows or their sums too large. Each cell is read once.
@@ -92,8 +172,17 @@ fn size_at(agg: Agg, cell: &Cell, group_slot: Option<u32>) -> u128
 {
     match group_slot {
         None => 0,
-        Some(_) => u128::from(sum_in(agg, cell).unsigned_abs()),
+        Some(_) => size_of(agg, cell),
     }
+}
+
+// The absolute value of the sum of a cell.
+#[inline]
+fn size_of(agg: Agg, cell: &Cell) -> u128
+    ensures size { result ≡ nat_abs (cell_tally agg cell.now).sum }
+    ensures small { result ≤ 2 ^ 63 }
+{
+    u128::from(sum_in(agg, cell).unsigned_abs())
 }
 
 // What a cell adds to a sum.

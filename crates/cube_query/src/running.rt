@@ -7,6 +7,8 @@ ghost use Rattle.cube_model.specs.Proper.{IsProper};
 ghost use Rattle.cube_model.specs.Selection.{is_selected};
 ghost use Rattle.cube_model.specs.declared.rows.LineOrder.{LineOrder};
 ghost use Rattle.cube_query.specs.Asked.{asked_columns};
+ghost use Rattle.cube_query.specs.CellSlots.{AreCellSlots, asked_of};
+ghost use Rattle.cube_query.specs.CellTallies.{IsMost};
 ghost use Rattle.cube_query.specs.Columns.{tallies_at};
 ghost use Rattle.cube_query.specs.Groups.{StandsFor, Begins, CanTake, IsFoldOver, IsFoldable, IsOver, Takes};
 ghost use Rattle.group_plan.specs.Numbers.{group_count, IsKnown};
@@ -20,6 +22,7 @@ ghost use Rattle.lattice.specs.Determined.{Serves};
 
 use crate::asked::asked_columns;
 use crate::cell_columns::{have_room_for_cells, merge_in_cells};
+use crate::cell_slots::{SlottedCells, cell_slots_of};
 use crate::chosen_rows::ChosenRows;
 use crate::columns::{count_in_all, lengthen_all, no_columns};
 use crate::finish::answer_lines;
@@ -33,7 +36,7 @@ use column_kernels::Mask;
 use column_segment::{FactColumn, Segment};
 use cube_model::{Answer, Fault, LineOrder, Query};
 use cuboid_cells::Cells;
-use cuboid_upkeep::{one_key_one_group, stand_ins_of};
+use cuboid_upkeep::{CellNumbers, one_key_one_group};
 use dictionary::Dictionary;
 use dimensions::Dims;
 use group_plan::{FactRows, Plan, RowSlice};
@@ -164,16 +167,16 @@ impl Fold {
         ensures only { IfErr result (λ fault. (fault ≡ Fault.Memory) ⊎ (fault ≡ Fault.BadLayout)) }
     {
         one_key_one_group(dims);
-        let rows = stand_ins_of(self.alloc, dims, cells, modes)?;
         let columns = &mut self.columns;
         let slots = &mut self.slots;
-        let group_slots = ready(self.alloc, dims, &self.plan, slots, columns, &rows)?;
+        let slotted = ready_for_cells(self.alloc, dims, &self.plan, slots, columns, cells, modes)?;
         let aggregates = self.plan.query().aggregates.as_slice();
         if !have_room_for_cells(
             columns.as_slice(),
             aggregates,
             cells.as_slice(),
-            group_slots.as_slice(),
+            slotted.group_slots.as_slice(),
+            slotted.weight,
         ) {
             return Err(Fault::BadLayout);
         }
@@ -181,7 +184,7 @@ impl Fold {
             columns.as_mut_slice(),
             aggregates,
             cells.as_slice(),
-            group_slots.as_slice(),
+            slotted.group_slots.as_slice(),
         );
         Ok(())
     }
@@ -315,6 +318,43 @@ fn ready<F: FactRows>(
     let group_slots = group_slots_of(alloc, &plan.over(dims), slots, rows)?;
     lengthen_all(columns.as_mut_slice(), slots.len())?;
     Ok(group_slots)
+}
+
+// Makes all ready for cells to be merged in: the slots of their groups, and a place for each slot. Nothing is merged yet.
+fn ready_for_cells(
+    alloc: Global,
+    dims: &Dims,
+    plan: &Plan,
+    slots: &mut Slots,
+    columns: &mut Vec<Vec<Tally>>,
+    cells: &Cells,
+    modes: Option<&Dictionary>,
+) -> Result<SlottedCells, Fault>
+    requires over { IsPlanOver dims.now plan.now }
+    requires numbers { AreSlots (group_count dims.now (query_of plan.now).columns) (entries_of slots.old) }
+    requires cover { Cover (group_count dims.now (query_of plan.now).columns) slots.old }
+    ensures group_slots { IfOk result (λ slotted. AreCellSlots (asked_of dims.now (query_of plan.now) cells.now.view
+        (modes_of (option_map (λ modes. modes.now) modes.entry))) (entries_of slots.new) cells.now.cells slotted.group_slots.items) }
+    ensures most { IfOk result (λ slotted.
+        IsMost (query_of plan.now).aggregates cells.now.cells slotted.group_slots.items slotted.weight) }
+    ensures refused { result ≡ Err Fault.BadLayout → (rows : List LineOrder)
+        → StandFor dims.now (modes_of (option_map (λ modes. modes.now) modes.entry)) rows cells.now
+        → All (IsKnown dims.now) rows → ⊥ }
+    ensures only { IfErr result (λ fault. (fault ≡ Fault.Memory) ⊎ (fault ≡ Fault.BadLayout)) }
+    ensures long { OnOk result (AllByRecursion (λ column. length (entries_of slots.new) ≤ length column.items)
+        columns.new.items) }
+    ensures same { (slot : ℕ) → tallies_at columns.new.items slot ≡ tallies_at columns.old.items slot }
+    ensures cover { Cover (group_count dims.now (query_of plan.now).columns) slots.new }
+    ensures grow { Grow (group_count dims.now (query_of plan.now).columns) (entries_of slots.old)
+        (entries_of slots.new) }
+{
+    let view = cells.view();
+    let cells = cells.as_slice();
+    let numbers = CellNumbers::of(alloc, dims, plan, view, modes)?;
+    let aggregates = plan.query().aggregates.as_slice();
+    let slotted = cell_slots_of(alloc, &numbers, slots, aggregates, cells)?;
+    lengthen_all(columns.as_mut_slice(), slots.len())?;
+    Ok(slotted)
 }
 
 // Makes all ready for the one group of a query: its slot, and a place for each slot. Nothing is counted yet.

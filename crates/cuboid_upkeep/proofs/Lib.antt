@@ -8,7 +8,7 @@ mod Coded
 mod InRange
 mod Told
 mod OneGroup
-mod Standing
+pub mod Standing
 mod Keyed
 mod Leading
 mod Modes

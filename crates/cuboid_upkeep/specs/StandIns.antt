@@ -1,6 +1,6 @@
 -- Rows that stand in for cells: each has the members of its cell, and nothing else is looked at. Our own.
-use Rattle.std.specs.Prelude.{◌≡◌, ℕ, suc, ◌<◌, ◌&&◌, ◌==◌, cond, Bool, true, Option, Some, None, List, [], ◌∷◌, length, map, slice_index_or, slice_set, unwrap_or}
-use Rattle.std.specs.Option.{is_some, option_map}
+use Rattle.std.specs.Prelude.{◌≡◌, ℕ, suc, ◌<◌, ◌==◌, cond, true, Option, Some, None, List, [], ◌∷◌, length, slice_index_or, slice_set}
+use Rattle.std.specs.Option.{is_some}
 use Rattle.cube_model.specs.declared.attr.Axis.{Axis}
 use Rattle.cube_model.specs.declared.rows.DimRows.{DimRows}
 use Rattle.cube_model.specs.declared.rows.LineOrder.{LineOrder}
@@ -12,11 +12,9 @@ use Rattle.lattice.specs.declared.level.Level.{Level}
 use Rattle.lattice.specs.declared.view.View.{View}
 use Rattle.cuboid_cells.specs.declared.cell.Cell.{Cell}
 use Rattle.cuboid_cells.specs.Limits.{all_code}
-use Rattle.cuboid_upkeep.specs.Codes.{IsMode, member_code, modes_of}
+use Rattle.cuboid_upkeep.specs.Codes.{IsMode, member_code}
 use Rattle.cuboid_upkeep.specs.Grouping.{key_of}
 use Rattle.cuboid_upkeep.specs.declared.member_keys.MemberKeys.{MemberKeys}
-use Rattle.cuboid_upkeep.specs.declared.stand_ins.CellKeys.{CellKeys}
-use Rattle.cuboid_upkeep.specs.declared.stand_ins.StandIns.{StandIns}
 
 -- the key at a code, if there is one
 abbrev pub key_at : MemberKeys → ℕ → Option ℕ
@@ -52,41 +50,21 @@ AreAtCodes dimensions axis level keys = (code key : ℕ) → slice_index_or keys
 abbrev pub HoldAllCodes : DimRows → Axis → Level → List (Option ℕ) → Type 0
 HoldAllCodes dimensions axis level keys = (key code : ℕ) → HasCode dimensions axis level key code → slice_index_or keys code None ≡ None → ⊥
 
--- there are keys at all codes of a cell
-abbrev pub has_keys : MemberKeys → MemberKeys → MemberKeys → MemberKeys → Cell → Bool
-has_keys customers suppliers parts dates cell =
-    is_some (key_at customers cell.key.customer) && (is_some (key_at suppliers cell.key.supplier)
-    && (is_some (key_at parts cell.key.part) && is_some (key_at dates cell.key.date)))
-
--- these keys, and the code of the ship mode
-abbrev pub keys_of : MemberKeys → MemberKeys → MemberKeys → MemberKeys → Cell → CellKeys
-keys_of customers suppliers parts dates cell = record {
-  customer = unwrap_or (key_at customers cell.key.customer) 0;
-  supplier = unwrap_or (key_at suppliers cell.key.supplier) 0;
-  part = unwrap_or (key_at parts cell.key.part) 0;
-  date = unwrap_or (key_at dates cell.key.date) 0;
-  ship_mode = cell.key.ship_mode;
-}
-
 -- a code is that of a mode, whose text has this code
 pub record IsCodeOfMode (modes : List (List ℕ)) (code : ℕ) : Type 0 where
   pub among : code < length modes
   pub again : place_of modes (text_at modes code) ≡ code
   pub below : code < all_code
 
--- a fact row of these keys and of the ship mode of a code, and of noughts
-abbrev pub stand_in : List (List ℕ) → CellKeys → LineOrder
-stand_in modes keys = record no_row {
-  custkey = keys.customer;
-  partkey = keys.part;
-  suppkey = keys.supplier;
-  orderdate = keys.date;
-  shipmode = text_at modes keys.ship_mode;
+-- a fact row of some keys and of the ship mode of a code, and of noughts
+abbrev pub stand_in : List (List ℕ) → ℕ → ℕ → ℕ → ℕ → ℕ → LineOrder
+stand_in modes customer supplier part date code = record no_row {
+  custkey = customer;
+  partkey = part;
+  suppkey = supplier;
+  orderdate = date;
+  shipmode = text_at modes code;
 }
-
--- the rows that stand in for cells
-abbrev pub stood_in : StandIns → List LineOrder
-stood_in rows = map (stand_in (modes_of (option_map (λ modes. modes.now) rows.modes))) rows.keys.items
 
 -- a row has known keys, a ship mode that is one of the modes where the view groups by it, and the key of a cell
 pub record IsStandIn (dimensions : DimRows) (modes : List (List ℕ)) (view : View) (cell : Cell) (row : LineOrder) : Type 0 where

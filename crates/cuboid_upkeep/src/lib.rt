@@ -1,21 +1,22 @@
 //! The cells of a view, made of fact rows and kept up with them.
 #![tactic(auto)]
 
+mod cell_numbers;
 mod codes;
 mod grouping;
 mod guesses;
 mod key_tables;
 mod laws;
 mod member_keys;
+mod member_parts;
 mod row_cell;
 mod row_keys;
-mod stand_ins;
 mod taking;
 mod upkeep;
 
+pub use cell_numbers::{CellNumbers, UnknownMember};
 pub use laws::{
     cells_are_the_one, merges_stand_for_both, modes_are_added_behind, one_key_one_group,
     rows_in_range_fit,
 };
-pub use stand_ins::{StandIns, stand_ins_of};
 pub use upkeep::add_rows;

@@ -6,11 +6,10 @@ ghost use Rattle.dimensions.specs.Shown.{rows_on};
 ghost use Rattle.lattice.specs.declared.level.Level.TheVariants as level;
 ghost use Rattle.cuboid_cells.specs.Limits.{all_code};
 ghost use Rattle.cuboid_upkeep.specs.Codes.{member_code};
-ghost use Rattle.cuboid_upkeep.specs.StandIns.{AreAtCodes, AreKeysOf, HaveAllCodes, HoldAllCodes, key_at, missing_in, with_key};
+ghost use Rattle.cuboid_upkeep.specs.StandIns.{AreAtCodes, AreKeysOf, HaveAllCodes, HoldAllCodes, missing_in, with_key};
 
 use crate::codes::{code_at_row, code_count};
 use cube_model::{Axis, valid_rows_keep_the_rules};
-use cuboid_cells::limits::ALL_CODE;
 use dimensions::Dims;
 use lattice::Level;
 use std::alloc::{AllocError, Global};
@@ -24,21 +23,6 @@ pub struct MemberKeys {
     pub members: Vec<Option<u32>>,
 }
 
-impl MemberKeys {
-    // The key at a code, if there is one.
-    pub(crate) fn key_at(&self, code: u16) -> Option<u32>
-        ensures { result ≡ key_at self.now code }
-    {
-        if code == ALL_CODE {
-            return self.every;
-        }
-        match self.members.get(usize::from(code)) {
-            Some(key) => *key,
-            None => None,
-        }
-    }
-}
-
 // For each code of a level, the key of a row of the dimension whose member has the code. One row will do for every member
 // together, and no row is looked at where that is the level.
 pub(crate) fn keys_of_members(
@@ -49,6 +33,7 @@ pub(crate) fn keys_of_members(
 ) -> Result<MemberKeys, AllocError>
     ensures sound { IfOk result (AreKeysOf dims.now axis grouped) }
     ensures whole { IfOk result (HaveAllCodes dims.now axis grouped) }
+    ensures few { IfOk result (λ keys. length keys.members.items ≤ all_code) }
 {
     if matches!(grouped, Level::All) {
         return Ok(MemberKeys {

@@ -1,5 +1,5 @@
 -- What becomes of a fact row by the plan's bounds and sides.
-use Rattle.std.proofs.Common.{◌≡◌, ◌∙◌, ap, sym, subst, refl, true≢false, arith, ℕ, ◌+◌, ◌*◌, ◌<◌, ◌≤◌, Bool, true, false, cond, ◌&&◌, ◌||◌, nat_le, min, max, Option, Some, None, List, [], ◌∷◌, map, length}
+use Rattle.std.proofs.Common.{◌≡◌, ◌∙◌, ap, sym, subst, refl, true≢false, arith, ℕ, ◌+◌, ◌*◌, ◌^◌, ◌<◌, ◌≤◌, Bool, true, false, cond, ◌&&◌, ◌||◌, nat_le, min, max, Option, Some, None, List, [], ◌∷◌, map, length}
 use Rattle.std.specs.Prelude.{unwrap_or, slice_get, IfSome}
 use Rattle.cube_model.specs.Places.{row_count_of}
 use Rattle.std.specs.List.{list_any, list_all, range_with_len}
@@ -18,13 +18,13 @@ use Rattle.cube_model.specs.declared.query.Query.{Query}
 use Rattle.cube_model.specs.declared.rows.DimRows.{DimRows}
 use Rattle.cube_model.specs.declared.rows.LineOrder.{LineOrder}
 use Rattle.cube_model.specs.Attributes.{axis_of}
-use Rattle.group_plan.specs.Numbers.{group_count}
+use Rattle.group_plan.specs.Numbers.{group_count, key_at, IsKnown, IsNumber}
 use Rattle.group_plan.specs.Parts.{is_same, is_on, is_used, holds_at, holds_in, rank_at, part_at, given_at}
 use Rattle.group_plan.specs.Plans.{AreBounds, bounds_with, is_within}
 use Rattle.group_plan.specs.declared.bounds.Bounds.{Bounds}
 use Rattle.cube_model.specs.Selection.{is_selected}
 use Rattle.group_plan.proofs.Split.{all_five, place_on, passes_at, selected_by_places}
-use Rattle.group_plan.proofs.Numbers.{number_on, part_below}
+use Rattle.group_plan.proofs.Numbers.{known_in_columns, number_is, number_on, part_below}
 
 -- ---- bounds
 nat_le-max : (a b q : ℕ) → nat_le (max a b) q ≡ (nat_le a q && nat_le b q)
@@ -213,3 +213,14 @@ module _ (dimensions : DimRows) (query : Query) (row : LineOrder) where
         ∙ (λ i. all_five (n i) (passed Customer customer c i) (passed Supplier supplier s i) (passed Part part p i) (passed Date date d i)),
     parts_of customer supplier part date c s p d,
   )
+
+  -- the number of a row whose keys are known is the sum of what its four places give, also where sums wrap, since all numbers fit
+  pub number_by_parts : IsKnown dimensions row → group_count dimensions query.columns < 2 ^ 128 → within ≡ true
+      → (customer supplier part date : ℕ) → given_on Customer ≡ Some customer → given_on Supplier ≡ Some supplier → given_on Part ≡ Some part → given_on Date ≡ Some date
+      → (total : ℕ) → (customer + (supplier + (part + date)) < 2 ^ 128 → total ≡ customer + (supplier + (part + date)))
+      → IsNumber dimensions query row (Some total)
+  number_by_parts known fits n customer supplier part date c s p d total total_is =
+      let found = numbered customer supplier part date n c s p d in
+      let is = number_is dimensions row query.columns (known_in_columns dimensions query row (λ axis used. known axis)) in
+      let sum : total ≡ number_on dimensions row query.columns = total_is (omega (arith, found.1, is.0, fits)) ∙ found.1 in
+      (found.0, subst (λ m. m < group_count dimensions query.columns) (sym sum) is.0, ap (key_at dimensions query.columns) sum ∙ is.1)

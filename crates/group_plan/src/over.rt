@@ -1,10 +1,14 @@
 //! A plan with its dimensions.
 ghost use Rattle.std.specs.Prelude.{◌≡◌, ◌<◌, ◌≤◌, true, length, take, slice_index_or, slice_set, IfOk, OnOk, OnErr};
+ghost use Rattle.std.specs.List.{list_all};
 ghost use Rattle.cube_model.specs.declared.answer.Member.TheVariants.{All};
+ghost use Rattle.cube_model.specs.declared.attr.Axis.TheVariants.{Customer, Supplier, Part, Date};
+ghost use Rattle.cube_model.specs.declared.rows.LineOrder.{LineOrder};
+ghost use Rattle.cube_model.specs.Places.{row_count_of, row_index_of};
 ghost use Rattle.group_plan.specs.Columns.{attr_at, is_all};
 ghost use Rattle.group_plan.specs.Kept.{ArePlaces, KeepPlaces};
 ghost use Rattle.group_plan.specs.Numbers.{IsKnown, IsKnownOn, IsNumber, digit_count, group_count, key_at, member_at};
-ghost use Rattle.group_plan.specs.Parts.{given_on, is_used};
+ghost use Rattle.group_plan.specs.Parts.{given_at, given_on, holds_in, is_used};
 ghost use Rattle.group_plan.specs.Plans.{AreBounds, IsPlanOf, query_of};
 ghost use Rattle.group_plan.specs.Rows.{row_at};
 
@@ -80,6 +84,48 @@ impl<'a> PlanOver<'a> {
             Err(error) => return Err(error),
         };
         Ok(Some(customer + (supplier + (part + date))))
+    }
+
+    /// What the dimension row with a key gives to the number of a group: nothing where it fails a condition.
+    pub fn part(&self, axis: Axis, key: u32) -> Option<u128>
+        requires { row_index_of self.now.dimensions axis key < row_count_of self.now.dimensions axis }
+        ensures { result ≡ given_at self.now.dimensions self.now.query axis (row_index_of self.now.dimensions axis key) }
+    {
+        let place = self.dims.row_index(axis, key);
+        self.plan.side(axis).at(place)
+    }
+
+    /// The number of the group of a fact row, if the row is selected, by what the dimension rows with its keys give. It looks
+    /// at no number of the row: they have to be such as the query asks for.
+    #[inline]
+    pub fn number_by(
+        &self,
+        customer: Option<u128>,
+        supplier: Option<u128>,
+        part: Option<u128>,
+        date: Option<u128>,
+    ) -> Option<u128>
+        ensures { (row : LineOrder) → IsKnown self.now.dimensions row → list_all (holds_in row) self.now.query.conditions ≡ true
+            → given_on self.now.dimensions self.now.query row Customer ≡ customer
+            → given_on self.now.dimensions self.now.query row Supplier ≡ supplier
+            → given_on self.now.dimensions self.now.query row Part ≡ part
+            → given_on self.now.dimensions self.now.query row Date ≡ date
+            → IsNumber self.now.dimensions self.now.query row result }
+    {
+        let _ = &self.plan;
+        let Some(customer) = customer else {
+            return None;
+        };
+        let Some(supplier) = supplier else {
+            return None;
+        };
+        let Some(part) = part else {
+            return None;
+        };
+        let Some(date) = date else {
+            return None;
+        };
+        Some(customer.wrapping_add(supplier.wrapping_add(part.wrapping_add(date))))
     }
 
     /// The bounds that the query puts on the quantity and the discount of a fact row.

@@ -86,7 +86,7 @@ impl Side {
     }
 
     // What the row at a place gives.
-    fn at(&self, place: usize) -> Option<u128>
+    pub(crate) fn at(&self, place: usize) -> Option<u128>
         ensures { result ≡ gives self.now place }
     {
         match self {

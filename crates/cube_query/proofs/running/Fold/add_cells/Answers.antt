@@ -4,7 +4,6 @@ use Rattle.std.proofs.lemmas.List.{with_items_is}
 use Rattle.std.proofs.lemmas.Result.{err_from_is_err_and}
 use Rattle.cube_model.specs.declared.fault.Fault.TheVariants.{BadLayout}
 use Rattle.cuboid_upkeep.specs.Codes.{modes_of}
-use Rattle.cuboid_upkeep.specs.StandIns.{stood_in}
 use Rattle.group_plan.specs.Plans.{query_of}
 use Rattle.lattice.specs.Determined.{Serves}
 use Rattle.cube_query.specs.CellTallies.{HaveRoomForAll, with_cells}
@@ -19,42 +18,30 @@ use Rattle.cube_query.proofs.Known.{known_behind}
 use Rattle.cube_query.proofs.Marking.{AreGroupSlots-length}
 use Rattle.cube_query.proofs.running.Fold.add_cells.Goals as goal
 
-pub returns-in_err-rows-clause-refused : goal.returns-in_err-rows-clause-refused
-returns-in_err-rows-clause-refused c =
+pub returns-in_err-slotted-clause-err : goal.returns-in_err-slotted-clause-err
+returns-in_err-slotted-clause-err c =
     let p = err_from_is_err_and c.from_residual.result c.from_residual.ensures.1 in
-    rw (p.1, p.2) (λ bad rows stand can.
-    let is : c.in_err-rows.field-0.0 ≡ BadLayout = cc bad in
-    elim c.in_err-rows.ensures.refused [
-      | inl memory ↦ absurd (cc (is, memory))
-      | inr none ↦ none.1 rows stand (known_behind c.args.dims.now 1 can.0 rows can.1.1.known)
-    ])
-
-pub returns-in_err-group_slots-clause-err : goal.returns-in_err-group_slots-clause-err
-returns-in_err-group_slots-clause-err c =
-    let p = err_from_is_err_and c.from_residual-in_err-group_slots.result c.from_residual-in_err-group_slots.ensures.1 in
     let inside = c.self.inside in
     let dims = c.args.dims.now in
     let over = subst (λ (state : FoldState). IsOver dims state) (sym c.self.view_is) c.requires.over in
-    rw (p.1) (shown_ready dims inside.plan over inside.slots inside.columns.items c.self.invariant c.ready.new.slots c.ready.new.columns.items c.ready.ensures.cover c.ready.ensures.grow c.ready.ensures.same ∙ c.self.view_is)
+    rw (p.1) (shown_ready dims inside.plan over inside.slots inside.columns.items c.self.invariant c.ready_for_cells.new.slots c.ready_for_cells.new.columns.items c.ready_for_cells.ensures.cover c.ready_for_cells.ensures.grow c.ready_for_cells.ensures.same ∙ c.self.view_is)
 
-pub returns-in_err-group_slots-clause-refused : goal.returns-in_err-group_slots-clause-refused
-returns-in_err-group_slots-clause-refused c =
-    let p = err_from_is_err_and c.from_residual-in_err-group_slots.result c.from_residual-in_err-group_slots.ensures.1 in
+pub returns-in_err-slotted-clause-refused : goal.returns-in_err-slotted-clause-refused
+returns-in_err-slotted-clause-refused c =
+    let p = err_from_is_err_and c.from_residual.result c.from_residual.ensures.1 in
     rw (p.1, p.2) (λ bad rows stand can.
-    let dims = c.args.dims.now in
-    let modes : List (List ℕ) = modes_of (option_map (λ modes. modes.now) c.args.modes) in
-    let is : c.in_err-group_slots.field-0.0 ≡ BadLayout = cc bad in
-    c.in_err-group_slots.ensures.refused (ap (λ fault. Err fault) is) (stand_known dims modes c.args.cells.now.view c.args.cells.now.cells (stood_in c.in_ok-rows.rows) c.in_ok-rows.ensures.ok))
+    let is : c.in_err-slotted.field-0.0 ≡ BadLayout = cc bad in
+    c.in_err-slotted.ensures.refused (ap (λ fault. Err fault) is) rows stand (known_behind c.args.dims.now 1 can.0 rows can.1.1.known))
 
 pub have_room_for_cells-requires-clause-columns : goal.have_room_for_cells-requires-clause-columns
 have_room_for_cells-requires-clause-columns c =
     let inside = c.self.inside in
     let dims = c.args.dims.now in
     let over = subst (λ (state : FoldState). IsOver dims state) (sym c.self.view_is) c.requires.over in
-    let entries = entries_of c.ready.new.slots in
-    let kept = kept_ready dims inside.plan over inside.slots inside.columns.items c.self.invariant c.ready.new.slots c.ready.new.columns.items c.ready.ensures.cover c.ready.ensures.grow c.ready.ensures.same in
+    let entries = entries_of c.ready_for_cells.new.slots in
+    let kept = kept_ready dims inside.plan over inside.slots inside.columns.items c.self.invariant c.ready_for_cells.new.slots c.ready_for_cells.new.columns.items c.ready_for_cells.ensures.cover c.ready_for_cells.ensures.grow c.ready_for_cells.ensures.same in
     ap length c.as_slice.ensures.value
-    ∙ tallies-length (query_of inside.plan).aggregates c.ready.new.columns.items (length entries) [] (kept.fresh (length entries) (omega arith))
+    ∙ tallies-length (query_of inside.plan).aggregates c.ready_for_cells.new.columns.items (length entries) [] (kept.fresh (length entries) (omega arith))
     ∙ sym (ap length (c.as_slice-aggregates.ensures ∙ ap (λ q. q.aggregates) c.query.ensures))
 
 pub have_room_for_cells-requires-clause-group_slots : goal.have_room_for_cells-requires-clause-group_slots
@@ -64,15 +51,15 @@ have_room_for_cells-requires-clause-group_slots c =
     let modes : List (List ℕ) = modes_of (option_map (λ modes. modes.now) c.args.modes) in
     let plain = c.args.cells.now in
     ap length c.as_slice-3.ensures.value
-    ∙ AreGroupSlots-length dims (query_of inside.plan) (entries_of c.ready.new.slots) (stood_in c.in_ok-rows.rows) c.in_ok-group_slots.group_slots.items c.in_ok-group_slots.ensures.group_slots
-    ∙ stand_count dims modes plain.view plain.cells (stood_in c.in_ok-rows.rows) c.in_ok-rows.ensures.ok ∙ sym (ap length c.as_slice-2.ensures)
+    ∙ AreGroupSlots-length dims (query_of inside.plan) (entries_of c.ready_for_cells.new.slots) c.in_ok-slotted.ensures.group_slots.rows c.in_ok-slotted.slotted.group_slots.items c.in_ok-slotted.ensures.group_slots.slots
+    ∙ stand_count dims modes plain.view plain.cells c.in_ok-slotted.ensures.group_slots.rows c.in_ok-slotted.ensures.group_slots.stand ∙ sym (ap length c.as_slice-2.ensures)
 
 pub returns-then-not-have_room_for_cells-clause-err : goal.returns-then-not-have_room_for_cells-clause-err
 returns-then-not-have_room_for_cells-clause-err c =
     let inside = c.self.inside in
     let dims = c.args.dims.now in
     let over = subst (λ (state : FoldState). IsOver dims state) (sym c.self.view_is) c.requires.over in
-    shown_ready dims inside.plan over inside.slots inside.columns.items c.self.invariant c.ready.new.slots c.ready.new.columns.items c.ready.ensures.cover c.ready.ensures.grow c.ready.ensures.same ∙ c.self.view_is
+    shown_ready dims inside.plan over inside.slots inside.columns.items c.self.invariant c.ready_for_cells.new.slots c.ready_for_cells.new.columns.items c.ready_for_cells.ensures.cover c.ready_for_cells.ensures.grow c.ready_for_cells.ensures.same ∙ c.self.view_is
 
 pub returns-then-not-have_room_for_cells-clause-refused : goal.returns-then-not-have_room_for_cells-clause-refused
 returns-then-not-have_room_for_cells-clause-refused c = λ bad rows stand can.
@@ -83,8 +70,8 @@ returns-then-not-have_room_for_cells-clause-refused c = λ bad rows stand can.
     let over = subst (λ (state : FoldState). IsOver dims state) (sym c.self.view_is) c.requires.over in
     let given = subst (λ (state : FoldState). CanTake dims state rows) (sym c.self.view_is) can in
     let aggregates : c.as_slice-aggregates.result.now ≡ (query_of inside.plan).aggregates = c.as_slice-aggregates.ensures ∙ ap (λ q. q.aggregates) c.query.ensures in
-    let room = room_for_cells dims inside.plan over inside.slots inside.columns.items c.self.invariant c.ready.new.slots c.ready.new.columns.items c.ready.ensures.cover c.ready.ensures.grow c.ready.ensures.same
-    modes plain (stood_in c.in_ok-rows.rows) c.in_ok-group_slots.group_slots.items c.in_ok-rows.ensures.ok c.in_ok-group_slots.ensures.group_slots rows stand given.0 given.1.0 given.1.1 c.in_ok-group_slots.ensures.long in
+    let room = room_for_cells dims inside.plan over inside.slots inside.columns.items c.self.invariant c.ready_for_cells.new.slots c.ready_for_cells.new.columns.items c.ready_for_cells.ensures.cover c.ready_for_cells.ensures.grow c.ready_for_cells.ensures.same
+    modes plain c.in_ok-slotted.ensures.group_slots.rows c.in_ok-slotted.slotted.group_slots.items c.in_ok-slotted.ensures.group_slots.stand c.in_ok-slotted.ensures.group_slots.slots rows stand given.0 given.1.0 given.1.1 c.in_ok-slotted.ensures.long in
     let there : HaveRoomForAll c.as_slice-aggregates.result.now c.as_slice-2.result.now c.as_slice-3.result.now c.as_slice.result.now =
     same_room (sym aggregates) (sym c.as_slice-2.ensures) (sym c.as_slice-3.ensures.value) (sym c.as_slice.ensures.value) room in
     let yes = c.have_room_for_cells.ensures.1 there in
@@ -95,10 +82,10 @@ merge_in_cells-requires-clause-columns c =
     let inside = c.self.inside in
     let dims = c.args.dims.now in
     let over = subst (λ (state : FoldState). IsOver dims state) (sym c.self.view_is) c.requires.over in
-    let entries = entries_of c.ready.new.slots in
-    let kept = kept_ready dims inside.plan over inside.slots inside.columns.items c.self.invariant c.ready.new.slots c.ready.new.columns.items c.ready.ensures.cover c.ready.ensures.grow c.ready.ensures.same in
+    let entries = entries_of c.ready_for_cells.new.slots in
+    let kept = kept_ready dims inside.plan over inside.slots inside.columns.items c.self.invariant c.ready_for_cells.new.slots c.ready_for_cells.new.columns.items c.ready_for_cells.ensures.cover c.ready_for_cells.ensures.grow c.ready_for_cells.ensures.same in
     ap length c.as_mut_slice.ensures.value
-    ∙ tallies-length (query_of inside.plan).aggregates c.ready.new.columns.items (length entries) [] (kept.fresh (length entries) (omega arith))
+    ∙ tallies-length (query_of inside.plan).aggregates c.ready_for_cells.new.columns.items (length entries) [] (kept.fresh (length entries) (omega arith))
     ∙ sym (ap length (c.as_slice-aggregates.ensures ∙ ap (λ q. q.aggregates) c.query.ensures))
 
 pub merge_in_cells-requires-clause-group_slots : goal.merge_in_cells-requires-clause-group_slots
@@ -108,8 +95,8 @@ merge_in_cells-requires-clause-group_slots c =
     let modes : List (List ℕ) = modes_of (option_map (λ modes. modes.now) c.args.modes) in
     let plain = c.args.cells.now in
     ap length c.as_slice-5.ensures.value
-    ∙ AreGroupSlots-length dims (query_of inside.plan) (entries_of c.ready.new.slots) (stood_in c.in_ok-rows.rows) c.in_ok-group_slots.group_slots.items c.in_ok-group_slots.ensures.group_slots
-    ∙ stand_count dims modes plain.view plain.cells (stood_in c.in_ok-rows.rows) c.in_ok-rows.ensures.ok ∙ sym (ap length c.as_slice-4.ensures)
+    ∙ AreGroupSlots-length dims (query_of inside.plan) (entries_of c.ready_for_cells.new.slots) c.in_ok-slotted.ensures.group_slots.rows c.in_ok-slotted.slotted.group_slots.items c.in_ok-slotted.ensures.group_slots.slots
+    ∙ stand_count dims modes plain.view plain.cells c.in_ok-slotted.ensures.group_slots.rows c.in_ok-slotted.ensures.group_slots.stand ∙ sym (ap length c.as_slice-4.ensures)
 
 pub merge_in_cells-requires-clause-room : goal.merge_in_cells-requires-clause-room
 merge_in_cells-requires-clause-room c =
@@ -126,10 +113,10 @@ invariant_of-self-2 c =
     let aggregates : c.as_slice-aggregates.result.now ≡ (query_of inside.plan).aggregates = c.as_slice-aggregates.ensures ∙ ap (λ q. q.aggregates) c.query.ensures in
     let merged = c.merge_in_cells.new.columns in
     let is = λ (slot : ℕ). c.merge_in_cells.ensures slot ∙ (λ i. with_cells (aggregates i) slot (c.as_slice-4.ensures i) (c.as_slice-5.ensures.value i) (tallies_at (c.as_mut_slice.ensures.value i) slot)) in
-    let len : length merged ≡ c.ready.new.columns.len = c.merge_in_cells.auto.columns ∙ c.as_mut_slice.ensures.len in
-    subst (IsKept inside.plan c.ready.new.slots) (sym (with_items_is c.ready.new.columns merged len))
-    (kept_merged dims inside.plan over inside.slots inside.columns.items c.self.invariant c.ready.new.slots c.ready.new.columns.items c.ready.ensures.cover c.ready.ensures.grow c.ready.ensures.same
-    modes plain (stood_in c.in_ok-rows.rows) c.in_ok-group_slots.group_slots.items c.in_ok-rows.ensures.ok c.in_ok-group_slots.ensures.group_slots merged is)
+    let len : length merged ≡ c.ready_for_cells.new.columns.len = c.merge_in_cells.auto.columns ∙ c.as_mut_slice.ensures.len in
+    subst (IsKept inside.plan c.ready_for_cells.new.slots) (sym (with_items_is c.ready_for_cells.new.columns merged len))
+    (kept_merged dims inside.plan over inside.slots inside.columns.items c.self.invariant c.ready_for_cells.new.slots c.ready_for_cells.new.columns.items c.ready_for_cells.ensures.cover c.ready_for_cells.ensures.grow c.ready_for_cells.ensures.same
+    modes plain c.in_ok-slotted.ensures.group_slots.rows c.in_ok-slotted.slotted.group_slots.items c.in_ok-slotted.ensures.group_slots.stand c.in_ok-slotted.ensures.group_slots.slots merged is)
 
 pub returns-clause-ok : goal.returns-clause-ok
 returns-clause-ok c = λ rows stand.
@@ -142,14 +129,14 @@ returns-clause-ok c = λ rows stand.
     let aggregates : c.as_slice-aggregates.result.now ≡ (query_of inside.plan).aggregates = c.as_slice-aggregates.ensures ∙ ap (λ q. q.aggregates) c.query.ensures in
     let merged = c.merge_in_cells.new.columns in
     let is = λ (slot : ℕ). c.merge_in_cells.ensures slot ∙ (λ i. with_cells (aggregates i) slot (c.as_slice-4.ensures i) (c.as_slice-5.ensures.value i) (tallies_at (c.as_mut_slice.ensures.value i) slot)) in
-    let len : length merged ≡ c.ready.new.columns.len = c.merge_in_cells.auto.columns ∙ c.as_mut_slice.ensures.len in
-    let count = AreGroupSlots-length dims (query_of inside.plan) (entries_of c.ready.new.slots) (stood_in c.in_ok-rows.rows) c.in_ok-group_slots.group_slots.items c.in_ok-group_slots.ensures.group_slots
-    ∙ stand_count dims modes plain.view plain.cells (stood_in c.in_ok-rows.rows) c.in_ok-rows.ensures.ok in
+    let len : length merged ≡ c.ready_for_cells.new.columns.len = c.merge_in_cells.auto.columns ∙ c.as_mut_slice.ensures.len in
+    let count = AreGroupSlots-length dims (query_of inside.plan) (entries_of c.ready_for_cells.new.slots) c.in_ok-slotted.ensures.group_slots.rows c.in_ok-slotted.slotted.group_slots.items c.in_ok-slotted.ensures.group_slots.slots
+    ∙ stand_count dims modes plain.view plain.cells c.in_ok-slotted.ensures.group_slots.rows c.in_ok-slotted.ensures.group_slots.stand in
     record {
       query = ap (λ state. state.query) c.self.view_is;
       stands = λ so_far stands.
-          subst (λ columns. StandsFor dims (shown inside.plan c.ready.new.slots columns) (so_far ++ rows)) (sym (with_items_is c.ready.new.columns merged len))
-          (stands_merged dims inside.plan over inside.slots inside.columns.items c.self.invariant c.ready.new.slots c.ready.new.columns.items c.ready.ensures.cover c.ready.ensures.grow c.ready.ensures.same
-          modes plain (stood_in c.in_ok-rows.rows) c.in_ok-group_slots.group_slots.items c.in_ok-rows.ensures.ok c.in_ok-group_slots.ensures.group_slots merged is
+          subst (λ columns. StandsFor dims (shown inside.plan c.ready_for_cells.new.slots columns) (so_far ++ rows)) (sym (with_items_is c.ready_for_cells.new.columns merged len))
+          (stands_merged dims inside.plan over inside.slots inside.columns.items c.self.invariant c.ready_for_cells.new.slots c.ready_for_cells.new.columns.items c.ready_for_cells.ensures.cover c.ready_for_cells.ensures.grow c.ready_for_cells.ensures.same
+          modes plain c.in_ok-slotted.ensures.group_slots.rows c.in_ok-slotted.slotted.group_slots.items c.in_ok-slotted.ensures.group_slots.stand c.in_ok-slotted.ensures.group_slots.slots merged is
           count c.one_key_one_group.ensures serves rows stand so_far (subst (λ (state : FoldState). StandsFor dims state so_far) (sym c.self.view_is) stands));
     }

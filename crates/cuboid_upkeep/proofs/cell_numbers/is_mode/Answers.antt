@@ -3,7 +3,7 @@ use Rattle.std.specs.Option.{option_map}
 use Rattle.cuboid_upkeep.specs.Codes.{modes_of}
 use Rattle.cuboid_upkeep.specs.StandIns.{IsCodeOfMode}
 use Rattle.cuboid_upkeep.proofs.Modes.{code_absent, code_found}
-use Rattle.cuboid_upkeep.proofs.stand_ins.is_mode.Goals as goal
+use Rattle.cuboid_upkeep.proofs.cell_numbers.is_mode.Goals as goal
 
 pub returns-in_default-text : goal.returns-in_default-text
 returns-in_default-text c = (

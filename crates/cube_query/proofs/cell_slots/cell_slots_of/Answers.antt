@@ -1,0 +1,31 @@
+use Rattle.std.proofs.Common.{◌≡◌, ◌+◌, ◌++◌, ◌∷◌, ◌<◌, List, [], sym, subst, take, length, get_or, arith}
+use Rattle.std.proofs.lemmas.List.{take_more}
+use Rattle.cuboid_cells.specs.declared.cell.Cell.{Cell}
+use Rattle.cube_query.specs.CellSlots.{AreCellSlots}
+use Rattle.cube_query.specs.CellTallies.{IsMost}
+use Rattle.cube_query.specs.Slots.{entries_of}
+use Rattle.cube_query.proofs.CellMerges.{no_cell}
+use Rattle.cube_query.proofs.CellSlots.{cell_slots-length, cell_slots-push}
+use Rattle.cube_query.proofs.cell_slots.cell_slots_of.Goals as goal
+
+pub loop-place-preserved : goal.loop-place-preserved
+loop-place-preserved c =
+    let asked = c.args.numbers.now in
+    let place = c.loop-place.place in
+    let all = c.args.cells.now in
+    let cell = get_or all place no_cell in
+    let front = take place all in
+    let new = entries_of c.cell_slot_of.new.slots in
+    let group_slot = c.in_ok-group_slot.group_slot in
+    let cells : take (place + 1) all ≡ front ++ cell ∷ [] = take_more all place no_cell c.loop-place-test.true in
+    let before = c.loop-place.group_slots.items in
+    let slots = cell_slots-push asked (entries_of c.loop-place.slots) new c.cell_slot_of.ensures.keep front before cell group_slot c.loop-place.invariant.0 c.in_ok-group_slot.ensures.group_slot in
+    let many = cell_slots-length asked (entries_of c.loop-place.slots) front before c.loop-place.invariant.0 in
+    let most = c.with-weight.ensures front before many c.loop-place.invariant.1 in (
+      subst (λ (cs : List Cell). AreCellSlots asked new cs c.push.new.self.items) (sym cells)
+          (subst (λ gs. AreCellSlots asked new (front ++ cell ∷ []) gs) (sym c.in_ok-push.ensures.items) slots),
+      subst (λ (cs : List Cell). IsMost c.args.aggs.now cs c.push.new.self.items c.with-weight.result) (sym cells)
+          (subst (λ gs. IsMost c.args.aggs.now (front ++ cell ∷ []) gs c.with-weight.result) (sym c.in_ok-push.ensures.items) most),
+      c.cell_slot_of.ensures.cover,
+      c.cell_slot_of.ensures.grow (entries_of c.args.slots.now) c.loop-place.invariant.3,
+    )

@@ -1,0 +1,33 @@
+-- The slots of the groups of cells. Our own.
+use Rattle.std.specs.Prelude.{ℕ, Option, List}
+use Rattle.std.specs.List.{Contains}
+use Rattle.cube_model.specs.declared.query.Query.{Query}
+use Rattle.cube_model.specs.declared.rows.DimRows.{DimRows}
+use Rattle.cube_model.specs.declared.rows.LineOrder.{LineOrder}
+use Rattle.cuboid_cells.specs.declared.cell.Cell.{Cell}
+use Rattle.lattice.specs.declared.view.View.{View}
+use Rattle.cuboid_upkeep.specs.CellNumbers.{AskedOfCells}
+use Rattle.cuboid_upkeep.specs.StandIns.{AreStandIns, IsStandIn}
+use Rattle.cube_query.specs.FoldInvariant.{AreGroupSlots, IsGroupSlot}
+
+-- a query over dimensions that is asked of the cells of a view
+abbrev pub asked_of : DimRows → Query → View → List (List ℕ) → AskedOfCells
+asked_of dimensions query view modes = record { dimensions = dimensions; query = query; view = view; modes = modes }
+
+-- the slot of the group of a row that stands in for a cell, and none where the row is not selected
+pub record IsCellSlot (asked : AskedOfCells) (entries : List (ℕ × ℕ)) (cell : Cell) (group_slot : Option ℕ) : Type 0 where
+  pub row : LineOrder
+  pub stands : IsStandIn asked.dimensions asked.modes asked.view cell row
+  pub slot : IsGroupSlot asked.dimensions asked.query entries row group_slot
+
+-- the slots of the groups of cells: those of rows that stand in for them
+pub record AreCellSlots (asked : AskedOfCells) (entries : List (ℕ × ℕ)) (cells : List Cell) (group_slots : List (Option ℕ)) : Type 0 where
+  pub rows : List LineOrder
+  pub stand : AreStandIns asked.dimensions asked.modes asked.view cells rows
+  pub slots : AreGroupSlots asked.dimensions asked.query entries rows group_slots
+
+-- no row stands in for one of the cells
+pub record HaveNoStandIn (asked : AskedOfCells) (cells : List Cell) : Type 0 where
+  pub cell : Cell
+  pub among : Contains cells cell
+  pub none : (row : LineOrder) → IsStandIn asked.dimensions asked.modes asked.view cell row → ⊥

@@ -1,0 +1,85 @@
+//! The slots of the groups of cells.
+ghost use Rattle.std.specs.Prelude.{◌≡◌, ◌⊎◌, ◌<◌, ℕ, List, Some, Err, IfOk, IfErr};
+ghost use Rattle.std.specs.List.{All};
+ghost use Rattle.cube_model.specs.declared.rows.LineOrder.{LineOrder};
+ghost use Rattle.cuboid_cells.specs.Cells.{IsCellOf};
+ghost use Rattle.cuboid_upkeep.specs.StandIns.{IsStandIn};
+ghost use Rattle.group_plan.specs.Numbers.{group_count};
+ghost use Rattle.cube_query.specs.CellSlots.{AreCellSlots, HaveNoStandIn, IsCellSlot};
+ghost use Rattle.cube_query.specs.CellTallies.{IsMost};
+ghost use Rattle.cube_query.specs.Slots.{entries_of, slot_of, AreSlots, Cover, Grow};
+
+use crate::cell_columns::Weight;
+use crate::slots::Slots;
+use cube_model::{Agg, Fault};
+use cuboid_cells::Cell;
+use cuboid_upkeep::CellNumbers;
+use std::alloc::Global;
+
+/// The slots of the groups of cells, and what the cells that have one add to tallies, at most.
+#[derive(Drop)]
+pub struct SlottedCells {
+    pub group_slots: Vec<Option<u32>>,
+    pub weight: Weight,
+}
+
+/// The slot of each cell's group, where the rows of the cell are selected. Numbers that have none are given one.
+///
+/// `BadLayout` says that no row stands in for a cell: a code is that of no member. Each cell is read once.
+pub fn cell_slots_of(
+    alloc: Global,
+    numbers: &CellNumbers,
+    slots: &mut Slots,
+    aggs: &[Agg],
+    cells: &[Cell],
+) -> Result<SlottedCells, Fault>
+    requires cells { All (IsCellOf numbers.now.view) cells.now }
+    requires numbers { AreSlots (group_count numbers.now.dimensions numbers.now.query.columns) (entries_of slots.old) }
+    requires cover { Cover (group_count numbers.now.dimensions numbers.now.query.columns) slots.old }
+    ensures group_slots { IfOk result (λ slotted.
+        AreCellSlots numbers.now (entries_of slots.new) cells.now slotted.group_slots.items) }
+    ensures most { IfOk result (λ slotted. IsMost aggs.now cells.now slotted.group_slots.items slotted.weight) }
+    ensures refused { result ≡ Err Fault.BadLayout → HaveNoStandIn numbers.now cells.now }
+    ensures only { IfErr result (λ fault. (fault ≡ Fault.Memory) ⊎ (fault ≡ Fault.BadLayout)) }
+    ensures cover { Cover (group_count numbers.now.dimensions numbers.now.query.columns) slots.new }
+    ensures grow { Grow (group_count numbers.now.dimensions numbers.now.query.columns) (entries_of slots.old)
+        (entries_of slots.new) }
+{
+    let mut group_slots = Vec::with_capacity(alloc, cells.len())?;
+    let mut weight = Weight::none();
+    for place in 0..cells.len() {
+        let group_slot = cell_slot_of(numbers, slots, &cells[place])?;
+        weight = weight.with(aggs, &cells[place], group_slot);
+        group_slots.push(group_slot)?;
+    }
+    Ok(SlottedCells {
+        group_slots,
+        weight,
+    })
+}
+
+// The slot of the group of a cell, if its rows are selected.
+#[inline]
+fn cell_slot_of(numbers: &CellNumbers, slots: &mut Slots, cell: &Cell) -> Result<Option<u32>, Fault>
+    requires cell { IsCellOf numbers.now.view cell.now }
+    requires cover { Cover (group_count numbers.now.dimensions numbers.now.query.columns) slots.old }
+    ensures group_slot { IfOk result (IsCellSlot numbers.now (entries_of slots.new) cell.now) }
+    ensures refused { result ≡ Err Fault.BadLayout → (row : LineOrder)
+        → IsStandIn numbers.now.dimensions numbers.now.modes numbers.now.view cell.now row → ⊥ }
+    ensures only { IfErr result (λ fault. (fault ≡ Fault.Memory) ⊎ (fault ≡ Fault.BadLayout)) }
+    ensures cover { Cover (group_count numbers.now.dimensions numbers.now.query.columns) slots.new }
+    ensures keep { (number slot : ℕ) → slot_of (entries_of slots.old) number ≡ Some slot
+        → slot_of (entries_of slots.new) number ≡ Some slot }
+    ensures grow { (first : List (ℕ × ℕ))
+        → Grow (group_count numbers.now.dimensions numbers.now.query.columns) first (entries_of slots.old)
+        → Grow (group_count numbers.now.dimensions numbers.now.query.columns) first (entries_of slots.new) }
+{
+    match numbers.number(cell) {
+        Ok(Some(number)) => {
+            let slot = slots.place(number)?;
+            Ok(Some(slot))
+        }
+        Ok(None) => Ok(None),
+        Err(_) => Err(Fault::BadLayout),
+    }
+}

@@ -1,0 +1,35 @@
+-- The numbers of the groups that the cells of a view belong to in a query. Our own.
+use Rattle.std.specs.Prelude.{◌≡◌, ℕ, Bool, Option, List}
+use Rattle.std.specs.List.{list_all}
+use Rattle.cube_model.specs.declared.attr.Axis.TheVariants.{Customer, Supplier, Part, Date}
+use Rattle.cube_model.specs.declared.query.Query.{Query}
+use Rattle.cube_model.specs.declared.rows.DimRows.{DimRows}
+use Rattle.cube_model.specs.declared.rows.LineOrder.{LineOrder}
+use Rattle.group_plan.specs.Numbers.{IsNumber}
+use Rattle.group_plan.specs.Parts.{holds_in}
+use Rattle.lattice.specs.declared.view.View.{View}
+use Rattle.cuboid_cells.specs.declared.cell.Cell.{Cell}
+use Rattle.cuboid_upkeep.specs.MemberParts.{AreParts}
+use Rattle.cuboid_upkeep.specs.StandIns.{IsStandIn}
+use Rattle.cuboid_upkeep.specs.declared.member_parts.MemberParts.{MemberParts}
+
+-- a query over dimensions that is asked of the cells of a view, whose fifth codes are places among the modes
+pub record AskedOfCells : Type 0 where
+  pub dimensions : DimRows
+  pub query : Query
+  pub view : View
+  pub modes : List (List ℕ)
+
+-- the number of the group of a row that stands in for a cell: none where the row is not selected
+pub record IsCellNumber (asked : AskedOfCells) (cell : Cell) (number : Option ℕ) : Type 0 where
+  pub row : LineOrder
+  pub stands : IsStandIn asked.dimensions asked.modes asked.view cell row
+  pub number_is : IsNumber asked.dimensions asked.query row number
+
+-- whether rows of noughts keep the conditions on the numbers of rows, and what the members of each level give
+pub record AreTables (asked : AskedOfCells) (within : Bool) (customers suppliers parts dates : MemberParts) : Type 0 where
+  pub noughts : (row : LineOrder) → row.quantity ≡ 0 → row.discount ≡ 0 → list_all (holds_in row) asked.query.conditions ≡ within
+  pub by_customer : AreParts asked.dimensions asked.query Customer asked.view.customer customers
+  pub by_supplier : AreParts asked.dimensions asked.query Supplier asked.view.supplier suppliers
+  pub by_part : AreParts asked.dimensions asked.query Part asked.view.part parts
+  pub by_date : AreParts asked.dimensions asked.query Date asked.view.date dates

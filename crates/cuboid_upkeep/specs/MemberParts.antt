@@ -1,0 +1,34 @@
+-- What the members of a level give to the numbers of the groups of a query, by their codes. Our own.
+use Rattle.std.specs.Prelude.{◌≡◌, ℕ, ◌<◌, ◌==◌, cond, IfSome, Option, Some, None, slice_index_or}
+use Rattle.std.specs.Option.{option_map}
+use Rattle.cube_model.specs.declared.attr.Axis.{Axis}
+use Rattle.cube_model.specs.declared.query.Query.{Query}
+use Rattle.cube_model.specs.declared.rows.DimRows.{DimRows}
+use Rattle.cube_model.specs.Places.{row_count_of, row_index_of}
+use Rattle.group_plan.specs.Parts.{given_at}
+use Rattle.lattice.specs.declared.level.Level.{Level}
+use Rattle.cuboid_cells.specs.Limits.{all_code}
+use Rattle.cuboid_upkeep.specs.StandIns.{HasCode}
+use Rattle.cuboid_upkeep.specs.declared.member_parts.MemberParts.{MemberParts}
+
+-- a key, if there is one, is that of a row
+abbrev pub IsOfRow : DimRows → Axis → Option ℕ → Type 0
+IsOfRow dimensions axis key = IfSome key (λ own. row_index_of dimensions axis own < row_count_of dimensions axis)
+
+-- what the row with a key gives, if there is a key
+abbrev pub part_by : DimRows → Query → Axis → Option ℕ → Option (Option ℕ)
+part_by dimensions query axis key = option_map (λ own. given_at dimensions query axis (row_index_of dimensions axis own)) key
+
+-- what stands at a code
+abbrev pub part_in : MemberParts → ℕ → Option (Option ℕ)
+part_in parts code = cond (code == all_code) parts.every (slice_index_or parts.members.items code None)
+
+-- what stands at the code of a member is what a row with the member gives; nothing stands where no member has the code
+abbrev pub IsPartAt : DimRows → Query → Axis → Level → ℕ → Option (Option ℕ) → Type 0
+IsPartAt dimensions query axis level code None = (key : ℕ) → HasCode dimensions axis level key code → ⊥
+IsPartAt dimensions query axis level code (Some part) =
+    (key : ℕ) × HasCode dimensions axis level key code × (part ≡ given_at dimensions query axis (row_index_of dimensions axis key))
+
+-- so it is at each code
+abbrev pub AreParts : DimRows → Query → Axis → Level → MemberParts → Type 0
+AreParts dimensions query axis level parts = (code : ℕ) → IsPartAt dimensions query axis level code (part_in parts code)

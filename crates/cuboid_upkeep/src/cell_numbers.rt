@@ -1,0 +1,157 @@
+//! The numbers of the groups of cells.
+ghost use Rattle.std.specs.Prelude.{◌≡◌, ◌↔◌, true, IfOk, IsTrue, OnErr};
+ghost use Rattle.std.specs.Option.{option_map};
+ghost use Rattle.cube_model.specs.declared.rows.LineOrder.{LineOrder};
+ghost use Rattle.group_plan.specs.Plans.{IsPlanOver, query_of};
+ghost use Rattle.cuboid_cells.specs.Cells.{IsCellOf};
+ghost use Rattle.cuboid_upkeep.specs.CellNumbers.{IsCellNumber};
+ghost use Rattle.cuboid_upkeep.specs.Codes.{modes_of};
+ghost use Rattle.cuboid_upkeep.specs.StandIns.{IsCodeOfMode, IsStandIn};
+
+use crate::member_parts::{MemberParts, parts_of_members};
+use cube_model::Axis;
+use cuboid_cells::Cell;
+use cuboid_cells::limits::ALL_CODE;
+use dictionary::Dictionary;
+use dimensions::Dims;
+use group_plan::{Plan, PlanOver};
+use lattice::View;
+use std::alloc::{AllocError, Global};
+use std::marker::Model;
+
+/// A code of a cell is that of no member.
+#[derive(Clone, Copy, Debug, PartialEq, Eq)]
+pub struct UnknownMember;
+
+/// The numbers of the groups that the cells of a view belong to by a plan. Contracts see the dimensions, the query, the view
+/// and the ship modes.
+///
+/// A number is the sum of what the members of a cell give to it. That is told by their codes, from tables that are made
+/// once, so that for a cell neither keys nor rows of dimensions are looked at.
+#[derive(Drop)]
+pub struct CellNumbers<'a> {
+    plan: PlanOver<'a>,
+    view: View,
+    modes: Option<&'a Dictionary>,
+    // Whether rows of noughts keep the conditions on the numbers of rows.
+    within: bool,
+    customers: MemberParts,
+    suppliers: MemberParts,
+    parts: MemberParts,
+    dates: MemberParts,
+}
+
+impl<'a> Model for CellNumbers<'a> {
+    ghost use Rattle.std.specs.Option.{option_map};
+    ghost use Rattle.cuboid_upkeep.specs.CellNumbers.{AreTables, AskedOfCells};
+    ghost use Rattle.cuboid_upkeep.specs.Codes.{modes_of};
+
+    ghost Value = { AskedOfCells };
+
+    ghost view = { λ numbers. record {
+      dimensions = numbers.plan.dimensions;
+      query = numbers.plan.query;
+      view = numbers.view;
+      modes = modes_of (option_map (λ modes. modes.now) numbers.modes);
+    } };
+
+    ghost invariant = { λ numbers. AreTables (record {
+      dimensions = numbers.plan.dimensions;
+      query = numbers.plan.query;
+      view = numbers.view;
+      modes = modes_of (option_map (λ modes. modes.now) numbers.modes);
+    }) numbers.within numbers.customers numbers.suppliers numbers.parts numbers.dates };
+}
+
+impl<'a> CellNumbers<'a> {
+    /// Those of the cells of a view, whose fifth codes are places among the modes. Only a view that groups by ship mode
+    /// looks at the modes.
+    pub fn of(
+        alloc: Global,
+        dims: &'a Dims,
+        plan: &'a Plan,
+        view: View,
+        modes: Option<&'a Dictionary>,
+    ) -> Result<CellNumbers<'a>, AllocError>
+        requires { IsPlanOver dims.now plan.now }
+        ensures { IfOk result (λ numbers. numbers ≡ record {
+          dimensions = dims.now;
+          query = query_of plan.now;
+          view = view;
+          modes = modes_of (option_map (λ modes. modes.now) modes.entry);
+        }) }
+    {
+        let plan = plan.over(dims);
+        let within = plan.bounds().hold(0, 0);
+        let customers = parts_of_members(alloc, dims, &plan, Axis::Customer, view.customer)?;
+        let suppliers = parts_of_members(alloc, dims, &plan, Axis::Supplier, view.supplier)?;
+        let parts = parts_of_members(alloc, dims, &plan, Axis::Part, view.part)?;
+        let dates = parts_of_members(alloc, dims, &plan, Axis::Date, view.date)?;
+        Ok(CellNumbers {
+            plan,
+            view,
+            modes,
+            within,
+            customers,
+            suppliers,
+            parts,
+            dates,
+        })
+    }
+
+    /// The number of the group of a cell of the view, if the rows of the cell are selected. It refuses a cell with a code
+    /// that no member has: no row stands in for it.
+    #[inline]
+    pub fn number(&self, cell: &Cell) -> Result<Option<u128>, UnknownMember>
+        requires { IsCellOf self.now.view cell.now }
+        ensures ok { IfOk result (IsCellNumber self.now cell.now) }
+        ensures refused { OnErr result ((row : LineOrder)
+            → IsStandIn self.now.dimensions self.now.modes self.now.view cell.now row → ⊥) }
+    {
+        if !has_mode(self.view, self.modes, cell.key.ship_mode) {
+            return Err(UnknownMember);
+        }
+        let Some(customer) = self.customers.at(cell.key.customer) else {
+            return Err(UnknownMember);
+        };
+        let Some(supplier) = self.suppliers.at(cell.key.supplier) else {
+            return Err(UnknownMember);
+        };
+        let Some(part) = self.parts.at(cell.key.part) else {
+            return Err(UnknownMember);
+        };
+        let Some(date) = self.dates.at(cell.key.date) else {
+            return Err(UnknownMember);
+        };
+        if !self.within {
+            return Ok(None);
+        }
+        Ok(self.plan.number_by(customer, supplier, part, date))
+    }
+}
+
+// Whether the fifth code of a cell is that of a mode, where the view groups by ship mode.
+#[inline]
+fn has_mode(view: View, modes: Option<&Dictionary>, code: u16) -> bool
+    ensures { IsTrue result ↔ (view.ship_mode ≡ true
+        → IsCodeOfMode (modes_of (option_map (λ modes. modes.now) modes.entry)) code) }
+{
+    !view.ship_mode || is_mode(modes, code)
+}
+
+// Whether a code is that of a mode.
+#[inline]
+fn is_mode(modes: Option<&Dictionary>, code: u16) -> bool
+    ensures { IsTrue result ↔ IsCodeOfMode (modes_of (option_map (λ modes. modes.now) modes.entry)) code }
+{
+    let Some(modes) = modes else {
+        return false;
+    };
+    if code == ALL_CODE {
+        return false;
+    }
+    let Some(_text) = modes.text(u32::from(code)) else {
+        return false;
+    };
+    true
+}

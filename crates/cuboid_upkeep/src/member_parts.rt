@@ -1,0 +1,85 @@
+//! What the members of a level give to the numbers of groups.
+ghost use Rattle.std.specs.Prelude.{◌≡◌, All, IfOk, map};
+ghost use Rattle.cuboid_upkeep.specs.MemberParts.{AreParts, IsOfRow, part_by, part_in};
+
+use crate::member_keys::keys_of_members;
+use cube_model::Axis;
+use cuboid_cells::limits::ALL_CODE;
+use dimensions::Dims;
+use group_plan::PlanOver;
+use lattice::Level;
+use std::alloc::{AllocError, Global};
+
+/// By the codes of a level's members, what a row with the member gives to the number of a group.
+///
+/// At a code that no member has stands nothing, and at that of a member which fails a condition a part that is nothing.
+#[derive(Drop)]
+pub struct MemberParts {
+    /// What stands at the code of every member together.
+    pub every: Option<Option<u128>>,
+    /// What stands at each other code.
+    pub members: Vec<Option<Option<u128>>>,
+}
+
+impl MemberParts {
+    // What stands at a code.
+    #[inline]
+    pub(crate) fn at(&self, code: u16) -> Option<Option<u128>>
+        ensures { result ≡ part_in self.now code }
+    {
+        if code == ALL_CODE {
+            return self.every;
+        }
+        match self.members.get(usize::from(code)) {
+            Some(part) => *part,
+            None => None,
+        }
+    }
+}
+
+// What the members of a level of a dimension give by a plan, each told by one row.
+pub(crate) fn parts_of_members(
+    alloc: Global,
+    dims: &Dims,
+    plan: &PlanOver,
+    axis: Axis,
+    grouped: Level,
+) -> Result<MemberParts, AllocError>
+    requires { plan.now.dimensions ≡ dims.now }
+    ensures { IfOk result (AreParts dims.now plan.now.query axis grouped) }
+{
+    let keys = keys_of_members(alloc, dims, axis, grouped)?;
+    let members = parts_by_code(alloc, plan, axis, keys.members.as_slice())?;
+    Ok(MemberParts {
+        every: part_of(plan, axis, keys.every),
+        members,
+    })
+}
+
+// What the rows with some keys give, each in its place.
+fn parts_by_code(
+    alloc: Global,
+    plan: &PlanOver,
+    axis: Axis,
+    keys: &[Option<u32>],
+) -> Result<Vec<Option<Option<u128>>>, AllocError>
+    requires { All (IsOfRow plan.now.dimensions axis) keys.now }
+    ensures { IfOk result (λ parts. parts.items ≡ map (part_by plan.now.dimensions plan.now.query axis) keys.now) }
+{
+    let mut parts = Vec::with_capacity(alloc, keys.len())?;
+    for key in keys {
+        parts.push(part_of(plan, axis, *key))?;
+    }
+    Ok(parts)
+}
+
+// What the row with a key gives, if there is a key.
+fn part_of(plan: &PlanOver, axis: Axis, key: Option<u32>) -> Option<Option<u128>>
+    requires { IsOfRow plan.now.dimensions axis key }
+    ensures { result ≡ part_by plan.now.dimensions plan.now.query axis key }
+{
+    match key {
+        None => None,
+        Some(key) => Some(plan.part(axis, key)),
+    }
+}
