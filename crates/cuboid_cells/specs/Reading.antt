@@ -58,6 +58,14 @@ pub record ReadsSummary (old new : List ℕ) (summary : Summary) : Type 0 where
   pub spelled : old ≡ summary_of summary ++ new
   pub left : length old ≡ 24 + length new
 
+-- what is kept of three measures was read from the front of `old`, and `new` is left
+pub record ReadsThree (old new : List ℕ) (three : Summary × Summary × Summary) : Type 0 where
+  pub first : SummaryFits three.0
+  pub second : SummaryFits three.1
+  pub third : SummaryFits three.2
+  pub spelled : old ≡ (summary_of three.0 ++ (summary_of three.1 ++ summary_of three.2)) ++ new
+  pub left : length old ≡ 72 + length new
+
 -- what is kept of the measures was read from the front of `old`, and `new` is left
 pub record ReadsSummaries (old new : List ℕ) (measures : Summaries) : Type 0 where
   pub fit : SummariesFit measures

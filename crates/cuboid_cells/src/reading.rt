@@ -1,7 +1,7 @@
 //! Reading the parts of a run from the front of bytes.
 ghost use Rattle.std.specs.Prelude.{◌≡◌, ◌+◌, ◌*◌, ◌≤◌, ◌<◌, ◌↔◌, length, IfErr, IfNone, IfOk, IfSome, IsErr, IsOkUnless, IsTrue};
 ghost use Rattle.cube_model.specs.declared.fault.Fault.{Fault};
-ghost use Rattle.cuboid_cells.specs.Reading.{ReadsCell, ReadsCells, ReadsHeader, ReadsKey, ReadsMode, ReadsSummaries, ReadsSummary};
+ghost use Rattle.cuboid_cells.specs.Reading.{ReadsCell, ReadsCells, ReadsHeader, ReadsKey, ReadsMode, ReadsSummaries, ReadsSummary, ReadsThree};
 ghost use Rattle.cuboid_cells.specs.Spelled.{cell_bytes, mode_bytes};
 
 use crate::cell::Cell;
@@ -129,14 +129,28 @@ fn read_summaries(cursor: &mut Cursor<'_>) -> Result<Summaries, Fault>
     ensures ok { IfOk result (ReadsSummaries cursor.old cursor.new) }
     ensures short { IsErr result ↔ (length cursor.old < 144) }
 {
+    let (quantity, extendedprice, revenue) = read_three(cursor)?;
+    let (supplycost, discounted, profit) = read_three(cursor)?;
     Ok(Summaries {
-        quantity: read_summary(cursor)?,
-        extendedprice: read_summary(cursor)?,
-        revenue: read_summary(cursor)?,
-        supplycost: read_summary(cursor)?,
-        discounted: read_summary(cursor)?,
-        profit: read_summary(cursor)?,
+        quantity,
+        extendedprice,
+        revenue,
+        supplycost,
+        discounted,
+        profit,
     })
+}
+
+// What is kept of three measures.
+fn read_three(cursor: &mut Cursor<'_>) -> Result<(Summary, Summary, Summary), Fault>
+    ensures ok { IfOk result (ReadsThree cursor.old cursor.new) }
+    ensures short { IsErr result ↔ (length cursor.old < 72) }
+{
+    Ok((
+        read_summary(cursor)?,
+        read_summary(cursor)?,
+        read_summary(cursor)?,
+    ))
 }
 
 fn read_summary(cursor: &mut Cursor<'_>) -> Result<Summary, Fault>

@@ -4,7 +4,7 @@ use cube_model::{Fault, Query};
 use sample_star::{Pieces, TABLES, Tables, in_sevens, whole};
 use ssb_eval::eval_texts;
 use std::alloc::Global;
-use std::io::Write;
+use std::io::{Read, Write};
 
 /// The sample tables, save for those whose texts are given.
 #[derive(Clone, Copy)]
@@ -46,17 +46,17 @@ fn given_or(text: Option<&'static str>, sample: &'static [u8]) -> &'static [u8] 
 
 /// Readers of the five tables.
 #[derive(Drop)]
-pub struct Readers<'a> {
-    customer: Pieces<'a>,
-    supplier: Pieces<'a>,
-    part: Pieces<'a>,
-    date: Pieces<'a>,
-    lineorder: Pieces<'a>,
+pub struct Readers<R: Drop> {
+    customer: R,
+    supplier: R,
+    part: R,
+    date: R,
+    lineorder: R,
 }
 
-impl<'a> Readers<'a> {
+impl<'a> Readers<Pieces<'a>> {
     /// Readers that give the tables whole.
-    pub fn whole(tables: &Tables<'a>) -> Readers<'a> {
+    pub fn whole(tables: &Tables<'a>) -> Readers<Pieces<'a>> {
         Readers {
             customer: whole(tables.customer),
             supplier: whole(tables.supplier),
@@ -67,7 +67,7 @@ impl<'a> Readers<'a> {
     }
 
     /// Readers that give the tables in pieces of seven bytes.
-    pub fn in_sevens(tables: &Tables<'a>) -> Readers<'a> {
+    pub fn in_sevens(tables: &Tables<'a>) -> Readers<Pieces<'a>> {
         Readers {
             customer: in_sevens(tables.customer),
             supplier: in_sevens(tables.supplier),
@@ -78,7 +78,7 @@ impl<'a> Readers<'a> {
     }
 
     /// The readers, each of which fails at a read, counted from 1; at 0 it does not.
-    pub fn failing_at(self, reads: [u32; 5]) -> Readers<'a> {
+    pub fn failing_at(self, reads: [u32; 5]) -> Readers<Pieces<'a>> {
         Readers {
             customer: self.customer.failing_at(reads[0]),
             supplier: self.supplier.failing_at(reads[1]),
@@ -90,9 +90,9 @@ impl<'a> Readers<'a> {
 }
 
 /// Writes the report of a query over what readers give.
-pub fn write_report<W: Write>(
+pub fn write_report<R: Read + Drop, W: Write>(
     alloc: Global,
-    readers: Readers<'_>,
+    readers: Readers<R>,
     query: &Query,
     out: &mut W,
 ) -> Result<(), Fault> {

@@ -1,5 +1,5 @@
 //! A plan with its dimensions.
-ghost use Rattle.std.specs.Prelude.{◌≡◌, ◌<◌, ◌≤◌, true, length, take, slice_index_or, slice_set, IfOk, OnOk, OnErr};
+ghost use Rattle.std.specs.Prelude.{◌≡◌, ◌+◌, ◌^◌, ◌<◌, ◌≤◌, true, length, take, slice_index_or, slice_set, IfOk, OnOk, OnErr};
 ghost use Rattle.std.specs.List.{list_all};
 ghost use Rattle.cube_model.specs.declared.answer.Member.TheVariants.{All};
 ghost use Rattle.cube_model.specs.declared.attr.Axis.TheVariants.{Customer, Supplier, Part, Date};
@@ -63,6 +63,17 @@ impl<'a> PlanOver<'a> {
         if !self.plan.bounds.hold(quantity, discount) {
             return Ok(None);
         }
+        self.number_within(rows, place)
+    }
+
+    // The number of the group of a fact row whose own numbers meet the conditions on them, if the row is selected.
+    fn number_within<F: FactRows>(&self, rows: &F, place: usize) -> Result<Option<u128>, UnknownKey>
+        requires place { place < length (F.rows rows.now) }
+        requires within { list_all (holds_in (row_at (F.rows rows.now) place)) self.now.query.conditions ≡ true }
+        requires fits { group_count self.now.dimensions self.now.query.columns < 2 ^ 128 }
+        ensures ok { IfOk result (IsNumber self.now.dimensions self.now.query (row_at (F.rows rows.now) place)) }
+        ensures unknown { OnErr result (IsKnown self.now.dimensions (row_at (F.rows rows.now) place) → ⊥) }
+    {
         let customer = match self.given(rows, place, Axis::Customer) {
             Ok(Some(customer)) => customer,
             Ok(None) => return Ok(None),
@@ -83,7 +94,7 @@ impl<'a> PlanOver<'a> {
             Ok(None) => return Ok(None),
             Err(error) => return Err(error),
         };
-        Ok(Some(customer + (supplier + (part + date))))
+        Ok(Some(sum_of(customer, supplier, part, date)))
     }
 
     /// What the dimension row with a key gives to the number of a group: nothing where it fails a condition.
@@ -218,4 +229,12 @@ impl<'a> PlanOver<'a> {
     {
         self.plan.columns[column].with_all(number)
     }
+}
+
+// The sum of what the four dimensions give.
+fn sum_of(customer: u128, supplier: u128, part: u128, date: u128) -> u128
+    requires { customer + (supplier + (part + date)) < 2 ^ 128 }
+    ensures { result ≡ customer + (supplier + (part + date)) }
+{
+    customer + (supplier + (part + date))
 }

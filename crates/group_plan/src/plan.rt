@@ -1,7 +1,10 @@
 //! A plan of a query.
-ghost use Rattle.std.specs.Prelude.{◌≡◌, IfOk};
+ghost use Rattle.std.specs.Prelude.{◌≡◌, ◌≤◌, length, IfOk};
 ghost use Rattle.cube_model.specs.Proper.{IsProper};
-ghost use Rattle.group_plan.specs.Plans.{IsPlanOver, count_of, query_of, side_of};
+ghost use Rattle.group_plan.specs.Columns.{AreColumns};
+ghost use Rattle.group_plan.specs.Filters.{AreFilters};
+ghost use Rattle.group_plan.specs.Numbers.{group_count};
+ghost use Rattle.group_plan.specs.Plans.{AreSides, IsPlanOver, count_of, query_of, side_of};
 
 use crate::bounds::Bounds;
 use crate::column::Column;
@@ -37,12 +40,12 @@ impl Plan {
         ensures query { IfOk result (λ plan. query_of plan ≡ query.now) }
     {
         let count = group_count(dims, query.columns.as_slice());
-        let sides = Sides::of(alloc, dims, query, count)?;
-        let filters = Filters::of(alloc, dims, query, &sides)?;
+        let (sides, filters) = sides_and_filters(alloc, dims, query, count)?;
+        let (copy, columns) = copy_and_columns(alloc, dims, query)?;
         Ok(Plan {
-            query: copied_query(alloc, query)?,
+            query: copy,
             bounds: Bounds::of(query.conditions.as_slice()),
-            columns: Column::all(alloc, dims, query.columns.as_slice())?,
+            columns,
             sides,
             filters,
             count,
@@ -77,4 +80,36 @@ impl Plan {
     {
         PlanOver::of(dims, self)
     }
+}
+
+// What the rows of each dimension give, and which of them a query cannot select.
+fn sides_and_filters(
+    alloc: Global,
+    dims: &Dims,
+    query: &Query,
+    count: u128,
+) -> Result<(Sides, Filters), AllocError>
+    requires few { length query.now.columns ≤ 6 }
+    requires count { count ≡ group_count dims.now query.now.columns }
+    ensures sides { IfOk result (λ both. AreSides dims.now query.now both.0) }
+    ensures filters { IfOk result (λ both. AreFilters dims.now query.now both.1) }
+{
+    let sides = Sides::of(alloc, dims, query, count)?;
+    let filters = Filters::of(alloc, dims, query, &sides)?;
+    Ok((sides, filters))
+}
+
+// A copy of a query, and its columns over dimensions.
+fn copy_and_columns(
+    alloc: Global,
+    dims: &Dims,
+    query: &Query,
+) -> Result<(Query, Vec<Column>), AllocError>
+    requires few { length query.now.columns ≤ 6 }
+    ensures copy { IfOk result (λ both. both.0 ≡ query.now) }
+    ensures columns { IfOk result (λ both. AreColumns dims.now query.now.columns (length query.now.columns) both.1.items) }
+{
+    let copy = copied_query(alloc, query)?;
+    let columns = Column::all(alloc, dims, query.columns.as_slice())?;
+    Ok((copy, columns))
 }

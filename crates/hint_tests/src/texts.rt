@@ -4,6 +4,7 @@ use query_words::read_query;
 use sample_star::{Pieces, TABLES, whole};
 use ssb_eval::eval_texts;
 use std::alloc::Global;
+use std::io::{Read, Write};
 use table_hints::{Table, TableFiles, table_hint};
 
 /// The sample tables, with one of them replaced.
@@ -46,19 +47,46 @@ impl<'a> TableFiles for Texts<'a> {
     }
 }
 
-// Whether a query is answered over the tables.
-fn answered(alloc: Global, texts: &Texts<'_>, query: &Query) -> Result<(), Fault> {
-    let mut out = Vec::new(alloc);
+// Readers of the five tables.
+#[derive(Drop)]
+struct Readers<R: Drop> {
+    customer: R,
+    supplier: R,
+    part: R,
+    date: R,
+    lineorder: R,
+}
+
+// Writes the report of a query over what readers give.
+fn write_report<R: Read + Drop, W: Write>(
+    alloc: Global,
+    readers: Readers<R>,
+    query: &Query,
+    out: &mut W,
+) -> Result<(), Fault> {
     eval_texts(
         alloc,
-        whole(texts.of(Table::Customer)),
-        whole(texts.of(Table::Supplier)),
-        whole(texts.of(Table::Part)),
-        whole(texts.of(Table::Date)),
-        whole(texts.of(Table::Lineorder)),
+        readers.customer,
+        readers.supplier,
+        readers.part,
+        readers.date,
+        readers.lineorder,
         query,
-        &mut out,
+        out,
     )
+}
+
+// Whether a query is answered over the tables.
+fn answered(alloc: Global, texts: &Texts<'_>, query: &Query) -> Result<(), Fault> {
+    let readers = Readers {
+        customer: whole(texts.of(Table::Customer)),
+        supplier: whole(texts.of(Table::Supplier)),
+        part: whole(texts.of(Table::Part)),
+        date: whole(texts.of(Table::Date)),
+        lineorder: whole(texts.of(Table::Lineorder)),
+    };
+    let mut out = Vec::new(alloc);
+    write_report(alloc, readers, query, &mut out)
 }
 
 // The first query of the benchmark over the tables.

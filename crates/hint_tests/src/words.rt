@@ -269,11 +269,16 @@ fn are_refused(alloc: Global, words: &QueryWords<'_>) -> bool {
     }
 }
 
+// Whether just this is said of words, and words of which something is said are refused.
+fn is_said(alloc: Global, words: &QueryWords<'_>, want: &str) -> Result<bool, Fault> {
+    let found = said(alloc, words)?;
+    Ok(found.as_str() == want && are_refused(alloc, words) == (want != "nothing"))
+}
+
 // The place of the first words of which something else is said, or that are refused with nothing said.
 fn first_other(alloc: Global) -> Result<Option<usize>, Fault> {
     for (place, (words, want)) in CASES.iter().enumerate() {
-        let found = said(alloc, words)?;
-        if found.as_str() != *want || are_refused(alloc, words) != (*want != "nothing") {
+        if !is_said(alloc, words, want)? {
             return Ok(Some(place));
         }
     }
@@ -286,6 +291,11 @@ fn a_query_of_ones_own_needs_an_aggregate(rt: HostRuntime) -> Result<(), Fail> {
         hint_of_cube(rt.alloc(), &NONE)?,
         Some(WordHint::NoAggregate)
     );
+    Ok(())
+}
+
+#[test]
+fn a_count_is_an_aggregate(rt: HostRuntime) -> Result<(), Fail> {
     assert_eq!(rt; hint_of_cube(rt.alloc(), &COUNT)?, None);
     Ok(())
 }

@@ -1,6 +1,6 @@
 //! How a view is printed.
 ghost use Rattle.std.specs.Prelude.{◌≡◌, Some};
-ghost use Rattle.lattice.specs.Names.{view_text};
+ghost use Rattle.lattice.specs.Names.{fifth_part, view_text};
 
 use crate::view::View;
 use cube_model::Axis;
@@ -26,13 +26,18 @@ impl fmt::Display for ViewName {
         let supplier = view.supplier.name(Axis::Supplier);
         let part = view.part.name(Axis::Part);
         let date = view.date.name(Axis::Date);
-        match (self.ship_modes, view.ship_mode) {
-            (true, true) => write!(
-                f,
-                "view {index} {customer}|{supplier}|{part}|{date}|shipmode"
-            ),
-            (true, false) => write!(f, "view {index} {customer}|{supplier}|{part}|{date}|ALL"),
-            (false, _) => write!(f, "view {index} {customer}|{supplier}|{part}|{date}"),
-        }
+        let fifth = fifth_part(self.ship_modes, view);
+        write!(f, "view {index} {customer}|{supplier}|{part}|{date}{fifth}")
+    }
+}
+
+// The fifth part, with its bar, in the lattice that has it.
+fn fifth_part(ship_modes: bool, view: View) -> &'static str
+    ensures { result.now ≡ fifth_part ship_modes view }
+{
+    match (ship_modes, view.ship_mode) {
+        (true, true) => "|shipmode",
+        (true, false) => "|ALL",
+        (false, _) => "",
     }
 }

@@ -1,8 +1,9 @@
 // What a commit is to write, worked out in memory. No device is called.
-ghost use Rattle.std.specs.Prelude.{◌+◌, ◌≤◌, ◌<◌, ◌^◌, ℕ, [], length, map, All, IfErr, IfOk};
+ghost use Rattle.std.specs.Prelude.{◌≡◌, ◌+◌, ◌≤◌, ◌<◌, ◌^◌, ℕ, [], length, map, All, IfErr, IfOk};
+ghost use Rattle.cube_model.specs.declared.fault.Fault.{Fault};
 ghost use Rattle.extents.specs.Extents.{SomeHolds, AreLaidOut};
 ghost use Rattle.superblock.specs.Superblock as superblocks;
-ghost use Rattle.catalogue.specs.Catalogue.{FitsFields, IsProperEntry, AreAscending};
+ghost use Rattle.catalogue.specs.Catalogue.{FitsFields, IsProperEntry, AreAscending, catalogue_of};
 ghost use Rattle.wire.specs.Limits.{least_sectors, most_objects};
 ghost use Rattle.object_store.specs.Commit.{ArePuts, IsLayout, IsRoot, drop_each, put_each, puts_of, size_of};
 ghost use Rattle.object_store.specs.Places.{extents_of, sizes_at, used_by};
@@ -69,9 +70,7 @@ pub(crate) fn prepare(
 {
     let mut free = free_beside(alloc, stamp.sectors, used)?;
     let placed = place(alloc, &mut free, puts)?;
-    let mut entries = kept;
-    put_entries(&mut entries, &placed)?;
-    let catalogue = encode(alloc, &entries, root)?;
+    let (entries, catalogue) = catalogued(alloc, &placed, kept, root)?;
     let root = Vec::from_slice(alloc, root)?;
     let extent = free.take(catalogue.len().div_ceil(512) as u32)?;
     let superblock = Super {
@@ -88,6 +87,26 @@ pub(crate) fn prepare(
         catalogue,
         superblock,
     })
+}
+
+// The entries that are kept and those that were placed, and the bytes of their catalogue.
+fn catalogued(
+    alloc: Global,
+    placed: &[Entry],
+    kept: Vec<Entry>,
+    root: &[u8],
+) -> Result<(Vec<Entry>, Vec<u8>), Fault>
+    requires ascending { AreAscending kept.items }
+    requires few { length (put_each (λ e. e.id) placed.now kept.items) ≤ most_objects }
+    requires root { IsRoot root.now }
+    ensures entries { IfOk result (λ both. both.0.items ≡ put_each (λ e. e.id) placed.now kept.items) }
+    ensures catalogue { IfOk result (λ both. both.1.items ≡ catalogue_of both.0.items root.now) }
+    ensures memory { IfErr result (λ fault. fault ≡ Fault.Memory) }
+{
+    let mut entries = kept;
+    put_entries(&mut entries, placed)?;
+    let catalogue = encode(alloc, &entries, root)?;
+    Ok((entries, catalogue))
 }
 
 /// The plan of a commit over what stands there.

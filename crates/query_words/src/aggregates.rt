@@ -1,7 +1,8 @@
 //! The words of columns and aggregates.
 ghost use Rattle.std.specs.Prelude.{◌≡◌, Some, map};
+ghost use Rattle.std.specs.List.{AllZip};
 ghost use Rattle.std.specs.Option.{option_map};
-ghost use Rattle.cube_model.specs.Names.{agg_name};
+ghost use Rattle.cube_model.specs.Names.{agg_name, attr_name};
 ghost use Rattle.query_words.specs.Reading.{Finds, Reads};
 ghost use Rattle.query_words.specs.Words.{SpellsColumns, SpellsAggregate, SpellsAggregates, agg_word};
 
@@ -24,8 +25,15 @@ fn columns_named(alloc: Global, text: &str) -> Result<Items<Attr>, Fault>
     ensures { Reads (SpellsColumns (Some text.now)) result }
 {
     let names = parts(alloc, text, ',')?;
+    attributes_of(alloc, names.as_slice())
+}
+
+// The attributes of names, or a refusal where a name is that of none.
+fn attributes_of(alloc: Global, names: &[&str]) -> Result<Items<Attr>, Fault>
+    ensures { Reads (λ columns. map attr_name columns ≡ map (λ name. name.now) names.now) result }
+{
     let mut columns = Items::new(alloc);
-    for name in &names {
+    for name in names {
         let Some(attr) = attribute(name) else {
             return Err(Fault::BadQuery);
         };
@@ -39,8 +47,15 @@ pub fn read_aggregates(alloc: Global, text: &str) -> Result<Items<Agg>, Fault>
     ensures { Reads (SpellsAggregates (Some text.now)) result }
 {
     let words = parts(alloc, text, ',')?;
+    aggregates_of(alloc, words.as_slice())
+}
+
+// The aggregates that words spell, or a refusal where a word spells none.
+fn aggregates_of(alloc: Global, words: &[&str]) -> Result<Items<Agg>, Fault>
+    ensures { Reads (AllZip SpellsAggregate (map (λ word. word.now) words.now)) result }
+{
     let mut aggregates = Items::new(alloc);
-    for word in &words {
+    for word in words {
         let Some(agg) = aggregate(word) else {
             return Err(Fault::BadQuery);
         };

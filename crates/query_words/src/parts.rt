@@ -27,9 +27,17 @@ pub fn texts(alloc: Global, list: &str) -> Result<Items<Text>, Fault>
     ensures only { IfErr result (λ fault. fault ≡ Fault.Memory) }
 {
     let parts = parts(alloc, list, '|')?;
-    let mut texts = Items::new(alloc);
-    for part in &parts {
-        texts.push(text_of(alloc, part)?)?;
+    copies(alloc, parts.as_slice())
+}
+
+// Copies of texts. It can only fail for want of memory.
+fn copies(alloc: Global, texts: &[&str]) -> Result<Items<Text>, Fault>
+    ensures ok { IfOk result (λ copies. copies ≡ map (λ text. text.now) texts.now) }
+    ensures only { IfErr result (λ fault. fault ≡ Fault.Memory) }
+{
+    let mut copies = Items::new(alloc);
+    for text in texts {
+        copies.push(text_of(alloc, text)?)?;
     }
-    Ok(texts)
+    Ok(copies)
 }

@@ -1,8 +1,8 @@
 //! The words of ranges.
-ghost use Rattle.std.specs.Prelude.{◌≡◌, IfOk, IfErr};
+ghost use Rattle.std.specs.Prelude.{◌≡◌, ℕ, List, [], ◌∷◌, IfOk, IfErr};
 ghost use Rattle.query_words.specs.Reading.{Finds, Reads};
 ghost use Rattle.query_words.specs.Spelled.{SpellsRange};
-ghost use Rattle.query_words.specs.Words.{IsSmallNumber};
+ghost use Rattle.query_words.specs.Words.{IsSmallNumber, parts_by};
 
 use crate::names::attribute;
 use crate::parts::{parts, text_of};
@@ -17,6 +17,13 @@ pub fn read_range(alloc: Global, name: &str, range: &str) -> Result<Cond, Fault>
     let [low, high] = ends.as_slice() else {
         return Err(Fault::BadQuery);
     };
+    read_ends(alloc, name, low, high)
+}
+
+// Reads a condition by its name and its two ends, the parts of what stands behind the name.
+fn read_ends(alloc: Global, name: &str, low: &str, high: &str) -> Result<Cond, Fault>
+    ensures { (range : List ℕ) → low.now ∷ high.now ∷ [] ≡ parts_by 124 range → Reads (SpellsRange name.now range) result }
+{
     match name {
         "quantity" => match bounds(low, high) {
             None => Err(Fault::BadQuery),

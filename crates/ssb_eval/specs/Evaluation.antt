@@ -65,6 +65,10 @@ FactsAreRows = (dimensions : DimRows) (text : List ℕ) (rows : List LineOrder) 
 abbrev pub answer_of : Query → DimRows → List ℕ → Result Answer Fault
 answer_of query dimensions text = and_then (facts_of dimensions text) (λ rows. Ok (answer query dimensions rows))
 
+-- the answer over the texts of all tables
+abbrev pub answer_from : Query → Texts → Result Answer Fault
+answer_from query texts = and_then (dimensions_of texts) (λ dimensions. answer_of query dimensions texts.lineorder)
+
 -- the bytes of the report
 abbrev pub eval_of : Query → Texts → Result (List ℕ) Fault
 eval_of query texts =
@@ -76,6 +80,18 @@ eval_of query texts =
 abbrev pub Gives : {A : Type 0} → Result A Fault → Result A Fault → Type 0
 Gives outcome (Ok value) = outcome ≡ Ok value
 Gives outcome (Err fault) = (fault ≡ Memory) ⊎ ((fault ≡ Input) ⊎ (outcome ≡ Err fault))
+
+-- the rows of the four tables
+pub record AreTables (texts : Texts) (rows : DimRows) : Type 0 where
+  pub customers : table_rows customer_row texts.customer ≡ Ok rows.customers
+  pub suppliers : table_rows supplier_row texts.supplier ≡ Ok rows.suppliers
+  pub parts : table_rows part_row texts.part ≡ Ok rows.parts
+  pub dates : table_rows date_row texts.date ≡ Ok rows.dates
+
+-- the tables were read, whether their rows keep the rules or not; or the first that was refused refuses the dimensions
+abbrev pub ReadsTables : Texts → Result DimRows Fault → Type 0
+ReadsTables texts (Ok rows) = AreTables texts rows
+ReadsTables texts (Err fault) = Gives (dimensions_of texts) (Err fault)
 
 -- readers have the bytes of texts left
 pub record HaveTexts (customer supplier part date lineorder : Option (List ℕ)) (texts : Texts) : Type 0 where

@@ -1,7 +1,7 @@
 //! The dimensions from the texts of their tables.
 ghost use Rattle.std.specs.Prelude.{◌≡◌, ℕ, List, Some};
 ghost use Rattle.batch_loader.specs.Tables.{customer_row, supplier_row, part_row, date_row};
-ghost use Rattle.ssb_eval.specs.Evaluation.{Gives, Texts, table_rows, dimensions_of};
+ghost use Rattle.ssb_eval.specs.Evaluation.{Gives, ReadsTables, Texts, table_rows, dimensions_of};
 
 use batch_loader::{Lines, read_customers, read_dates, read_parts, read_suppliers};
 use cube_model::{CustomerRow, DateRow, DimRows, Fault, Items, PartRow, SupplierRow};
@@ -20,20 +20,34 @@ pub fn read_dimensions<C: Read + Drop, S: Read + Drop, P: Read + Drop, D: Read +
     ensures { (texts : Texts) → C.remaining customer ≡ Some texts.customer → S.remaining supplier ≡ Some texts.supplier
         → P.remaining part ≡ Some texts.part → D.remaining date ≡ Some texts.date → Gives (dimensions_of texts) result }
 {
-    let customers = customer_table(alloc, customer)?;
-    let suppliers = supplier_table(alloc, supplier)?;
-    let parts = part_table(alloc, part)?;
-    let dates = date_table(alloc, date)?;
-    let rows = DimRows {
-        customers,
-        suppliers,
-        parts,
-        dates,
-    };
+    let rows = read_tables(alloc, customer, supplier, part, date)?;
     if !have_short_texts(&rows) {
         return Err(Fault::Input);
     }
     Dims::build(alloc, &rows)
+}
+
+// Reads the four tables.
+fn read_tables<C: Read + Drop, S: Read + Drop, P: Read + Drop, D: Read + Drop>(
+    alloc: Global,
+    customer: C,
+    supplier: S,
+    part: P,
+    date: D,
+) -> Result<DimRows, Fault>
+    ensures { (texts : Texts) → C.remaining customer ≡ Some texts.customer → S.remaining supplier ≡ Some texts.supplier
+        → P.remaining part ≡ Some texts.part → D.remaining date ≡ Some texts.date → ReadsTables texts result }
+{
+    let customers = customer_table(alloc, customer)?;
+    let suppliers = supplier_table(alloc, supplier)?;
+    let parts = part_table(alloc, part)?;
+    let dates = date_table(alloc, date)?;
+    Ok(DimRows {
+        customers,
+        suppliers,
+        parts,
+        dates,
+    })
 }
 
 fn customer_table<R: Read + Drop>(alloc: Global, reader: R) -> Result<Items<CustomerRow>, Fault>

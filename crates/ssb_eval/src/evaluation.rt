@@ -2,11 +2,11 @@
 ghost use Rattle.std.specs.Prelude.{◌≡◌, Err};
 ghost use Rattle.std.specs.Io.KnownBytes.{Keeps};
 ghost use Rattle.cube_model.specs.Proper.{IsProper};
-ghost use Rattle.ssb_eval.specs.Evaluation.{HaveTexts, Reports, Texts, eval_of};
+ghost use Rattle.ssb_eval.specs.Evaluation.{Gives, HaveTexts, Reports, Texts, answer_from, eval_of};
 
 use crate::dimension_tables::read_dimensions;
 use crate::facts::answer_facts;
-use cube_model::{Fault, Query};
+use cube_model::{Answer, Fault, Query};
 use ssb_reports::write_report;
 use std::alloc::Global;
 use std::io::{Read, Write};
@@ -42,7 +42,24 @@ pub fn eval_texts<
     ensures improper { (IsProper query.now → ⊥) → (result ≡ Err Fault.BadQuery) × Keeps (W.contents out.old) (W.contents out.new) }
 {
     query.check()?;
-    let dims = read_dimensions(alloc, customer, supplier, part, date)?;
-    let answer = answer_facts(alloc, &dims, query, lineorder)?;
+    let answer = answer_over(alloc, customer, supplier, part, date, lineorder, query)?;
     write_report(query, &answer, out)
+}
+
+// The answer to a proper query over the rows that the texts of the five tables spell.
+fn answer_over<C: Read + Drop, S: Read + Drop, P: Read + Drop, D: Read + Drop, L: Read + Drop>(
+    alloc: Global,
+    customer: C,
+    supplier: S,
+    part: P,
+    date: D,
+    lineorder: L,
+    query: &Query,
+) -> Result<Answer, Fault>
+    requires proper { IsProper query.now }
+    ensures { (texts : Texts) → HaveTexts (C.remaining customer) (S.remaining supplier) (P.remaining part) (D.remaining date) (L.remaining lineorder) texts
+        → Gives (answer_from query.now texts) result }
+{
+    let dims = read_dimensions(alloc, customer, supplier, part, date)?;
+    answer_facts(alloc, &dims, query, lineorder)
 }

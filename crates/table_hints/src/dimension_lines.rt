@@ -6,6 +6,7 @@ use crate::quoted::Quoted;
 use batch_loader::Lines;
 use cube_model::{Axis, Fault};
 use std::alloc::Global;
+use std::fmt;
 use std::io::Read;
 
 /// Two levels of a dimension: the fields of the lower and the upper member, with their names.
@@ -81,10 +82,7 @@ pub fn key_hint<T: TableFiles>(
     let Some(keys) = keys(alloc, files, table)? else {
         return Ok(None);
     };
-    let Some(key) = keys.get((row as usize).saturating_sub(1)) else {
-        return Ok(None);
-    };
-    let Some(first) = keys.iter().position(|other| other == key) else {
+    let Some((key, first)) = first_with_key_of(keys.as_slice(), row) else {
         return Ok(None);
     };
     let path = files.path(table);
@@ -93,6 +91,13 @@ pub fn key_hint<T: TableFiles>(
         first.saturating_add(1)
     )?;
     Ok(Some(said))
+}
+
+// The key of a row, and the first place that has it, from 0.
+fn first_with_key_of(keys: &[u64], row: u32) -> Option<(u64, usize)> {
+    let key = keys.get((row as usize).saturating_sub(1))?;
+    let first = keys.iter().position(|other| other == key)?;
+    Some((*key, first))
 }
 
 /// Which member of a row has another upper member in an earlier row, and both.
@@ -110,21 +115,29 @@ pub fn upper_hint<T: TableFiles>(
         let Some(reader) = files.open(table) else {
             return Ok(None);
         };
-        let mut lines = Lines::new(alloc, reader)?;
-        if let Some((at, other)) = earlier_upper(alloc, &mut lines, line.as_slice(), step, row)? {
-            let path = files.path(table);
-            return broken(
-                alloc,
-                path,
-                step,
-                line.as_slice(),
-                row,
-                at,
-                other.as_slice(),
-            );
+        let path = files.path(table);
+        let found = step_hint(alloc, reader, path, line.as_slice(), step, row)?;
+        if found.is_some() {
+            return Ok(found);
         }
     }
     Ok(None)
+}
+
+// The same of one step, by the lines of a reader.
+fn step_hint<R: Read + Drop>(
+    alloc: Global,
+    reader: R,
+    path: &str,
+    line: &[u8],
+    step: &Step,
+    row: u32,
+) -> Result<Option<String>, Fault> {
+    let mut lines = Lines::new(alloc, reader)?;
+    match earlier_upper(alloc, &mut lines, line, step, row)? {
+        None => Ok(None),
+        Some((at, other)) => broken(alloc, path, step, line, row, at, other.as_slice()),
+    }
 }
 
 // The first earlier line that has the same lower member under another upper one, and that one.
@@ -158,16 +171,30 @@ fn broken(
     at: u64,
     other: &[u8],
 ) -> Result<Option<String>, Fault> {
-    let lower = Quoted(field(line, step.lower));
-    let upper = Quoted(field(line, step.upper));
+    let lower = Member {
+        level: step.lower_name,
+        text: field(line, step.lower),
+    };
+    let upper = Member {
+        level: step.upper_name,
+        text: field(line, step.upper),
+    };
     let other = Quoted(other);
-    let Step {
-        lower_name,
-        upper_name,
-        ..
-    } = *step;
     let said = format!(in alloc;
-        "{path} line {row}: {lower_name} {lower} has {upper_name} {upper}, and {other} in line {at}"
+        "{path} line {row}: {lower} has {upper}, and {other} in line {at}"
     )?;
     Ok(Some(said))
+}
+
+// A member as it is named in a line, such as `city "A"`.
+#[derive(Clone, Copy)]
+struct Member<'a> {
+    level: &'static str,
+    text: &'a [u8],
+}
+
+impl fmt::Display for Member<'_> {
+    fn fmt<W: fmt::Write>(&self, f: &mut fmt::Formatter<W>) -> fmt::Result {
+        write!(f, "{} {}", self.level, Quoted(self.text))
+    }
 }

@@ -62,14 +62,19 @@ pub fn keys<T: TableFiles>(
         return Ok(None);
     };
     let mut lines = Lines::new(alloc, reader)?;
+    Ok(Some(keys_in(alloc, &mut lines)?))
+}
+
+// The keys of all lines.
+fn keys_in<R: Read>(alloc: Global, lines: &mut Lines<R>) -> Result<Vec<u64>, Fault> {
     let mut keys = Vec::new(alloc);
     for _ in 0..u64::MAX {
         let Some(line) = lines.next()? else {
-            return Ok(Some(keys));
+            return Ok(keys);
         };
         keys.push(number(field(line, 1)).unwrap_or(u64::MAX))?;
     }
-    Ok(Some(keys))
+    Ok(keys)
 }
 
 // The first unknown key of the fact table at a row of its batch, if its file can be read again.

@@ -58,21 +58,44 @@ fn key_hint<T: TableFiles>(
     axis: Axis,
     place: Place,
 ) -> Result<Option<String>, Fault> {
-    let Place { cut, batch, row } = place;
-    let Some(at) = line_at(cut, batch, row) else {
+    let Some(at) = line_at(place.cut, place.batch, place.row) else {
         return Ok(None);
     };
-    let Some(line) = line_of(alloc, files, Table::Lineorder, at)? else {
-        return Ok(None);
-    };
-    let Some(key) = number(field(line.as_slice(), key_field(axis))) else {
-        return Ok(None);
-    };
-    let path = files.path(Table::Lineorder);
+    match key_at(alloc, files, axis, at)? {
+        None => Ok(None),
+        Some(key) => {
+            let path = files.path(Table::Lineorder);
+            Ok(Some(unknown_line(alloc, path, axis, place.batch, at, key)?))
+        }
+    }
+}
+
+// The key of a dimension in a line of the fact table, if the line can be read again.
+fn key_at<T: TableFiles>(
+    alloc: Global,
+    files: &T,
+    axis: Axis,
+    at: u64,
+) -> Result<Option<u64>, Fault> {
+    match line_of(alloc, files, Table::Lineorder, at)? {
+        None => Ok(None),
+        Some(line) => Ok(number(field(line.as_slice(), key_field(axis)))),
+    }
+}
+
+// What is said of a key that is unknown.
+fn unknown_line(
+    alloc: Global,
+    path: &str,
+    axis: Axis,
+    batch: u32,
+    at: u64,
+    key: u64,
+) -> Result<String, Fault> {
     let said = format!(in alloc;
         "batch {batch}, line {at} of {path}: {axis} {key} is in no {axis} row of the warehouse"
     )?;
-    Ok(Some(said))
+    Ok(said)
 }
 
 // The line of a row of a batch in the file.

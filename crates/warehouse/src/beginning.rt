@@ -1,6 +1,7 @@
 //! What a warehouse is made of, made ready before the first device call.
 ghost use Rattle.std.specs.Prelude.{◌≡◌, IfOk, IfErr};
 ghost use Rattle.cube_model.specs.declared.fault.Fault.TheVariants.{Memory};
+ghost use Rattle.warehouse_objects.specs.Stands.{dimension_of};
 
 use cube_model::{Axis, Fault};
 use dimension_objects::encode;
@@ -29,10 +30,8 @@ impl Beginning {
     {
         let root = Root::new(alloc, Layout::First);
         let root_bytes = root.encode(alloc)?;
-        let customers = encode(alloc, dims, Axis::Customer)?;
-        let suppliers = encode(alloc, dims, Axis::Supplier)?;
-        let parts = encode(alloc, dims, Axis::Part)?;
-        let dates = encode(alloc, dims, Axis::Date)?;
+        let (customers, suppliers) = two_encoded(alloc, dims, Axis::Customer, Axis::Supplier)?;
+        let (parts, dates) = two_encoded(alloc, dims, Axis::Part, Axis::Date)?;
         Ok(Beginning {
             customers,
             suppliers,
@@ -42,4 +41,18 @@ impl Beginning {
             root_bytes,
         })
     }
+}
+
+// The bytes of two dimensions.
+fn two_encoded(
+    alloc: Global,
+    dims: &Dims,
+    first: Axis,
+    second: Axis,
+) -> Result<(Vec<u8>, Vec<u8>), Fault>
+    ensures first { IfOk result (λ two. two.0.items ≡ dimension_of dims.now first) }
+    ensures second { IfOk result (λ two. two.1.items ≡ dimension_of dims.now second) }
+    ensures memory { IfErr result (λ fault. fault ≡ Memory) }
+{
+    Ok((encode(alloc, dims, first)?, encode(alloc, dims, second)?))
 }

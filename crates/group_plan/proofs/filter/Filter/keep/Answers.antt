@@ -1,4 +1,4 @@
-use Rattle.std.proofs.Common.{◌≡◌, ◌∙◌, ◌<◌, sym, ap, subst, arith, length, slice_index_or}
+use Rattle.std.proofs.Common.{◌∙◌, ◌<◌, sym, ap, subst, arith, length, slice_index_or}
 use Rattle.std.proofs.lemmas.List.{get_or_default}
 use Rattle.group_plan.specs.Filters.{passes}
 use Rattle.group_plan.proofs.Filtering.{pass_more, read_there}

@@ -1,4 +1,4 @@
-use Rattle.std.proofs.Common.{◌≡◌, ◌∙◌, ◌+◌, sym, ap, subst, length, arith, List, Bool}
+use Rattle.std.proofs.Common.{◌∙◌, ◌+◌, sym, ap, subst, length, arith, List, Bool}
 use Rattle.std.proofs.lemmas.List.{length_push}
 use Rattle.group_plan.specs.Plans.{IsShut}
 use Rattle.group_plan.specs.declared.filter.Filter.{Filter}

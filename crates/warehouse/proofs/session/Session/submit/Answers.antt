@@ -1,7 +1,5 @@
-use Rattle.std.proofs.Common.{◌≡◌, ℕ, ◌≤◌, true, false, Err, List, [], ◌∷◌, ⊎_elim, inl, inr, length, refl, sym, ◌∙◌, ap, subst, arith}
-use Rattle.std.proofs.lemmas.List.{length-map}
+use Rattle.std.proofs.Common.{◌≡◌, ℕ, ◌≤◌, true, false, Err, List, [], ◌∷◌, ⊎_elim, inl, inr, length, refl, sym, ◌∙◌, ap, subst}
 use Rattle.wire.specs.Limits.{most_root_bytes}
-use Rattle.cube_model.specs.declared.rows.LineOrder.{LineOrder}
 use Rattle.cube_model.specs.Admission.{IsAdmissible}
 use Rattle.object_store.specs.Content.{Content}
 use Rattle.object_store.specs.Commit.{ArePuts}
