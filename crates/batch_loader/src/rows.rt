@@ -1,8 +1,8 @@
 //! How a line becomes a row.
-ghost use Rattle.std.specs.Prelude.{◌≡◌, ◌⊎◌, ◌≤◌, ℕ, Some, None, Ok, Err, MatchResult, IfSome, IfOk, IfErr, length};
-ghost use Rattle.batch_loader.specs.Columns.{fields_fault, row_of};
+ghost use Rattle.std.specs.Prelude.{◌≡◌, ◌⊎◌, ◌≤◌, ◌∷◌, [], ℕ, Some, None, Ok, Err, MatchResult, IfSome, IfOk, IfErr, drop, length, take};
+ghost use Rattle.batch_loader.specs.Columns.{fields_fault, row_of, text_in};
 ghost use Rattle.batch_loader.specs.LineFields.{texts_of};
-ghost use Rattle.batch_loader.specs.Parsing.{AreNumbers};
+ghost use Rattle.batch_loader.specs.Parsing.{AreNumbers, ReadsEach};
 ghost use Rattle.batch_loader.specs.Tables.{lineorder_columns, lineorder_of_fields};
 
 use crate::columns::{
@@ -155,25 +155,60 @@ fn fitting_numbers(fields: &LineFields<'_, 17>) -> Option<[u64; 17]>
     ensures fits { IfSome result (λ _. (line : ℕ) → fields_fault line 1 lineorder_columns (texts_of fields.now) ≡ None) }
     ensures numbers { IfSome result (AreNumbers 0 lineorder_columns (texts_of fields.now)) }
 {
+    let keys = fitting_keys(fields)?;
+    let order = fitting_order(fields)?;
+    let amounts = fitting_amounts(fields)?;
     Some([
+        keys.0, keys.1, keys.2, keys.3, keys.4, keys.5, order.0, order.1, order.2, order.3,
+        order.4, amounts.0, amounts.1, amounts.2, amounts.3, amounts.4, amounts.5,
+    ])
+}
+
+// Those of the six keys.
+#[inline(always)]
+fn fitting_keys(fields: &LineFields<'_, 17>) -> Option<(u64, u64, u64, u64, u64, u64)>
+    ensures { IfSome result (λ n. ReadsEach 0 (take 6 lineorder_columns) (texts_of fields.now)
+        (n.0 ∷ n.1 ∷ n.2 ∷ n.3 ∷ n.4 ∷ n.5 ∷ [])) }
+{
+    Some((
         fitting(AMOUNT, fields, 0)?,
         fitting(KEY, fields, 1)?,
         fitting(KEY, fields, 2)?,
         fitting(KEY, fields, 3)?,
         fitting(KEY, fields, 4)?,
         fitting(KEY, fields, 5)?,
+    ))
+}
+
+// Those of the next five, from the priority of the order to its total price.
+#[inline(always)]
+fn fitting_order(fields: &LineFields<'_, 17>) -> Option<(u64, u64, u64, u64, u64)>
+    ensures { IfSome result (λ n. ReadsEach 6 (take 5 (drop 6 lineorder_columns)) (texts_of fields.now)
+        (n.0 ∷ n.1 ∷ n.2 ∷ n.3 ∷ n.4 ∷ [])) }
+{
+    Some((
         fitting(TEXT, fields, 6)?,
         fitting(TEXT, fields, 7)?,
         fitting(SMALL, fields, 8)?,
         fitting(AMOUNT, fields, 9)?,
         fitting(AMOUNT, fields, 10)?,
+    ))
+}
+
+// Those of the last six, from the discount to the ship mode.
+#[inline(always)]
+fn fitting_amounts(fields: &LineFields<'_, 17>) -> Option<(u64, u64, u64, u64, u64, u64)>
+    ensures { IfSome result (λ n. ReadsEach 11 (drop 11 lineorder_columns) (texts_of fields.now)
+        (n.0 ∷ n.1 ∷ n.2 ∷ n.3 ∷ n.4 ∷ n.5 ∷ [])) }
+{
+    Some((
         fitting(SMALL, fields, 11)?,
         fitting(AMOUNT, fields, 12)?,
         fitting(AMOUNT, fields, 13)?,
         fitting(SMALL, fields, 14)?,
         fitting(TEXT, fields, 15)?,
         fitting(TEXT, fields, 16)?,
-    ])
+    ))
 }
 
 // The same column by column, which finds the fault.
@@ -197,8 +232,7 @@ fn line_order(
     ensures ok { IfOk result (λ row. row ≡ lineorder_of_fields (texts_of fields.now)) }
     ensures err { IfErr result (λ fault. fault ≡ Fault.Memory) }
 {
-    let (orderpriority, shippriority) = row_texts(alloc, fields.get(6), fields.get(7))?;
-    let (commitdate, shipmode) = row_texts(alloc, fields.get(15), fields.get(16))?;
+    let texts = line_order_texts(alloc, fields)?;
     Ok(LineOrder {
         orderkey: Amount::new(numbers[0]),
         linenumber: numbers[1] as u32,
@@ -206,8 +240,8 @@ fn line_order(
         partkey: numbers[3] as u32,
         suppkey: numbers[4] as u32,
         orderdate: numbers[5] as u32,
-        orderpriority,
-        shippriority,
+        orderpriority: texts.0,
+        shippriority: texts.1,
         quantity: numbers[8] as u8,
         extendedprice: Amount::new(numbers[9]),
         ordtotalprice: Amount::new(numbers[10]),
@@ -215,9 +249,24 @@ fn line_order(
         revenue: Amount::new(numbers[12]),
         supplycost: Amount::new(numbers[13]),
         tax: numbers[14] as u8,
-        commitdate,
-        shipmode,
+        commitdate: texts.2,
+        shipmode: texts.3,
     })
+}
+
+// The texts of a fact row: the priorities of the order and of shipping, the commit date and the ship mode.
+#[inline]
+fn line_order_texts(
+    alloc: Global,
+    fields: &LineFields<'_, 17>,
+) -> Result<(RowText, RowText, RowText, RowText), Fault>
+    ensures ok { IfOk result (λ texts. (texts.0 ≡ text_in (texts_of fields.now) 6) × (texts.1 ≡ text_in (texts_of fields.now) 7)
+        × (texts.2 ≡ text_in (texts_of fields.now) 15) × (texts.3 ≡ text_in (texts_of fields.now) 16)) }
+    ensures err { IfErr result (λ fault. fault ≡ Fault.Memory) }
+{
+    let (orderpriority, shippriority) = row_texts(alloc, fields.get(6), fields.get(7))?;
+    let (commitdate, shipmode) = row_texts(alloc, fields.get(15), fields.get(16))?;
+    Ok((orderpriority, shippriority, commitdate, shipmode))
 }
 
 /// A copy of a field as a text of its own.

@@ -16,19 +16,35 @@ pub(crate) const HEADER_BYTES: usize = 12;
 pub(crate) const NUMBER_BYTES: usize = 63;
 
 /// A column of texts: its dictionary, and where its codes begin.
-#[derive(Drop)]
 pub(crate) struct Coded {
     pub(crate) texts: Dictionary,
     pub(crate) at: usize,
 }
 
+// Written out, as that of the columns together, so that a proof has one call to follow where they are let go.
+impl Drop for Coded {
+    fn drop(self) {
+        let Coded { texts: _, at: _ } = self;
+    }
+}
+
 /// The columns of texts of a batch.
-#[derive(Drop)]
 pub(crate) struct CodedTexts {
     pub(crate) orderpriority: Coded,
     pub(crate) shippriority: Coded,
     pub(crate) commitdate: Coded,
     pub(crate) shipmode: Coded,
+}
+
+impl Drop for CodedTexts {
+    fn drop(self) {
+        let CodedTexts {
+            orderpriority: _,
+            shippriority: _,
+            commitdate: _,
+            shipmode: _,
+        } = self;
+    }
 }
 
 impl CodedTexts {

@@ -9,7 +9,7 @@ ghost use Rattle.cube_query.specs.Limits.{AreFoldable};
 ghost use Rattle.cube_query.specs.Slots.{entries_of, slot_of, AreSlots, Cover, Grow};
 ghost use Rattle.group_plan.specs.Numbers.{group_count, key_at};
 
-use crate::columns::{is_seen, lengthen_all, merge_in_all};
+use crate::columns::{is_seen, make_room, merge_in_all};
 use crate::slots::Slots;
 use crate::tally::Tally;
 use cube_model::{Fault, Kind};
@@ -54,6 +54,26 @@ fn sources_of(
         }
     }
     Ok(sources)
+}
+
+// The same of all groups that have a slot.
+fn sources_among(
+    alloc: Global,
+    plan: &PlanOver,
+    kind: Kind,
+    column: usize,
+    columns: &[Vec<Tally>],
+    slots: &Slots,
+) -> Result<Vec<(u128, u32)>, AllocError>
+    requires kind { kind ≡ plan.now.query.kind }
+    requires column { column < length plan.now.query.columns }
+    requires few { length plan.now.query.columns ≤ 6 }
+    requires numbers { AreSlots (group_count plan.now.dimensions plan.now.query.columns) (entries_of slots.now) }
+    ensures { IfOk result (λ sources. sources.items
+        ≡ sources_of plan.now.dimensions plan.now.query column (tallies_at columns.now) (entries_of slots.now)) }
+{
+    let entries = slots.entries(alloc)?;
+    sources_of(alloc, plan, kind, column, columns, entries.as_slice())
 }
 
 // The slot of the group with ALL in a column and all else as a source. Where it has none it is given one.
@@ -105,16 +125,6 @@ fn targets_of(
     Ok(targets)
 }
 
-// Makes all columns as long as there are slots.
-fn make_room(columns: &mut Vec<Vec<Tally>>, slots: &Slots) -> Result<(), AllocError>
-    ensures same { (slot : ℕ) → tallies_at columns.new.items slot ≡ tallies_at columns.old.items slot }
-    ensures long { OnOk result (AllByRecursion (λ column. length (entries_of slots.now) ≤ length column.items)
-        columns.new.items) }
-{
-    lengthen_all(columns.as_mut_slice(), slots.len())?;
-    Ok(())
-}
-
 // Merges the tallies of sources into those of their targets.
 fn merge(
     columns: &mut Vec<Vec<Tally>>,
@@ -154,15 +164,7 @@ fn coarsen(
         → AreFoldable plan.now.dimensions rows → ⊥ }
     ensures only { IfErr result (λ fault. (fault ≡ Fault.Memory) ⊎ (fault ≡ Fault.BadLayout)) }
 {
-    let entries = slots.entries(alloc)?;
-    let sources = sources_of(
-        alloc,
-        plan,
-        kind,
-        column,
-        columns.as_slice(),
-        entries.as_slice(),
-    )?;
+    let sources = sources_among(alloc, plan, kind, column, columns.as_slice(), slots)?;
     let targets = targets_of(alloc, plan, column, slots, sources.as_slice())?;
     make_room(columns, slots)?;
     merge(columns, sources.as_slice(), targets.as_slice())?;

@@ -7,9 +7,11 @@ ghost use Rattle.cube_model.specs.declared.rows.LineOrder.{LineOrder};
 ghost use Rattle.cube_query.specs.Coarser.{gathered, AddsIn, CanMerge, FitMerged, HasMergeRoom, MayMerge, MergesIn};
 ghost use Rattle.cube_query.specs.Columns.{tally_at, tallies_at, is_seen, CountsIn, HasRoom, IsBounded};
 ghost use Rattle.cube_query.specs.FoldInvariant.{CountIn, HaveRoom};
+ghost use Rattle.cube_query.specs.Slots.{entries_of};
 ghost use Rattle.group_plan.specs.Rows.{row_at};
 ghost use Rattle.cube_query.specs.Tallies.{merged, number_of, tallies_of, values_of};
 
+use crate::slots::Slots;
 use crate::tally::{Tally, TooLarge};
 use cube_model::{Agg, Items, Value};
 use group_plan::FactRows;
@@ -161,14 +163,24 @@ pub fn lengthen(column: &mut Vec<Tally>, len: usize) -> Result<(), AllocError>
     Ok(())
 }
 
-/// Makes each column as long as there are slots. What they have at each slot stays.
-pub fn lengthen_all(columns: &mut [Vec<Tally>], len: usize) -> Result<(), AllocError>
+// Makes each column of a length. What they have at each slot stays.
+fn lengthen_all(columns: &mut [Vec<Tally>], len: usize) -> Result<(), AllocError>
     ensures same { (slot : ℕ) → tallies_at columns.new slot ≡ tallies_at columns.old slot }
     ensures long { OnOk result (AllByRecursion (λ column. len ≤ length column.items) columns.new) }
 {
     for i in 0..columns.len() {
         lengthen(&mut columns[i], len)?;
     }
+    Ok(())
+}
+
+/// Makes each column as long as there are slots of groups. What they have at each slot stays.
+pub fn make_room(columns: &mut Vec<Vec<Tally>>, slots: &Slots) -> Result<(), AllocError>
+    ensures same { (slot : ℕ) → tallies_at columns.new.items slot ≡ tallies_at columns.old.items slot }
+    ensures long { OnOk result (AllByRecursion (λ column. length (entries_of slots.now) ≤ length column.items)
+        columns.new.items) }
+{
+    lengthen_all(columns.as_mut_slice(), slots.len())?;
     Ok(())
 }
 

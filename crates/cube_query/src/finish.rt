@@ -3,6 +3,7 @@ ghost use Rattle.std.specs.Prelude.{◌≡◌, ◌⊎◌, List, length, Err, IfE
 ghost use Rattle.cube_model.specs.Answers.{answer};
 ghost use Rattle.cube_model.specs.declared.rows.LineOrder.{LineOrder};
 ghost use Rattle.cube_model.specs.Proper.{IsProper};
+ghost use Rattle.cube_query.specs.Coarser.{AreTalliedFrom, CanCoarsen};
 ghost use Rattle.cube_query.specs.Columns.{seen_groups, tallies_at};
 ghost use Rattle.cube_query.specs.Groups.{finest, groups_of};
 ghost use Rattle.cube_query.specs.Limits.{AreFoldable};
@@ -39,9 +40,30 @@ fn coarser_lines(
 {
     let mut slots = slots.copy()?;
     let mut columns = copy_columns(alloc, columns)?;
+    all_lines(alloc, plan, query, &mut slots, &mut columns)
+}
+
+// The lines of all groups of the query's kind, which are added to those by all columns.
+fn all_lines(
+    alloc: Global,
+    plan: &PlanOver,
+    query: &Query,
+    slots: &mut Slots,
+    columns: &mut Vec<Vec<Tally>>,
+) -> Result<Items<Line>, Fault>
+    requires query { query.now ≡ plan.now.query }
+    requires can { CanCoarsen plan.now.dimensions plan.now.query (length plan.now.query.columns) slots.old columns.old.items }
+    ensures lines { IfOk result (λ lines. (rows : List LineOrder)
+        → AreTalliedFrom plan.now.dimensions plan.now.query (length plan.now.query.columns) (entries_of slots.old) columns.old.items rows
+        → lines ≡ (answer plan.now.query plan.now.dimensions rows).lines) }
+    ensures refused { result ≡ Err Fault.BadLayout → (rows : List LineOrder)
+        → AreTalliedFrom plan.now.dimensions plan.now.query (length plan.now.query.columns) (entries_of slots.old) columns.old.items rows
+        → AreFoldable plan.now.dimensions rows → ⊥ }
+    ensures only { IfErr result (λ fault. (fault ≡ Fault.Memory) ⊎ (fault ≡ Fault.BadLayout)) }
+{
     let count = query.columns.len();
-    coarsen_all(alloc, plan, query.kind, count, &mut slots, &mut columns)?;
-    finest_lines(alloc, plan, query, columns.as_slice(), &slots)
+    coarsen_all(alloc, plan, query.kind, count, slots, columns)?;
+    finest_lines(alloc, plan, query, columns.as_slice(), slots)
 }
 
 // The lines of the groups that there are.

@@ -5,6 +5,7 @@ ghost use Rattle.std.specs.Option.{option_map};
 ghost use Rattle.cube_model.specs.Answers.{answer};
 ghost use Rattle.cube_model.specs.Proper.{IsProper};
 ghost use Rattle.cube_model.specs.Selection.{is_selected};
+ghost use Rattle.cube_model.specs.declared.rows.DimRows.{DimRows};
 ghost use Rattle.cube_model.specs.declared.rows.LineOrder.{LineOrder};
 ghost use Rattle.cube_query.specs.Asked.{asked_columns};
 ghost use Rattle.cube_query.specs.CellSlots.{AreCellSlots, asked_of};
@@ -24,7 +25,7 @@ use crate::asked::asked_columns;
 use crate::cell_columns::{have_room_for_cells, merge_in_cells};
 use crate::cell_slots::{SlottedCells, cell_slots_of};
 use crate::chosen_rows::ChosenRows;
-use crate::columns::{count_in_all, lengthen_all, no_columns};
+use crate::columns::{count_in_all, make_room, no_columns};
 use crate::finish::answer_lines;
 use crate::group_slots::group_slots_of;
 use crate::room::have_room;
@@ -282,8 +283,16 @@ fn begin(alloc: Global, dims: &Dims, query: &Query) -> Result<Fold, AllocError>
     ensures { IfOk result (Begins dims.now query.now) }
 {
     let plan = Plan::new(alloc, dims, query)?;
+    begin_by(alloc, plan)
+}
+
+// The same by the plan of its query.
+fn begin_by(alloc: Global, plan: Plan) -> Result<Fold, AllocError>
+    requires { IsProper (query_of plan) }
+    ensures { IfOk result (λ fold. (dimensions : DimRows) → IsPlanOver dimensions plan → Begins dimensions (query_of plan) fold) }
+{
     let slots = Slots::new(alloc, plan.group_count())?;
-    let columns = no_columns(alloc, query.aggregates.as_slice())?;
+    let columns = no_columns(alloc, plan.query().aggregates.as_slice())?;
     Ok(Fold {
         alloc,
         plan,
@@ -316,7 +325,7 @@ fn ready<F: FactRows>(
         (entries_of slots.new) }
 {
     let group_slots = group_slots_of(alloc, &plan.over(dims), slots, rows)?;
-    lengthen_all(columns.as_mut_slice(), slots.len())?;
+    make_room(columns, slots)?;
     Ok(group_slots)
 }
 
@@ -348,13 +357,40 @@ fn ready_for_cells(
     ensures grow { Grow (group_count dims.now (query_of plan.now).columns) (entries_of slots.old)
         (entries_of slots.new) }
 {
+    let slotted = slots_of_cells(alloc, dims, plan, slots, cells, modes)?;
+    make_room(columns, slots)?;
+    Ok(slotted)
+}
+
+// The slots of the groups of cells. Those that have none are given one.
+fn slots_of_cells(
+    alloc: Global,
+    dims: &Dims,
+    plan: &Plan,
+    slots: &mut Slots,
+    cells: &Cells,
+    modes: Option<&Dictionary>,
+) -> Result<SlottedCells, Fault>
+    requires over { IsPlanOver dims.now plan.now }
+    requires numbers { AreSlots (group_count dims.now (query_of plan.now).columns) (entries_of slots.old) }
+    requires cover { Cover (group_count dims.now (query_of plan.now).columns) slots.old }
+    ensures group_slots { IfOk result (λ slotted. AreCellSlots (asked_of dims.now (query_of plan.now) cells.now.view
+        (modes_of (option_map (λ modes. modes.now) modes.entry))) (entries_of slots.new) cells.now.cells slotted.group_slots.items) }
+    ensures most { IfOk result (λ slotted.
+        IsMost (query_of plan.now).aggregates cells.now.cells slotted.group_slots.items slotted.weight) }
+    ensures refused { result ≡ Err Fault.BadLayout → (rows : List LineOrder)
+        → StandFor dims.now (modes_of (option_map (λ modes. modes.now) modes.entry)) rows cells.now
+        → All (IsKnown dims.now) rows → ⊥ }
+    ensures only { IfErr result (λ fault. (fault ≡ Fault.Memory) ⊎ (fault ≡ Fault.BadLayout)) }
+    ensures cover { Cover (group_count dims.now (query_of plan.now).columns) slots.new }
+    ensures grow { Grow (group_count dims.now (query_of plan.now).columns) (entries_of slots.old)
+        (entries_of slots.new) }
+{
     let view = cells.view();
     let cells = cells.as_slice();
     let numbers = CellNumbers::of(alloc, dims, plan, view, modes)?;
     let aggregates = plan.query().aggregates.as_slice();
-    let slotted = cell_slots_of(alloc, &numbers, slots, aggregates, cells)?;
-    lengthen_all(columns.as_mut_slice(), slots.len())?;
-    Ok(slotted)
+    cell_slots_of(alloc, &numbers, slots, aggregates, cells)
 }
 
 // Makes all ready for the one group of a query: its slot, and a place for each slot. Nothing is counted yet.
@@ -368,6 +404,6 @@ fn ready_for_one(slots: &mut Slots, columns: &mut Vec<Vec<Tally>>) -> Result<u32
         → Grow bound (entries_of slots.old) (entries_of slots.new) }
 {
     let slot = slots.place(0)?;
-    lengthen_all(columns.as_mut_slice(), slots.len())?;
+    make_room(columns, slots)?;
     Ok(slot)
 }

@@ -1,5 +1,5 @@
 //! Grouping fact rows by the levels of a view.
-ghost use Rattle.std.specs.Prelude.{◌≡◌, ◌⊎◌, ℕ, List, IfErr, IfOk, length};
+ghost use Rattle.std.specs.Prelude.{◌≡◌, ◌⊎◌, [], ℕ, List, IfErr, IfOk, OnOk, length};
 ghost use Rattle.cube_model.specs.declared.fault.Fault.{Fault};
 ghost use Rattle.cube_model.specs.declared.rows.DimRows.{DimRows};
 ghost use Rattle.lattice.specs.declared.view.View.{View};
@@ -55,9 +55,32 @@ fn group_keyed<F: ModeRows>(
     let mut numbers = IndexSet::new(alloc);
     let mut cells = Vec::new(alloc);
     let mut guesses = Guesses::new(alloc, weights);
+    take_in_rows(&mut numbers, &mut cells, &mut guesses, keys, rows)?;
+    Ok(cells)
+}
+
+// Takes the cells of fact rows in, where no cell was before.
+fn take_in_rows<F: ModeRows>(
+    numbers: &mut IndexSet<u128>,
+    cells: &mut Vec<Cell>,
+    guesses: &mut Guesses,
+    keys: &[Key],
+    rows: &F,
+) -> Result<(), Fault>
+    requires keys { length keys.now ≡ length (F.rows rows.now) }
+    requires no_number { numbers.old.keys ≡ [] }
+    requires no_cell { cells.old.items ≡ [] }
+    ensures ok { OnOk result ((dimensions : DimRows) (modes : List (List ℕ)) (view : View)
+        → AreRowKeys dimensions modes view (F.rows rows.now) (length (F.rows rows.now)) keys.now
+        → AreGrouped dimensions modes view (F.rows rows.now) cells.new.items) }
+    ensures refused { IfErr result (λ fault. (fault ≡ Fault.Memory) ⊎ ((fault ≡ Fault.BadLayout)
+        × ((dimensions : DimRows) (modes : List (List ℕ)) (view : View)
+        → AreRowKeys dimensions modes view (F.rows rows.now) (length (F.rows rows.now)) keys.now
+        → AreUnfit dimensions modes view (F.rows rows.now)))) }
+{
     for place in 0..keys.len() {
         let cell = row_cell(keys[place], rows, place)?;
-        take_in(&mut numbers, &mut cells, &mut guesses, &cell)?;
+        take_in(numbers, cells, guesses, &cell)?;
     }
-    Ok(cells)
+    Ok(())
 }

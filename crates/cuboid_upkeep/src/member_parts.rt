@@ -13,12 +13,21 @@ use std::alloc::{AllocError, Global};
 /// By the codes of a level's members, what a row with the member gives to the number of a group.
 ///
 /// At a code that no member has stands nothing, and at that of a member which fails a condition a part that is nothing.
-#[derive(Drop)]
 pub struct MemberParts {
     /// What stands at the code of every member together.
     pub every: Option<Option<u128>>,
     /// What stands at each other code.
     pub members: Vec<Option<Option<u128>>>,
+}
+
+// Written out, so that a proof has one call to follow where the parts are let go.
+impl Drop for MemberParts {
+    fn drop(self) {
+        let MemberParts {
+            every: _,
+            members: _,
+        } = self;
+    }
 }
 
 impl MemberParts {

@@ -41,14 +41,53 @@ fn row_summaries<F: FactRows>(rows: &F, place: usize) -> Option<Summaries>
     ensures fit { IfSome result SummariesFit }
     ensures none { IfNone result (SummariesFit (summaries_over (row_at (F.rows rows.now) place ∷ [])) → ⊥) }
 {
+    let (quantity, extendedprice, revenue) = three_summaries(
+        rows,
+        place,
+        Measure::Quantity,
+        Measure::ExtendedPrice,
+        Measure::Revenue,
+    )?;
+    let (supplycost, discounted, profit) = three_summaries(
+        rows,
+        place,
+        Measure::SupplyCost,
+        Measure::Discounted,
+        Measure::Profit,
+    )?;
     Some(Summaries {
-        quantity: row_summary(rows, place, Measure::Quantity)?,
-        extendedprice: row_summary(rows, place, Measure::ExtendedPrice)?,
-        revenue: row_summary(rows, place, Measure::Revenue)?,
-        supplycost: row_summary(rows, place, Measure::SupplyCost)?,
-        discounted: row_summary(rows, place, Measure::Discounted)?,
-        profit: row_summary(rows, place, Measure::Profit)?,
+        quantity,
+        extendedprice,
+        revenue,
+        supplycost,
+        discounted,
+        profit,
     })
+}
+
+// What is kept of three of them.
+#[inline]
+fn three_summaries<F: FactRows>(
+    rows: &F,
+    place: usize,
+    first: Measure,
+    second: Measure,
+    third: Measure,
+) -> Option<(Summary, Summary, Summary)>
+    requires { place < length (F.rows rows.now) }
+    ensures some { IfSome result (λ three. (three.0 ≡ summary_over first (row_at (F.rows rows.now) place ∷ []))
+        × (three.1 ≡ summary_over second (row_at (F.rows rows.now) place ∷ []))
+        × (three.2 ≡ summary_over third (row_at (F.rows rows.now) place ∷ []))) }
+    ensures fit { IfSome result (λ three. SummaryFits three.0 × SummaryFits three.1 × SummaryFits three.2) }
+    ensures none { IfNone result (SummaryFits (summary_over first (row_at (F.rows rows.now) place ∷ []))
+        → SummaryFits (summary_over second (row_at (F.rows rows.now) place ∷ []))
+        → SummaryFits (summary_over third (row_at (F.rows rows.now) place ∷ [])) → ⊥) }
+{
+    Some((
+        row_summary(rows, place, first)?,
+        row_summary(rows, place, second)?,
+        row_summary(rows, place, third)?,
+    ))
 }
 
 // What is kept of one measure of the row at a place.

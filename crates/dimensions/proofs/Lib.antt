@@ -14,6 +14,7 @@ pub mod Keys
 pub mod Learning
 pub mod MadeLaws
 pub mod MemberLaws
+pub mod RankByRank
 pub mod RankLaws
 pub mod Refusals
 pub mod ShapeLaws

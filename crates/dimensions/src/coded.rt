@@ -21,12 +21,21 @@ pub struct CodedColumn {
 ///
 /// A column that a lower one determines has a place for each text of the lower one, every other column has a place for
 /// each row.
-#[derive(Drop)]
 pub struct CodedRows {
     /// The key of each row.
     pub keys: Items<u32>,
     /// The columns, the lowest member first.
     pub columns: Items<CodedColumn>,
+}
+
+// Written out, so that a proof has one call to follow where the rows are let go.
+impl Drop for CodedRows {
+    fn drop(self) {
+        let CodedRows {
+            keys: _,
+            columns: _,
+        } = self;
+    }
 }
 
 /// The rows of the four dimensions by codes.
@@ -44,6 +53,15 @@ pub struct CodedDims {
 
 impl CodedRows {
     ghost use Rattle.dimensions.specs.Coded.{HaveProperColumns, place_total};
+
+    // The keys, and the columns.
+    pub(crate) fn into_parts(self) -> (Items<u32>, Items<CodedColumn>)
+        ensures keys { result.0 ≡ self.keys }
+        ensures columns { result.1 ≡ self.columns }
+    {
+        let CodedRows { keys, columns } = self;
+        (keys, columns)
+    }
 
     // Whether the columns keep their rules, and there are not too many rows.
     pub(crate) fn has_proper_columns(&self, axis: Axis) -> bool

@@ -68,7 +68,7 @@ impl Table {
         if !coded.has_proper_columns(axis) {
             return Err(Fault::BadLayout);
         }
-        let CodedRows { keys, columns } = coded;
+        let (keys, columns) = coded.into_parts();
         let Some(keys) = KeyIndex::of(alloc, keys.into_vec())? else {
             return Err(Fault::BadLayout);
         };

@@ -22,7 +22,6 @@ use std::alloc::{AllocError, Global};
 /// each of these rows has what it adds to the number of a group. Dimensions that it does not use are not looked at.
 ///
 /// A plan keeps its own copy of the query and its own tables, by row index, and borrows nothing.
-#[derive(Drop)]
 pub struct Plan {
     pub(crate) query: Query,
     pub(crate) bounds: Bounds,
@@ -30,6 +29,20 @@ pub struct Plan {
     pub(crate) sides: Sides,
     pub(crate) filters: Filters,
     pub(crate) count: u128,
+}
+
+// Written out, so that a proof has one call to follow where a plan is let go.
+impl Drop for Plan {
+    fn drop(self) {
+        let Plan {
+            query: _,
+            bounds: _,
+            columns: _,
+            sides: _,
+            filters: _,
+            count: _,
+        } = self;
+    }
 }
 
 impl Plan {

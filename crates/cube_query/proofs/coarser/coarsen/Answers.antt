@@ -11,19 +11,6 @@ use Rattle.cube_query.proofs.Targets.{AreTargets-length}
 use Rattle.group_plan.specs.Numbers.{group_count, key_at}
 use Rattle.cube_query.proofs.coarser.coarsen.Goals as goal
 
-pub sources_of-requires-clause-below : goal.sources_of-requires-clause-below
-sources_of-requires-clause-below c =
-    let d = c.args.plan.now.dimensions in
-    let q = c.args.plan.now.query in
-    let i = c.args.column in
-    let old = entries_of c.args.slots.now in
-    let columns = c.args.columns.now.items in
-    let can = c.requires.can in
-    let bound = group_count d q.columns in
-    let below = each_number (λ n. n < bound) old can.numbers.sorted can.numbers.below in
-    let entries : c.as_slice-2.result.now ≡ old = c.as_slice-2.ensures.value ∙ c.in_ok-entries.ensures in
-    subst (All (λ (entry : ℕ × ℕ). entry.0 < bound)) (sym entries) (All-numbers (λ n. n < bound) old below)
-
 pub targets_of-requires-clause-below : goal.targets_of-requires-clause-below
 targets_of-requires-clause-below c =
     let d = c.args.plan.now.dimensions in
@@ -34,10 +21,9 @@ targets_of-requires-clause-below c =
     let can = c.requires.can in
     let bound = group_count d q.columns in
     let below = each_number (λ n. n < bound) old can.numbers.sorted can.numbers.below in
-    let entries : c.as_slice-2.result.now ≡ old = c.as_slice-2.ensures.value ∙ c.in_ok-entries.ensures in
     let sources : c.in_ok-sources.sources.items ≡ sources_of d q i (tallies_at columns) old =
-    c.in_ok-sources.ensures ∙ (λ j. sources_of d q i (tallies_at (c.as_slice.ensures.value j)) (entries j)) in
-    subst (All (λ (entry : ℕ × ℕ). entry.0 < bound)) (sym (c.as_slice-3.ensures.value ∙ sources))
+    c.in_ok-sources.ensures ∙ ap (λ cs. sources_of d q i (tallies_at cs) old) c.as_slice.ensures.value in
+    subst (All (λ (entry : ℕ × ℕ). entry.0 < bound)) (sym (c.as_slice-2.ensures.value ∙ sources))
     (All-filter (λ (entry : ℕ × ℕ). is_seen (tallies_at columns entry.1) && leads q.kind i (key_at d q.columns entry.0)) (λ (entry : ℕ × ℕ). entry.0 < bound) old (All-numbers (λ n. n < bound) old below))
 
 pub merge-requires-clause-targets : goal.merge-requires-clause-targets
@@ -50,18 +36,17 @@ merge-requires-clause-targets c =
     let can = c.requires.can in
     let bound = group_count d q.columns in
     let below = each_number (λ n. n < bound) old can.numbers.sorted can.numbers.below in
-    let entries : c.as_slice-2.result.now ≡ old = c.as_slice-2.ensures.value ∙ c.in_ok-entries.ensures in
     let sources : c.in_ok-sources.sources.items ≡ sources_of d q i (tallies_at columns) old =
-    c.in_ok-sources.ensures ∙ (λ j. sources_of d q i (tallies_at (c.as_slice.ensures.value j)) (entries j)) in
+    c.in_ok-sources.ensures ∙ ap (λ cs. sources_of d q i (tallies_at cs) old) c.as_slice.ensures.value in
     let differ = Apart-sorted bound old can.numbers.sorted below in
     let new = entries_of c.targets_of.new.slots in
     let longer = c.make_room.new.columns.items in
     let targets = c.in_ok-targets.targets.items in
     let are : AreTargets d q.columns i new (sources_of d q i (tallies_at columns) old) targets =
-    subst (λ es. AreTargets d q.columns i new es targets) (c.as_slice-3.ensures.value ∙ sources) c.in_ok-targets.ensures.targets in
+    subst (λ es. AreTargets d q.columns i new es targets) (c.as_slice-2.ensures.value ∙ sources) c.in_ok-targets.ensures.targets in
     let rows = can.tallied.0 in
     let tallied : AreTalliedFrom d q (suc i) old columns rows = subst (λ n. AreTalliedFrom d q n old columns rows) (add-one i) can.tallied.1 in
-    ap length c.as_slice-5.ensures.value ∙ AreTargets-length d q.columns i new (sources_of d q i (tallies_at columns) old) targets are ∙ sym (ap length (c.as_slice-4.ensures.value ∙ sources))
+    ap length c.as_slice-4.ensures.value ∙ AreTargets-length d q.columns i new (sources_of d q i (tallies_at columns) old) targets are ∙ sym (ap length (c.as_slice-3.ensures.value ∙ sources))
 
 pub merge-requires-clause-may : goal.merge-requires-clause-may
 merge-requires-clause-may c =
@@ -73,23 +58,22 @@ merge-requires-clause-may c =
     let can = c.requires.can in
     let bound = group_count d q.columns in
     let below = each_number (λ n. n < bound) old can.numbers.sorted can.numbers.below in
-    let entries : c.as_slice-2.result.now ≡ old = c.as_slice-2.ensures.value ∙ c.in_ok-entries.ensures in
     let sources : c.in_ok-sources.sources.items ≡ sources_of d q i (tallies_at columns) old =
-    c.in_ok-sources.ensures ∙ (λ j. sources_of d q i (tallies_at (c.as_slice.ensures.value j)) (entries j)) in
+    c.in_ok-sources.ensures ∙ ap (λ cs. sources_of d q i (tallies_at cs) old) c.as_slice.ensures.value in
     let differ = Apart-sorted bound old can.numbers.sorted below in
     let new = entries_of c.targets_of.new.slots in
     let longer = c.make_room.new.columns.items in
     let targets = c.in_ok-targets.targets.items in
     let are : AreTargets d q.columns i new (sources_of d q i (tallies_at columns) old) targets =
-    subst (λ es. AreTargets d q.columns i new es targets) (c.as_slice-3.ensures.value ∙ sources) c.in_ok-targets.ensures.targets in
+    subst (λ es. AreTargets d q.columns i new es targets) (c.as_slice-2.ensures.value ∙ sources) c.in_ok-targets.ensures.targets in
     let rows = can.tallied.0 in
     let tallied : AreTalliedFrom d q (suc i) old columns rows = subst (λ n. AreTalliedFrom d q n old columns rows) (add-one i) can.tallied.1 in
     let long : AllByRecursion (λ column. length new ≤ length column.items) longer = c.in_ok-make_room.ensures.long in
     let part = part_of d q i c.requires.column can.proper.some_aggregate can.rising old new columns longer can.numbers differ c.targets_of.ensures.grow c.make_room.ensures.same targets are rows tallied in
     let may : MayMerge (sources_of d q i (tallies_at columns) old) targets longer =
     (q.aggregates, part, can_merge d q i c.requires.column can.proper.some_aggregate can.rising old new columns longer can.numbers differ c.targets_of.ensures.grow c.make_room.ensures.same targets are rows tallied long) in
-    subst (λ es. MayMerge es c.as_slice-5.result.now longer) (sym (c.as_slice-4.ensures.value ∙ sources))
-    (subst (λ ts. MayMerge (sources_of d q i (tallies_at columns) old) ts longer) (sym c.as_slice-5.ensures.value) may)
+    subst (λ es. MayMerge es c.as_slice-4.result.now longer) (sym (c.as_slice-3.ensures.value ∙ sources))
+    (subst (λ ts. MayMerge (sources_of d q i (tallies_at columns) old) ts longer) (sym c.as_slice-4.ensures.value) may)
 
 pub returns-in_err-merge-clause-refused : goal.returns-in_err-merge-clause-refused
 returns-in_err-merge-clause-refused c =
@@ -101,23 +85,22 @@ returns-in_err-merge-clause-refused c =
     let can = c.requires.can in
     let bound = group_count d q.columns in
     let below = each_number (λ n. n < bound) old can.numbers.sorted can.numbers.below in
-    let entries : c.as_slice-2.result.now ≡ old = c.as_slice-2.ensures.value ∙ c.in_ok-entries.ensures in
     let sources : c.in_ok-sources.sources.items ≡ sources_of d q i (tallies_at columns) old =
-    c.in_ok-sources.ensures ∙ (λ j. sources_of d q i (tallies_at (c.as_slice.ensures.value j)) (entries j)) in
+    c.in_ok-sources.ensures ∙ ap (λ cs. sources_of d q i (tallies_at cs) old) c.as_slice.ensures.value in
     let differ = Apart-sorted bound old can.numbers.sorted below in
     let new = entries_of c.targets_of.new.slots in
     let longer = c.make_room.new.columns.items in
     let targets = c.in_ok-targets.targets.items in
     let are : AreTargets d q.columns i new (sources_of d q i (tallies_at columns) old) targets =
-    subst (λ es. AreTargets d q.columns i new es targets) (c.as_slice-3.ensures.value ∙ sources) c.in_ok-targets.ensures.targets in
+    subst (λ es. AreTargets d q.columns i new es targets) (c.as_slice-2.ensures.value ∙ sources) c.in_ok-targets.ensures.targets in
     let long : AllByRecursion (λ column. length new ≤ length column.items) longer = c.in_ok-make_room.ensures.long in
     λ bad rows given foldable.
     let tallied : AreTalliedFrom d q (suc i) old columns rows = subst (λ n. AreTalliedFrom d q n old columns rows) (add-one i) given in
     let part = part_of d q i c.requires.column can.proper.some_aggregate can.rising old new columns longer can.numbers differ c.targets_of.ensures.grow c.make_room.ensures.same targets are rows tallied in
     let fit : FitMerged (sources_of d q i (tallies_at columns) old) targets longer =
     (q.aggregates, part, (can_merge d q i c.requires.column can.proper.some_aggregate can.rising old new columns longer can.numbers differ c.targets_of.ensures.grow c.make_room.ensures.same targets are rows tallied long, room_to_merge d q i c.requires.column can.proper.some_aggregate can.rising old new columns longer can.numbers differ c.targets_of.ensures.grow c.make_room.ensures.same targets are rows tallied foldable)) in
-    c.in_err-merge.ensures.err (subst (λ es. FitMerged es c.as_slice-5.result.now longer) (sym (c.as_slice-4.ensures.value ∙ sources))
-    (subst (λ ts. FitMerged (sources_of d q i (tallies_at columns) old) ts longer) (sym c.as_slice-5.ensures.value) fit))
+    c.in_err-merge.ensures.err (subst (λ es. FitMerged es c.as_slice-4.result.now longer) (sym (c.as_slice-3.ensures.value ∙ sources))
+    (subst (λ ts. FitMerged (sources_of d q i (tallies_at columns) old) ts longer) (sym c.as_slice-4.ensures.value) fit))
 
 pub returns-clause-can : goal.returns-clause-can
 returns-clause-can c =
@@ -129,22 +112,21 @@ returns-clause-can c =
     let can = c.requires.can in
     let bound = group_count d q.columns in
     let below = each_number (λ n. n < bound) old can.numbers.sorted can.numbers.below in
-    let entries : c.as_slice-2.result.now ≡ old = c.as_slice-2.ensures.value ∙ c.in_ok-entries.ensures in
     let sources : c.in_ok-sources.sources.items ≡ sources_of d q i (tallies_at columns) old =
-    c.in_ok-sources.ensures ∙ (λ j. sources_of d q i (tallies_at (c.as_slice.ensures.value j)) (entries j)) in
+    c.in_ok-sources.ensures ∙ ap (λ cs. sources_of d q i (tallies_at cs) old) c.as_slice.ensures.value in
     let differ = Apart-sorted bound old can.numbers.sorted below in
     let new = entries_of c.targets_of.new.slots in
     let longer = c.make_room.new.columns.items in
     let targets = c.in_ok-targets.targets.items in
     let are : AreTargets d q.columns i new (sources_of d q i (tallies_at columns) old) targets =
-    subst (λ es. AreTargets d q.columns i new es targets) (c.as_slice-3.ensures.value ∙ sources) c.in_ok-targets.ensures.targets in
+    subst (λ es. AreTargets d q.columns i new es targets) (c.as_slice-2.ensures.value ∙ sources) c.in_ok-targets.ensures.targets in
     let rows = can.tallied.0 in
     let tallied : AreTalliedFrom d q (suc i) old columns rows = subst (λ n. AreTalliedFrom d q n old columns rows) (add-one i) can.tallied.1 in
     let long : AllByRecursion (λ column. length new ≤ length column.items) longer = c.in_ok-make_room.ensures.long in
     let counted = c.merge.new.columns.items in
     let merged : MergesIn (sources_of d q i (tallies_at columns) old) targets longer counted =
-    subst (λ es. MergesIn es targets longer counted) (c.as_slice-4.ensures.value ∙ sources)
-    (subst (λ ts. MergesIn c.as_slice-4.result.now ts longer counted) c.as_slice-5.ensures.value c.in_ok-merge.ensures.ok) in
+    subst (λ es. MergesIn es targets longer counted) (c.as_slice-3.ensures.value ∙ sources)
+    (subst (λ ts. MergesIn c.as_slice-3.result.now ts longer counted) c.as_slice-4.ensures.value c.in_ok-merge.ensures.ok) in
     let part = part_of d q i c.requires.column can.proper.some_aggregate can.rising old new columns longer can.numbers differ c.targets_of.ensures.grow c.make_room.ensures.same targets are rows tallied in
     record {
       proper = can.proper;
@@ -164,22 +146,21 @@ returns-clause-tallied c =
     let can = c.requires.can in
     let bound = group_count d q.columns in
     let below = each_number (λ n. n < bound) old can.numbers.sorted can.numbers.below in
-    let entries : c.as_slice-2.result.now ≡ old = c.as_slice-2.ensures.value ∙ c.in_ok-entries.ensures in
     let sources : c.in_ok-sources.sources.items ≡ sources_of d q i (tallies_at columns) old =
-    c.in_ok-sources.ensures ∙ (λ j. sources_of d q i (tallies_at (c.as_slice.ensures.value j)) (entries j)) in
+    c.in_ok-sources.ensures ∙ ap (λ cs. sources_of d q i (tallies_at cs) old) c.as_slice.ensures.value in
     let differ = Apart-sorted bound old can.numbers.sorted below in
     let new = entries_of c.targets_of.new.slots in
     let longer = c.make_room.new.columns.items in
     let targets = c.in_ok-targets.targets.items in
     let are : AreTargets d q.columns i new (sources_of d q i (tallies_at columns) old) targets =
-    subst (λ es. AreTargets d q.columns i new es targets) (c.as_slice-3.ensures.value ∙ sources) c.in_ok-targets.ensures.targets in
+    subst (λ es. AreTargets d q.columns i new es targets) (c.as_slice-2.ensures.value ∙ sources) c.in_ok-targets.ensures.targets in
     let rows = can.tallied.0 in
     let tallied : AreTalliedFrom d q (suc i) old columns rows = subst (λ n. AreTalliedFrom d q n old columns rows) (add-one i) can.tallied.1 in
     let long : AllByRecursion (λ column. length new ≤ length column.items) longer = c.in_ok-make_room.ensures.long in
     let counted = c.merge.new.columns.items in
     let merged : MergesIn (sources_of d q i (tallies_at columns) old) targets longer counted =
-    subst (λ es. MergesIn es targets longer counted) (c.as_slice-4.ensures.value ∙ sources)
-    (subst (λ ts. MergesIn c.as_slice-4.result.now ts longer counted) c.as_slice-5.ensures.value c.in_ok-merge.ensures.ok) in
+    subst (λ es. MergesIn es targets longer counted) (c.as_slice-3.ensures.value ∙ sources)
+    (subst (λ ts. MergesIn c.as_slice-3.result.now ts longer counted) c.as_slice-4.ensures.value c.in_ok-merge.ensures.ok) in
     λ others given.
     let tallied_so : AreTalliedFrom d q (suc i) old columns others = subst (λ n. AreTalliedFrom d q n old columns others) (add-one i) given in
     passed d q i c.requires.column can.proper.some_aggregate can.rising old new columns longer can.numbers differ c.targets_of.ensures.grow c.make_room.ensures.same targets are others tallied_so counted (merged q.aggregates (part_of d q i c.requires.column can.proper.some_aggregate can.rising old new columns longer can.numbers differ c.targets_of.ensures.grow c.make_room.ensures.same targets are others tallied_so) (can_merge d q i c.requires.column can.proper.some_aggregate can.rising old new columns longer can.numbers differ c.targets_of.ensures.grow c.make_room.ensures.same targets are others tallied_so long))

@@ -1,80 +1,53 @@
-use Rattle.cube_model.specs.declared.fault.Fault.TheVariants.{BadLayout}
-use Rattle.std.proofs.Common.{◌≡◌, ◌∙◌, Err, [], sym, ap, subst, arith, length}
-use Rattle.std.proofs.lemmas.Result.{IfOk-weaker, err_from_is_err_and}
-use Rattle.cube_query.specs.Coarser.{AreTalliedFrom, CanCoarsen}
-use Rattle.cube_query.specs.Columns.{seen_groups, tallies_at}
-use Rattle.cube_query.specs.Groups.{groups_of}
+use Rattle.std.proofs.Common.{◌≡◌, List, sym, subst, length}
+use Rattle.std.proofs.lemmas.Result.{IfOk-weaker}
+use Rattle.cube_model.specs.declared.rows.LineOrder.{LineOrder}
+use Rattle.cube_query.specs.Coarser.{AreTalliedFrom}
+use Rattle.cube_query.specs.Groups.{finest}
 use Rattle.cube_query.specs.Slots.{entries_of, AreSlots}
 use Rattle.cube_query.specs.FoldInvariant.{AreTallied}
-use Rattle.cube_query.proofs.Columnwise.{tallies-length}
-use Rattle.cube_query.proofs.Ends.{start, all_groups}
-use Rattle.cube_query.proofs.Seen.{seen_are}
-use Rattle.group_plan.specs.Numbers.{group_count, key_at}
+use Rattle.cube_query.proofs.Ends.{start}
+use Rattle.group_plan.specs.Numbers.{group_count}
 use Rattle.cube_query.proofs.finish.coarser_lines.Goals as goal
 
-pub coarsen_all-requires-clause-can : goal.coarsen_all-requires-clause-can
-coarsen_all-requires-clause-can c =
+pub all_lines-requires-clause-can : goal.all_lines-requires-clause-can
+all_lines-requires-clause-can c =
     let d = c.args.plan.now.dimensions in
     let q = c.args.plan.now.query in
     let fold = c.requires.fold in
     let entries = entries_of c.args.slots.now in
     let columns = c.args.columns.now in
     let copy = c.in_ok-columns.columns.items in
-    let slots = c.in_ok-slots.slots in
-    let same_entries : entries_of slots ≡ entries = c.in_ok-slots.ensures.entries in
-    let count : c.len-count.result ≡ length q.columns = c.len-count.ensures ∙ ap (λ query. length query.columns) c.requires.query in
+    let same_entries : entries_of c.in_ok-slots.slots ≡ entries = c.in_ok-slots.ensures.entries in
     let tallied : AreTalliedFrom d q (length q.columns) entries copy fold.tallied.0 = start d q entries columns copy fold.tallied.0 c.in_ok-columns.ensures fold.tallied.1 in
-    subst (λ n. CanCoarsen d q n slots copy) (sym count) (record {
+    record {
       proper = fold.proper;
       rising = fold.rising;
       numbers = subst (AreSlots (group_count d q.columns)) (sym same_entries) fold.numbers;
       cover = c.in_ok-slots.ensures.cover (group_count d q.columns) fold.cover;
       tallied = (fold.tallied.0, subst (λ es. AreTalliedFrom d q (length q.columns) es copy fold.tallied.0) (sym same_entries) tallied);
-    })
-
-pub finest_lines-requires-clause-columns : goal.finest_lines-requires-clause-columns
-finest_lines-requires-clause-columns c =
-    let q = c.args.plan.now.query in
-    let can = c.in_ok-coarsen_all.ensures.can in
-    let entries = entries_of c.coarsen_all.new.slots in
-    ap length c.as_slice.ensures.value ∙ tallies-length q.aggregates c.coarsen_all.new.columns.items (length entries) [] (can.tallied.1.fresh (length entries) (omega arith))
+    }
 
 pub returns-clause-lines : goal.returns-clause-lines
 returns-clause-lines c =
     let d = c.args.plan.now.dimensions in
     let q = c.args.plan.now.query in
-    let fold = c.requires.fold in
     let entries = entries_of c.args.slots.now in
     let columns = c.args.columns.now in
     let copy = c.in_ok-columns.columns.items in
     let same_entries : entries_of c.in_ok-slots.slots ≡ entries = c.in_ok-slots.ensures.entries in
-    let count : c.len-count.result ≡ length q.columns = c.len-count.ensures ∙ ap (λ query. length query.columns) c.requires.query in
-    let can = c.in_ok-coarsen_all.ensures.can in
-    let new = entries_of c.coarsen_all.new.slots in
-    let all = c.coarsen_all.new.columns.items in
-    IfOk-weaker c.finest_lines.result _ _
+    IfOk-weaker c.all_lines.result _ _
     (λ lines is rows first.
-    let begun : AreTalliedFrom d q c.len-count.result (entries_of c.in_ok-slots.slots) copy rows =
-    subst (λ n. AreTalliedFrom d q n (entries_of c.in_ok-slots.slots) copy rows) (sym count)
-    (subst (λ es. AreTalliedFrom d q (length q.columns) es copy rows) (sym same_entries) (start d q entries columns copy rows c.in_ok-columns.ensures first)) in
-    let ended : AreTallied d q new all rows = all_groups d q new all rows (c.in_ok-coarsen_all.ensures.tallied rows begun) in
-    is rows (subst (λ cs. seen_groups (key_at d q.columns) (tallies_at cs) new ≡ groups_of d q rows) (sym c.as_slice.ensures.value)
-    (seen_are d q new all rows can.proper.some_aggregate can.rising can.numbers ended)))
-    c.finest_lines.ensures.lines
+    is rows (subst (λ es. AreTalliedFrom d q (length q.columns) es copy rows) (sym same_entries) (start d q entries columns copy rows c.in_ok-columns.ensures first)))
+    c.all_lines.ensures.lines
 
-pub returns-in_err-coarsen_all-clause-refused : goal.returns-in_err-coarsen_all-clause-refused
-returns-in_err-coarsen_all-clause-refused c =
-    let p = err_from_is_err_and c.from_residual-in_err-coarsen_all.result c.from_residual-in_err-coarsen_all.ensures.1 in
-    rw (p.1, p.2) (λ bad rows first foldable.
+pub returns-clause-refused : goal.returns-clause-refused
+returns-clause-refused c =
     let d = c.args.plan.now.dimensions in
     let q = c.args.plan.now.query in
     let entries = entries_of c.args.slots.now in
     let columns = c.args.columns.now in
     let copy = c.in_ok-columns.columns.items in
     let same_entries : entries_of c.in_ok-slots.slots ≡ entries = c.in_ok-slots.ensures.entries in
-    let count : c.len-count.result ≡ length q.columns = c.len-count.ensures ∙ ap (λ query. length query.columns) c.requires.query in
-    let begun : AreTalliedFrom d q c.len-count.result (entries_of c.in_ok-slots.slots) copy rows =
-    subst (λ n. AreTalliedFrom d q n (entries_of c.in_ok-slots.slots) copy rows) (sym count)
-    (subst (λ es. AreTalliedFrom d q (length q.columns) es copy rows) (sym same_entries) (start d q entries columns copy rows c.in_ok-columns.ensures first)) in
-    let fault : c.in_err-coarsen_all.field-0.0 ≡ BadLayout = cc bad in
-    c.in_err-coarsen_all.ensures.refused (ap (λ f. Err f) fault) rows begun foldable)
+    λ bad rows first foldable.
+    c.all_lines.ensures.refused bad rows
+    (subst (λ es. AreTalliedFrom d q (length q.columns) es copy rows) (sym same_entries) (start d q entries columns copy rows c.in_ok-columns.ensures first)) foldable

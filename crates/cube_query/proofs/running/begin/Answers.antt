@@ -1,35 +1,14 @@
-use Rattle.std.proofs.Common.{◌≡◌, ◌∙◌, ℕ, [], sym, ap, subst}
+use Rattle.std.proofs.Common.{sym, subst}
+use Rattle.std.proofs.lemmas.Result.{IfOk-weaker}
 use Rattle.cube_model.specs.Proper.{IsProper}
-use Rattle.cube_query.specs.Columns.{tallies_at}
-use Rattle.cube_query.specs.Slots.{entries_of, AreSlots, Cover}
-use Rattle.cube_query.specs.Tallies.{tallies_of}
-use Rattle.group_plan.specs.Plans.{query_of}
-use Rattle.group_plan.proofs.Extending.{plan_of_over}
-use Rattle.cube_query.proofs.Folds.{begun}
+use Rattle.cube_query.specs.Groups.{Begins}
 use Rattle.cube_query.proofs.running.begin.Goals as goal
 
-pub invariant_of-result : goal.invariant_of-result
-invariant_of-result c =
-    let plan = c.in_ok-plan.plan in
-    let slots = c.in_ok-slots.slots in
-    let columns = c.in_ok-columns.columns.items in
-    let none = λ (slot : ℕ). (let here : tallies_at columns slot ≡ tallies_of (query_of plan).aggregates [] = c.in_ok-columns.ensures slot ∙ ap (λ aggs. tallies_of aggs []) (c.as_slice.ensures ∙ ap (λ q. q.aggregates) (sym c.in_ok-plan.ensures.query)) in here) in
-    record {
-      proper = subst IsProper (sym c.in_ok-plan.ensures.query) c.requires;
-      numbers = subst (λ n. AreSlots n (entries_of slots)) c.group_count.ensures c.in_ok-slots.ensures.numbers;
-      cover = subst (λ n. Cover n slots) c.group_count.ensures c.in_ok-slots.ensures.cover;
-      fresh = λ slot h. none slot;
-    }
+pub begin_by-requires : goal.begin_by-requires
+begin_by-requires c = subst IsProper (sym c.in_ok-plan.ensures.query) c.requires
 
 pub returns : goal.returns
 returns c =
-    let plan = c.in_ok-plan.plan in
-    let slots = c.in_ok-slots.slots in
-    let columns = c.in_ok-columns.columns.items in
-    let over = c.in_ok-plan.ensures.over in
-    let made = plan_of_over c.args.dims.now plan over in
-    let none = λ (slot : ℕ). (let here : tallies_at columns slot ≡ tallies_of (query_of plan).aggregates [] = c.in_ok-columns.ensures slot ∙ ap (λ aggs. tallies_of aggs []) (c.as_slice.ensures ∙ ap (λ q. q.aggregates) (sym c.in_ok-plan.ensures.query)) in here) in
-    record {
-      query_is = c.in_ok-plan.ensures.query;
-      stands = begun c.args.dims.now plan over slots columns (subst (λ n. AreSlots n (entries_of slots)) (c.group_count.ensures ∙ made.counted) c.in_ok-slots.ensures.numbers) none;
-    }
+    IfOk-weaker c.begin_by.result _ _
+    (λ fold is. subst (λ q. Begins c.args.dims.now q fold) c.in_ok-plan.ensures.query (is c.args.dims.now c.in_ok-plan.ensures.over))
+    c.begin_by.ensures

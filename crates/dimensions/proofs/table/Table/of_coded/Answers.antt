@@ -19,11 +19,11 @@ returns-then-not-has_proper_columns c =
 pub returns-in_default : goal.returns-in_default
 returns-in_default c =
     let bad = absent (AreDistinct c.into_vec.result.items → ⊥) (λ keys. (keys ≡ c.into_vec.result.items) × AreDistinct c.into_vec.result.items) c.in_ok-keys.field-0 c.in_default.is c.in_ok-keys.ensures.ok in
-    inr (refl, refused_keys c.args.axis c.args.coded (λ distinct. bad (subst AreDistinct (sym c.into_vec.ensures) distinct)))
+    inr (refl, refused_keys c.args.axis c.args.coded (λ distinct. bad (subst AreDistinct (sym (c.into_vec.ensures ∙ c.into_parts-keys.ensures.keys)) distinct)))
 
 pub returns : goal.returns
 returns c =
     let found = present _ (λ keys. (keys ≡ c.into_vec.result.items) × AreDistinct c.into_vec.result.items) c.in_ok-keys.field-0 c.in-Some.keys c.in-Some.is c.in_ok-keys.ensures.ok in
-    made c.args.axis c.args.coded c.requires (c.has_proper_columns.ensures.0 c.if-not-has_proper_columns.false) (subst AreDistinct c.into_vec.ensures found.1)
-    (record { keys = c.in-Some.keys; columns = c.in_ok-columns.columns }) (found.0 ∙ c.into_vec.ensures)
-    (c.in_ok-columns.ensures.ok ∙ ap (columns_from c.args.axis 0) c.into_vec-2.ensures)
+    made c.args.axis c.args.coded c.requires (c.has_proper_columns.ensures.0 c.if-not-has_proper_columns.false) (subst AreDistinct (c.into_vec.ensures ∙ c.into_parts-keys.ensures.keys) found.1)
+    (record { keys = c.in-Some.keys; columns = c.in_ok-columns.columns }) (found.0 ∙ c.into_vec.ensures ∙ c.into_parts-keys.ensures.keys)
+    (c.in_ok-columns.ensures.ok ∙ ap (columns_from c.args.axis 0) (c.into_vec-2.ensures ∙ c.into_parts-keys.ensures.columns))

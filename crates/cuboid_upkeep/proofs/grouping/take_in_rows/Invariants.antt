@@ -3,7 +3,7 @@ use Rattle.cube_model.specs.declared.rows.DimRows.{DimRows}
 use Rattle.lattice.specs.declared.view.View.{View}
 use Rattle.cuboid_upkeep.specs.Steps.{AreKeyed, AreRowKeys}
 use Rattle.cuboid_upkeep.proofs.Grouped.{Grouping}
-use Rattle.cuboid_upkeep.proofs.grouping.group_keyed.Given as goal
+use Rattle.cuboid_upkeep.proofs.grouping.take_in_rows.Given as goal
 
 abbrev pub invariant-loop-place : goal.invariant-loop-place
 invariant-loop-place g l =

@@ -1,0 +1,58 @@
+use Rattle.cube_model.specs.declared.fault.Fault.TheVariants.{BadLayout}
+use Rattle.std.proofs.Common.{◌≡◌, ◌∙◌, Err, [], sym, ap, subst, arith, length}
+use Rattle.std.proofs.lemmas.Result.{IfOk-weaker, err_from_is_err_and}
+use Rattle.cube_query.specs.Coarser.{AreTalliedFrom, CanCoarsen}
+use Rattle.cube_query.specs.Columns.{seen_groups, tallies_at}
+use Rattle.cube_query.specs.Groups.{groups_of}
+use Rattle.cube_query.specs.Slots.{entries_of}
+use Rattle.cube_query.specs.FoldInvariant.{AreTallied}
+use Rattle.cube_query.proofs.Columnwise.{tallies-length}
+use Rattle.cube_query.proofs.Ends.{all_groups}
+use Rattle.cube_query.proofs.Seen.{seen_are}
+use Rattle.group_plan.specs.Numbers.{key_at}
+use Rattle.cube_query.proofs.finish.all_lines.Goals as goal
+
+pub coarsen_all-requires-clause-can : goal.coarsen_all-requires-clause-can
+coarsen_all-requires-clause-can c =
+    let d = c.args.plan.now.dimensions in
+    let q = c.args.plan.now.query in
+    let count : c.len-count.result ≡ length q.columns = c.len-count.ensures ∙ ap (λ query. length query.columns) c.requires.query in
+    subst (λ n. CanCoarsen d q n c.args.slots.now c.args.columns.now.items) (sym count) c.requires.can
+
+pub finest_lines-requires-clause-columns : goal.finest_lines-requires-clause-columns
+finest_lines-requires-clause-columns c =
+    let q = c.args.plan.now.query in
+    let can = c.in_ok-coarsen_all.ensures.can in
+    let entries = entries_of c.coarsen_all.new.slots in
+    ap length c.as_slice.ensures.value ∙ tallies-length q.aggregates c.coarsen_all.new.columns.items (length entries) [] (can.tallied.1.fresh (length entries) (omega arith))
+
+pub returns-clause-lines : goal.returns-clause-lines
+returns-clause-lines c =
+    let d = c.args.plan.now.dimensions in
+    let q = c.args.plan.now.query in
+    let entries = entries_of c.args.slots.now in
+    let columns = c.args.columns.now.items in
+    let count : c.len-count.result ≡ length q.columns = c.len-count.ensures ∙ ap (λ query. length query.columns) c.requires.query in
+    let can = c.in_ok-coarsen_all.ensures.can in
+    let new = entries_of c.coarsen_all.new.slots in
+    let all = c.coarsen_all.new.columns.items in
+    IfOk-weaker c.finest_lines.result _ _
+    (λ lines is rows given.
+    let begun : AreTalliedFrom d q c.len-count.result entries columns rows = subst (λ n. AreTalliedFrom d q n entries columns rows) (sym count) given in
+    let ended : AreTallied d q new all rows = all_groups d q new all rows (c.in_ok-coarsen_all.ensures.tallied rows begun) in
+    is rows (subst (λ cs. seen_groups (key_at d q.columns) (tallies_at cs) new ≡ groups_of d q rows) (sym c.as_slice.ensures.value)
+    (seen_are d q new all rows can.proper.some_aggregate can.rising can.numbers ended)))
+    c.finest_lines.ensures.lines
+
+pub returns-in_err-coarsen_all-clause-refused : goal.returns-in_err-coarsen_all-clause-refused
+returns-in_err-coarsen_all-clause-refused c =
+    let p = err_from_is_err_and c.from_residual.result c.from_residual.ensures.1 in
+    rw (p.1, p.2) (λ bad rows given foldable.
+    let d = c.args.plan.now.dimensions in
+    let q = c.args.plan.now.query in
+    let entries = entries_of c.args.slots.now in
+    let columns = c.args.columns.now.items in
+    let count : c.len-count.result ≡ length q.columns = c.len-count.ensures ∙ ap (λ query. length query.columns) c.requires.query in
+    let begun : AreTalliedFrom d q c.len-count.result entries columns rows = subst (λ n. AreTalliedFrom d q n entries columns rows) (sym count) given in
+    let fault : c.in_err-coarsen_all.field-0.0 ≡ BadLayout = cc bad in
+    c.in_err-coarsen_all.ensures.refused (ap (λ f. Err f) fault) rows begun foldable)
