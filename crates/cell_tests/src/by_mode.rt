@@ -1,5 +1,6 @@
 //! Cells of the sample rows by ship mode as well, worked out by hand.
 ghost use Rattle.std.specs.Prelude.{◌≡◌};
+ghost use Rattle.group_plan.specs.Plans.{IsPlanOver};
 
 use crate::grouped::FIRST_AND_THIRD;
 use crate::sample::{FIRST, SECOND, THIRD};
@@ -153,21 +154,56 @@ fn numbered(numbers: &CellNumbers, cells: &Cells) -> Result<usize, Fault>
     Ok(count)
 }
 
-// How many cells of the sample rows have a number by a query of one group.
+// How many cells of the sample rows have a number by a query of one group, over ship modes or none.
 fn numbered_cells(
     alloc: Global,
     dims: &Dims,
     texts: Option<&[&[u8]]>,
     index: u16,
 ) -> Result<usize, Fault> {
-    let modes = modes_of(alloc, texts.unwrap_or(&[]))?;
     let cells = grouped(alloc, index)?;
-    let given = if texts.is_some() { Some(&modes) } else { None };
+    match texts {
+        Some(texts) => numbered_over(alloc, dims, &cells, texts),
+        None => numbered_by_all(alloc, dims, &cells, None),
+    }
+}
+
+// How many of some cells have a number over the ship modes of texts.
+fn numbered_over(
+    alloc: Global,
+    dims: &Dims,
+    cells: &Cells,
+    texts: &[&[u8]],
+) -> Result<usize, Fault> {
+    let modes = modes_of(alloc, texts)?;
+    numbered_by_all(alloc, dims, cells, Some(&modes))
+}
+
+// How many of some cells have a number by the count of all rows.
+fn numbered_by_all(
+    alloc: Global,
+    dims: &Dims,
+    cells: &Cells,
+    modes: Option<&Dictionary>,
+) -> Result<usize, Fault> {
     let query = count_of_all(alloc)?;
     query.check()?;
     let plan = Plan::new(alloc, dims, &query)?;
-    let numbers = CellNumbers::of(alloc, dims, &plan, cells.view(), given)?;
-    numbered(&numbers, &cells)
+    numbered_by(alloc, dims, cells, modes, &plan)
+}
+
+// How many of some cells have a number by a plan over the dimensions.
+fn numbered_by(
+    alloc: Global,
+    dims: &Dims,
+    cells: &Cells,
+    modes: Option<&Dictionary>,
+    plan: &Plan,
+) -> Result<usize, Fault>
+    requires { IsPlanOver dims.now plan.now }
+{
+    let numbers = CellNumbers::of(alloc, dims, plan, cells.view(), modes)?;
+    numbered(&numbers, cells)
 }
 
 // The count of all rows.

@@ -68,7 +68,7 @@ fn spells_no_cell(rt: HostRuntime) -> Result<(), Fail> {
 const BAD: Option<Fault> = Some(Fault::BadLayout);
 
 // A place, the byte that is put there, and why what stands then is refused.
-const CHANGES: [(usize, u8, Option<Fault>); 34] = [
+static CHANGES: [(usize, u8, Option<Fault>); 34] = [
     // Another name, and that of runs with a fifth code.
     (0, 0x44, BAD),
     (3, 0x32, BAD),
@@ -117,12 +117,12 @@ const CHANGES: [(usize, u8, Option<Fault>); 34] = [
 
 #[test]
 fn refuses_what_breaks_a_rule(rt: HostRuntime) {
-    for (place, byte, want) in CHANGES {
+    for (place, byte, want) in &CHANGES {
         let mut bytes = SPELLED;
-        if let Some(changed) = bytes.get_mut(place) {
-            *changed = byte;
+        if let Some(changed) = bytes.get_mut(*place) {
+            *changed = *byte;
         }
-        assert_eq!(rt; refusal(rt.alloc(), &bytes), want, "byte {place} {byte}");
+        assert_eq!(rt; refusal(rt.alloc(), &bytes), *want, "byte {place} {byte}");
     }
 }
 

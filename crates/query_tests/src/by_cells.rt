@@ -67,12 +67,26 @@ fn ask_one(
     rows: &[LineOrder],
 ) -> Result<(bool, bool), Fault> {
     let query = random_query(alloc, draw, dimensions, Reach::Served)?;
-    let Some(view) = serving_view(draw, &query) else {
-        return Ok((false, false));
-    };
-    let parts = random_parts(draw, rows);
-    let answer = answer_by_parts(alloc, dims, &query, view, parts)?;
-    let is_agreed = answer == plain_answer(alloc, dimensions, rows, &query)?;
+    match serving_view(draw, &query) {
+        Some(view) => {
+            let parts = random_parts(draw, rows);
+            agree_by(alloc, dimensions, dims, &query, view, parts)
+        }
+        None => Ok((false, false)),
+    }
+}
+
+// Whether the answers by cells of a view over rows in parts and by the plain program agree, and whether they are coarse.
+fn agree_by(
+    alloc: Global,
+    dimensions: &DimRows,
+    dims: &Dims,
+    query: &Query,
+    view: View,
+    parts: Parts<'_>,
+) -> Result<(bool, bool), Fault> {
+    let answer = answer_by_parts(alloc, dims, query, view, parts)?;
+    let is_agreed = answer == plain_answer(alloc, dimensions, parts.all, query)?;
     Ok((is_agreed, is_coarse(view, &answer)))
 }
 

@@ -77,7 +77,7 @@ const PROFITS: Asked<'static> = Asked {
 const HALF: u64 = 4_611_686_018_427_387_904;
 
 /// Plain queries with no average and no order.
-pub static PLAIN: [Example; 9] = [
+pub static PLAIN: [Example; 5] = [
     SAMPLE,
     Example {
         asked: DISCOUNTED,
@@ -99,6 +99,10 @@ pub static PLAIN: [Example; 9] = [
         lines: "AMERICA|1997|1940|-60|-60|\nEUROPE|1993|980|380|380|\nEUROPE|1997|495|395|395|\n",
         ..SAMPLE
     },
+];
+
+/// Answers over no row, over a range of brands, and where the absolute values of a sum add up to its limit.
+pub static BOUNDARIES: [Example; 4] = [
     Example {
         facts: &[],
         asked: REGIONS,
@@ -322,7 +326,7 @@ const BY_REGION: Asked<'static> = Asked {
 };
 
 /// Cubes and rollups.
-pub static COARSER: [Example; 9] = [
+pub static COARSER: [Example; 5] = [
     Example {
         asked: CUBE,
         lines: "AMERICA|1997|1|1940|1940/1|\nAMERICA|ALL|1|1940|1940/1|\nEUROPE|1993|1|980|980/1|\nEUROPE|1997|1|495|495/1|\nEUROPE|ALL|2|1475|1475/2|\nALL|1993|1|980|980/1|\nALL|1997|2|2435|2435/2|\nALL|ALL|3|3415|3415/3|\n",
@@ -354,6 +358,10 @@ pub static COARSER: [Example; 9] = [
         lines: "AMERICA|1|\nEUROPE|2|\nALL|3|\n",
         ..SAMPLE
     },
+];
+
+/// Cubes and rollups whose coarser groups are no sums of finer ones, or reach the limit of a sum, or stand beside odd texts.
+pub static COARSER_BOUNDARIES: [Example; 4] = [
     Example {
         star: ODD_REGIONS,
         asked: BY_REGION,

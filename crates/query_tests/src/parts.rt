@@ -100,16 +100,49 @@ fn answer_of_batches(
         before,
         behind,
     };
+    if cells.view().ship_mode {
+        return answer_by_codes(alloc, dims, fold, cells, [first, second], around);
+    }
+    answer_in_memory(alloc, dims, fold, cells, parts, around)
+}
+
+// The same by the codes of two batches.
+fn answer_by_codes(
+    alloc: Global,
+    dims: &Dims,
+    fold: &mut Fold,
+    cells: &mut Cells,
+    two: [&Segment; 2],
+    around: Around<'_>,
+) -> Result<Answer, Fault>
+    requires begins { StandsFor dims.now fold.old [] }
+    requires empty { cells.old.cells ≡ [] }
+    requires serves { Serves cells.old.view fold.old.query }
+{
+    let [first, second] = two;
     if first.len() > MOST || second.len() > MOST {
         return Err(Fault::TooManyRows);
     }
+    let first = RowsWithModes::of(first);
+    let second = RowsWithModes::of(second);
+    answer_around(alloc, dims, fold, cells, &first, &second, around)
+}
+
+// The same by two parts in memory.
+fn answer_in_memory(
+    alloc: Global,
+    dims: &Dims,
+    fold: &mut Fold,
+    cells: &mut Cells,
+    parts: Parts<'_>,
+    around: Around<'_>,
+) -> Result<Answer, Fault>
+    requires begins { StandsFor dims.now fold.old [] }
+    requires empty { cells.old.cells ≡ [] }
+    requires serves { Serves cells.old.view fold.old.query }
+{
     if parts.first.len() > MOST || parts.second.len() > MOST {
         return Err(Fault::TooManyRows);
-    }
-    if cells.view().ship_mode {
-        let first = RowsWithModes::of(first);
-        let second = RowsWithModes::of(second);
-        return answer_around(alloc, dims, fold, cells, &first, &second, around);
     }
     let first = RowSlice(parts.first);
     let second = RowSlice(parts.second);

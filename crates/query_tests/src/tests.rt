@@ -2,7 +2,8 @@
 
 use super::cases::{QUERIES, outcome_of};
 use super::examples::{
-    AVERAGED, COARSER, Example, IMPROPER, ORDERED, OVER_SAMPLE, PLAIN, SIX_COLUMNS,
+    AVERAGED, BOUNDARIES, COARSER, COARSER_BOUNDARIES, Example, IMPROPER, ORDERED, OVER_SAMPLE,
+    PLAIN, SIX_COLUMNS,
 };
 use super::queries::Reach;
 use super::refusals::{
@@ -29,6 +30,11 @@ fn plain_answers_are_as_worked(rt: HostRuntime) -> Result<(), Fail> {
 }
 
 #[test]
+fn answers_at_the_boundaries_are_as_worked(rt: HostRuntime) -> Result<(), Fail> {
+    answers_are_as_worked(&rt, rt.alloc(), &BOUNDARIES)
+}
+
+#[test]
 fn averages_are_as_worked(rt: HostRuntime) -> Result<(), Fail> {
     answers_are_as_worked(&rt, rt.alloc(), &AVERAGED)
 }
@@ -41,6 +47,11 @@ fn orders_are_as_worked(rt: HostRuntime) -> Result<(), Fail> {
 #[test]
 fn cubes_and_rollups_are_as_worked(rt: HostRuntime) -> Result<(), Fail> {
     answers_are_as_worked(&rt, rt.alloc(), &COARSER)
+}
+
+#[test]
+fn cubes_and_rollups_at_the_boundaries_are_as_worked(rt: HostRuntime) -> Result<(), Fail> {
+    answers_are_as_worked(&rt, rt.alloc(), &COARSER_BOUNDARIES)
 }
 
 // Of the six columns three tell the second row from the others, and three the first. So of the 64 grouping sets 49 have

@@ -39,7 +39,12 @@ fn rows_of(alloc: Global, tables: &Tables<'_>) -> Result<DimRows, Fault> {
 /// Whether the sample tables have the sample rows.
 fn are_read(alloc: Global) -> Result<bool, Fault> {
     let rows = rows_of(alloc, &TABLES)?;
-    Ok(rows == dim_rows(alloc, &STAR)?)
+    are_of_the_star(alloc, &rows)
+}
+
+/// Whether rows are the sample rows.
+fn are_of_the_star(alloc: Global, rows: &DimRows) -> Result<bool, Fault> {
+    Ok(*rows == dim_rows(alloc, &STAR)?)
 }
 
 #[test]
