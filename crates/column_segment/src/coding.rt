@@ -52,7 +52,7 @@ impl Coding {
     }
 
     // Adds a row's text, which may have a code. There is room for one text more.
-    #[inline]
+    #[inline(always)]
     fn push(&mut self, alloc: Global, guess: Option<[u8; 2]>, text: &[u8]) -> Result<(), Fault>
         requires room { HasRoom self.old }
         ensures ok { OnOk result ((column : List (List ℕ)) → IsCoding column self.old → IsCoding (column ++ text.now ∷ []) self.new) }
@@ -101,7 +101,7 @@ impl Texts {
     }
 
     // Adds those of a row.
-    #[inline]
+    #[inline(always)]
     pub(crate) fn push(&mut self, alloc: Global, row: &LineOrder) -> Result<(), Fault>
         requires room { HaveRoom self.old }
         ensures ok { OnOk result ((rows : List LineOrder) → HaveTexts rows self.old → HaveTexts (rows ++ row.now ∷ []) self.new) }
@@ -134,7 +134,7 @@ impl Texts {
 }
 
 // The code of a text, which is added if it was not seen. It is looked for at a guess first.
-#[inline]
+#[inline(always)]
 fn add_text(
     texts: &mut Dictionary,
     alloc: Global,
@@ -155,7 +155,7 @@ fn add_text(
 }
 
 // Whether a code is that of a text.
-#[inline]
+#[inline(always)]
 fn stands_at(texts: &Dictionary, code: u32, text: &[u8]) -> bool
     ensures seen { IsTrue result → code_of texts.now.texts text.now ≡ Some code }
     ensures within { IsTrue result → code < texts.now.limit }

@@ -111,7 +111,7 @@ impl Columns {
     }
 
     // Adds a row.
-    #[inline]
+    #[inline(always)]
     fn push(&mut self, alloc: Global, row: &LineOrder) -> Result<(), Fault>
         requires room { HaveRoom self.old.texts }
         ensures ok { OnOk result ((rows : List LineOrder) → HaveRows rows self.old → HaveRows (rows ++ row.now ∷ []) self.new) }

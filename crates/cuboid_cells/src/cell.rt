@@ -18,7 +18,7 @@ pub struct Cell {
 
 impl Cell {
     /// Takes in the cell of other rows, of its own key. False where a number would pass its type; what it is then is not said.
-    #[inline]
+    #[inline(always)]
     pub fn merge_in(&mut self, other: &Cell) -> bool
         ensures ok { IsTrue result → self.new ≡ merged self.old other.now }
         ensures fits { IsTrue result → CellFits self.new }
@@ -41,7 +41,7 @@ impl Cell {
 }
 
 // The codes of a key fit their fields, as its type says.
-#[inline]
+#[inline(always)]
 fn key_fits(_key: Key)
     ensures { KeyFits _key }
 {}

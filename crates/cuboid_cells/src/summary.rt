@@ -13,7 +13,7 @@ pub struct Summary {
 
 impl Summary {
     /// Takes in what is kept of other rows. False where the sum would pass its type; what it is then is not said.
-    #[inline]
+    #[inline(always)]
     pub fn merge_in(&mut self, other: &Summary) -> bool
         ensures ok { IsTrue result → self.new ≡ merged_summary self.old other.now }
         ensures fits { IsTrue result → SummaryFits self.new }
@@ -44,7 +44,7 @@ pub struct Summaries {
 
 impl Summaries {
     /// Takes in those of other rows. False where a sum would pass its type; what they are then is not said.
-    #[inline]
+    #[inline(always)]
     pub fn merge_in(&mut self, other: &Summaries) -> bool
         ensures ok { IsTrue result → self.new ≡ merged_summaries self.old other.now }
         ensures fit { IsTrue result → SummariesFit self.new }

@@ -69,7 +69,7 @@ impl<'a> LevelCodes<'a> {
     }
 
     // The code that they lead to from the place of a row.
-    #[inline]
+    #[inline(always)]
     fn read(self, place: usize) -> u16
         requires { (code : ℕ) × Leads (tables_of self) place code × (code < 65536) }
         ensures { (code : ℕ) → Leads (tables_of self.entry) place code → result ≡ code }
@@ -85,7 +85,7 @@ impl<'a> LevelCodes<'a> {
     }
 
     // The code of the member that the row at a place has. Nothing where the level has members and the row's key has none.
-    #[inline]
+    #[inline(always)]
     pub(crate) fn code<F: FactRows>(
         self,
         dims: &Dims,

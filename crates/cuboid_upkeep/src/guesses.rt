@@ -28,7 +28,7 @@ impl Guesses {
     }
 
     // Where the cell of a key may stand.
-    #[inline]
+    #[inline(always)]
     pub(crate) fn guess(&self, key: Key) -> usize {
         match self.places.get(self.weights.mark_of(key)) {
             Some(place) => *place as usize,
@@ -74,7 +74,7 @@ impl Weights {
     }
 
     // A number below that of the places: mostly another one for another key.
-    #[inline]
+    #[inline(always)]
     fn mark_of(self, key: Key) -> usize {
         let mark = u32::from(key.customer)
             .wrapping_add(u32::from(key.supplier).wrapping_mul(self.supplier))

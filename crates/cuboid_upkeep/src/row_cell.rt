@@ -13,7 +13,7 @@ use cuboid_cells::{Cell, Key, Summaries, Summary};
 use group_plan::FactRows;
 
 // The cell of the row at a place, whose key it is. `BadLayout` where a number passes its type.
-#[inline]
+#[inline(always)]
 pub(crate) fn row_cell<F: FactRows>(key: Key, rows: &F, place: usize) -> Result<Cell, Fault>
     requires { place < length (F.rows rows.now) }
     ensures ok { IfOk result (λ cell. (dimensions : DimRows) (modes : List (List ℕ)) (view : View)
@@ -34,7 +34,7 @@ pub(crate) fn row_cell<F: FactRows>(key: Key, rows: &F, place: usize) -> Result<
 }
 
 // What is kept of the measures of the row at a place. Nothing where a number passes its type.
-#[inline]
+#[inline(always)]
 fn row_summaries<F: FactRows>(rows: &F, place: usize) -> Option<Summaries>
     requires { place < length (F.rows rows.now) }
     ensures some { IfSome result (λ measures. measures ≡ summaries_over (row_at (F.rows rows.now) place ∷ [])) }
@@ -66,7 +66,7 @@ fn row_summaries<F: FactRows>(rows: &F, place: usize) -> Option<Summaries>
 }
 
 // What is kept of three of them.
-#[inline]
+#[inline(always)]
 fn three_summaries<F: FactRows>(
     rows: &F,
     place: usize,
@@ -91,7 +91,7 @@ fn three_summaries<F: FactRows>(
 }
 
 // What is kept of one measure of the row at a place.
-#[inline]
+#[inline(always)]
 fn row_summary<F: FactRows>(rows: &F, place: usize, measure: Measure) -> Option<Summary>
     requires { place < length (F.rows rows.now) }
     ensures some { IfSome result (λ summary. summary ≡ summary_over measure (row_at (F.rows rows.now) place ∷ [])) }

@@ -45,7 +45,7 @@ pub(crate) fn row_keys<F: ModeRows>(
 }
 
 // The key of the row at a place. Nothing where it has not its members.
-#[inline]
+#[inline(always)]
 fn row_key<F: ModeRows>(
     dims: &Dims,
     view: View,
@@ -74,7 +74,7 @@ fn row_key<F: ModeRows>(
 }
 
 // The code of the ship mode of the row at a place. Nothing where the view groups by it and it is none of the modes.
-#[inline]
+#[inline(always)]
 fn row_mode<F: ModeRows>(view: View, tables: &KeyTables<'_>, rows: &F, place: usize) -> Option<u16>
     requires entries { view.ship_mode ≡ true → AreModeEntries (modes_in tables.now) (F.modes rows.now) tables.now.entries.items }
     requires place { place < length (F.rows rows.now) }

@@ -10,7 +10,7 @@ use indexmap::IndexSet;
 
 // Takes a cell in: that of its key becomes the merge of both, and a new key comes behind all others. `BadLayout` where a
 // number would pass its type.
-#[inline]
+#[inline(always)]
 pub(crate) fn take_in(
     numbers: &mut IndexSet<u128>,
     cells: &mut Vec<Cell>,
@@ -27,35 +27,37 @@ pub(crate) fn take_in(
     if has_key(cells, guess, cell.key) {
         return merge_at(cells, guess, cell);
     }
-    find_and_take_in(numbers, cells, guesses, cell)
+    find_and_take_in(numbers, cells, guesses, *cell)
 }
 
-// The same, where the cell of its key is looked for by hash.
+// The same, where the cell of its key is looked for by hash. The cell comes as a copy: one that is found at the guess is
+// then never put together in memory.
+#[inline(never)]
 fn find_and_take_in(
     numbers: &mut IndexSet<u128>,
     cells: &mut Vec<Cell>,
     guesses: &mut Guesses,
-    cell: &Cell,
+    cell: Cell,
 ) -> Result<(), Fault>
     requires { AreKeyed numbers.old.keys cells.old.items }
     ensures keyed { OnOk result (AreKeyed numbers.new.keys cells.new.items) }
-    ensures ok { OnOk result (TakesIn cells.old.items cell.now cells.new.items) }
+    ensures ok { OnOk result (TakesIn cells.old.items cell cells.new.items) }
     ensures refused { IfErr result (λ fault. (fault ≡ Fault.Memory)
-        ⊎ ((fault ≡ Fault.BadLayout) × Overflows cells.old.items cell.now)) }
+        ⊎ ((fault ≡ Fault.BadLayout) × Overflows cells.old.items cell)) }
 {
     let Ok((place, _)) = numbers.insert_full(cell.key.number()) else {
         return Err(Fault::Memory);
     };
     guesses.keep(cell.key, place);
     if place >= cells.len() {
-        cells.push(*cell)?;
+        cells.push(cell)?;
         return Ok(());
     }
-    merge_at(cells, place, cell)
+    merge_at(cells, place, &cell)
 }
 
 // Whether the cell at a place has a key.
-#[inline]
+#[inline(always)]
 fn has_key(cells: &[Cell], place: usize, key: Key) -> bool
     ensures { IsTrue result → HasKeyAt cells.now place key }
 {
@@ -63,7 +65,7 @@ fn has_key(cells: &[Cell], place: usize, key: Key) -> bool
 }
 
 // Merges a cell into the one at a place. `BadLayout` where a number would pass its type.
-#[inline]
+#[inline(always)]
 fn merge_at(cells: &mut Vec<Cell>, place: usize, cell: &Cell) -> Result<(), Fault>
     requires { place < length cells.old.items }
     ensures ok { OnOk result (MergesAt cells.old.items place cell.now cells.new.items) }

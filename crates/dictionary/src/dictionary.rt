@@ -81,6 +81,7 @@ impl Dictionary {
     /// The code of a text, which is added if it was not seen. Nothing where a new text would pass the limit.
     ///
     /// It can only fail for want of memory, and then changes nothing.
+    #[inline(always)]
     pub fn add(&mut self, alloc: Global, text: &[u8]) -> Result<Option<u32>, Fault>
         ensures ok { IfOk result (λ code. Adds self.old text.now code self.new) }
         ensures within { IfOk result (λ code. IfSome code (λ c. c < self.old.limit)) }
@@ -91,6 +92,17 @@ impl Dictionary {
         if self.stands_at(text, guess) {
             return Ok(Some(guess as u32));
         }
+        self.find_or_add(alloc, text)
+    }
+
+    // The same, where the text does not stand at its guess.
+    #[inline(never)]
+    fn find_or_add(&mut self, alloc: Global, text: &[u8]) -> Result<Option<u32>, Fault>
+        ensures ok { IfOk result (λ code. Adds self.old text.now code self.new) }
+        ensures within { IfOk result (λ code. IfSome code (λ c. c < self.old.limit)) }
+        ensures err { OnErr result (self.new ≡ self.old) }
+        ensures memory { IfErr result (λ fault. fault ≡ Fault.Memory) }
+    {
         if let Some(place) = self.texts.get_index_of(text) {
             self.memo.keep(text, place);
             return Ok(Some(place as u32));
@@ -105,7 +117,7 @@ impl Dictionary {
     }
 
     // Whether a text is the one at a place.
-    #[inline]
+    #[inline(always)]
     fn stands_at(&self, text: &[u8], place: usize) -> bool
         ensures seen { IsTrue result → code_of self.now.texts text.now ≡ Some place }
         ensures within { IsTrue result → place < self.now.limit }

@@ -24,7 +24,7 @@ impl Memo {
     }
 
     // Where a text may stand.
-    #[inline]
+    #[inline(always)]
     pub(crate) fn guess(&self, text: &[u8]) -> usize {
         match self.places.get(mark_of(text)) {
             Some(place) => usize::from(*place),
@@ -44,13 +44,13 @@ impl Memo {
 }
 
 // A number below that of the places, made of a text's ends: mostly another one for another text.
-#[inline]
+#[inline(always)]
 fn mark_of(text: &[u8]) -> usize {
     (word_of(text).wrapping_mul(SPREAD) >> 51) as usize
 }
 
 // The last eight bytes of a text, or of a short one its first and last four, or its last alone.
-#[inline]
+#[inline(always)]
 fn word_of(text: &[u8]) -> u64 {
     if let Some(end) = text.last_chunk::<8>() {
         return u64::from_le_bytes(*end);

@@ -18,7 +18,7 @@ pub fn first_counted(keys: &[u32]) -> Option<u32>
 
 /// Where a key stands among so many that count on from a first one, or how many they are where it is none of them. No
 /// memory is read.
-#[inline]
+#[inline(always)]
 pub fn place_counted(first: u32, count: usize, key: u32) -> usize
     ensures { (keys : List ℕ) → CountOn first keys → length keys ≡ count
         → result ≡ position_or_len (λ other. other == key) keys }

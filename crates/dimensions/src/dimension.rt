@@ -78,6 +78,7 @@ impl Dimension {
     }
 
     /// The row index of a key, or the number of rows where no row has it.
+    #[inline(always)]
     pub fn row_index(&self, key: u32) -> usize
         ensures { result ≡ position_or_len (λ other. other == key) self.now.table.keys }
     {

@@ -145,6 +145,7 @@ impl Dims {
     }
 
     /// The row index of a key: that of the row with the key, or the number of rows where no row has it. They count from 0.
+    #[inline(always)]
     pub fn row_index(&self, axis: Axis, key: u32) -> usize
         ensures { result ≡ row_index_of self.now axis key }
     {
@@ -195,6 +196,7 @@ impl Dims {
     }
 
     // One of the dimensions.
+    #[inline(always)]
     fn dimension(&self, axis: Axis) -> &Dimension
         ensures are { IsDimension axis (rows_on self.now axis) result.now }
         ensures valid { IsValid self.now }

@@ -77,6 +77,7 @@ impl KeyIndex {
     }
 
     /// The row index of a key, or the number of keys where it is none of them.
+    #[inline(always)]
     pub fn row_index(&self, key: u32) -> usize
         ensures { result ≡ position_or_len (λ other. other == key) self.now }
     {

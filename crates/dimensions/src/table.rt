@@ -186,6 +186,7 @@ impl Table {
     }
 
     /// The row index of a key, or the number of rows where no row has it.
+    #[inline(always)]
     pub fn row_index(&self, key: u32) -> usize
         ensures { result ≡ position_or_len (λ other. other == key) self.now.keys }
     {

@@ -11,7 +11,7 @@ use Rattle.cuboid_upkeep.proofs.taking.find_and_take_in.Goals as goal
 
 pub returns-then-place-len-clause-ok : goal.returns-then-place-len-clause-ok
 returns-then-place-len-clause-ok c =
-    taken_behind c.args.cells.now.items c.args.cell.now c.in-Ok.place
+    taken_behind c.args.cells.now.items c.args.cell c.in-Ok.place
     (c.in-Ok.ensures.index ∙ (λ i. position_or_len (nat_eq (c.number.ensures i)) (c.requires.keys_are i)))
     (omega (arith, c.if-place-len.true, c.len.ensures)) c.push.new.self.items c.in_ok-push.ensures.items
 
@@ -24,9 +24,9 @@ returns-clause-keyed c =
     let in_keys : c.in-Ok.place < length keys =
     omega (arith, c.if-place-len.false, c.len.ensures, ap length c.requires.keys_are, length-map cells (λ (cell : Cell). number_of cell.key)) in
     let once : IsDistinct nat_eq c.insert_full.new.self.keys = search rules in
-    ok_through c.merge_at.result (MergesAt cells c.in-Ok.place c.args.cell.now new) (AreKeyed c.insert_full.new.self.keys new)
+    ok_through c.merge_at.result (MergesAt cells c.in-Ok.place c.args.cell new) (AreKeyed c.insert_full.new.self.keys new)
     (λ m.
-    merged_keyed cells c.args.cell.now c.in-Ok.place (c.in-Ok.ensures.index ∙ (λ i. position_or_len (nat_eq (c.number.ensures i)) (c.requires.keys_are i))) within new m
+    merged_keyed cells c.args.cell c.in-Ok.place (c.in-Ok.ensures.index ∙ (λ i. position_or_len (nat_eq (c.number.ensures i)) (c.requires.keys_are i))) within new m
     keys c.insert_full.new.self.keys c.requires.keys_are (c.in-Ok.ensures.keys ∙ keys_stay keys c.number.result c.in-Ok.place c.in-Ok.ensures.index in_keys) once)
     c.merge_at.ensures.ok
 
@@ -35,19 +35,19 @@ returns-clause-ok c =
     let cells : List Cell = c.args.cells.now.items in
     let new : List Cell = c.merge_at.new.cells.items in
     let within : c.in-Ok.place < length cells = omega (arith, c.if-place-len.false, c.len.ensures) in
-    ok_through c.merge_at.result (MergesAt cells c.in-Ok.place c.args.cell.now new) (TakesIn cells c.args.cell.now new)
+    ok_through c.merge_at.result (MergesAt cells c.in-Ok.place c.args.cell new) (TakesIn cells c.args.cell new)
     (λ m.
-    merged_taken cells c.args.cell.now c.in-Ok.place (c.in-Ok.ensures.index ∙ (λ i. position_or_len (nat_eq (c.number.ensures i)) (c.requires.keys_are i))) within new m)
+    merged_taken cells c.args.cell c.in-Ok.place (c.in-Ok.ensures.index ∙ (λ i. position_or_len (nat_eq (c.number.ensures i)) (c.requires.keys_are i))) within new m)
     c.merge_at.ensures.ok
 
 pub returns-clause-refused : goal.returns-clause-refused
 returns-clause-refused c =
     let cells : List Cell = c.args.cells.now.items in
     let within : c.in-Ok.place < length cells = omega (arith, c.if-place-len.false, c.len.ensures) in
-    err_through c.merge_at.result (λ fault. (fault ≡ Fault.BadLayout) × OverflowsAt cells c.in-Ok.place c.args.cell.now)
-    (λ fault. (fault ≡ Fault.Memory) ⊎ ((fault ≡ Fault.BadLayout) × Overflows cells c.args.cell.now))
+    err_through c.merge_at.result (λ fault. (fault ≡ Fault.BadLayout) × OverflowsAt cells c.in-Ok.place c.args.cell)
+    (λ fault. (fault ≡ Fault.Memory) ⊎ ((fault ≡ Fault.BadLayout) × Overflows cells c.args.cell))
     (λ fault why. inr (
       why.0,
-      merge_overflows cells c.args.cell.now c.in-Ok.place (c.in-Ok.ensures.index ∙ (λ i. position_or_len (nat_eq (c.number.ensures i)) (c.requires.keys_are i))) within why.1,
+      merge_overflows cells c.args.cell c.in-Ok.place (c.in-Ok.ensures.index ∙ (λ i. position_or_len (nat_eq (c.number.ensures i)) (c.requires.keys_are i))) within why.1,
     ))
     c.merge_at.ensures.refused
