@@ -9,7 +9,7 @@ use column_segment::{Segment, decode, encode, is_batch};
 use cube_model::{Answer, DimRows, Fault, LineOrder, Query};
 use cube_query::{Fold, fold};
 use dimensions::{Dims, have_short_texts};
-use sample_star::{Asked, dim_rows, line_orders, query};
+use sample_star::{Asked, Fact, dim_rows, line_orders, query};
 use std::alloc::Global;
 
 // Dimensions beside a fold that runs over them. The fold borrows nothing, so that both can be owned and moved.
@@ -109,6 +109,18 @@ pub fn agreed_answer(
     Ok(if is_agreed { Some(answer) } else { None })
 }
 
+// The answer that is agreed on for facts over the rows of dimensions.
+fn answer_over_rows(
+    alloc: Global,
+    dimensions: &DimRows,
+    facts: &[Fact<'_>],
+    asked: &Asked<'_>,
+) -> Result<Option<Answer>, Fault> {
+    let rows = line_orders(alloc, facts)?;
+    let query = query(alloc, asked)?;
+    agreed_answer(alloc, dimensions, rows.as_slice(), &query)
+}
+
 /// The answer that is agreed on for an example's rows and a query.
 pub fn answer_of(
     alloc: Global,
@@ -116,9 +128,7 @@ pub fn answer_of(
     asked: &Asked<'_>,
 ) -> Result<Option<Answer>, Fault> {
     let dimensions = dim_rows(alloc, &example.star)?;
-    let rows = line_orders(alloc, example.facts)?;
-    let query = query(alloc, asked)?;
-    agreed_answer(alloc, &dimensions, rows.as_slice(), &query)
+    answer_over_rows(alloc, &dimensions, example.facts, asked)
 }
 
 /// Whether the agreed answer of an example is the one that was worked out.

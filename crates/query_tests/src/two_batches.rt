@@ -226,7 +226,18 @@ pub fn answer_by_halves(
     answer_of_halves(alloc, &dims, rows, query)
 }
 
-// Whether a fold of a query takes the second batch and answers as was worked out.
+// What comes of two batches that are offered to a new fold of sums.
+fn offer_to_sums(
+    alloc: Global,
+    dims: &Dims,
+    first: &Segment,
+    second: &Segment,
+) -> Result<Offered, Fault> {
+    let query = query(alloc, &SUMS)?;
+    offer_to_new(alloc, dims, &query, first, second)
+}
+
+// Whether a fold of sums takes the second batch and answers as was worked out.
 fn is_as_worked_over(
     alloc: Global,
     dims: &Dims,
@@ -234,8 +245,7 @@ fn is_as_worked_over(
     first: &Segment,
     second: &Segment,
 ) -> Result<bool, Fault> {
-    let query = query(alloc, &SUMS)?;
-    let offered = offer_to_new(alloc, dims, &query, first, second)?;
+    let offered = offer_to_sums(alloc, dims, first, second)?;
     Ok(offered.is_taken == pair.is_taken && has_lines(alloc, &offered.answer, pair.lines)?)
 }
 
