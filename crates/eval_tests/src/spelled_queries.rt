@@ -7,7 +7,8 @@ use ssb_reports::{QNumber, query_of};
 use std::alloc::Global;
 use std::test::Fail;
 
-static RIGHT: [(Words, Asked<'static>); 15] = [
+// Sets, columns and aggregates.
+static RIGHT: [(Words, Asked<'static>); 9] = [
     (
         Words {
             agg: Some("count"),
@@ -182,6 +183,10 @@ static RIGHT: [(Words, Asked<'static>); 15] = [
             order: None,
         },
     ),
+];
+
+// Conditions, and lists past the limits of a query.
+static RIGHT_CONDITIONS: [(Words, Asked<'static>); 6] = [
     (
         Words {
             agg: Some("count"),
@@ -290,12 +295,16 @@ static RIGHT: [(Words, Asked<'static>); 15] = [
     ),
 ];
 
+// Whether words spell a query.
+fn spell(alloc: Global, words: &Words, asked: &Asked<'_>) -> Result<bool, Fault> {
+    let want = query(alloc, asked)?;
+    Ok(words.read(alloc)? == want)
+}
+
 // The place of the first words whose query is not the one beside them.
 fn first_misread(alloc: Global, table: &[(Words, Asked<'_>)]) -> Result<Option<usize>, Fault> {
     for (place, (words, asked)) in table.iter().enumerate() {
-        let want = query(alloc, asked)?;
-        let found = words.read(alloc)?;
-        if found != want {
+        if !spell(alloc, words, asked)? {
             return Ok(Some(place));
         }
     }
@@ -308,12 +317,22 @@ fn words_spell_their_query(rt: HostRuntime) -> Result<(), Fail> {
     Ok(())
 }
 
+#[test]
+fn words_spell_their_conditions(rt: HostRuntime) -> Result<(), Fail> {
+    assert_eq!(rt; first_misread(rt.alloc(), &RIGHT_CONDITIONS)?, None);
+    Ok(())
+}
+
+// Whether a number spells the benchmark's query.
+fn spells(alloc: Global, number: QNumber) -> Result<bool, Fault> {
+    let want = query_of(alloc, number)?;
+    Ok(read_query(alloc, Some(number.name()), None, None, None, &[])? == want)
+}
+
 // The first number that spells another query.
 fn first_other(alloc: Global) -> Result<Option<QNumber>, Fault> {
     for number in QNumber::ALL {
-        let want = query_of(alloc, number)?;
-        let found = read_query(alloc, Some(number.name()), None, None, None, &[])?;
-        if found != want {
+        if !spells(alloc, number)? {
             return Ok(Some(number));
         }
     }

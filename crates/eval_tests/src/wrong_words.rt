@@ -3,7 +3,8 @@ use crate::words::{NO_WORDS, Words};
 use cube_model::Fault;
 use std::alloc::Global;
 
-static WRONG: [Words; 72] = [
+// Numbers of queries, sets, columns and aggregates that are none.
+static WRONG: [Words; 46] = [
     Words { ..NO_WORDS },
     Words {
         q: Some("1.1"),
@@ -198,6 +199,10 @@ static WRONG: [Words; 72] = [
         agg: Some("SUM(revenue)"),
         ..NO_WORDS
     },
+];
+
+// Conditions that are none.
+static WRONG_CONDITIONS: [Words; 26] = [
     Words {
         agg: Some("count"),
         conditions: &[""],
@@ -340,4 +345,9 @@ fn first_taken(alloc: Global, table: &[Words]) -> Option<usize> {
 #[test]
 fn words_that_spell_no_query_are_refused(rt: HostRuntime) {
     assert_eq!(rt; first_taken(rt.alloc(), &WRONG), None);
+}
+
+#[test]
+fn words_that_spell_no_condition_are_refused(rt: HostRuntime) {
+    assert_eq!(rt; first_taken(rt.alloc(), &WRONG_CONDITIONS), None);
 }
