@@ -18,7 +18,7 @@ const COUNT: QueryWords<'static> = QueryWords {
     ..NONE
 };
 
-static CASES: [(QueryWords<'static>, &str); 32] = [
+static CASES: [(QueryWords<'static>, &str); 21] = [
     (
         NONE,
         "nothing is asked: give --query Q, or --agg G,G with --set, --by and conditions",
@@ -164,6 +164,9 @@ static CASES: [(QueryWords<'static>, &str); 32] = [
         },
         "9 aggregates: at most 8",
     ),
+];
+
+static CONDITIONS: [(QueryWords<'static>, &str); 11] = [
     (
         QueryWords {
             conditions: &["d_year"],
@@ -276,8 +279,8 @@ fn is_said(alloc: Global, words: &QueryWords<'_>, want: &str) -> Result<bool, Fa
 }
 
 // The place of the first words of which something else is said, or that are refused with nothing said.
-fn first_other(alloc: Global) -> Result<Option<usize>, Fault> {
-    for (place, (words, want)) in CASES.iter().enumerate() {
+fn first_other(alloc: Global, cases: &[(QueryWords<'_>, &str)]) -> Result<Option<usize>, Fault> {
+    for (place, (words, want)) in cases.iter().enumerate() {
         if !is_said(alloc, words, want)? {
             return Ok(Some(place));
         }
@@ -302,6 +305,12 @@ fn a_count_is_an_aggregate(rt: HostRuntime) -> Result<(), Fail> {
 
 #[test]
 fn refused_words_have_their_line(rt: HostRuntime) -> Result<(), Fail> {
-    assert_eq!(rt; first_other(rt.alloc())?, None);
+    assert_eq!(rt; first_other(rt.alloc(), &CASES)?, None);
+    Ok(())
+}
+
+#[test]
+fn refused_conditions_have_their_line(rt: HostRuntime) -> Result<(), Fail> {
+    assert_eq!(rt; first_other(rt.alloc(), &CONDITIONS)?, None);
     Ok(())
 }
