@@ -1,7 +1,6 @@
 -- The slots of cells, one cell after another.
-use Rattle.std.proofs.Common.{◌≡◌, ◌∙◌, sym, ap, refl, subst, ℕ, zero, suc, ◌+◌, ◌<◌, ◌≤◌, ◌^◌, true, List, [], ◌∷◌, ◌++◌, length, get_or, Option, Some, None, arith}
+use Rattle.std.proofs.Common.{◌≡◌, ◌∙◌, ap, refl, ℕ, suc, ◌+◌, ◌<◌, ◌≤◌, ◌^◌, List, [], ◌∷◌, ◌++◌, length, get_or, Option, Some, None, arith}
 use Rattle.std.specs.Prelude.{nat_abs}
-use Rattle.std.specs.List.{list_all}
 use Rattle.std.specs.declared.alloc.Global.{Global}
 use Rattle.std.specs.declared.vec.Vec.{Vec}
 use Rattle.cube_model.specs.declared.measure.Agg.{Agg}
@@ -10,7 +9,7 @@ use Rattle.cuboid_cells.specs.declared.cell.Cell.{Cell}
 use Rattle.cuboid_upkeep.specs.CellNumbers.{AskedOfCells}
 use Rattle.cuboid_upkeep.specs.StandIns.{AreStandIns, IsStandIn}
 use Rattle.cube_query.specs.CellSlots.{AreCellSlots, IsCellSlot}
-use Rattle.cube_query.specs.CellTallies.{AllTake, AreWithin, HaveRoomForAll, IsMost, cell_tally, count_in, size_in}
+use Rattle.cube_query.specs.CellTallies.{AllTake, HaveRoomForAll, IsMost, cell_tally, count_in, size_in}
 use Rattle.cube_query.specs.Columns.{tally_at}
 use Rattle.cube_query.specs.Slots.{slot_of}
 use Rattle.cube_query.specs.declared.cell_columns.Weight.{Weight}

@@ -45,6 +45,7 @@ pub fn cell_slots_of(
     ensures grow { Grow (group_count numbers.now.dimensions numbers.now.query.columns) (entries_of slots.old)
         (entries_of slots.new) }
 {
+    slots.reserve(cells.len())?;
     let mut group_slots = Vec::with_capacity(alloc, cells.len())?;
     let mut weight = Weight::none();
     for place in 0..cells.len() {

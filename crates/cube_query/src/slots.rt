@@ -67,6 +67,16 @@ impl Slots {
         }
     }
 
+    /// Makes room for the slots of so many numbers more, where a table tells them. It can only fail for want of memory.
+    pub fn reserve(&mut self, more: usize) -> Result<(), AllocError>
+        ensures { self.new ≡ self.old }
+    {
+        match self {
+            Slots::Direct(_) | Slots::Seen(_) => Ok(()),
+            Slots::Below(table) => table.reserve(more),
+        }
+    }
+
     /// The same slots once more.
     pub fn copy(&self) -> Result<Slots, AllocError>
         ensures entries { IfOk result (λ copy. entries_of copy ≡ entries_of self.now) }

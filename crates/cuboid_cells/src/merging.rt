@@ -49,6 +49,7 @@ pub(crate) fn merge_cells(
 }
 
 // The next cell of the merge of two lists, if either has one. `BadLayout` where a number would pass its type.
+#[inline(always)]
 fn next_step<'a>(one: &'a [Cell], other: &'a [Cell]) -> Result<Option<Step<'a>>, Fault>
     ensures step { IfOk result (λ step. MatchOption step ((one.now ≡ []) × (other.now ≡ [])) (IsStep one.now other.now)) }
     ensures refused { IfErr result (λ fault. (fault ≡ Fault.BadLayout) × HaveBadFirsts one.now other.now) }
@@ -90,6 +91,7 @@ fn next_step<'a>(one: &'a [Cell], other: &'a [Cell]) -> Result<Option<Step<'a>>,
 }
 
 // The step where the first list is empty.
+#[inline(always)]
 fn first_of<'a>(one: &'a [Cell], other: &'a [Cell]) -> Option<Step<'a>>
     requires { one.now ≡ [] }
     ensures { MatchOption result (other.now ≡ []) (IsStep one.now other.now) }

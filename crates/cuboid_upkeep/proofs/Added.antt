@@ -7,8 +7,8 @@ use Rattle.cube_model.specs.declared.rows.DimRows.{DimRows}
 use Rattle.cube_model.specs.declared.rows.LineOrder.{LineOrder}
 use Rattle.lattice.specs.declared.view.View.{View}
 use Rattle.cuboid_cells.specs.declared.cell.Cell.{Cell}
-use Rattle.cuboid_cells.specs.Cells.{cell_at, number_of, CellFits, KeyFits}
-use Rattle.cuboid_cells.specs.Merges.{IsMergeFault, PassesType, merged, merged_if_any}
+use Rattle.cuboid_cells.specs.Cells.{AreAscending, CellFits, KeyFits, PlainCells, cell_at, number_of}
+use Rattle.cuboid_cells.specs.Merges.{IsMergeFault, IsMergeOf, PassesType, merged, merged_if_any}
 use Rattle.cuboid_upkeep.specs.Grouping.{Group, HasMembers, PassType, StandFor}
 use Rattle.cuboid_upkeep.specs.Lawful.{MergesStandForBoth}
 use Rattle.cuboid_upkeep.specs.Steps.{AreUnfit, IsAddFault}
@@ -36,6 +36,16 @@ both_stand dimensions modes rows others one other new same first second merge =
           (subst (λ (view : View). Group dimensions modes view rows one.cells) to_new first.group)
           (subst (λ (view : View). Group dimensions modes view others other.cells) from_other second.group) merge.cells.by_key;
     }
+
+-- no cell merged with others
+pub merge_of_none : (one other : PlainCells) → one.cells ≡ [] → one.view ≡ other.view → AreAscending other.cells → IsMergeOf one other other
+merge_of_none one other none same ascending = record {
+  view = sym same;
+  cells = record {
+    ascending = ascending;
+    by_key = λ key. ap (λ (cells : List Cell). merged_if_any (cell_at key cells) (cell_at key other.cells)) (sym none);
+  };
+}
 
 all_behind : (P : LineOrder → Type 0) (rows others : List LineOrder) → All P (rows ++ others) → All P others
 all_behind P [] others all = all

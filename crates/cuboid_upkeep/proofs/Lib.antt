@@ -14,3 +14,4 @@ mod Leading
 mod Modes
 mod Taken
 mod RowKeys
+mod AxisCodes

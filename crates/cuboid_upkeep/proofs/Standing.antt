@@ -15,7 +15,6 @@ use Rattle.group_plan.specs.Numbers.{IsKnown, IsNumber}
 use Rattle.group_plan.specs.Parts.{given_at, given_on, holds_in}
 use Rattle.group_plan.proofs.Outcomes.{out_of_bounds}
 use Rattle.lattice.specs.declared.level.Level.{Level}
-use Rattle.lattice.specs.declared.view.View.{View}
 use Rattle.cuboid_cells.specs.declared.cell.Cell.{Cell}
 use Rattle.cuboid_cells.specs.declared.key.Key.{Key}
 use Rattle.cuboid_cells.specs.Cells.{IsCellOf, IsModeCode, PlainCells, number_of}

@@ -1,3 +1,4 @@
+pub mod AxisCodes
 pub mod CellNumbers
 pub mod Codes
 pub mod Grouping

@@ -129,8 +129,8 @@ fn column_code(dims: &Dims, axis: Axis, column: usize, place: usize) -> u16
 }
 
 // Whether a level is that of every member together.
-#[inline]
-fn is_all(grouped: Level) -> bool
+#[inline(always)]
+pub(crate) fn is_all(grouped: Level) -> bool
     ensures { IsTrue result ↔ (grouped ≡ level.All) }
 {
     matches!(grouped, Level::All)

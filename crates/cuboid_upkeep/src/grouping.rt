@@ -19,6 +19,10 @@ use indexmap::IndexSet;
 use lattice::View;
 use std::alloc::Global;
 
+// For how many cells there is room from the start, where there are as many rows: a view of some thousand cells then
+// copies none of them for want of room.
+const ROOM: usize = 8_192;
+
 // The cells of fact rows, in the order of the first rows of their keys.
 pub(crate) fn group_rows<F: ModeRows>(
     alloc: Global,
@@ -52,8 +56,9 @@ fn group_keyed<F: ModeRows>(
         → AreRowKeys dimensions modes view (F.rows rows.now) (length (F.rows rows.now)) keys.now
         → AreUnfit dimensions modes view (F.rows rows.now)))) }
 {
-    let mut numbers = IndexSet::new(alloc);
-    let mut cells = Vec::new(alloc);
+    let room = keys.len().min(ROOM);
+    let mut numbers = IndexSet::with_capacity(alloc, room)?;
+    let mut cells = Vec::with_capacity(alloc, room)?;
     let mut guesses = Guesses::new(alloc, weights);
     take_in_rows(&mut numbers, &mut cells, &mut guesses, keys, rows)?;
     Ok(cells)

@@ -1,6 +1,7 @@
 //! The cells of a view, made of fact rows and kept up with them.
 #![tactic(auto)]
 
+mod axis_codes;
 mod cell_numbers;
 mod codes;
 mod grouping;

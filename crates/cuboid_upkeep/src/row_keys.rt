@@ -1,15 +1,18 @@
 //! The keys of fact rows.
-ghost use Rattle.std.specs.Prelude.{◌≡◌, ◌⊎◌, ◌<◌, true, All, IfErr, IfNone, IfOk, IfSome, length};
+ghost use Rattle.std.specs.Prelude.{◌≡◌, ◌⊎◌, ◌<◌, ◌^◌, true, All, IfErr, IfNone, IfOk, IfSome, length};
 ghost use Rattle.cube_model.specs.declared.fault.Fault.{Fault};
+ghost use Rattle.cube_model.specs.declared.rows.DimRows.{DimRows};
 ghost use Rattle.group_plan.specs.Rows.{row_at};
 ghost use Rattle.cuboid_cells.specs.Cells.{IsModeCode};
+ghost use Rattle.cuboid_upkeep.specs.AxisCodes.{AreCodesOfRows};
 ghost use Rattle.cuboid_upkeep.specs.Codes.{IsMode, mode_code};
 ghost use Rattle.cuboid_upkeep.specs.Grouping.{HasMembers};
 ghost use Rattle.cuboid_upkeep.specs.Steps.{AreRowKeys, IsRowKey};
 ghost use Rattle.cuboid_upkeep.specs.Tables.{AreModeEntries, AreTablesOf, modes_in};
 
+use crate::axis_codes::{AxisCodes, code_of_row};
 use crate::key_tables::KeyTables;
-use cube_model::{Axis, Fault};
+use cube_model::Fault;
 use cuboid_cells::Key;
 use cuboid_cells::limits::ALL_CODE;
 use dimensions::Dims;
@@ -18,9 +21,6 @@ use lattice::View;
 use std::alloc::Global;
 
 // The keys of the rows of a batch, or `BadLayout` where a row has not its members.
-//
-// They are found before any cell is: where nothing else stands between them, the processor waits for the memory of
-// many look-ups at once.
 pub(crate) fn row_keys<F: ModeRows>(
     alloc: Global,
     dims: &Dims,
@@ -34,9 +34,27 @@ pub(crate) fn row_keys<F: ModeRows>(
     ensures refused { IfErr result (λ fault. (fault ≡ Fault.Memory) ⊎ ((fault ≡ Fault.BadLayout)
         × (All (HasMembers dims.now (modes_in tables.now) view) (F.rows rows.now) → ⊥))) }
 {
+    let codes = AxisCodes::of(alloc, dims, view, tables, rows)?;
+    keys_by_codes(alloc, view, tables, &codes, rows)
+}
+
+// The same by the codes of the rows on the axes.
+fn keys_by_codes<F: ModeRows>(
+    alloc: Global,
+    view: View,
+    tables: &KeyTables<'_>,
+    codes: &AxisCodes,
+    rows: &F,
+) -> Result<Vec<Key>, Fault>
+    requires entries { view.ship_mode ≡ true → AreModeEntries (modes_in tables.now) (F.modes rows.now) tables.now.entries.items }
+    ensures ok { IfOk result (λ keys. (dimensions : DimRows) → AreCodesOfRows dimensions view (F.rows rows.now) codes.now
+        → AreRowKeys dimensions (modes_in tables.now) view (F.rows rows.now) (length (F.rows rows.now)) keys.items) }
+    ensures refused { IfErr result (λ fault. (fault ≡ Fault.Memory) ⊎ ((fault ≡ Fault.BadLayout)
+        × ((dimensions : DimRows) → All (HasMembers dimensions (modes_in tables.now) view) (F.rows rows.now) → ⊥))) }
+{
     let mut keys = Vec::with_capacity(alloc, rows.count())?;
     for place in 0..rows.count() {
-        let Some(key) = row_key(dims, view, tables, rows, place) else {
+        let Some(key) = row_key(view, tables, codes, rows, place) else {
             return Err(Fault::BadLayout);
         };
         keys.push(key)?;
@@ -44,31 +62,28 @@ pub(crate) fn row_keys<F: ModeRows>(
     Ok(keys)
 }
 
-// The key of the row at a place. Nothing where it has not its members.
+// The key of the row at a place. Nothing where its ship mode is none of the modes.
 #[inline(always)]
 fn row_key<F: ModeRows>(
-    dims: &Dims,
     view: View,
     tables: &KeyTables<'_>,
+    codes: &AxisCodes,
     rows: &F,
     place: usize,
 ) -> Option<Key>
-    requires tables { AreTablesOf dims.now view (F.modes rows.now) tables.now }
+    requires entries { view.ship_mode ≡ true → AreModeEntries (modes_in tables.now) (F.modes rows.now) tables.now.entries.items }
     requires place { place < length (F.rows rows.now) }
-    ensures some { IfSome result (IsRowKey dims.now (modes_in tables.now) view (row_at (F.rows rows.now) place)) }
-    ensures none { IfNone result (HasMembers dims.now (modes_in tables.now) view (row_at (F.rows rows.now) place) → ⊥) }
+    ensures some { IfSome result (λ key. (dimensions : DimRows) → AreCodesOfRows dimensions view (F.rows rows.now) codes.now
+        → IsRowKey dimensions (modes_in tables.now) view (row_at (F.rows rows.now) place) key) }
+    ensures none { IfNone result ((dimensions : DimRows)
+        → HasMembers dimensions (modes_in tables.now) view (row_at (F.rows rows.now) place) → ⊥) }
 {
-    let (customers, suppliers) = (tables.customers, tables.suppliers);
-    let customer = customers.code(dims, Axis::Customer, view.customer, rows, place)?;
-    let supplier = suppliers.code(dims, Axis::Supplier, view.supplier, rows, place)?;
-    let part = tables.parts.code(dims, Axis::Part, view.part, rows, place)?;
-    let date = tables.dates.code(dims, Axis::Date, view.date, rows, place)?;
     let ship_mode = row_mode(view, tables, rows, place)?;
     Some(Key {
-        customer,
-        supplier,
-        part,
-        date,
+        customer: code_of_row(codes.customers.as_slice(), place),
+        supplier: code_of_row(codes.suppliers.as_slice(), place),
+        part: code_of_row(codes.parts.as_slice(), place),
+        date: code_of_row(codes.dates.as_slice(), place),
         ship_mode,
     })
 }
@@ -81,6 +96,7 @@ fn row_mode<F: ModeRows>(view: View, tables: &KeyTables<'_>, rows: &F, place: us
     ensures some { IfSome result (λ code.
         code ≡ mode_code view.ship_mode (modes_in tables.now) (row_at (F.rows rows.now) place).shipmode) }
     ensures of { IfSome result (IsModeCode view.ship_mode) }
+    ensures fits { IfSome result (λ code. code < 2 ^ 16) }
     ensures known { IfSome result (λ code. view.ship_mode ≡ true
         → IsMode (modes_in tables.now) (row_at (F.rows rows.now) place).shipmode) }
     ensures none { IfNone result ((view.ship_mode ≡ true)

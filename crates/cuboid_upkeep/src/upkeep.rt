@@ -48,6 +48,10 @@ pub fn add_rows<F: ModeRows>(
     ensures unchanged { OnErr result (cells.new ≡ cells.old) }
 {
     let batch = cells_of(alloc, dims, cells.view(), rows, modes)?;
+    if cells.as_slice().is_empty() {
+        *cells = batch;
+        return Ok(());
+    }
     cells.merge(alloc, &batch)
 }
 

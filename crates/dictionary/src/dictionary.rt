@@ -111,6 +111,7 @@ impl Dictionary {
         if next >= self.limit as usize {
             return Ok(None);
         }
+        self.memo.keep(text, next);
         let text = Vec::from_slice(alloc, text)?;
         self.texts.insert(text)?;
         Ok(Some(next as u32))

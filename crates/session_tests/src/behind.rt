@@ -1,9 +1,9 @@
 //! Batches behind another of as many rows, of which only the columns are read that a query asks for.
 use crate::answers::{Lines, answer, ask, first_other};
 use crate::changes::{Change, changed};
-use crate::sample::{fresh, loaded, opened, submit};
+use crate::sample::{loaded, opened, submit};
 use cube_model::{Agg, Answer, Attr, Fault, Measure};
-use sample_star::{Asked, Condition, EVERY_ROW, FACTS, FIRST_FACT, Fact, SECOND_FACT, THIRD_FACT};
+use sample_star::{Asked, Condition, EVERY_ROW, FIRST_FACT, Fact, SECOND_FACT, THIRD_FACT};
 use sector_device::MemDisk;
 use std::alloc::Global;
 use std::test::Fail;
@@ -105,13 +105,17 @@ fn rows_in_another_order_answer_the_same(rt: HostRuntime) -> Result<(), Fail> {
     Ok(())
 }
 
+/// Puts batches of one row, of three and of none behind the first.
+fn submit_behind(alloc: Global, session: &mut Session<MemDisk>) -> Result<(), Fault> {
+    submit(alloc, session, 2, &[THIRD_FACT])?;
+    submit(alloc, session, 3, &TURNED)?;
+    submit(alloc, session, 4, &[])
+}
+
 /// Batches of three rows, of one, of three and of none, and how many rows are counted in the first so many.
 fn counted(alloc: Global, as_of: u32) -> Result<Answer, Fault> {
-    let mut session = fresh(alloc)?;
-    submit(alloc, &mut session, 1, &FACTS)?;
-    submit(alloc, &mut session, 2, &[THIRD_FACT])?;
-    submit(alloc, &mut session, 3, &TURNED)?;
-    submit(alloc, &mut session, 4, &[])?;
+    let mut session = loaded(alloc, 1)?;
+    submit_behind(alloc, &mut session)?;
     ask(alloc, &mut session, as_of, &EVERY_ROW)
 }
 

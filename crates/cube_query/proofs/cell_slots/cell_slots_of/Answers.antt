@@ -1,4 +1,4 @@
-use Rattle.std.proofs.Common.{◌≡◌, ◌+◌, ◌++◌, ◌∷◌, ◌<◌, List, [], sym, subst, take, length, get_or, arith}
+use Rattle.std.proofs.Common.{◌≡◌, ◌+◌, ◌++◌, ◌∷◌, List, [], sym, subst, take, get_or}
 use Rattle.std.proofs.lemmas.List.{take_more}
 use Rattle.cuboid_cells.specs.declared.cell.Cell.{Cell}
 use Rattle.cube_query.specs.CellSlots.{AreCellSlots}
@@ -27,5 +27,5 @@ loop-place-preserved c =
       subst (λ (cs : List Cell). IsMost c.args.aggs.now cs c.push.new.self.items c.with-weight.result) (sym cells)
           (subst (λ gs. IsMost c.args.aggs.now (front ++ cell ∷ []) gs c.with-weight.result) (sym c.in_ok-push.ensures.items) most),
       c.cell_slot_of.ensures.cover,
-      c.cell_slot_of.ensures.grow (entries_of c.args.slots.now) c.loop-place.invariant.3,
+      c.cell_slot_of.ensures.grow (entries_of c.reserve.new.self) c.loop-place.invariant.3,
     )

@@ -1,7 +1,5 @@
-use Rattle.std.proofs.Common.{◌≡◌, ◌∙◌, ◌<◌, ℕ, sym, ap, subst}
+use Rattle.std.proofs.Common.{◌∙◌, ◌<◌, ℕ, sym, subst}
 use Rattle.std.specs.List.{All}
-use Rattle.cube_query.specs.Coarser.{sources_of}
-use Rattle.cube_query.specs.Columns.{tallies_at}
 use Rattle.cube_query.specs.Slots.{entries_of}
 use Rattle.cube_query.proofs.Seen.{each_number, All-numbers}
 use Rattle.group_plan.specs.Numbers.{group_count}

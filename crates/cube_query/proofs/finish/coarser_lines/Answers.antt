@@ -1,10 +1,7 @@
-use Rattle.std.proofs.Common.{◌≡◌, List, sym, subst, length}
+use Rattle.std.proofs.Common.{◌≡◌, sym, subst, length}
 use Rattle.std.proofs.lemmas.Result.{IfOk-weaker}
-use Rattle.cube_model.specs.declared.rows.LineOrder.{LineOrder}
 use Rattle.cube_query.specs.Coarser.{AreTalliedFrom}
-use Rattle.cube_query.specs.Groups.{finest}
 use Rattle.cube_query.specs.Slots.{entries_of, AreSlots}
-use Rattle.cube_query.specs.FoldInvariant.{AreTallied}
 use Rattle.cube_query.proofs.Ends.{start}
 use Rattle.group_plan.specs.Numbers.{group_count}
 use Rattle.cube_query.proofs.finish.coarser_lines.Goals as goal

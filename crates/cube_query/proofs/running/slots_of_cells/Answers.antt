@@ -1,4 +1,4 @@
-use Rattle.std.proofs.Common.{◌≡◌, ◌∙◌, List, ℕ, IfOk, ap, subst}
+use Rattle.std.proofs.Common.{◌∙◌, List, ℕ, IfOk, ap, subst}
 use Rattle.std.specs.Option.{option_map}
 use Rattle.lattice.specs.declared.view.View.{View}
 use Rattle.cuboid_cells.specs.declared.cell.Cell.{Cell}

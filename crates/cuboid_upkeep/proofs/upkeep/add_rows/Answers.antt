@@ -1,4 +1,6 @@
-use Rattle.std.proofs.Common.{◌≡◌, ◌∙◌, ◌++◌, ◌⊎◌, ℕ, List, sym, subst}
+use Rattle.std.proofs.Common.{◌≡◌, ◌∙◌, ◌++◌, ◌⊎◌, ℕ, List, [], ap, arith, length, sym, subst}
+use Rattle.std.proofs.lemmas.Bool.Decides.{nat_tests}
+use Rattle.std.proofs.lemmas.List.{nil_from_length}
 use Rattle.std.specs.Option.{option_map}
 use Rattle.std.proofs.lemmas.Result.{err_from_is_err_and}
 use Rattle.cube_model.specs.declared.fault.Fault.{Fault}
@@ -8,7 +10,7 @@ use Rattle.cuboid_cells.specs.Merges.{IsMergeFault, IsMergeOf}
 use Rattle.cuboid_upkeep.specs.Codes.{modes_of}
 use Rattle.cuboid_upkeep.specs.Grouping.{StandFor}
 use Rattle.cuboid_upkeep.specs.Steps.{AreUnfit, IsAddFault}
-use Rattle.cuboid_upkeep.proofs.Added.{batch_refused, both_stand, err_through, merge_refused, ok_through}
+use Rattle.cuboid_upkeep.proofs.Added.{batch_refused, both_stand, err_through, merge_of_none, merge_refused, ok_through}
 use Rattle.cuboid_upkeep.proofs.upkeep.add_rows.Goals as goal
 
 pub returns-in_err-batch-clause-refused : goal.returns-in_err-batch-clause-refused
@@ -19,6 +21,18 @@ returns-in_err-batch-clause-refused g c =
     let why = subst (λ (view : View). (c.in_err-batch.field-0.0 ≡ Fault.Memory) ⊎ ((c.in_err-batch.field-0.0 ≡ Fault.BadLayout) × AreUnfit c.args.dims.now modes view rows))
     c.view.ensures.value c.in_err-batch.ensures.refused in
     rw (p.1, p.2) (λ so_far stand. batch_refused c.args.dims.now modes c.args.cells.now.view so_far rows c.in_err-batch.field-0.0 why)
+
+pub returns-then-is_empty-clause-ok : goal.returns-then-is_empty-clause-ok
+returns-then-is_empty-clause-ok g c =
+    let rows = g.F.FactRows.rows c.args.rows.now in
+    let modes : List (List ℕ) = modes_of (option_map (λ modes. modes.now) c.args.modes) in
+    let batch = c.in_ok-batch.batch in
+    let same : c.args.cells.now.view ≡ batch.view = sym (c.in_ok-batch.ensures.view ∙ c.view.ensures.value) in
+    let zero : length c.as_slice.result.now ≡ 0 = grind (arith, nat_tests, c.is_empty.ensures, c.if-is_empty.true) in
+    let none : c.args.cells.now.cells ≡ [] = nil_from_length c.args.cells.now.cells (ap length (sym c.as_slice.ensures) ∙ zero) in
+    λ so_far stand.
+    both_stand c.args.dims.now modes so_far rows c.args.cells.now batch batch same stand c.in_ok-batch.ensures.ok
+    (merge_of_none c.args.cells.now batch none same c.in_ok-batch.ensures.ok.ascending)
 
 pub returns-clause-ok : goal.returns-clause-ok
 returns-clause-ok g c =

@@ -1,4 +1,4 @@
-use Rattle.std.proofs.Common.{◌≡◌, ◌∙◌, Err, List, ℕ, [], ◌++◌, length, sym, ap, refl, subst, inl, inr, arith}
+use Rattle.std.proofs.Common.{◌≡◌, ◌∙◌, Err, List, ℕ, [], ◌++◌, length, sym, ap, refl, subst, arith}
 use Rattle.std.specs.Option.{option_map}
 use Rattle.std.proofs.lemmas.List.{with_items_is}
 use Rattle.std.proofs.lemmas.Result.{err_from_is_err_and}
@@ -11,7 +11,7 @@ use Rattle.cube_query.specs.Columns.{tallies_at}
 use Rattle.cube_query.specs.FoldInvariant.{IsKept}
 use Rattle.cube_query.specs.Groups.{CanTake, FoldState, IsOver, StandsFor}
 use Rattle.cube_query.specs.Slots.{entries_of}
-use Rattle.cube_query.proofs.CellFolds.{kept_merged, room_for_cells, same_room, stand_count, stand_known, stands_merged}
+use Rattle.cube_query.proofs.CellFolds.{kept_merged, room_for_cells, same_room, stand_count, stands_merged}
 use Rattle.cube_query.proofs.Columnwise.{tallies-length}
 use Rattle.cube_query.proofs.Folds.{kept_ready, shown, shown_ready}
 use Rattle.cube_query.proofs.Known.{known_behind}

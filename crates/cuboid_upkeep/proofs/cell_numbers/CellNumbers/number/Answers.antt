@@ -1,12 +1,10 @@
-use Rattle.std.proofs.Common.{◌≡◌, ◌∙◌, sym, subst, refl, Bool, true, false, Option, Some, None, ℕ}
+use Rattle.std.proofs.Common.{◌≡◌, ◌∙◌, sym, subst, refl, Bool, true, false, Some}
 use Rattle.std.specs.Option.{option_map}
 use Rattle.cube_model.specs.declared.attr.Axis.TheVariants.{Customer, Supplier, Part, Date}
-use Rattle.cube_model.specs.declared.rows.LineOrder.{LineOrder}
 use Rattle.cuboid_cells.specs.Cells.{IsCellOf}
 use Rattle.cuboid_upkeep.specs.CellNumbers.{AskedOfCells}
 use Rattle.cuboid_upkeep.specs.Codes.{modes_of}
 use Rattle.cuboid_upkeep.specs.MemberParts.{part_in}
-use Rattle.cuboid_upkeep.specs.StandIns.{IsCodeOfMode, IsStandIn}
 use Rattle.cuboid_upkeep.proofs.Standing.{cell_number, customer_code, date_code, mode_of_cell, no_member, none_selected, part_code, supplier_code}
 use Rattle.cuboid_upkeep.proofs.cell_numbers.CellNumbers.number.Goals as goal
 
