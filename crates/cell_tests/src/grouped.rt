@@ -134,17 +134,23 @@ static SINGLE: [(&[Fact<'static>], u16, Option<([u16; 4], Summaries)>); 4] = [
     (&[THIRD_FACT], 255, Some(([ALL, ALL, ALL, ALL], THIRD))),
 ];
 
+// The first cell of a view over batches, if there is one, and whether there is no other.
+fn first_alone(
+    alloc: Global,
+    view: u16,
+    batches: &[&[Fact<'_>]],
+) -> Result<(Option<Cell>, bool), Fault> {
+    let cells = grouped(alloc, view, batches)?;
+    let found = cells.as_slice().first().copied();
+    Ok((found, cells.as_slice().len() < 2))
+}
+
 #[test]
 fn groups_no_row_and_one_row(rt: HostRuntime) -> Result<(), Fail> {
-    for (facts, view, want) in SINGLE {
-        let cells = grouped(rt.alloc(), view, &[facts])?;
-        let found = cells.as_slice().first().copied();
+    for (facts, view, want) in &SINGLE {
+        let found = first_alone(rt.alloc(), *view, &[facts])?;
         let want = want.map(|(codes, measures)| cell(codes, 1, measures));
-        assert_eq!(rt;
-            (found, cells.as_slice().len() < 2),
-            (want, true),
-            "view {view}"
-        );
+        assert_eq!(rt; found, (want, true), "view {view}");
     }
     Ok(())
 }
