@@ -12,3 +12,6 @@ pub mod Pieces
 pub mod Windows
 pub mod ShortNumbers
 pub mod RowBuffers
+mod Marks
+mod Starts
+mod RowsOfLines

@@ -6,13 +6,12 @@ use Rattle.cube_model.specs.Limits.{most_batch_rows}
 use Rattle.cube_model.specs.declared.rows.LineOrder.{LineOrder}
 use Rattle.wire.specs.Spelling.{spelling}
 use Rattle.column_segment.specs.Columns.{Column, text_of}
-use Rattle.column_segment.specs.Encoding.{HasRoom, HaveRoom, HaveRows, HaveTexts, IsCoding, number_chunks}
+use Rattle.column_segment.specs.Encoding.{HasRoom, HaveRoom, HaveTexts, IsCoding, number_chunks}
 use Rattle.column_segment.specs.Segment.{number_column}
 use Rattle.column_segment.specs.declared.coding.Coding.{Coding}
 use Rattle.column_segment.specs.declared.coding.Texts.{Texts}
 use Rattle.column_segment.specs.declared.columns.TextColumn.{TextColumn}
 use Rattle.column_segment.specs.declared.columns.TextColumn.TheVariants.{OrderPriority, ShipPriority, CommitDate, ShipMode}
-use Rattle.column_segment.specs.declared.encoding.Columns.{Columns}
 use Rattle.column_segment.proofs.Coded.{fewer, has_room}
 
 -- ---- numbers
@@ -51,8 +50,8 @@ room_left rows i texts have lt few = record {
 
 -- ---- rows
 
--- with the next row they are one more
-pub rows_more : (rows : List LineOrder) (i : ℕ) (row : LineOrder) (columns : Columns) → i < length rows → row ≡ get_or rows i row
-    → HaveRows (take i rows ++ row ∷ []) columns → HaveRows (take (i + 1) rows) columns
-rows_more rows i row columns lt is have =
-    subst (λ (rs : List LineOrder). HaveRows rs columns) (ap (λ (r : LineOrder). take i rows ++ r ∷ []) is ∙ sym (take_more rows i row lt)) have
+-- what holds of the first rows and the next one holds of one more
+pub with_next : (P : List LineOrder → Type 0) (rows : List LineOrder) (i : ℕ) (row : LineOrder) → i < length rows → row ≡ get_or rows i row
+    → P (take i rows ++ row ∷ []) → P (take (i + 1) rows)
+with_next P rows i row lt is holds =
+    subst P (ap (λ (r : LineOrder). take i rows ++ r ∷ []) is ∙ sym (take_more rows i row lt)) holds

@@ -2,6 +2,7 @@
 ghost use Rattle.std.specs.Prelude.{◌≡◌, ◌≤◌, ◌++◌, ◌∷◌, [], List, length, IfOk, IfErr, IsOkUnless, OnOk};
 ghost use Rattle.cube_model.specs.Limits.{most_batch_rows};
 ghost use Rattle.cube_model.specs.declared.rows.LineOrder.{LineOrder};
+ghost use Rattle.column_segment.specs.Encoding.{HaveFigures, HaveKeys, HaveTexts};
 ghost use Rattle.column_segment.specs.Segment.{IsBatch, header_of, segment_of};
 
 use crate::coding::Texts;
@@ -76,7 +77,7 @@ impl Drop for Columns {
 }
 
 impl Columns {
-    ghost use Rattle.column_segment.specs.Encoding.{HaveRoom, HaveRows};
+    ghost use Rattle.column_segment.specs.Encoding.{HaveRows};
 
     // Those of no row, with room for so many.
     fn new(alloc: Global, rows: usize) -> Result<Columns, Fault>
@@ -110,28 +111,43 @@ impl Columns {
         self.texts.push_to(out)
     }
 
-    // Adds a row.
-    #[inline(always)]
-    fn push(&mut self, alloc: Global, row: &LineOrder) -> Result<(), Fault>
-        requires room { HaveRoom self.old.texts }
-        ensures ok { OnOk result ((rows : List LineOrder) → HaveRows rows self.old → HaveRows (rows ++ row.now ∷ []) self.new) }
-        ensures memory { IsOkUnless result Fault.Memory }
-    {
-        self.keys.push(row)?;
-        self.figures.push(row)?;
-        self.texts.push(alloc, row)
-    }
-
-    // Adds rows to none. Each row is read once, and written to all columns.
+    // Adds rows to none. Numbers and texts are written in loops of their own: in one loop there are more columns than a
+    // processor keeps at hand, and that takes longer than to read the rows twice.
     fn push_rows(&mut self, alloc: Global, rows: &[LineOrder]) -> Result<(), Fault>
         requires few { length rows.now ≤ most_batch_rows }
         requires empty { HaveRows [] self.old }
         ensures ok { OnOk result (HaveRows rows.now self.new) }
         ensures memory { IsOkUnless result Fault.Memory }
     {
-        for row in rows {
-            self.push(alloc, row)?;
-        }
-        Ok(())
+        push_numbers(&mut self.keys, &mut self.figures, rows)?;
+        push_texts(&mut self.texts, alloc, rows)
     }
+}
+
+// Adds the numbers of rows to those of none.
+fn push_numbers(keys: &mut Keys, figures: &mut Figures, rows: &[LineOrder]) -> Result<(), Fault>
+    requires keys { HaveKeys [] keys.old }
+    requires figures { HaveFigures [] figures.old }
+    ensures keys { OnOk result (HaveKeys rows.now keys.new) }
+    ensures figures { OnOk result (HaveFigures rows.now figures.new) }
+    ensures memory { IsOkUnless result Fault.Memory }
+{
+    for row in rows {
+        keys.push(row)?;
+        figures.push(row)?;
+    }
+    Ok(())
+}
+
+// Adds the texts of rows to those of none.
+fn push_texts(texts: &mut Texts, alloc: Global, rows: &[LineOrder]) -> Result<(), Fault>
+    requires few { length rows.now ≤ most_batch_rows }
+    requires empty { HaveTexts [] texts.old }
+    ensures ok { OnOk result (HaveTexts rows.now texts.new) }
+    ensures memory { IsOkUnless result Fault.Memory }
+{
+    for row in rows {
+        texts.push(alloc, row)?;
+    }
+    Ok(())
 }

@@ -7,7 +7,8 @@ use Rattle.lattice.proofs.Places.{one_view}
 use Rattle.cuboid_cells.specs.declared.cell.Cell.{Cell}
 use Rattle.cuboid_cells.specs.declared.reading.Header.{Header}
 use Rattle.cuboid_cells.specs.declared.span.Span.{Span}
-use Rattle.cuboid_cells.specs.Cells.{KeepRules, PlainCells}
+use Rattle.cuboid_cells.specs.Cells.{FollowRules, KeepRules, PlainCells}
+use Rattle.cuboid_cells.specs.Limits.{most_cells}
 use Rattle.cuboid_cells.specs.Reading.{IsHeaderOf, IsHeaderWith, IsReadable, ReadsCells, ReadsHeader}
 use Rattle.cuboid_cells.specs.Spelled.{IsRun, cell_bytes, cell_of, header_of, name_of}
 use Rattle.cuboid_cells.specs.Steps.{cells_of}
@@ -22,6 +23,11 @@ pub no_other : (bytes : ℕ) (header : Header) (found : View) → header.view �
 no_other bytes header found named refuses view is =
     let same : view ≡ found = one_view view found (sym is.view ∙ named) in
     refuses (subst (λ (v : View). IsHeaderWith v.ship_mode bytes header) same is.rest)
+
+-- as many cells as a header may name, which follow the rules, keep them all
+pub kept : (view : View) (count : ℕ) (old new : List ℕ) (cells : List Cell) → ReadsCells view.ship_mode count old new cells
+    → count ≤ most_cells → FollowRules view cells → KeepRules view cells
+kept view count old new cells reads few rules = record { few = omega (arith, reads.many, few); each = rules.0; ascending = rules.1 }
 
 module _ (bytes : List ℕ) where
   -- a run has more bytes than its header

@@ -75,6 +75,10 @@ pub record PlainCells : Type 0 where
   pub view : View
   pub cells : List Cell
 
+-- each is a cell of a view, and they ascend
+abbrev pub FollowRules : View → List Cell → Type 0
+FollowRules view cells = All (IsCellOf view) cells × AreAscending cells
+
 -- the rules of a view's cells, beside the ranges of their numbers
 pub record KeepRules (view : View) (cells : List Cell) : Type 0 where
   pub few : length cells ≤ most_cells

@@ -9,7 +9,6 @@ use crate::cell::Cell;
 use crate::encoding::{bytes_of_cell, push_cells, push_header};
 use crate::merging::merge_cells;
 use crate::reading::{read_cells, read_header};
-use crate::rules::keep_rules;
 use crate::span::Span;
 use cube_model::Fault;
 use lattice::View;
@@ -118,8 +117,8 @@ impl Cells {
             return Err(Fault::BadLayout);
         };
         let count = header.cells as usize;
-        let cells = read_cells(alloc, &mut cursor, view.ship_mode, count)?;
-        if !keep_rules(view, &cells) {
+        let (cells, fine) = read_cells(alloc, &mut cursor, view, count)?;
+        if !fine {
             return Err(Fault::BadLayout);
         }
         let span = Span {

@@ -1,5 +1,6 @@
 //! Reading the parts of a run from the front of bytes.
 ghost use Rattle.std.specs.Prelude.{◌≡◌, ◌+◌, ◌*◌, ◌≤◌, ◌<◌, ◌↔◌, length, IfErr, IfNone, IfOk, IfSome, IsErr, IsOkUnless, IsTrue};
+ghost use Rattle.cuboid_cells.specs.Cells.{FollowRules};
 ghost use Rattle.cube_model.specs.declared.fault.Fault.{Fault};
 ghost use Rattle.cuboid_cells.specs.Reading.{ReadsCell, ReadsCells, ReadsHeader, ReadsKey, ReadsMode, ReadsSummaries, ReadsSummary, ReadsThree};
 ghost use Rattle.cuboid_cells.specs.Spelled.{cell_bytes, mode_bytes};
@@ -8,6 +9,7 @@ use crate::cell::Cell;
 use crate::encoding::{bytes_of_cell, name};
 use crate::key::Key;
 use crate::limits::{ALL_CODE, MOST_CELLS};
+use crate::rules::may_follow;
 use crate::summary::{Summaries, Summary};
 use cube_model::Fault;
 use lattice::View;
@@ -70,96 +72,107 @@ pub(crate) fn read_header<'a>(cursor: &mut Cursor<'a>) -> Result<Header<'a>, Fau
     })
 }
 
-// So many cells at the front of bytes, with a fifth code each or none.
+// So many cells at the front of bytes, which are cells of a view if they keep its rules, and whether they do.
+//
+// A cell is looked at as soon as it is read, while it is at hand: all of them together may be more than a cache holds.
 pub(crate) fn read_cells(
     alloc: Global,
     cursor: &mut Cursor<'_>,
-    ship_modes: bool,
+    view: View,
     count: usize,
-) -> Result<Vec<Cell>, Fault>
-    requires { cell_bytes ship_modes * count ≤ length cursor.old }
-    ensures ok { IfOk result (λ cells. ReadsCells ship_modes count cursor.old cursor.new cells.items) }
+) -> Result<(Vec<Cell>, bool), Fault>
+    requires { cell_bytes view.ship_mode * count ≤ length cursor.old }
+    ensures ok { IfOk result (λ read. ReadsCells view.ship_mode count cursor.old cursor.new read.0.items) }
+    ensures rules { IfOk result (λ read. IsTrue read.1 ↔ FollowRules view read.0.items) }
     ensures memory { IfErr result (λ fault. fault ≡ Fault.Memory) }
 {
     let mut cells = Vec::with_capacity(alloc, count)?;
+    let mut fine = true;
     for _ in 0..count {
-        let cell = read_cell(cursor, ship_modes)?;
+        let cell = next_cell(cursor, view.ship_mode);
+        fine = fine & may_follow(view, &cells, &cell);
         cells.push(cell)?;
     }
-    Ok(cells)
+    Ok((cells, fine))
 }
 
-// The cell at the front of bytes.
-fn read_cell(cursor: &mut Cursor<'_>, ship_modes: bool) -> Result<Cell, Fault>
-    ensures ok { IfOk result (ReadsCell ship_modes cursor.old cursor.new) }
-    ensures short { IsErr result ↔ (length cursor.old < cell_bytes ship_modes) }
+// The cell at the front of bytes, which the caller knows to be there.
+#[inline(always)]
+fn next_cell(cursor: &mut Cursor<'_>, ship_modes: bool) -> Cell
+    requires { cell_bytes ship_modes ≤ length cursor.old }
+    ensures { ReadsCell ship_modes cursor.old cursor.new result }
 {
-    Ok(Cell {
-        key: read_key(cursor, ship_modes)?,
-        count: cursor.u64()?,
-        measures: read_summaries(cursor)?,
-    })
+    Cell {
+        key: next_key(cursor, ship_modes),
+        count: cursor.next_u64(),
+        measures: next_summaries(cursor),
+    }
 }
 
-fn read_key(cursor: &mut Cursor<'_>, ship_modes: bool) -> Result<Key, Fault>
-    ensures ok { IfOk result (ReadsKey ship_modes cursor.old cursor.new) }
-    ensures short { IsErr result ↔ (length cursor.old < 8 + mode_bytes ship_modes) }
+#[inline(always)]
+fn next_key(cursor: &mut Cursor<'_>, ship_modes: bool) -> Key
+    requires { 8 + mode_bytes ship_modes ≤ length cursor.old }
+    ensures { ReadsKey ship_modes cursor.old cursor.new result }
 {
-    Ok(Key {
-        customer: cursor.u16()?,
-        supplier: cursor.u16()?,
-        part: cursor.u16()?,
-        date: cursor.u16()?,
-        ship_mode: read_mode(cursor, ship_modes)?,
-    })
+    Key {
+        customer: cursor.next_u16(),
+        supplier: cursor.next_u16(),
+        part: cursor.next_u16(),
+        date: cursor.next_u16(),
+        ship_mode: next_mode(cursor, ship_modes),
+    }
 }
 
 // A fifth code, if there is one.
-fn read_mode(cursor: &mut Cursor<'_>, ship_modes: bool) -> Result<u16, Fault>
-    ensures ok { IfOk result (ReadsMode ship_modes cursor.old cursor.new) }
-    ensures short { IsErr result ↔ (length cursor.old < mode_bytes ship_modes) }
+#[inline(always)]
+fn next_mode(cursor: &mut Cursor<'_>, ship_modes: bool) -> u16
+    requires { mode_bytes ship_modes ≤ length cursor.old }
+    ensures { ReadsMode ship_modes cursor.old cursor.new result }
 {
     match ship_modes {
-        false => Ok(ALL_CODE),
-        true => cursor.u16(),
+        false => ALL_CODE,
+        true => cursor.next_u16(),
     }
 }
 
-fn read_summaries(cursor: &mut Cursor<'_>) -> Result<Summaries, Fault>
-    ensures ok { IfOk result (ReadsSummaries cursor.old cursor.new) }
-    ensures short { IsErr result ↔ (length cursor.old < 144) }
+#[inline(always)]
+fn next_summaries(cursor: &mut Cursor<'_>) -> Summaries
+    requires { 144 ≤ length cursor.old }
+    ensures { ReadsSummaries cursor.old cursor.new result }
 {
-    let (quantity, extendedprice, revenue) = read_three(cursor)?;
-    let (supplycost, discounted, profit) = read_three(cursor)?;
-    Ok(Summaries {
+    let (quantity, extendedprice, revenue) = next_three(cursor);
+    let (supplycost, discounted, profit) = next_three(cursor);
+    Summaries {
         quantity,
         extendedprice,
         revenue,
         supplycost,
         discounted,
         profit,
-    })
+    }
 }
 
 // What is kept of three measures.
-fn read_three(cursor: &mut Cursor<'_>) -> Result<(Summary, Summary, Summary), Fault>
-    ensures ok { IfOk result (ReadsThree cursor.old cursor.new) }
-    ensures short { IsErr result ↔ (length cursor.old < 72) }
+#[inline(always)]
+fn next_three(cursor: &mut Cursor<'_>) -> (Summary, Summary, Summary)
+    requires { 72 ≤ length cursor.old }
+    ensures { ReadsThree cursor.old cursor.new result }
 {
-    Ok((
-        read_summary(cursor)?,
-        read_summary(cursor)?,
-        read_summary(cursor)?,
-    ))
+    (
+        next_summary(cursor),
+        next_summary(cursor),
+        next_summary(cursor),
+    )
 }
 
-fn read_summary(cursor: &mut Cursor<'_>) -> Result<Summary, Fault>
-    ensures ok { IfOk result (ReadsSummary cursor.old cursor.new) }
-    ensures short { IsErr result ↔ (length cursor.old < 24) }
+#[inline(always)]
+fn next_summary(cursor: &mut Cursor<'_>) -> Summary
+    requires { 24 ≤ length cursor.old }
+    ensures { ReadsSummary cursor.old cursor.new result }
 {
-    Ok(Summary {
-        sum: cursor.i64()?,
-        least: cursor.i64()?,
-        greatest: cursor.i64()?,
-    })
+    Summary {
+        sum: cursor.next_i64(),
+        least: cursor.next_i64(),
+        greatest: cursor.next_i64(),
+    }
 }

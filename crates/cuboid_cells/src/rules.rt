@@ -1,28 +1,26 @@
-//! The rules of cells that were read.
-ghost use Rattle.std.specs.Prelude.{◌↔◌, All, IsTrue};
-ghost use Rattle.cuboid_cells.specs.Cells.{AreAscending, IsCellOf, KeepRules};
+//! The rules of cells that are read one behind the other.
+ghost use Rattle.std.specs.Prelude.{◌↔◌, ◌-◌, IsTrue, length, slice_get};
+ghost use Rattle.cuboid_cells.specs.Cells.{IsCellOf};
+ghost use Rattle.cuboid_cells.specs.Steps.{IsAboveLast};
 
 use crate::cell::Cell;
-use crate::limits::MOST_CELLS;
 use lattice::View;
 
-// Whether cells keep the rules of the cells of a view.
-pub(crate) fn keep_rules(view: View, cells: &[Cell]) -> bool
-    ensures { IsTrue result ↔ KeepRules view cells.now }
+// Whether a cell is one of a view, and its key is above that of the last of the cells before it.
+#[inline(always)]
+pub(crate) fn may_follow(view: View, cells: &[Cell], cell: &Cell) -> bool
+    ensures { IsTrue result ↔ (IsCellOf view cell.now × IsAboveLast (slice_get cells.now (length cells.now - 1)) cell.now) }
 {
-    cells.len() <= MOST_CELLS && are_of(view, cells) && ascend(cells)
+    cell.is_of(view) && is_above(cells, cell)
 }
 
-// Whether each is a cell of the view.
-fn are_of(view: View, cells: &[Cell]) -> bool
-    ensures { IsTrue result ↔ All (IsCellOf view) cells.now }
+// Whether a cell's key is above that of the last of the cells before it.
+#[inline(always)]
+fn is_above(cells: &[Cell], cell: &Cell) -> bool
+    ensures { IsTrue result ↔ IsAboveLast (slice_get cells.now (length cells.now - 1)) cell.now }
 {
-    cells.iter().all(|cell| cell.is_of(view))
-}
-
-// Whether each key is below the next.
-fn ascend(cells: &[Cell]) -> bool
-    ensures { IsTrue result ↔ AreAscending cells.now }
-{
-    cells.is_sorted_by(|one, other| one.key.number() < other.key.number())
+    match cells.last() {
+        Some(last) => last.key.number() < cell.key.number(),
+        None => true,
+    }
 }

@@ -131,6 +131,12 @@ fn refuses_what_cannot_be_opened(rt: HostRuntime) -> Result<(), Fail> {
     Ok(())
 }
 
+// Cuts a file to 100 sectors, as another program does.
+fn cut(rt: &HostRuntime, path: &str) -> io::Result<()> {
+    let file = OpenOptions::new().write(true).open(rt, path)?;
+    file.set_len(51_200)
+}
+
 // Another program cuts a file of 300 sectors to 100 when the first sectors below a number were read. Which of the
 // sectors from there on are right, and how many cannot be read.
 fn cut_after(rt: &HostRuntime, path: &str, read: u32) -> Result<(u32, u32), Fail> {
@@ -139,10 +145,7 @@ fn cut_after(rt: &HostRuntime, path: &str, read: u32) -> Result<(u32, u32), Fail
     for i in 0..read {
         get(&mut disk, i)?;
     }
-    OpenOptions::new()
-        .write(true)
-        .open(rt, path)?
-        .set_len(51_200)?;
+    cut(rt, path)?;
     Ok(right_from(&mut disk, read))
 }
 

@@ -341,8 +341,18 @@ fn is_as_told(
     lines: &str,
 ) -> Result<bool, Fault> {
     let dimensions = dim_rows(alloc, &STAR)?;
+    is_as_told_over(alloc, &dimensions, rows, asked, lines)
+}
+
+fn is_as_told_over(
+    alloc: Global,
+    dimensions: &DimRows,
+    rows: &[LineOrder],
+    asked: &Asked<'_>,
+    lines: &str,
+) -> Result<bool, Fault> {
     let query = query(alloc, asked)?;
-    is_agreed_on(alloc, &dimensions, rows, &query, lines)
+    is_agreed_on(alloc, dimensions, rows, &query, lines)
 }
 
 // Whether the answers to the four queries are those that were worked out.

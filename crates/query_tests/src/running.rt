@@ -103,10 +103,24 @@ pub fn agreed_answer(
     }
     let dims = Dims::build(alloc, dimensions)?;
     let answer = fold(alloc, &dims, rows, query)?;
-    let is_agreed = answer == answer_by_segment(alloc, &dims, rows, query)?
-        && answer == plain_answer(alloc, dimensions, rows, query)?
-        && answer == answer_row_by_row(alloc, dims, rows, query)?;
+    let is_agreed = is_given_by_others(alloc, dims, dimensions, rows, query, &answer)?;
     Ok(if is_agreed { Some(answer) } else { None })
+}
+
+// Whether the fold, over the columns of a batch and row by row, and the plain program give this answer.
+fn is_given_by_others(
+    alloc: Global,
+    dims: Dims,
+    dimensions: &DimRows,
+    rows: &[LineOrder],
+    query: &Query,
+    answer: &Answer,
+) -> Result<bool, Fault> {
+    Ok(
+        *answer == answer_by_segment(alloc, &dims, rows, query)?
+            && *answer == plain_answer(alloc, dimensions, rows, query)?
+            && *answer == answer_row_by_row(alloc, dims, rows, query)?,
+    )
 }
 
 // The answer that is agreed on for facts over the rows of dimensions.

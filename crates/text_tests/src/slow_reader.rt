@@ -131,12 +131,17 @@ struct RowTexts {
     shipmode: RowText,
 }
 
+/// Two texts, copied.
+fn two_texts(alloc: Global, first: &[u8], second: &[u8]) -> Result<(RowText, RowText), Fault> {
+    let first = RowText::from_slice(alloc, first)?;
+    let second = RowText::from_slice(alloc, second)?;
+    Ok((first, second))
+}
+
 /// The texts among the fields.
 fn texts_of(alloc: Global, fields: &[&[u8]; 17]) -> Result<RowTexts, Fault> {
-    let orderpriority = RowText::from_slice(alloc, fields[6])?;
-    let shippriority = RowText::from_slice(alloc, fields[7])?;
-    let commitdate = RowText::from_slice(alloc, fields[15])?;
-    let shipmode = RowText::from_slice(alloc, fields[16])?;
+    let (orderpriority, shippriority) = two_texts(alloc, fields[6], fields[7])?;
+    let (commitdate, shipmode) = two_texts(alloc, fields[15], fields[16])?;
     Ok(RowTexts {
         orderpriority,
         shippriority,

@@ -1,5 +1,5 @@
 //! Reading numbers from the front of bytes.
-ghost use Rattle.std.specs.Prelude.{◌≡◌, ◌↔◌, ◌<◌, [], length, IsTrue, IsErr, IfOk, IsOkUnless, OnErr};
+ghost use Rattle.std.specs.Prelude.{◌≡◌, ◌↔◌, ◌<◌, ◌≤◌, [], length, IsTrue, IsErr, IfOk, IsOkUnless, OnErr};
 ghost use Rattle.wire.specs.Reading.{ReadsNumber, ReadsSigned, TakesBytes};
 
 use crate::field::{number_i64, number_u8, number_u16, number_u32, number_u64};
@@ -52,9 +52,7 @@ impl<'a> Cursor<'a> {
         if self.rest.len() < count {
             return Err(Fault::BadLayout);
         }
-        let (part, rest) = self.rest.split_at(count);
-        self.rest = rest;
-        Ok(part)
+        Ok(self.next_bytes(count))
     }
 
     /// Takes a number of one byte.
@@ -110,5 +108,43 @@ impl<'a> Cursor<'a> {
     {
         let field = self.bytes(8)?;
         Ok(number_i64(field))
+    }
+
+    // Takes bytes as they stand, which the caller knows to be left.
+    #[inline(always)]
+    fn next_bytes(&mut self, count: usize) -> &'a [u8]
+        requires { count ≤ length self.old }
+        ensures { TakesBytes count self.old self.new result.now }
+    {
+        let (part, rest) = self.rest.split_at(count);
+        self.rest = rest;
+        part
+    }
+
+    /// Takes a number of two bytes, which the caller knows to be left.
+    #[inline(always)]
+    pub fn next_u16(&mut self) -> u16
+        requires { 2 ≤ length self.old }
+        ensures { ReadsNumber 2 self.old self.new result }
+    {
+        number_u16(self.next_bytes(2))
+    }
+
+    /// Takes a number of eight bytes, which the caller knows to be left.
+    #[inline(always)]
+    pub fn next_u64(&mut self) -> u64
+        requires { 8 ≤ length self.old }
+        ensures { ReadsNumber 8 self.old self.new result }
+    {
+        number_u64(self.next_bytes(8))
+    }
+
+    /// Takes a signed number of eight bytes, which the caller knows to be left.
+    #[inline(always)]
+    pub fn next_i64(&mut self) -> i64
+        requires { 8 ≤ length self.old }
+        ensures { ReadsSigned self.old self.new result }
+    {
+        number_i64(self.next_bytes(8))
     }
 }

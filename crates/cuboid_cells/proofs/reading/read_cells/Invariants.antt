@@ -1,5 +1,6 @@
-use Rattle.std.proofs.Common.{◌≡◌, ◌+◌, ◌*◌, ◌++◌, length, All}
+use Rattle.std.proofs.Common.{◌≡◌, ◌+◌, ◌*◌, ◌++◌, ◌↔◌, length, All, IsTrue}
 use Rattle.std.specs.List.{flat_map}
+use Rattle.cuboid_cells.specs.Cells.{FollowRules}
 use Rattle.cuboid_cells.specs.Reading.{IsReadable}
 use Rattle.cuboid_cells.specs.Spelled.{cell_bytes, cell_of}
 use Rattle.cuboid_cells.proofs.reading.read_cells.Given as goal
@@ -7,7 +8,8 @@ use Rattle.cuboid_cells.proofs.reading.read_cells.Given as goal
 abbrev pub invariant-loop : goal.invariant-loop
 invariant-loop l = record {
   many : length l.cells.items ≡ l.counter;
-  readable : All (IsReadable l.ship_modes) l.cells.items;
-  spelled : l.initial.cursor ≡ flat_map (cell_of l.ship_modes) l.cells.items ++ l.cursor;
-  left : length l.initial.cursor ≡ cell_bytes l.ship_modes * l.counter + length l.cursor;
+  readable : All (IsReadable l.view.ship_mode) l.cells.items;
+  spelled : l.initial.cursor ≡ flat_map (cell_of l.view.ship_mode) l.cells.items ++ l.cursor;
+  left : length l.initial.cursor ≡ cell_bytes l.view.ship_mode * l.counter + length l.cursor;
+  rules : IsTrue l.fine ↔ FollowRules l.view l.cells.items;
 }

@@ -1,8 +1,7 @@
 use Rattle.std.proofs.Common.{ℕ, ◌<◌, List, length, IsTrue, inr, refl, sym, ap, subst, arith}
 use Rattle.std.proofs.lemmas.Result.{err_from_is_err_and}
-use Rattle.cuboid_cells.specs.Cells.{KeepRules}
 use Rattle.cuboid_cells.specs.Reading.{ReadsHeader}
-use Rattle.cuboid_cells.proofs.Decoded.{header_is_of, is_run, they_keep, too_short}
+use Rattle.cuboid_cells.proofs.Decoded.{header_is_of, is_run, kept, they_keep, too_short}
 use Rattle.cuboid_cells.proofs.cells.Cells.decode.Goals as goal
 
 -- fewer bytes than the header has
@@ -23,21 +22,27 @@ returns-in_default-clause-refused c = inr (
 )
 
 -- the cells of a run of these bytes are those that were read, and keep the rules
-pub returns-then-not-keep_rules-clause-refused : goal.returns-then-not-keep_rules-clause-refused
-returns-then-not-keep_rules-clause-refused c = inr (
+pub returns-then-not-fine-clause-refused : goal.returns-then-not-fine-clause-refused
+returns-then-not-fine-clause-refused c = inr (
   refl,
   λ span plain is.
       let reads = subst (λ (bytes : List ℕ). ReadsHeader bytes c.read_header.new.cursor c.in_ok-header.header) c.new-cursor.ensures c.in_ok-header.ensures.ok in
       let keep = they_keep c.args.bytes.now c.read_header.new.cursor c.in_ok-header.header reads c.read_cells.new.cursor c.in-Some.view c.in_ok-cells.cells.items
       c.in-Some.ensures.some c.in_ok-cells.ensures.ok span plain is in
-      let moved : KeepRules c.in-Some.view c.deref.result.now = subst (KeepRules c.in-Some.view) (sym c.deref.ensures.value) keep in
-      let yes : IsTrue c.keep_rules.result = c.keep_rules.ensures.1 moved in cc c.if-not-keep_rules.true,
+      let yes : IsTrue c.in_ok-cells.fine = c.in_ok-cells.ensures.rules.1 (keep.each, keep.ascending) in cc c.if-not-fine.true,
 )
 
 pub returns-clause-ok : goal.returns-clause-ok
 returns-clause-ok c =
     let reads = subst (λ (bytes : List ℕ). ReadsHeader bytes c.read_header.new.cursor c.in_ok-header.header) c.new-cursor.ensures c.in_ok-header.ensures.ok in
-    let rules : KeepRules c.in-Some.view c.in_ok-cells.cells.items =
-    subst (KeepRules c.in-Some.view) c.deref.ensures.value (c.keep_rules.ensures.0 c.if-not-keep_rules.false) in
+    let rules = kept c.in-Some.view c.in_ok-header.header.cells c.read_header.new.cursor c.read_cells.new.cursor c.in_ok-cells.cells.items c.in_ok-cells.ensures.ok
+    c.in-Some.ensures.some.rest.few (c.in_ok-cells.ensures.rules.0 c.if-not-fine.false) in
     is_run c.args.bytes.now c.read_header.new.cursor c.in_ok-header.header reads c.read_cells.new.cursor c.in-Some.view c.in_ok-cells.cells.items
     c.in-Some.ensures.some c.in_ok-cells.ensures.ok rules
+
+pub invariant_of-result : goal.invariant_of-result
+invariant_of-result c = record {
+  rules = kept c.in-Some.view c.in_ok-header.header.cells c.read_header.new.cursor c.read_cells.new.cursor c.in_ok-cells.cells.items c.in_ok-cells.ensures.ok
+      c.in-Some.ensures.some.rest.few (c.in_ok-cells.ensures.rules.0 c.if-not-fine.false);
+  fit = λ k d within. (c.in_ok-cells.ensures.ok.readable k d within).fits;
+}
