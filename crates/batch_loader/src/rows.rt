@@ -129,12 +129,15 @@ impl TableRow for LineOrder {
     ghost of_fields = { lineorder_of_fields };
 
     fn read(alloc: Global, line: &[u8], number: u64) -> Result<Self, Fault> {
-        let Some(fields) = fields_in::<17>(line) else {
+        // What was found is looked at where it stands: it is larger than a row.
+        let found = fields_in::<17>(line);
+        let Some(fields) = &found else {
             return Err(Fault::FieldCount { line: number });
         };
-        match short_numbers(&fields) {
-            Some(numbers) => line_order(alloc, &fields, &numbers),
-            None => line_order_by_columns(alloc, &fields, number),
+        let numbers = short_numbers(fields);
+        match &numbers {
+            Some(numbers) => line_order(alloc, fields, numbers),
+            None => line_order_by_columns(alloc, fields, number),
         }
     }
 }
@@ -241,7 +244,7 @@ fn line_order_by_columns(
 }
 
 // The fact row of a line's fields, whose numbers were read. It can only fail for want of memory.
-#[inline]
+#[inline(always)]
 fn line_order(
     alloc: Global,
     fields: &LineFields<'_, 17>,
@@ -274,7 +277,7 @@ fn line_order(
 }
 
 // The texts of a fact row: the priorities of the order and of shipping, the commit date and the ship mode.
-#[inline]
+#[inline(always)]
 fn line_order_texts(
     alloc: Global,
     fields: &LineFields<'_, 17>,
@@ -314,7 +317,7 @@ fn texts(
 }
 
 /// Copies of two fields as texts of a fact row.
-#[inline]
+#[inline(always)]
 fn row_texts(alloc: Global, first: &[u8], second: &[u8]) -> Result<(RowText, RowText), Fault>
     ensures ok { IfOk result (λ texts. (texts.0 ≡ first.now) × (texts.1 ≡ second.now)) }
     ensures err { IfErr result (λ fault. fault ≡ Fault.Memory) }
