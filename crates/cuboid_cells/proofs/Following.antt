@@ -43,8 +43,8 @@ module _ (view : View) (cells : List Cell) (cell : Cell) where
       ⊎_elim
       (λ before. let lower = ascending k (length cells - 1) d before (omega (arith, within)) in omega (arith, lower, over))
       (λ not_before.
-          let is : length cells - 1 ≡ k = omega (arith, within, not_before) in
-          subst (λ (n : ℕ). number_of (get_or cells n d).key < number_of cell.key) is over)
+      let is : length cells - 1 ≡ k = omega (arith, within, not_before) in
+      subst (λ (n : ℕ). number_of (get_or cells n d).key < number_of cell.key) is over)
       (cases_lt k (length cells - 1))
 
   follow : FollowRules view cells → IsCellOf view cell × IsAboveLast (slice_get cells (length cells - 1)) cell → FollowRules view (cells ++ cell ∷ [])
@@ -65,12 +65,12 @@ module _ (view : View) (cells : List Cell) (cell : Cell) where
   above_last : FollowRules view (cells ++ cell ∷ []) → IsAboveLast (slice_get cells (length cells - 1)) cell
   above_last rules = ⊎_elim
       (λ some.
-          let less : number_of (get_or (cells ++ cell ∷ []) (length cells - 1) cell).key < number_of (get_or (cells ++ cell ∷ []) (length cells) cell).key =
-          rules.1 (length cells - 1) (length cells) cell (omega (arith, some.1)) (omega (arith, longer)) in
-          let is : slice_get cells (length cells - 1) ≡ Some (get_or cells (length cells - 1) cell) = slice_get-get_or cells (length cells - 1) cell some.1 in
-          let first = ap (λ (one : Cell). number_of one.key) (stays (length cells - 1) cell some.1) in
-          let second = ap (λ (one : Cell). number_of one.key) (stands cell) in
-          rw is (omega (arith, less, first, second)))
+      let less : number_of (get_or (cells ++ cell ∷ []) (length cells - 1) cell).key < number_of (get_or (cells ++ cell ∷ []) (length cells) cell).key =
+      rules.1 (length cells - 1) (length cells) cell (omega (arith, some.1)) (omega (arith, longer)) in
+      let is : slice_get cells (length cells - 1) ≡ Some (get_or cells (length cells - 1) cell) = slice_get-get_or cells (length cells - 1) cell some.1 in
+      let first = ap (λ (one : Cell). number_of one.key) (stays (length cells - 1) cell some.1) in
+      let second = ap (λ (one : Cell). number_of one.key) (stands cell) in
+      rw is (omega (arith, less, first, second)))
       (λ none. rw none.1 tt)
       (slice_get_cases cells (length cells - 1)).1
 
