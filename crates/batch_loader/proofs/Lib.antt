@@ -12,6 +12,3 @@ pub mod Pieces
 pub mod Windows
 pub mod ShortNumbers
 pub mod RowBuffers
-mod Marks
-mod Starts
-mod RowsOfLines

@@ -1,13 +1,10 @@
 //! The columns of the five tables, and what they make of a line's fields.
-ghost use Rattle.std.specs.Prelude.{◌≡◌, ◌<◌, ◌≤◌, ◌+◌, Some, None, IfOk, IfErr, length};
-ghost use Rattle.batch_loader.specs.declared.columns.Column.TheVariants.{Number, Text};
+ghost use Rattle.std.specs.Prelude.{◌≡◌, ◌<◌, ◌+◌, Some, None, IfSome, IfOk, IfErr};
 ghost use Rattle.batch_loader.specs.Columns.{field_fault, fields_fault, number_in, text_in};
-ghost use Rattle.batch_loader.specs.Fields.{start_of};
 ghost use Rattle.batch_loader.specs.LineFields.{texts_of};
 ghost use Rattle.batch_loader.specs.Parsing.{AreNumbers, FitsColumn, ReadsField};
 
 use crate::line_fields::LineFields;
-use crate::numbers::Marked;
 use cube_model::limits::LONGEST_TEXT;
 use cube_model::{Fault, Place};
 
@@ -32,16 +29,16 @@ pub enum Column {
 }
 
 /// A key or a line number.
-const KEY: Column = Column::Number(KEY_LIMIT);
+pub const KEY: Column = Column::Number(KEY_LIMIT);
 
 /// An amount of money.
-const AMOUNT: Column = Column::Number(AMOUNT_LIMIT);
+pub const AMOUNT: Column = Column::Number(AMOUNT_LIMIT);
 
 /// A small count.
-const SMALL: Column = Column::Number(SMALL_LIMIT);
+pub const SMALL: Column = Column::Number(SMALL_LIMIT);
 
 /// A text that is kept.
-const TEXT: Column = Column::Text;
+pub const TEXT: Column = Column::Text;
 
 const SKIPPED: Column = Column::Skipped;
 
@@ -113,25 +110,19 @@ fn read_field<const N: usize>(
     }
 }
 
-/// The number up to a limit that a field spells in one to eight digits, or a mark.
+/// The same, with nothing in place of the fault of a field that does not fit its column.
 #[inline(always)]
-pub fn marked_number<const N: usize>(limit: u64, fields: &LineFields<'_, N>, place: usize) -> Marked
-    requires place { place < N }
-    requires room { start_of fields.now.ends place + 8 ≤ length fields.now.line.now }
-    ensures { result.marks ≡ 0 → ReadsField (Number limit) (text_in (texts_of fields.now) place) result.value }
-{
-    let number = fields.marked(place);
-    Marked {
-        value: number.value,
-        marks: number.marks | u64::from(number.value > limit),
-    }
-}
-
-/// A mark where a field is longer than a text that is kept.
-#[inline(always)]
-pub fn mark_of_text<const N: usize>(fields: &LineFields<'_, N>, place: usize) -> u64
+pub fn fitting<const N: usize>(
+    column: Column,
+    fields: &LineFields<'_, N>,
+    place: usize,
+) -> Option<u64>
     requires { place < N }
-    ensures { result ≡ 0 → ReadsField Text (text_in (texts_of fields.now) place) 0 }
+    ensures { IfSome result (ReadsField column (text_in (texts_of fields.now) place)) }
 {
-    u64::from(fields.get(place).len() > LONGEST_TEXT)
+    match column {
+        Column::Number(limit) => fields.number(place, limit),
+        Column::Text if fields.get(place).len() > LONGEST_TEXT => None,
+        Column::Text | Column::Skipped => Some(0),
+    }
 }

@@ -1,34 +1,10 @@
 //! Number fields.
-ghost use Rattle.std.specs.Prelude.{◌≡◌, ◌≤◌, ◌<◌, ◌+◌, ◌^◌, ℕ, Some, length, slice_index, slice_range};
+ghost use Rattle.std.specs.Prelude.{◌≡◌, ◌≤◌, ◌<◌, ◌+◌, ℕ, length, slice_index, slice_range};
 ghost use Rattle.batch_loader.specs.Numbers.{number_of, value_of};
 
 mod short;
 
-use short::{are_digits, marks_of_count, marks_of_others, short_value};
-
-/// A number of at most eight digits, and marks. Where there is a mark, it is not known what was spelled.
-#[derive(Clone, Copy)]
-pub struct Marked {
-    pub value: u64,
-    pub marks: u64,
-}
-
-/// The number that a part of a text spells in one to eight digits, or a mark. It is found without a branch, so that one test
-/// tells of many.
-#[inline(always)]
-pub fn marked_between(text: &[u8], start: usize, end: usize) -> Marked
-    requires order { start ≤ end }
-    requires within { end ≤ length text.now }
-    requires room { start + 8 ≤ length text.now }
-    ensures value { (limit : ℕ) → result.marks ≡ 0 → result.value ≤ limit → Some result.value ≡ number_of limit (slice_range text.now start end) }
-    ensures small { result.value < 2 ^ 32 }
-{
-    let count = end - start;
-    Marked {
-        value: short_value(text, start, count),
-        marks: marks_of_others(text, start, count) | marks_of_count(count),
-    }
-}
+use short::{are_digits, short_value};
 
 /// The number up to a limit that a part of a text spells, if it spells one.
 #[inline(always)]

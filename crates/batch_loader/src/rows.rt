@@ -1,13 +1,12 @@
 //! How a line becomes a row.
 ghost use Rattle.std.specs.Prelude.{◌≡◌, ◌⊎◌, ◌≤◌, ◌∷◌, [], ℕ, Some, None, Ok, Err, MatchResult, IfSome, IfOk, IfErr, drop, length, take};
 ghost use Rattle.batch_loader.specs.Columns.{fields_fault, row_of, text_in};
-ghost use Rattle.batch_loader.specs.LineFields.{HasRoom, texts_of};
+ghost use Rattle.batch_loader.specs.LineFields.{texts_of};
 ghost use Rattle.batch_loader.specs.Parsing.{AreNumbers, ReadsEach};
 ghost use Rattle.batch_loader.specs.Tables.{lineorder_columns, lineorder_of_fields};
 
 use crate::columns::{
-    AMOUNT_LIMIT, CUSTOMER, DATE, KEY_LIMIT, LINEORDER, PART, SMALL_LIMIT, SUPPLIER, mark_of_text,
-    marked_number, numbers_of,
+    AMOUNT, CUSTOMER, DATE, KEY, LINEORDER, PART, SMALL, SUPPLIER, TEXT, fitting, numbers_of,
 };
 use crate::line_fields::{LineFields, fields, fields_in};
 use cube_model::{
@@ -129,122 +128,101 @@ impl TableRow for LineOrder {
     ghost of_fields = { lineorder_of_fields };
 
     fn read(alloc: Global, line: &[u8], number: u64) -> Result<Self, Fault> {
-        // What was found is looked at where it stands: it is larger than a row.
-        let found = fields_in::<17>(line);
-        let Some(fields) = &found else {
+        let Some(fields) = fields_in::<17>(line) else {
             return Err(Fault::FieldCount { line: number });
         };
-        let numbers = short_numbers(fields);
-        match &numbers {
-            Some(numbers) => line_order(alloc, fields, numbers),
-            None => line_order_by_columns(alloc, fields, number),
-        }
+        let numbers = line_order_numbers(&fields, number)?;
+        line_order(alloc, &fields, &numbers)
     }
 }
 
-// The numbers of a fact row's fields, where each has at most eight digits and all fields fit their columns; or nothing. All
-// are told by one test, and a loop over the columns would tell them apart anew in each row.
+// The numbers of a fact row's fields, or the fault of the first field that does not fit its column.
 #[inline(always)]
-fn short_numbers(fields: &LineFields<'_, 17>) -> Option<[u64; 17]>
+fn line_order_numbers(fields: &LineFields<'_, 17>, line: u64) -> Result<[u64; 17], Fault>
+    ensures fits { IfOk result (λ _. fields_fault line 1 lineorder_columns (texts_of fields.now) ≡ None) }
+    ensures numbers { IfOk result (AreNumbers 0 lineorder_columns (texts_of fields.now)) }
+    ensures refused { IfErr result (λ fault. fields_fault line 1 lineorder_columns (texts_of fields.now) ≡ Some fault) }
+{
+    match fitting_numbers(fields) {
+        Some(numbers) => Ok(numbers),
+        None => numbers_by_columns(fields, line),
+    }
+}
+
+// The numbers of a fact row's fields, or nothing where a field does not fit its column. A loop over the columns would tell them apart anew in each row.
+#[inline(always)]
+fn fitting_numbers(fields: &LineFields<'_, 17>) -> Option<[u64; 17]>
     ensures fits { IfSome result (λ _. (line : ℕ) → fields_fault line 1 lineorder_columns (texts_of fields.now) ≡ None) }
     ensures numbers { IfSome result (AreNumbers 0 lineorder_columns (texts_of fields.now)) }
 {
-    // The tax is the last of the numbers.
-    if !fields.has_room(14) {
-        return None;
-    }
-    let (keys, key_marks) = marked_keys(fields);
-    let (order, order_marks) = marked_order(fields);
-    let (amounts, amount_marks) = marked_amounts(fields);
-    if key_marks | order_marks | amount_marks != 0 {
-        return None;
-    }
+    let keys = fitting_keys(fields)?;
+    let order = fitting_order(fields)?;
+    let amounts = fitting_amounts(fields)?;
     Some([
-        keys.0, keys.1, keys.2, keys.3, keys.4, keys.5, 0, 0, order.0, order.1, order.2, amounts.0,
-        amounts.1, amounts.2, amounts.3, 0, 0,
+        keys.0, keys.1, keys.2, keys.3, keys.4, keys.5, order.0, order.1, order.2, order.3,
+        order.4, amounts.0, amounts.1, amounts.2, amounts.3, amounts.4, amounts.5,
     ])
 }
 
-// Those of the six keys, and their marks.
+// Those of the six keys.
 #[inline(always)]
-fn marked_keys(fields: &LineFields<'_, 17>) -> ((u64, u64, u64, u64, u64, u64), u64)
-    requires { HasRoom fields.now 14 }
-    ensures { result.1 ≡ 0 → ReadsEach 0 (take 6 lineorder_columns) (texts_of fields.now)
-        (result.0.0 ∷ result.0.1 ∷ result.0.2 ∷ result.0.3 ∷ result.0.4 ∷ result.0.5 ∷ []) }
+fn fitting_keys(fields: &LineFields<'_, 17>) -> Option<(u64, u64, u64, u64, u64, u64)>
+    ensures { IfSome result (λ n. ReadsEach 0 (take 6 lineorder_columns) (texts_of fields.now)
+        (n.0 ∷ n.1 ∷ n.2 ∷ n.3 ∷ n.4 ∷ n.5 ∷ [])) }
 {
-    let order = marked_number(AMOUNT_LIMIT, fields, 0);
-    let line = marked_number(KEY_LIMIT, fields, 1);
-    let customer = marked_number(KEY_LIMIT, fields, 2);
-    let part = marked_number(KEY_LIMIT, fields, 3);
-    let supplier = marked_number(KEY_LIMIT, fields, 4);
-    let date = marked_number(KEY_LIMIT, fields, 5);
-    (
-        (
-            order.value,
-            line.value,
-            customer.value,
-            part.value,
-            supplier.value,
-            date.value,
-        ),
-        order.marks | line.marks | customer.marks | part.marks | supplier.marks | date.marks,
-    )
+    Some((
+        fitting(AMOUNT, fields, 0)?,
+        fitting(KEY, fields, 1)?,
+        fitting(KEY, fields, 2)?,
+        fitting(KEY, fields, 3)?,
+        fitting(KEY, fields, 4)?,
+        fitting(KEY, fields, 5)?,
+    ))
 }
 
-// Those of the next five, from the priority of the order to its total price; the two priorities are texts.
+// Those of the next five, from the priority of the order to its total price.
 #[inline(always)]
-fn marked_order(fields: &LineFields<'_, 17>) -> ((u64, u64, u64), u64)
-    requires { HasRoom fields.now 14 }
-    ensures { result.1 ≡ 0 → ReadsEach 6 (take 5 (drop 6 lineorder_columns)) (texts_of fields.now)
-        (0 ∷ 0 ∷ result.0.0 ∷ result.0.1 ∷ result.0.2 ∷ []) }
+fn fitting_order(fields: &LineFields<'_, 17>) -> Option<(u64, u64, u64, u64, u64)>
+    ensures { IfSome result (λ n. ReadsEach 6 (take 5 (drop 6 lineorder_columns)) (texts_of fields.now)
+        (n.0 ∷ n.1 ∷ n.2 ∷ n.3 ∷ n.4 ∷ [])) }
 {
-    let priority = mark_of_text(fields, 6);
-    let shipping = mark_of_text(fields, 7);
-    let quantity = marked_number(SMALL_LIMIT, fields, 8);
-    let price = marked_number(AMOUNT_LIMIT, fields, 9);
-    let total = marked_number(AMOUNT_LIMIT, fields, 10);
-    (
-        (quantity.value, price.value, total.value),
-        priority | shipping | quantity.marks | price.marks | total.marks,
-    )
+    Some((
+        fitting(TEXT, fields, 6)?,
+        fitting(TEXT, fields, 7)?,
+        fitting(SMALL, fields, 8)?,
+        fitting(AMOUNT, fields, 9)?,
+        fitting(AMOUNT, fields, 10)?,
+    ))
 }
 
-// Those of the last six, from the discount to the ship mode; the last two are texts.
+// Those of the last six, from the discount to the ship mode.
 #[inline(always)]
-fn marked_amounts(fields: &LineFields<'_, 17>) -> ((u64, u64, u64, u64), u64)
-    requires { HasRoom fields.now 14 }
-    ensures { result.1 ≡ 0 → ReadsEach 11 (drop 11 lineorder_columns) (texts_of fields.now)
-        (result.0.0 ∷ result.0.1 ∷ result.0.2 ∷ result.0.3 ∷ 0 ∷ 0 ∷ []) }
+fn fitting_amounts(fields: &LineFields<'_, 17>) -> Option<(u64, u64, u64, u64, u64, u64)>
+    ensures { IfSome result (λ n. ReadsEach 11 (drop 11 lineorder_columns) (texts_of fields.now)
+        (n.0 ∷ n.1 ∷ n.2 ∷ n.3 ∷ n.4 ∷ n.5 ∷ [])) }
 {
-    let discount = marked_number(SMALL_LIMIT, fields, 11);
-    let revenue = marked_number(AMOUNT_LIMIT, fields, 12);
-    let cost = marked_number(AMOUNT_LIMIT, fields, 13);
-    let tax = marked_number(SMALL_LIMIT, fields, 14);
-    let committed = mark_of_text(fields, 15);
-    let mode = mark_of_text(fields, 16);
-    (
-        (discount.value, revenue.value, cost.value, tax.value),
-        discount.marks | revenue.marks | cost.marks | tax.marks | committed | mode,
-    )
+    Some((
+        fitting(SMALL, fields, 11)?,
+        fitting(AMOUNT, fields, 12)?,
+        fitting(AMOUNT, fields, 13)?,
+        fitting(SMALL, fields, 14)?,
+        fitting(TEXT, fields, 15)?,
+        fitting(TEXT, fields, 16)?,
+    ))
 }
 
-// The fact row of a line's fields, read column by column, which takes numbers of any length and finds the first fault.
+// The same column by column, which finds the fault.
 #[inline(never)]
-fn line_order_by_columns(
-    alloc: Global,
-    fields: &LineFields<'_, 17>,
-    line: u64,
-) -> Result<LineOrder, Fault>
-    ensures { MatchResult result
-        (λ row. (fields_fault line 1 lineorder_columns (texts_of fields.now) ≡ None) × (row ≡ lineorder_of_fields (texts_of fields.now)))
-        (λ fault. (fault ≡ Fault.Memory) ⊎ (fields_fault line 1 lineorder_columns (texts_of fields.now) ≡ Some fault)) }
+fn numbers_by_columns(fields: &LineFields<'_, 17>, line: u64) -> Result<[u64; 17], Fault>
+    ensures fits { IfOk result (λ _. fields_fault line 1 lineorder_columns (texts_of fields.now) ≡ None) }
+    ensures numbers { IfOk result (AreNumbers 0 lineorder_columns (texts_of fields.now)) }
+    ensures refused { IfErr result (λ fault. fields_fault line 1 lineorder_columns (texts_of fields.now) ≡ Some fault) }
 {
-    let numbers = numbers_of(&LINEORDER, fields, line)?;
-    line_order(alloc, fields, &numbers)
+    numbers_of(&LINEORDER, fields, line)
 }
 
 // The fact row of a line's fields, whose numbers were read. It can only fail for want of memory.
-#[inline(always)]
+#[inline]
 fn line_order(
     alloc: Global,
     fields: &LineFields<'_, 17>,
@@ -277,7 +255,7 @@ fn line_order(
 }
 
 // The texts of a fact row: the priorities of the order and of shipping, the commit date and the ship mode.
-#[inline(always)]
+#[inline]
 fn line_order_texts(
     alloc: Global,
     fields: &LineFields<'_, 17>,
@@ -317,7 +295,7 @@ fn texts(
 }
 
 /// Copies of two fields as texts of a fact row.
-#[inline(always)]
+#[inline]
 fn row_texts(alloc: Global, first: &[u8], second: &[u8]) -> Result<(RowText, RowText), Fault>
     ensures ok { IfOk result (λ texts. (texts.0 ≡ first.now) × (texts.1 ≡ second.now)) }
     ensures err { IfErr result (λ fault. fault ≡ Fault.Memory) }

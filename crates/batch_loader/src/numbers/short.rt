@@ -1,5 +1,5 @@
 //! Numbers of at most eight digits, all digits at once.
-ghost use Rattle.std.specs.Prelude.{◌≡◌, ◌≤◌, ◌+◌, ◌-◌, ◌*◌, ◌/◌, ◌%◌, ◌^◌, ◌<◌, ℕ, List, length, max, true, slice_range};
+ghost use Rattle.std.specs.Prelude.{◌≡◌, ◌≤◌, ◌+◌, ◌*◌, ◌/◌, ◌%◌, ◌^◌, ◌<◌, ℕ, List, length, max, true, slice_range};
 ghost use Rattle.std.specs.Int.{bit_at};
 ghost use Rattle.std.specs.Slice.Scan.{little_endian};
 ghost use Rattle.batch_loader.specs.Numbers.{value_of};
@@ -25,34 +25,8 @@ pub fn are_digits(text: &[u8], start: usize, count: usize) -> bool
     requires room { start + 8 ≤ length text.now }
     ensures { result ≡ true → AreDigits text.now start count }
 {
-    marks_of_others(text, start, count) == 0
-}
-
-/// Marks of the first bytes, so many, of the eight from a place on. Where there is none, and they are one to eight, they are digits.
-#[inline(always)]
-pub fn marks_of_others(text: &[u8], start: usize, count: usize) -> u64
-    requires { start + 8 ≤ length text.now }
-    ensures { 0 < count → count ≤ 8 → result ≡ 0 → AreDigits text.now start count }
-{
     let others = marks_above_nine(word_at(text, start).wrapping_sub(ZEROS));
-    others << bits_above(count)
-}
-
-/// How far up the first bytes of eight, so many, are the last ones.
-#[inline(always)]
-fn bits_above(count: usize) -> u32
-    ensures below { result < 64 }
-    ensures bits { 0 < count → count ≤ 8 → result ≡ 64 - 8 * count }
-{
-    ((8 - count % 8) * 8 % 64) as u32
-}
-
-/// Marks of a number of digits that is not one to eight.
-#[inline(always)]
-pub fn marks_of_count(count: usize) -> u64
-    ensures { result ≡ 0 → (0 < count) × (count ≤ 8) }
-{
-    (count.wrapping_sub(1) / 8) as u64
+    others << (64 - 8 * count) == 0
 }
 
 /// Marks of a number's bytes, at their highest bits. The lowest byte above nine has one, and the bytes below it have none.
@@ -63,14 +37,16 @@ fn marks_above_nine(number: u64) -> u64
     (number.wrapping_add(TO_HIGHEST) | number) & HIGHEST_BITS
 }
 
-/// The value of the first bytes, so many, of the eight from a place on, if they are one to eight digits.
+/// The value of at most eight digits from a place on.
 #[inline(always)]
 pub fn short_value(text: &[u8], start: usize, count: usize) -> u64
-    requires { start + 8 ≤ length text.now }
-    ensures value { 0 < count → count ≤ 8 → AreDigits text.now start count → result ≡ value_of (slice_range text.now start (start + count)) }
-    ensures small { result < 2 ^ 32 }
+    requires some { 0 < count }
+    requires few { count ≤ 8 }
+    requires room { start + 8 ≤ length text.now }
+    requires digits { AreDigits text.now start count }
+    ensures { result ≡ value_of (slice_range text.now start (start + count)) }
 {
-    let digits = word_at(text, start).wrapping_sub(ZEROS) << bits_above(count);
+    let digits = word_at(text, start).wrapping_sub(ZEROS) << (64 - 8 * count);
     value_of_eight(digits)
 }
 
@@ -95,8 +71,7 @@ fn word_at(text: &[u8], start: usize) -> u64
 /// The value of eight digits that are the bytes of a number, the first one lowest.
 #[inline(always)]
 fn value_of_eight(number: u64) -> u64
-    ensures value { (digits : List ℕ) → IsSpread number digits → result ≡ decimal_of digits }
-    ensures small { result < 2 ^ 32 }
+    ensures { (digits : List ℕ) → IsSpread number digits → result ≡ decimal_of digits }
 {
     // Each byte of a pair at an even place is ten times its digit and the next one.
     let pairs = number.wrapping_mul(10).wrapping_add(number >> 8);
