@@ -1,10 +1,11 @@
 //! The columns of the five tables, and what they make of a line's fields.
 ghost use Rattle.std.specs.Prelude.{◌≡◌, ◌<◌, ◌+◌, Some, None, IfSome, IfOk, IfErr};
+ghost use Rattle.batch_loader.specs.declared.columns.Column.TheVariants.{Number};
 ghost use Rattle.batch_loader.specs.Columns.{field_fault, fields_fault, number_in, text_in};
-ghost use Rattle.batch_loader.specs.LineFields.{texts_of};
+ghost use Rattle.batch_loader.specs.LineFields.{fields_at, texts_of};
 ghost use Rattle.batch_loader.specs.Parsing.{AreNumbers, FitsColumn, ReadsField};
 
-use crate::line_fields::LineFields;
+use crate::line_fields::{FieldsInPlace, LineFields};
 use cube_model::limits::LONGEST_TEXT;
 use cube_model::{Fault, Place};
 
@@ -114,15 +115,28 @@ fn read_field<const N: usize>(
 #[inline(always)]
 pub fn fitting<const N: usize>(
     column: Column,
-    fields: &LineFields<'_, N>,
+    fields: &FieldsInPlace<'_, '_, N>,
     place: usize,
 ) -> Option<u64>
     requires { place < N }
-    ensures { IfSome result (ReadsField column (text_in (texts_of fields.now) place)) }
+    ensures { IfSome result (ReadsField column (text_in (fields_at fields.now) place)) }
 {
     match column {
         Column::Number(limit) => fields.number(place, limit),
         Column::Text if fields.get(place).len() > LONGEST_TEXT => None,
         Column::Text | Column::Skipped => Some(0),
     }
+}
+
+/// The same of a column of numbers up to a limit that mostly have one digit or two.
+#[inline(always)]
+pub fn fitting_few_digits<const N: usize>(
+    limit: u64,
+    fields: &FieldsInPlace<'_, '_, N>,
+    place: usize,
+) -> Option<u64>
+    requires { place < N }
+    ensures { IfSome result (ReadsField (Number limit) (text_in (fields_at fields.now) place)) }
+{
+    fields.few_digits(place, limit)
 }

@@ -2,8 +2,10 @@
 ghost use Rattle.std.specs.Prelude.{◌≡◌, ◌≤◌, ◌<◌, ◌+◌, ℕ, length, slice_index, slice_range};
 ghost use Rattle.batch_loader.specs.Numbers.{number_of, value_of};
 
+mod few;
 mod short;
 
+pub use few::few_digits_between;
 use short::{are_digits, short_value};
 
 /// The number up to a limit that a part of a text spells, if it spells one.

@@ -1,14 +1,15 @@
 //! How a line becomes a row.
 ghost use Rattle.std.specs.Prelude.{◌≡◌, ◌⊎◌, ◌≤◌, ◌∷◌, [], ℕ, Some, None, Ok, Err, MatchResult, IfSome, IfOk, IfErr, drop, length, take};
 ghost use Rattle.batch_loader.specs.Columns.{fields_fault, row_of, text_in};
-ghost use Rattle.batch_loader.specs.LineFields.{texts_of};
+ghost use Rattle.batch_loader.specs.LineFields.{fields_at};
 ghost use Rattle.batch_loader.specs.Parsing.{AreNumbers, ReadsEach};
 ghost use Rattle.batch_loader.specs.Tables.{lineorder_columns, lineorder_of_fields};
 
 use crate::columns::{
-    AMOUNT, CUSTOMER, DATE, KEY, LINEORDER, PART, SMALL, SUPPLIER, TEXT, fitting, numbers_of,
+    AMOUNT, CUSTOMER, DATE, KEY, KEY_LIMIT, LINEORDER, PART, SMALL_LIMIT, SUPPLIER, TEXT, fitting,
+    fitting_few_digits, numbers_of,
 };
-use crate::line_fields::{LineFields, fields, fields_in};
+use crate::line_fields::{FieldsInPlace, fields, split};
 use cube_model::{
     Amount, CustomerRow, DateRow, Fault, Items, LineOrder, PartRow, RowText, SupplierRow, Text,
 };
@@ -128,9 +129,11 @@ impl TableRow for LineOrder {
     ghost of_fields = { lineorder_of_fields };
 
     fn read(alloc: Global, line: &[u8], number: u64) -> Result<Self, Fault> {
-        let Some(fields) = fields_in::<17>(line) else {
+        let mut ends = [0usize; 17];
+        let Some(text) = split(line, &mut ends) else {
             return Err(Fault::FieldCount { line: number });
         };
+        let fields = FieldsInPlace::new(text, &ends);
         let numbers = line_order_numbers(&fields, number)?;
         line_order(alloc, &fields, &numbers)
     }
@@ -138,10 +141,10 @@ impl TableRow for LineOrder {
 
 // The numbers of a fact row's fields, or the fault of the first field that does not fit its column.
 #[inline(always)]
-fn line_order_numbers(fields: &LineFields<'_, 17>, line: u64) -> Result<[u64; 17], Fault>
-    ensures fits { IfOk result (λ _. fields_fault line 1 lineorder_columns (texts_of fields.now) ≡ None) }
-    ensures numbers { IfOk result (AreNumbers 0 lineorder_columns (texts_of fields.now)) }
-    ensures refused { IfErr result (λ fault. fields_fault line 1 lineorder_columns (texts_of fields.now) ≡ Some fault) }
+fn line_order_numbers(fields: &FieldsInPlace<'_, '_, 17>, line: u64) -> Result<[u64; 17], Fault>
+    ensures fits { IfOk result (λ _. fields_fault line 1 lineorder_columns (fields_at fields.now) ≡ None) }
+    ensures numbers { IfOk result (AreNumbers 0 lineorder_columns (fields_at fields.now)) }
+    ensures refused { IfErr result (λ fault. fields_fault line 1 lineorder_columns (fields_at fields.now) ≡ Some fault) }
 {
     match fitting_numbers(fields) {
         Some(numbers) => Ok(numbers),
@@ -151,9 +154,9 @@ fn line_order_numbers(fields: &LineFields<'_, 17>, line: u64) -> Result<[u64; 17
 
 // The numbers of a fact row's fields, or nothing where a field does not fit its column. A loop over the columns would tell them apart anew in each row.
 #[inline(always)]
-fn fitting_numbers(fields: &LineFields<'_, 17>) -> Option<[u64; 17]>
-    ensures fits { IfSome result (λ _. (line : ℕ) → fields_fault line 1 lineorder_columns (texts_of fields.now) ≡ None) }
-    ensures numbers { IfSome result (AreNumbers 0 lineorder_columns (texts_of fields.now)) }
+fn fitting_numbers(fields: &FieldsInPlace<'_, '_, 17>) -> Option<[u64; 17]>
+    ensures fits { IfSome result (λ _. (line : ℕ) → fields_fault line 1 lineorder_columns (fields_at fields.now) ≡ None) }
+    ensures numbers { IfSome result (AreNumbers 0 lineorder_columns (fields_at fields.now)) }
 {
     let keys = fitting_keys(fields)?;
     let order = fitting_order(fields)?;
@@ -166,13 +169,13 @@ fn fitting_numbers(fields: &LineFields<'_, 17>) -> Option<[u64; 17]>
 
 // Those of the six keys.
 #[inline(always)]
-fn fitting_keys(fields: &LineFields<'_, 17>) -> Option<(u64, u64, u64, u64, u64, u64)>
-    ensures { IfSome result (λ n. ReadsEach 0 (take 6 lineorder_columns) (texts_of fields.now)
+fn fitting_keys(fields: &FieldsInPlace<'_, '_, 17>) -> Option<(u64, u64, u64, u64, u64, u64)>
+    ensures { IfSome result (λ n. ReadsEach 0 (take 6 lineorder_columns) (fields_at fields.now)
         (n.0 ∷ n.1 ∷ n.2 ∷ n.3 ∷ n.4 ∷ n.5 ∷ [])) }
 {
     Some((
         fitting(AMOUNT, fields, 0)?,
-        fitting(KEY, fields, 1)?,
+        fitting_few_digits(KEY_LIMIT, fields, 1)?,
         fitting(KEY, fields, 2)?,
         fitting(KEY, fields, 3)?,
         fitting(KEY, fields, 4)?,
@@ -182,14 +185,14 @@ fn fitting_keys(fields: &LineFields<'_, 17>) -> Option<(u64, u64, u64, u64, u64,
 
 // Those of the next five, from the priority of the order to its total price.
 #[inline(always)]
-fn fitting_order(fields: &LineFields<'_, 17>) -> Option<(u64, u64, u64, u64, u64)>
-    ensures { IfSome result (λ n. ReadsEach 6 (take 5 (drop 6 lineorder_columns)) (texts_of fields.now)
+fn fitting_order(fields: &FieldsInPlace<'_, '_, 17>) -> Option<(u64, u64, u64, u64, u64)>
+    ensures { IfSome result (λ n. ReadsEach 6 (take 5 (drop 6 lineorder_columns)) (fields_at fields.now)
         (n.0 ∷ n.1 ∷ n.2 ∷ n.3 ∷ n.4 ∷ [])) }
 {
     Some((
         fitting(TEXT, fields, 6)?,
         fitting(TEXT, fields, 7)?,
-        fitting(SMALL, fields, 8)?,
+        fitting_few_digits(SMALL_LIMIT, fields, 8)?,
         fitting(AMOUNT, fields, 9)?,
         fitting(AMOUNT, fields, 10)?,
     ))
@@ -197,15 +200,15 @@ fn fitting_order(fields: &LineFields<'_, 17>) -> Option<(u64, u64, u64, u64, u64
 
 // Those of the last six, from the discount to the ship mode.
 #[inline(always)]
-fn fitting_amounts(fields: &LineFields<'_, 17>) -> Option<(u64, u64, u64, u64, u64, u64)>
-    ensures { IfSome result (λ n. ReadsEach 11 (drop 11 lineorder_columns) (texts_of fields.now)
+fn fitting_amounts(fields: &FieldsInPlace<'_, '_, 17>) -> Option<(u64, u64, u64, u64, u64, u64)>
+    ensures { IfSome result (λ n. ReadsEach 11 (drop 11 lineorder_columns) (fields_at fields.now)
         (n.0 ∷ n.1 ∷ n.2 ∷ n.3 ∷ n.4 ∷ n.5 ∷ [])) }
 {
     Some((
-        fitting(SMALL, fields, 11)?,
+        fitting_few_digits(SMALL_LIMIT, fields, 11)?,
         fitting(AMOUNT, fields, 12)?,
         fitting(AMOUNT, fields, 13)?,
-        fitting(SMALL, fields, 14)?,
+        fitting_few_digits(SMALL_LIMIT, fields, 14)?,
         fitting(TEXT, fields, 15)?,
         fitting(TEXT, fields, 16)?,
     ))
@@ -213,23 +216,23 @@ fn fitting_amounts(fields: &LineFields<'_, 17>) -> Option<(u64, u64, u64, u64, u
 
 // The same column by column, which finds the fault.
 #[inline(never)]
-fn numbers_by_columns(fields: &LineFields<'_, 17>, line: u64) -> Result<[u64; 17], Fault>
-    ensures fits { IfOk result (λ _. fields_fault line 1 lineorder_columns (texts_of fields.now) ≡ None) }
-    ensures numbers { IfOk result (AreNumbers 0 lineorder_columns (texts_of fields.now)) }
-    ensures refused { IfErr result (λ fault. fields_fault line 1 lineorder_columns (texts_of fields.now) ≡ Some fault) }
+fn numbers_by_columns(fields: &FieldsInPlace<'_, '_, 17>, line: u64) -> Result<[u64; 17], Fault>
+    ensures fits { IfOk result (λ _. fields_fault line 1 lineorder_columns (fields_at fields.now) ≡ None) }
+    ensures numbers { IfOk result (AreNumbers 0 lineorder_columns (fields_at fields.now)) }
+    ensures refused { IfErr result (λ fault. fields_fault line 1 lineorder_columns (fields_at fields.now) ≡ Some fault) }
 {
-    numbers_of(&LINEORDER, fields, line)
+    numbers_of(&LINEORDER, &fields.copied(), line)
 }
 
 // The fact row of a line's fields, whose numbers were read. It can only fail for want of memory.
 #[inline]
 fn line_order(
     alloc: Global,
-    fields: &LineFields<'_, 17>,
+    fields: &FieldsInPlace<'_, '_, 17>,
     numbers: &[u64; 17],
 ) -> Result<LineOrder, Fault>
-    requires { AreNumbers 0 lineorder_columns (texts_of fields.now) numbers.now }
-    ensures ok { IfOk result (λ row. row ≡ lineorder_of_fields (texts_of fields.now)) }
+    requires { AreNumbers 0 lineorder_columns (fields_at fields.now) numbers.now }
+    ensures ok { IfOk result (λ row. row ≡ lineorder_of_fields (fields_at fields.now)) }
     ensures err { IfErr result (λ fault. fault ≡ Fault.Memory) }
 {
     let texts = line_order_texts(alloc, fields)?;
@@ -258,10 +261,10 @@ fn line_order(
 #[inline]
 fn line_order_texts(
     alloc: Global,
-    fields: &LineFields<'_, 17>,
+    fields: &FieldsInPlace<'_, '_, 17>,
 ) -> Result<(RowText, RowText, RowText, RowText), Fault>
-    ensures ok { IfOk result (λ texts. (texts.0 ≡ text_in (texts_of fields.now) 6) × (texts.1 ≡ text_in (texts_of fields.now) 7)
-        × (texts.2 ≡ text_in (texts_of fields.now) 15) × (texts.3 ≡ text_in (texts_of fields.now) 16)) }
+    ensures ok { IfOk result (λ texts. (texts.0 ≡ text_in (fields_at fields.now) 6) × (texts.1 ≡ text_in (fields_at fields.now) 7)
+        × (texts.2 ≡ text_in (fields_at fields.now) 15) × (texts.3 ≡ text_in (fields_at fields.now) 16)) }
     ensures err { IfErr result (λ fault. fault ≡ Fault.Memory) }
 {
     let (orderpriority, shippriority) = row_texts(alloc, fields.get(6), fields.get(7))?;

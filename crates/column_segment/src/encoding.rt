@@ -1,12 +1,11 @@
 //! Spelling a batch.
-ghost use Rattle.std.specs.Prelude.{◌≡◌, ◌≤◌, ◌++◌, ◌∷◌, [], List, length, IfOk, IfErr, IsOkUnless, OnOk};
+ghost use Rattle.std.specs.Prelude.{◌≡◌, ◌≤◌, ◌+◌, ◌++◌, [], length, take, IfOk, IfErr, IsOkUnless, OnOk};
 ghost use Rattle.cube_model.specs.Limits.{most_batch_rows};
-ghost use Rattle.cube_model.specs.declared.rows.LineOrder.{LineOrder};
-ghost use Rattle.column_segment.specs.Encoding.{HaveFigures, HaveKeys, HaveTexts};
+ghost use Rattle.column_segment.specs.Encoding.{HaveTexts};
 ghost use Rattle.column_segment.specs.Segment.{IsBatch, header_of, segment_of};
 
 use crate::coding::Texts;
-use crate::gathering::{Figures, Keys};
+use crate::gathering::{Figures, Keys, PIECE};
 use cube_model::{Fault, LineOrder};
 use std::alloc::Global;
 use wire::{push_bytes, push_u32};
@@ -111,43 +110,62 @@ impl Columns {
         self.texts.push_to(out)
     }
 
-    // Adds rows to none. Numbers and texts are written in loops of their own: in one loop there are more columns than a
-    // processor keeps at hand, and that takes longer than to read the rows twice.
+    // Adds rows to none, piece by piece: what all columns take of a piece is read from memory once.
     fn push_rows(&mut self, alloc: Global, rows: &[LineOrder]) -> Result<(), Fault>
         requires few { length rows.now ≤ most_batch_rows }
         requires empty { HaveRows [] self.old }
         ensures ok { OnOk result (HaveRows rows.now self.new) }
         ensures memory { IsOkUnless result Fault.Memory }
     {
-        push_numbers(&mut self.keys, &mut self.figures, rows)?;
-        push_texts(&mut self.texts, alloc, rows)
+        for piece in 0..rows.len().div_ceil(PIECE) {
+            let from = piece * PIECE;
+            let to = rows.len().min(from + PIECE);
+            self.push_piece(alloc, rows, from, to)?;
+        }
+        Ok(())
+    }
+
+    // Adds the rows of a piece, which are those from a place up to another, to those before it. Numbers and texts are
+    // written in loops of their own: a processor does not keep all columns at hand.
+    fn push_piece(
+        &mut self,
+        alloc: Global,
+        rows: &[LineOrder],
+        from: usize,
+        to: usize,
+    ) -> Result<(), Fault>
+        requires few { length rows.now ≤ most_batch_rows }
+        requires order { from ≤ to }
+        requires within { to ≤ length rows.now }
+        requires piece { to ≤ from + PIECE }
+        requires before { HaveRows (take from rows.now) self.old }
+        ensures ok { OnOk result (HaveRows (take to rows.now) self.new) }
+        ensures memory { IsOkUnless result Fault.Memory }
+    {
+        let piece = &rows[from..to];
+        self.keys.push(piece)?;
+        self.figures.push(piece)?;
+        push_texts(&mut self.texts, alloc, rows, from, to)
     }
 }
 
-// Adds the numbers of rows to those of none.
-fn push_numbers(keys: &mut Keys, figures: &mut Figures, rows: &[LineOrder]) -> Result<(), Fault>
-    requires keys { HaveKeys [] keys.old }
-    requires figures { HaveFigures [] figures.old }
-    ensures keys { OnOk result (HaveKeys rows.now keys.new) }
-    ensures figures { OnOk result (HaveFigures rows.now figures.new) }
-    ensures memory { IsOkUnless result Fault.Memory }
-{
-    for row in rows {
-        keys.push(row)?;
-        figures.push(row)?;
-    }
-    Ok(())
-}
-
-// Adds the texts of rows to those of none.
-fn push_texts(texts: &mut Texts, alloc: Global, rows: &[LineOrder]) -> Result<(), Fault>
+// Adds the texts of the rows from a place up to another to those of the rows before.
+fn push_texts(
+    texts: &mut Texts,
+    alloc: Global,
+    rows: &[LineOrder],
+    from: usize,
+    to: usize,
+) -> Result<(), Fault>
     requires few { length rows.now ≤ most_batch_rows }
-    requires empty { HaveTexts [] texts.old }
-    ensures ok { OnOk result (HaveTexts rows.now texts.new) }
+    requires order { from ≤ to }
+    requires within { to ≤ length rows.now }
+    requires before { HaveTexts (take from rows.now) texts.old }
+    ensures ok { OnOk result (HaveTexts (take to rows.now) texts.new) }
     ensures memory { IsOkUnless result Fault.Memory }
 {
-    for row in rows {
-        texts.push(alloc, row)?;
+    for place in from..to {
+        texts.push(alloc, &rows[place])?;
     }
     Ok(())
 }

@@ -1,17 +1,20 @@
 //! The columns of numbers of a batch while its rows are added: the bytes of each row's number, a vector a column.
 #![tactic(auto, unfolding(wire::specs::Spelling::spelling))]
 
-ghost use Rattle.std.specs.Prelude.{◌≡◌, ◌∷◌, ◌++◌, [], List, IfErr, IfOk, IsOkUnless, OnOk};
+ghost use Rattle.std.specs.Prelude.{◌≡◌, ◌≤◌, ◌++◌, [], List, length, IfErr, IfOk, IsOkUnless, OnOk};
 ghost use Rattle.std.specs.List.{flat_map};
 ghost use Rattle.cube_model.specs.declared.rows.LineOrder.{LineOrder};
-ghost use Rattle.wire.specs.Spelling.{spelling};
-ghost use Rattle.column_segment.specs.Columns.{amount_of, byte_of, figure_columns, key_columns, number_of};
+ghost use Rattle.column_segment.specs.Columns.{amounts, bytes, figure_columns, key_columns, numbers};
+ghost use Rattle.column_segment.specs.Encoding.{number_chunks};
 ghost use Rattle.column_segment.specs.Segment.{number_column};
 
 use crate::columns::{AmountColumn, ByteColumn, NumberColumn};
 use cube_model::{Fault, LineOrder};
 use std::alloc::Global;
 use wire::push_bytes;
+
+// How many rows are added at once, column by column: so many lie near the processor until the last column has them.
+pub(crate) const PIECE: usize = 256;
 
 /// The keys of rows.
 #[derive(Drop)]
@@ -42,18 +45,18 @@ impl Keys {
         })
     }
 
-    // Adds those of a row.
-    #[inline(always)]
-    pub(crate) fn push(&mut self, row: &LineOrder) -> Result<(), Fault>
-        ensures ok { OnOk result ((rows : List LineOrder) → HaveKeys rows self.old → HaveKeys (rows ++ row.now ∷ []) self.new) }
+    // Adds those of a piece of rows.
+    pub(crate) fn push(&mut self, rows: &[LineOrder]) -> Result<(), Fault>
+        requires piece { length rows.now ≤ PIECE }
+        ensures ok { OnOk result ((before : List LineOrder) → HaveKeys before self.old → HaveKeys (before ++ rows.now) self.new) }
         ensures memory { IsOkUnless result Fault.Memory }
     {
-        put_amount(&mut self.orderkey, row, AmountColumn::OrderKey)?;
-        put_number(&mut self.linenumber, row, NumberColumn::LineNumber)?;
-        put_number(&mut self.custkey, row, NumberColumn::CustKey)?;
-        put_number(&mut self.partkey, row, NumberColumn::PartKey)?;
-        put_number(&mut self.suppkey, row, NumberColumn::SuppKey)?;
-        put_number(&mut self.orderdate, row, NumberColumn::OrderDate)
+        put_amounts(&mut self.orderkey, rows, AmountColumn::OrderKey)?;
+        put_numbers(&mut self.linenumber, rows, NumberColumn::LineNumber)?;
+        put_numbers(&mut self.custkey, rows, NumberColumn::CustKey)?;
+        put_numbers(&mut self.partkey, rows, NumberColumn::PartKey)?;
+        put_numbers(&mut self.suppkey, rows, NumberColumn::SuppKey)?;
+        put_numbers(&mut self.orderdate, rows, NumberColumn::OrderDate)
     }
 
     // Adds the columns to bytes.
@@ -101,19 +104,19 @@ impl Figures {
         })
     }
 
-    // Adds those of a row.
-    #[inline(always)]
-    pub(crate) fn push(&mut self, row: &LineOrder) -> Result<(), Fault>
-        ensures ok { OnOk result ((rows : List LineOrder) → HaveFigures rows self.old → HaveFigures (rows ++ row.now ∷ []) self.new) }
+    // Adds those of a piece of rows.
+    pub(crate) fn push(&mut self, rows: &[LineOrder]) -> Result<(), Fault>
+        requires piece { length rows.now ≤ PIECE }
+        ensures ok { OnOk result ((before : List LineOrder) → HaveFigures before self.old → HaveFigures (before ++ rows.now) self.new) }
         ensures memory { IsOkUnless result Fault.Memory }
     {
-        put_byte(&mut self.quantity, row, ByteColumn::Quantity)?;
-        put_amount(&mut self.extendedprice, row, AmountColumn::ExtendedPrice)?;
-        put_amount(&mut self.ordtotalprice, row, AmountColumn::OrdTotalPrice)?;
-        put_byte(&mut self.discount, row, ByteColumn::Discount)?;
-        put_amount(&mut self.revenue, row, AmountColumn::Revenue)?;
-        put_amount(&mut self.supplycost, row, AmountColumn::SupplyCost)?;
-        put_byte(&mut self.tax, row, ByteColumn::Tax)
+        put_bytes(&mut self.quantity, rows, ByteColumn::Quantity)?;
+        put_amounts(&mut self.extendedprice, rows, AmountColumn::ExtendedPrice)?;
+        put_amounts(&mut self.ordtotalprice, rows, AmountColumn::OrdTotalPrice)?;
+        put_bytes(&mut self.discount, rows, ByteColumn::Discount)?;
+        put_amounts(&mut self.revenue, rows, AmountColumn::Revenue)?;
+        put_amounts(&mut self.supplycost, rows, AmountColumn::SupplyCost)?;
+        put_bytes(&mut self.tax, rows, ByteColumn::Tax)
     }
 
     // Adds the columns to bytes.
@@ -131,33 +134,48 @@ impl Figures {
     }
 }
 
-// Adds what a row has in a column of amounts.
+// Adds what the rows of a piece have in a column of amounts.
 #[inline(always)]
-fn put_amount(to: &mut Vec<[u8; 8]>, row: &LineOrder, column: AmountColumn) -> Result<(), Fault>
-    ensures ok { OnOk result (to.new.items ≡ to.old.items ++ spelling 8 (amount_of column row.now) ∷ []) }
+fn put_amounts(to: &mut Vec<[u8; 8]>, rows: &[LineOrder], column: AmountColumn) -> Result<(), Fault>
+    requires piece { length rows.now ≤ PIECE }
+    ensures ok { OnOk result (to.new.items ≡ to.old.items ++ number_chunks (amounts column) rows.now) }
     ensures memory { IsOkUnless result Fault.Memory }
 {
-    to.push(u64::to_le_bytes(column.of(row)))?;
+    let mut chunks = [[0u8; 8]; PIECE];
+    for (place, row) in rows.iter().enumerate() {
+        chunks[place] = u64::to_le_bytes(column.of(row));
+    }
+    to.extend_from_slice(&chunks[..rows.len()])?;
     Ok(())
 }
 
-// Adds what a row has in a column of numbers.
+// Adds what the rows of a piece have in a column of numbers.
 #[inline(always)]
-fn put_number(to: &mut Vec<[u8; 4]>, row: &LineOrder, column: NumberColumn) -> Result<(), Fault>
-    ensures ok { OnOk result (to.new.items ≡ to.old.items ++ spelling 4 (number_of column row.now) ∷ []) }
+fn put_numbers(to: &mut Vec<[u8; 4]>, rows: &[LineOrder], column: NumberColumn) -> Result<(), Fault>
+    requires piece { length rows.now ≤ PIECE }
+    ensures ok { OnOk result (to.new.items ≡ to.old.items ++ number_chunks (numbers column) rows.now) }
     ensures memory { IsOkUnless result Fault.Memory }
 {
-    to.push(u32::to_le_bytes(column.of(row)))?;
+    let mut chunks = [[0u8; 4]; PIECE];
+    for (place, row) in rows.iter().enumerate() {
+        chunks[place] = u32::to_le_bytes(column.of(row));
+    }
+    to.extend_from_slice(&chunks[..rows.len()])?;
     Ok(())
 }
 
-// Adds what a row has in a column of small numbers.
+// Adds what the rows of a piece have in a column of small numbers.
 #[inline(always)]
-fn put_byte(to: &mut Vec<[u8; 1]>, row: &LineOrder, column: ByteColumn) -> Result<(), Fault>
-    ensures ok { OnOk result (to.new.items ≡ to.old.items ++ spelling 1 (byte_of column row.now) ∷ []) }
+fn put_bytes(to: &mut Vec<[u8; 1]>, rows: &[LineOrder], column: ByteColumn) -> Result<(), Fault>
+    requires piece { length rows.now ≤ PIECE }
+    ensures ok { OnOk result (to.new.items ≡ to.old.items ++ number_chunks (bytes column) rows.now) }
     ensures memory { IsOkUnless result Fault.Memory }
 {
-    to.push(u8::to_le_bytes(column.of(row)))?;
+    let mut chunks = [[0u8; 1]; PIECE];
+    for (place, row) in rows.iter().enumerate() {
+        chunks[place] = u8::to_le_bytes(column.of(row));
+    }
+    to.extend_from_slice(&chunks[..rows.len()])?;
     Ok(())
 }
 

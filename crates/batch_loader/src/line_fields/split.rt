@@ -1,6 +1,6 @@
 //! Splitting a line at its bars.
-ghost use Rattle.std.specs.Prelude.{◌≡◌, Some, None, MatchOption, MatchResult};
-ghost use Rattle.batch_loader.specs.Fields.{without_cr, fields_of};
+ghost use Rattle.std.specs.Prelude.{◌≡◌, Some, None, IfSome, MatchOption, MatchResult};
+ghost use Rattle.batch_loader.specs.Fields.{AreEnds, fields_of, parts_at, without_cr};
 ghost use Rattle.batch_loader.specs.LineFields.{texts_of};
 
 use super::LineFields;
@@ -12,19 +12,20 @@ use cube_model::Fault;
 pub fn fields<const N: usize>(line: &[u8], number: u64) -> Result<LineFields<'_, N>, Fault>
     ensures { MatchResult result (λ fields. fields_of N line.now ≡ Some (texts_of fields)) (λ fault. (fields_of N line.now ≡ None) × (fault ≡ Fault.FieldCount number)) }
 {
-    match fields_in(line) {
-        Some(fields) => Ok(fields),
+    let mut ends = [0usize; N];
+    match split(line, &mut ends) {
+        Some(text) => Ok(LineFields { line: text, ends }),
         None => Err(Fault::FieldCount { line: number }),
     }
 }
 
-/// The fields of a line, if it spells N of them.
+/// Splits a line, if it spells N fields: the line without its CR, and in `ends` where each field ends.
 #[inline(always)]
-pub fn fields_in<const N: usize>(line: &[u8]) -> Option<LineFields<'_, N>>
-    ensures { MatchOption result (fields_of N line.now ≡ None) (λ fields. fields_of N line.now ≡ Some (texts_of fields)) }
+pub fn split<'a, const N: usize>(line: &'a [u8], ends: &mut [usize; N]) -> Option<&'a [u8]>
+    ensures split { MatchOption result (fields_of N line.now ≡ None) (λ text. fields_of N line.now ≡ Some (parts_at text.now 0 ends.new)) }
+    ensures within { IfSome result (λ text. AreEnds text.now ends.new) }
 {
     let text = without_cr(line);
-    let mut ends = [0usize; N];
     let mut from = 0;
     let mut window = first_window(text);
     for place in 0..N {
@@ -38,7 +39,7 @@ pub fn fields_in<const N: usize>(line: &[u8]) -> Option<LineFields<'_, N>>
     if from < text.len() {
         return None;
     }
-    Some(LineFields { line: text, ends })
+    Some(text)
 }
 
 /// A line without its CR.

@@ -1,7 +1,7 @@
 use Rattle.std.proofs.Common.{◌≡◌, ◌<◌, ◌≤◌, length}
 use Rattle.batch_loader.specs.Bars.{AreBarsBehind}
 use Rattle.batch_loader.proofs.Splitting.{IsSplitting}
-use Rattle.batch_loader.proofs.line_fields.split.fields_in.Given as goal
+use Rattle.batch_loader.proofs.line_fields.split.split.Given as goal
 
 abbrev pub invariant-loop-place : goal.invariant-loop-place
 invariant-loop-place g l = record {

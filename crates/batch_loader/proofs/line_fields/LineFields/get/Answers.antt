@@ -1,6 +1,0 @@
-use Rattle.std.proofs.Common.{arith}
-use Rattle.batch_loader.proofs.Parts.{part-at}
-use Rattle.batch_loader.proofs.line_fields.LineFields.get.Goals as goal
-
-pub returns : goal.returns
-returns g c = rw c.start.ensures.start (part-at c.args.self.now.line.now c.args.self.now.ends c.args.place (omega arith))
