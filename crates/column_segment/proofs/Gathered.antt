@@ -1,8 +1,8 @@
 -- Columns that were gathered row by row. Our own.
-use Rattle.std.proofs.Common.{◌≡◌, ◌<◌, ◌≤◌, ◌+◌, ◌-◌, ◌∙◌, sym, ap, refl, subst, arith, ℕ, List, [], ◌∷◌, ◌++◌, map, length, take, get_or, set, slice_range}
+use Rattle.std.proofs.Common.{◌≡◌, ◌<◌, ◌≤◌, ◌+◌, ◌-◌, ◌∙◌, sym, ap, refl, arith, ℕ, List, [], ◌∷◌, ◌++◌, map, length, take, slice_range}
 use Rattle.std.specs.List.{flat_map}
 use Rattle.std.proofs.Math.Seq.{take-add}
-use Rattle.std.proofs.lemmas.List.{flat_map_more, map-append, take_more, take_more_set}
+use Rattle.std.proofs.lemmas.List.{flat_map_more, map-append}
 use Rattle.cube_model.specs.Limits.{most_batch_rows}
 use Rattle.cube_model.specs.declared.rows.LineOrder.{LineOrder}
 use Rattle.wire.specs.Spelling.{spelling}
@@ -51,31 +51,12 @@ room_left rows i texts have lt few = record {
 
 -- ---- pieces of rows
 
--- the bytes of one row more, put over others
-pub chunk_put : (column : Column) (rows : List LineOrder) (i : ℕ) (row : LineOrder) (chunks : List (List ℕ)) (chunk : List ℕ) → i < length rows → row ≡ get_or rows i row
-    → i < length chunks → take i chunks ≡ number_chunks column (take i rows) → chunk ≡ spelling column.width (column.value row)
-    → take (i + 1) (set chunks i chunk) ≡ number_chunks column (take (i + 1) rows)
-chunk_put column rows i row chunks chunk lt is fits so_far spelled =
-    take_more_set chunks i chunk fits
-    ∙ ap (λ (l : List (List ℕ)). l ++ chunk ∷ []) so_far
-    ∙ ap (λ (l : List ℕ). number_chunks column (take i rows) ++ l ∷ []) spelled
-    ∙ ap (λ (r : LineOrder). number_chunks column (take i rows) ++ spelling column.width (column.value r) ∷ []) is
-    ∙ sym (ap (number_chunks column) (take_more rows i row lt) ∙ map-append (λ (r : LineOrder). spelling column.width (column.value r)) (take i rows) (get_or rows i row ∷ []))
-
 -- the bytes of a piece behind those of the rows before
 pub chunks_behind : (column : Column) (before piece : List LineOrder) (old new : List (List ℕ)) → old ≡ number_chunks column before → new ≡ old ++ number_chunks column piece
     → new ≡ number_chunks column (before ++ piece)
 chunks_behind column before piece old new are put =
     put ∙ ap (λ (l : List (List ℕ)). l ++ number_chunks column piece) are
     ∙ sym (map-append (λ (r : LineOrder). spelling column.width (column.value r)) before piece)
-
--- ---- rows
-
--- what holds of the first rows and the next one holds of one more
-pub with_next : (P : List LineOrder → Type 0) (rows : List LineOrder) (i : ℕ) (row : LineOrder) → i < length rows → row ≡ get_or rows i row
-    → P (take i rows ++ row ∷ []) → P (take (i + 1) rows)
-with_next P rows i row lt is holds =
-    subst P (ap (λ (r : LineOrder). take i rows ++ r ∷ []) is ∙ sym (take_more rows i row lt)) holds
 
 -- a piece behind the rows before it
 pub with_piece : (rows : List LineOrder) (from to : ℕ) → from ≤ to → take from rows ++ slice_range rows from to ≡ take to rows

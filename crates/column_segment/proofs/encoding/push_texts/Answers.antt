@@ -1,4 +1,4 @@
-use Rattle.std.proofs.Common.{◌<◌, ◌≤◌, arith, length}
+use Rattle.std.proofs.Common.{arith}
 use Rattle.column_segment.proofs.Gathered.{room_left}
 use Rattle.column_segment.proofs.encoding.push_texts.Goals as goal
 
