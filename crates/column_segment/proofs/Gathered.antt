@@ -1,4 +1,4 @@
--- Columns that were gathered row by row. Our own.
+-- Columns that were gathered, numbers piece by piece and texts row by row. Our own.
 use Rattle.std.proofs.Common.{◌≡◌, ◌<◌, ◌≤◌, ◌+◌, ◌-◌, ◌∙◌, sym, ap, refl, arith, ℕ, List, [], ◌∷◌, ◌++◌, map, length, take, slice_range}
 use Rattle.std.specs.List.{flat_map}
 use Rattle.std.proofs.Math.Seq.{take-add}

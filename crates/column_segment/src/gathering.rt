@@ -1,4 +1,4 @@
-//! The columns of numbers of a batch while its rows are added: the bytes of each row's number, a vector a column.
+//! The columns of numbers of a batch while its rows are added, a piece at a time: the bytes of each row's number, a vector a column.
 #![tactic(auto, unfolding(wire::specs::Spelling::spelling))]
 
 ghost use Rattle.std.specs.Prelude.{◌≡◌, ◌≤◌, ◌++◌, [], List, length, IfErr, IfOk, IsOkUnless, OnOk};
