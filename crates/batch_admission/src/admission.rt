@@ -111,9 +111,12 @@ impl Admission {
 
     /// Takes a batch in by what was found in its rows, or answers the first cause for which it is refused.
     pub fn admit_found(&mut self, number: u32, found: &Findings) -> Result<(), Fault>
-        ensures { (dimensions : DimRows) (batches : List (List LineOrder)) (rows : List LineOrder)
+        ensures admits { (dimensions : DimRows) (batches : List (List LineOrder)) (rows : List LineOrder)
             → StandsBehind self.old batches → found.now ≡ found_in dimensions self.old.totals rows
             → Admits dimensions self.old self.new number rows (result_err result) batches }
+        ensures follows { OnOk result ((dimensions : DimRows) (rows : List LineOrder)
+            → found.now ≡ found_in dimensions self.old.totals rows → CanFollow self.old.count number rows) }
+        ensures clean { OnOk result (cause_of found.now ≡ None) }
     {
         self.check_number(number)?;
         self.keep(number, found)

@@ -1,6 +1,6 @@
 -- A column of texts while it is being coded. Our own.
 use Rattle.std.proofs.Common.{◌≡◌, ◌<◌, ◌≤◌, ◌+◌, ◌∙◌, sym, ap, subst, arith, ℕ, Some, List, [], ◌∷◌, ◌++◌, map, length, take, get_or, append_assoc}
-use Rattle.std.proofs.lemmas.List.{flat_map_more, length-map, length-take-le, map-append, take_more}
+use Rattle.std.proofs.lemmas.List.{flat_map_more, length-map, map-append, take_more}
 use Rattle.std.proofs.lemmas.List.Elements.{All-map}
 use Rattle.cube_model.specs.Limits.{longest_text, most_batch_rows}
 use Rattle.cube_model.specs.declared.rows.LineOrder.{LineOrder}
@@ -39,11 +39,6 @@ row_more column rows i row text lt is text_is =
     ap (map (text_of column)) (take_more rows i row lt) ∙ map-append (text_of column) (take i rows) (get_or rows i row ∷ [])
     ∙ ap (λ (r : LineOrder). map (text_of column) (take i rows) ++ text_of column r ∷ []) (sym is)
     ∙ ap (λ (t : List ℕ). map (text_of column) (take i rows) ++ t ∷ []) (sym text_is)
-
--- before the last row fewer texts were coded than a batch may have rows
-pub fewer : (column : TextColumn) (rows : List LineOrder) (i : ℕ) → i < length rows → length rows ≤ most_batch_rows
-    → length (map (text_of column) (take i rows)) < most_batch_rows
-fewer column rows i lt few = omega (arith, length-map (take i rows) (text_of column), length-take-le i rows (omega arith))
 
 -- the texts of a column's dictionary are short
 pub texts_short : (column : TextColumn) (rows : List LineOrder) (texts : Texts) (codes : List ℕ) → AreCoded (map (text_of column) rows) texts codes

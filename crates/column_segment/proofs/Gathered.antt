@@ -1,8 +1,8 @@
 -- Columns that were gathered, numbers piece by piece and texts row by row. Our own.
-use Rattle.std.proofs.Common.{◌≡◌, ◌<◌, ◌≤◌, ◌+◌, ◌-◌, ◌∙◌, sym, ap, refl, arith, ℕ, List, [], ◌∷◌, ◌++◌, map, length, take, slice_range}
+use Rattle.std.proofs.Common.{◌≡◌, ◌<◌, ◌≤◌, ◌+◌, ◌-◌, ◌∙◌, sym, ap, refl, arith, ℕ, List, [], ◌∷◌, ◌++◌, map, length, take, get_or, slice_range, length-append, append_assoc}
 use Rattle.std.specs.List.{flat_map}
 use Rattle.std.proofs.Math.Seq.{take-add}
-use Rattle.std.proofs.lemmas.List.{flat_map_more, map-append}
+use Rattle.std.proofs.lemmas.List.{flat_map_more, length-map, length-take-le, map-append, take_more}
 use Rattle.cube_model.specs.Limits.{most_batch_rows}
 use Rattle.cube_model.specs.declared.rows.LineOrder.{LineOrder}
 use Rattle.wire.specs.Spelling.{spelling}
@@ -13,7 +13,7 @@ use Rattle.column_segment.specs.declared.coding.Coding.{Coding}
 use Rattle.column_segment.specs.declared.coding.Texts.{Texts}
 use Rattle.column_segment.specs.declared.columns.TextColumn.{TextColumn}
 use Rattle.column_segment.specs.declared.columns.TextColumn.TheVariants.{OrderPriority, ShipPriority, CommitDate, ShipMode}
-use Rattle.column_segment.proofs.Coded.{fewer, has_room}
+use Rattle.column_segment.proofs.Coded.{has_room}
 
 -- ---- numbers
 
@@ -33,21 +33,24 @@ column_behind column rows items slice s0 s1 are same put =
 pub flat_more : (old new : List (List ℕ)) (chunk : List ℕ) → new ≡ old ++ chunk ∷ [] → flat_map (λ code. code) new ≡ flat_map (λ code. code) old ++ chunk
 flat_more old new chunk put = ap (flat_map (λ code. code)) put ∙ sym (flat_map_more (λ (code : List ℕ). code) [] old chunk)
 
-one_room : (column : TextColumn) (rows : List LineOrder) (i : ℕ) (coding : Coding) → IsCoding (map (text_of column) (take i rows)) coding → i < length rows
-    → length rows ≤ most_batch_rows → HasRoom coding
-one_room column rows i coding are lt few = record {
-  room = has_room (map (text_of column) (take i rows)) coding.texts (flat_map (λ code. code) coding.codes.items) are (fewer column rows i lt few);
+one_room : (column : TextColumn) (rows : List LineOrder) (coding : Coding) → IsCoding (map (text_of column) rows) coding → length rows < most_batch_rows → HasRoom coding
+one_room column rows coding are few = record {
+  room = has_room (map (text_of column) rows) coding.texts (flat_map (λ code. code) coding.codes.items) are (omega (arith, length-map rows (text_of column), few));
   limit = omega (arith, are.limit);
 }
 
--- before the last row there is room for one more
-pub room_left : (rows : List LineOrder) (i : ℕ) (texts : Texts) → HaveTexts (take i rows) texts → i < length rows → length rows ≤ most_batch_rows → HaveRoom texts
-room_left rows i texts have lt few = record {
-  orderpriority = one_room OrderPriority rows i texts.orderpriority have.orderpriority lt few;
-  shippriority = one_room ShipPriority rows i texts.shippriority have.shippriority lt few;
-  commitdate = one_room CommitDate rows i texts.commitdate have.commitdate lt few;
-  shipmode = one_room ShipMode rows i texts.shipmode have.shipmode lt few;
+-- behind fewer rows than a batch may have there is room for one more
+pub room_left : (rows : List LineOrder) (texts : Texts) → HaveTexts rows texts → length rows < most_batch_rows → HaveRoom texts
+room_left rows texts have few = record {
+  orderpriority = one_room OrderPriority rows texts.orderpriority have.orderpriority few;
+  shippriority = one_room ShipPriority rows texts.shippriority have.shippriority few;
+  commitdate = one_room CommitDate rows texts.commitdate have.commitdate few;
+  shipmode = one_room ShipMode rows texts.shipmode have.shipmode few;
 }
+
+-- so many of further rows behind the rows before them
+pub length_behind : (before rows : List LineOrder) (i : ℕ) → i ≤ length rows → length (before ++ take i rows) ≡ length before + i
+length_behind before rows i le = length-append before (take i rows) ∙ ap (λ (n : ℕ). length before + n) (length-take-le i rows le)
 
 -- ---- pieces of rows
 
@@ -58,8 +61,13 @@ chunks_behind column before piece old new are put =
     put ∙ ap (λ (l : List (List ℕ)). l ++ number_chunks column piece) are
     ∙ sym (map-append (λ (r : LineOrder). spelling column.width (column.value r)) before piece)
 
--- a piece behind the rows before it
-pub with_piece : (rows : List LineOrder) (from to : ℕ) → from ≤ to → take from rows ++ slice_range rows from to ≡ take to rows
-with_piece rows from to order =
+-- one row more of further rows
+pub one_behind : (before rows : List LineOrder) (i : ℕ) (row : LineOrder) → i < length rows → row ≡ get_or rows i row → (before ++ take i rows) ++ row ∷ [] ≡ before ++ take (i + 1) rows
+one_behind before rows i row lt is = append_assoc before (take i rows) (row ∷ []) ∙ ap (λ (l : List LineOrder). before ++ l) (ap (λ (r : LineOrder). take i rows ++ r ∷ []) is ∙ sym (take_more rows i row lt))
+
+-- one piece more of them
+pub piece_behind : (before rows : List LineOrder) (from to : ℕ) → from ≤ to → (before ++ take from rows) ++ slice_range rows from to ≡ before ++ take to rows
+piece_behind before rows from to order =
     let width : from + (to - from) ≡ to = omega (arith, order) in
-    sym (take-add from (to - from) rows) ∙ ap (λ (n : ℕ). take n rows) width
+    append_assoc before (take from rows) (slice_range rows from to)
+    ∙ ap (λ (l : List LineOrder). before ++ l) (sym (take-add from (to - from) rows) ∙ ap (λ (n : ℕ). take n rows) width)

@@ -1,5 +1,5 @@
 -- What was written of some rows while a batch is spelled, column by column. Our own.
-use Rattle.std.specs.Prelude.{◌≡◌, ◌<◌, ◌≤◌, ℕ, List, length, map}
+use Rattle.std.specs.Prelude.{◌≡◌, ◌<◌, ◌≤◌, ◌+◌, ℕ, List, length, map}
 use Rattle.std.specs.List.{flat_map}
 use Rattle.cube_model.specs.Limits.{most_batch_rows}
 use Rattle.cube_model.specs.declared.rows.LineOrder.{LineOrder}
@@ -12,7 +12,7 @@ use Rattle.column_segment.specs.declared.gathering.Keys.{Keys}
 use Rattle.column_segment.specs.declared.gathering.Figures.{Figures}
 use Rattle.column_segment.specs.declared.coding.Coding.{Coding}
 use Rattle.column_segment.specs.declared.coding.Texts.{Texts}
-use Rattle.column_segment.specs.declared.encoding.Columns.{Columns}
+use Rattle.column_segment.specs.declared.encoding.BatchColumns.{BatchColumns}
 use Rattle.column_segment.specs.Coding.{AreCoded}
 use Rattle.column_segment.specs.Columns.{Column, amounts, bytes, numbers, text_of}
 use Rattle.column_segment.specs.Segment.{IsBatch}
@@ -52,7 +52,7 @@ pub record HaveTexts (rows : List LineOrder) (texts : Texts) : Type 0 where
   pub shipmode : IsCoding (map (text_of ShipMode) rows) texts.shipmode
 
 -- all columns are those of the rows
-pub record HaveRows (rows : List LineOrder) (columns : Columns) : Type 0 where
+pub record HaveRows (rows : List LineOrder) (columns : BatchColumns) : Type 0 where
   pub keys : HaveKeys rows columns.keys
   pub figures : HaveFigures rows columns.figures
   pub texts : HaveTexts rows columns.texts
@@ -72,3 +72,15 @@ pub record HaveRoom (texts : Texts) : Type 0 where
 -- the columns of texts are those of some batch
 abbrev pub AreOfBatch : Texts → Type 0
 AreOfBatch texts = (rows : List LineOrder) × HaveTexts rows texts × IsBatch rows
+
+-- all columns are those of some batch
+abbrev pub AreColumnsOfBatch : BatchColumns → Type 0
+AreColumnsOfBatch columns = (rows : List LineOrder) × HaveRows rows columns × IsBatch rows
+
+-- the columns of texts are those of some rows, which are few enough for so many more in a batch
+abbrev pub HaveFewTexts : ℕ → Texts → Type 0
+HaveFewTexts more texts = (rows : List LineOrder) × HaveTexts rows texts × (length rows + more ≤ most_batch_rows)
+
+-- all columns are
+abbrev pub HaveFew : ℕ → BatchColumns → Type 0
+HaveFew more columns = (rows : List LineOrder) × HaveRows rows columns × (length rows + more ≤ most_batch_rows)

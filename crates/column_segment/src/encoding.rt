@@ -1,7 +1,8 @@
 //! Spelling a batch.
-ghost use Rattle.std.specs.Prelude.{◌≡◌, ◌≤◌, ◌+◌, ◌++◌, [], length, take, IfOk, IfErr, IsOkUnless, OnOk};
+ghost use Rattle.std.specs.Prelude.{◌≡◌, ◌≤◌, ◌+◌, ◌++◌, [], List, length, IfOk, IfErr, IsOkUnless, OnOk};
 ghost use Rattle.cube_model.specs.Limits.{most_batch_rows};
-ghost use Rattle.column_segment.specs.Encoding.{HaveTexts};
+ghost use Rattle.cube_model.specs.declared.rows.LineOrder.{LineOrder};
+ghost use Rattle.column_segment.specs.Encoding.{HaveFewTexts, HaveTexts};
 ghost use Rattle.column_segment.specs.Segment.{IsBatch, header_of, segment_of};
 
 use crate::coding::Texts;
@@ -28,24 +29,9 @@ pub fn encode(alloc: Global, number: u32, rows: &[LineOrder]) -> Result<Vec<u8>,
     ensures ok { IfOk result (λ bytes. bytes.items ≡ segment_of number rows.now) }
     ensures memory { IfErr result (λ fault. fault ≡ Fault.Memory) }
 {
-    let mut out = Vec::with_capacity(alloc, OTHER_BYTES + ROW_BYTES * rows.len())?;
-    push_batch(alloc, &mut out, number, rows)?;
-    Ok(out)
-}
-
-// Adds a batch to bytes.
-fn push_batch(
-    alloc: Global,
-    out: &mut Vec<u8>,
-    number: u32,
-    rows: &[LineOrder],
-) -> Result<(), Fault>
-    requires batch { IsBatch rows.now }
-    ensures ok { OnOk result (out.new.items ≡ out.old.items ++ segment_of number rows.now) }
-    ensures memory { IsOkUnless result Fault.Memory }
-{
-    let mut columns = Columns::new(alloc, rows.len())?;
-    columns.spell(alloc, out, number, rows)
+    let mut columns = BatchColumns::new(alloc, rows.len())?;
+    columns.push(alloc, rows)?;
+    columns.encode(alloc, number)
 }
 
 fn push_header(out: &mut Vec<u8>, number: u32, rows: u32) -> Result<(), Fault>
@@ -57,17 +43,19 @@ fn push_header(out: &mut Vec<u8>, number: u32, rows: u32) -> Result<(), Fault>
     push_u32(out, rows)
 }
 
-/// All columns of a batch while its rows are added.
-pub(crate) struct Columns {
+/// The columns of a batch while its rows are added. Contracts say of which rows they are the columns.
+///
+/// Rows that are added a few hundred at a time are read while they lie near the processor still.
+pub struct BatchColumns {
     keys: Keys,
     figures: Figures,
     texts: Texts,
 }
 
 // Written out, so that a proof has one call to follow where the columns are let go.
-impl Drop for Columns {
+impl Drop for BatchColumns {
     fn drop(self) {
-        let Columns {
+        let BatchColumns {
             keys: _,
             figures: _,
             texts: _,
@@ -75,96 +63,79 @@ impl Drop for Columns {
     }
 }
 
-impl Columns {
-    ghost use Rattle.column_segment.specs.Encoding.{HaveRows};
+impl BatchColumns {
+    ghost use Rattle.column_segment.specs.Encoding.{AreColumnsOfBatch, HaveFew, HaveRows};
 
-    // Those of no row, with room for so many.
-    fn new(alloc: Global, rows: usize) -> Result<Columns, Fault>
+    /// Those of no row, with room for so many rows.
+    pub fn new(alloc: Global, rows: usize) -> Result<BatchColumns, Fault>
         ensures ok { IfOk result (HaveRows []) }
         ensures memory { IfErr result (λ fault. fault ≡ Fault.Memory) }
     {
-        Ok(Columns {
+        Ok(BatchColumns {
             keys: Keys::new(alloc, rows)?,
             figures: Figures::new(alloc, rows)?,
             texts: Texts::new(alloc, rows)?,
         })
     }
 
-    // Adds rows to none, and then all of it to bytes as a batch.
-    fn spell(
-        &mut self,
-        alloc: Global,
-        out: &mut Vec<u8>,
-        number: u32,
-        rows: &[LineOrder],
-    ) -> Result<(), Fault>
-        requires batch { IsBatch rows.now }
-        requires empty { HaveRows [] self.old }
-        ensures ok { OnOk result (out.new.items ≡ out.old.items ++ segment_of number rows.now) }
-        ensures memory { IsOkUnless result Fault.Memory }
-    {
-        self.push_rows(alloc, rows)?;
-        push_header(out, number, rows.len() as u32)?;
-        self.keys.push_to(out)?;
-        self.figures.push_to(out)?;
-        self.texts.push_to(out)
-    }
-
-    // Adds rows to none, piece by piece: what all columns take of a piece is read from memory once.
-    fn push_rows(&mut self, alloc: Global, rows: &[LineOrder]) -> Result<(), Fault>
-        requires few { length rows.now ≤ most_batch_rows }
-        requires empty { HaveRows [] self.old }
-        ensures ok { OnOk result (HaveRows rows.now self.new) }
+    /// Adds rows behind those before, with which they are at most 65,536. It can only fail for want of memory.
+    pub fn push(&mut self, alloc: Global, rows: &[LineOrder]) -> Result<(), Fault>
+        requires few { HaveFew (length rows.now) self.old }
+        ensures ok { OnOk result ((before : List LineOrder) → HaveRows before self.old → HaveRows (before ++ rows.now) self.new) }
         ensures memory { IsOkUnless result Fault.Memory }
     {
         for piece in 0..rows.len().div_ceil(PIECE) {
             let from = piece * PIECE;
             let to = rows.len().min(from + PIECE);
-            self.push_piece(alloc, rows, from, to)?;
+            self.push_piece(alloc, &rows[from..to])?;
         }
         Ok(())
     }
 
-    // Adds the rows of a piece, which are those from a place up to another, to those before it. Numbers and texts are
-    // written in loops of their own: a processor does not keep all columns at hand.
-    fn push_piece(
-        &mut self,
-        alloc: Global,
-        rows: &[LineOrder],
-        from: usize,
-        to: usize,
-    ) -> Result<(), Fault>
-        requires few { length rows.now ≤ most_batch_rows }
-        requires order { from ≤ to }
-        requires within { to ≤ length rows.now }
-        requires piece { to ≤ from + PIECE }
-        requires before { HaveRows (take from rows.now) self.old }
-        ensures ok { OnOk result (HaveRows (take to rows.now) self.new) }
+    // Adds the rows of a piece. Numbers and texts are written in loops of their own: a processor does not keep all columns
+    // at hand.
+    fn push_piece(&mut self, alloc: Global, rows: &[LineOrder]) -> Result<(), Fault>
+        requires piece { length rows.now ≤ PIECE }
+        requires few { HaveFew (length rows.now) self.old }
+        ensures ok { OnOk result ((before : List LineOrder) → HaveRows before self.old → HaveRows (before ++ rows.now) self.new) }
         ensures memory { IsOkUnless result Fault.Memory }
     {
-        let piece = &rows[from..to];
-        self.keys.push(piece)?;
-        self.figures.push(piece)?;
-        push_texts(&mut self.texts, alloc, rows, from, to)
+        self.keys.push(rows)?;
+        self.figures.push(rows)?;
+        push_texts(&mut self.texts, alloc, rows)
+    }
+
+    /// The bytes of the batch. It can only fail for want of memory.
+    pub fn encode(&self, alloc: Global, number: u32) -> Result<Vec<u8>, Fault>
+        requires batch { AreColumnsOfBatch self.now }
+        ensures ok { IfOk result (λ bytes. (rows : List LineOrder) → HaveRows rows self.now → bytes.items ≡ segment_of number rows) }
+        ensures memory { IfErr result (λ fault. fault ≡ Fault.Memory) }
+    {
+        let mut out = Vec::with_capacity(alloc, OTHER_BYTES + ROW_BYTES * self.keys.len())?;
+        self.push_to(&mut out, number)?;
+        Ok(out)
+    }
+
+    // Adds the batch to bytes.
+    fn push_to(&self, out: &mut Vec<u8>, number: u32) -> Result<(), Fault>
+        requires batch { AreColumnsOfBatch self.now }
+        ensures ok { OnOk result ((rows : List LineOrder) → HaveRows rows self.now → out.new.items ≡ out.old.items ++ segment_of number rows) }
+        ensures memory { IsOkUnless result Fault.Memory }
+    {
+        push_header(out, number, self.keys.len() as u32)?;
+        self.keys.push_to(out)?;
+        self.figures.push_to(out)?;
+        self.texts.push_to(out)
     }
 }
 
-// Adds the texts of the rows from a place up to another to those of the rows before.
-fn push_texts(
-    texts: &mut Texts,
-    alloc: Global,
-    rows: &[LineOrder],
-    from: usize,
-    to: usize,
-) -> Result<(), Fault>
-    requires few { length rows.now ≤ most_batch_rows }
-    requires order { from ≤ to }
-    requires within { to ≤ length rows.now }
-    requires before { HaveTexts (take from rows.now) texts.old }
-    ensures ok { OnOk result (HaveTexts (take to rows.now) texts.new) }
+// Adds the texts of rows.
+fn push_texts(texts: &mut Texts, alloc: Global, rows: &[LineOrder]) -> Result<(), Fault>
+    requires few { HaveFewTexts (length rows.now) texts.old }
+    ensures ok { OnOk result ((before : List LineOrder) → HaveTexts before texts.old → HaveTexts (before ++ rows.now) texts.new) }
     ensures memory { IsOkUnless result Fault.Memory }
 {
-    for place in from..to {
+    for place in 0..rows.len() {
         texts.push(alloc, &rows[place])?;
     }
     Ok(())

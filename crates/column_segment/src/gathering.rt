@@ -45,6 +45,13 @@ impl Keys {
         })
     }
 
+    // How many rows there are.
+    pub(crate) fn len(&self) -> usize
+        ensures { (rows : List LineOrder) → HaveKeys rows self.now → result ≡ length rows }
+    {
+        self.orderkey.len()
+    }
+
     // Adds those of a piece of rows.
     pub(crate) fn push(&mut self, rows: &[LineOrder]) -> Result<(), Fault>
         requires piece { length rows.now ≤ PIECE }

@@ -18,7 +18,7 @@ mod sums;
 
 pub use batch::is_batch;
 pub use columns::{AmountColumn, ByteColumn, FactColumn, NumberColumn, TextColumn};
-pub use encoding::encode;
+pub use encoding::{BatchColumns, encode};
 pub use laws::bytes_are_one_batch;
 pub use segment::{Segment, decode};
 pub use sources::decode_from;

@@ -16,7 +16,12 @@ fn sample_dims(alloc: Global) -> Result<Dims, Fault> {
 
 /// A warehouse without batches on a memory disk.
 pub(crate) fn created(alloc: Global) -> Result<Session<MemDisk>, Fault> {
-    let device = MemDisk::new(alloc, 64)?;
+    created_on(alloc, 64)
+}
+
+/// The same on one of so many sectors.
+pub(crate) fn created_on(alloc: Global, sectors: u32) -> Result<Session<MemDisk>, Fault> {
+    let device = MemDisk::new(alloc, sectors)?;
     match create(alloc, device, sample_dims(alloc)?) {
         Ok(session) => Ok(session),
         Err((fault, _)) => Err(fault),

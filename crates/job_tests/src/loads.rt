@@ -1,5 +1,5 @@
 //! Loads one after the other, each with what it writes and what comes of it.
-use crate::given::{created, loaded};
+use crate::given::{created, created_on, first_lines, loaded};
 use crate::loads::File::{Sample, Text};
 use cube_model::Fault;
 use sample_star::TABLES;
@@ -157,5 +157,42 @@ fn first_other(alloc: Global) -> Result<Option<(usize, usize)>, Fault> {
 #[test]
 fn loads_write_a_line_a_batch(rt: HostRuntime) -> Result<(), Fail> {
     assert_eq!(rt; first_other(rt.alloc())?, None);
+    Ok(())
+}
+
+/// The sample's first fact line, so many times.
+fn repeated(alloc: Global, count: usize) -> Result<Vec<u8>, Fault> {
+    let line = first_lines(TABLES.lineorder, 1);
+    let mut text = Vec::new(alloc);
+    for _ in 0..count {
+        text.extend_from_slice(line)?;
+    }
+    Ok(text)
+}
+
+/// What a load of so many lines writes, so many rows a batch, and what comes of it.
+fn loaded_lines(
+    alloc: Global,
+    count: usize,
+    rows: usize,
+) -> Result<(Vec<u8>, Result<bool, Fault>), Fault> {
+    let text = repeated(alloc, count)?;
+    let mut session = created_on(alloc, 512)?;
+    loaded(alloc, &mut session, 1, rows, text.as_slice())
+}
+
+#[test]
+fn a_batch_is_read_in_pieces(rt: HostRuntime) -> Result<(), Fail> {
+    let (out, done) = loaded_lines(rt.alloc(), 1_030, 1_026)?;
+    assert!(rt; out.as_slice() == b"batch 1 rows 1026\nbatch 2 rows 4\nbatches 2\n".as_slice());
+    assert_eq!(rt; done, Ok(true));
+    Ok(())
+}
+
+#[test]
+fn a_batch_may_end_with_a_piece(rt: HostRuntime) -> Result<(), Fail> {
+    let (out, done) = loaded_lines(rt.alloc(), 2_048, 2_048)?;
+    assert!(rt; out.as_slice() == b"batch 1 rows 2048\nbatches 1\n".as_slice());
+    assert_eq!(rt; done, Ok(true));
     Ok(())
 }

@@ -1,6 +1,6 @@
 //! Batches that were written down by hand.
 
-use column_segment::{encode, is_batch};
+use column_segment::{BatchColumns, encode, is_batch};
 use cube_model::{Fault, LineOrder, RowText};
 use sample_star::{FACTS, Fact, line_order, line_orders};
 use std::alloc::Global;
@@ -100,6 +100,30 @@ pub(crate) fn spelled(alloc: Global, number: u32, rows: &[LineOrder]) -> Result<
 fn spells_the_sample(rt: HostRuntime) -> Result<(), Fail> {
     let rows = line_orders(rt.alloc(), &FACTS)?;
     let bytes = spelled(rt.alloc(), 1, &rows)?;
+    assert!(rt; bytes.as_slice() == SPELLED.as_slice());
+    Ok(())
+}
+
+// The bytes of rows that are added in two pieces. `Full` where they cannot be a batch.
+fn spelled_in_pieces(
+    alloc: Global,
+    number: u32,
+    first: &[LineOrder],
+    second: &[LineOrder],
+) -> Result<Vec<u8>, Fault> {
+    if first.len() > 9 || second.len() > 9 || !is_batch(first) || !is_batch(second) {
+        return Err(Fault::Full);
+    }
+    let mut columns = BatchColumns::new(alloc, 2)?;
+    columns.push(alloc, first)?;
+    columns.push(alloc, second)?;
+    columns.encode(alloc, number)
+}
+
+#[test]
+fn spells_the_sample_in_pieces(rt: HostRuntime) -> Result<(), Fail> {
+    let rows = line_orders(rt.alloc(), &FACTS)?;
+    let bytes = spelled_in_pieces(rt.alloc(), 1, &rows[..1], &rows[1..])?;
     assert!(rt; bytes.as_slice() == SPELLED.as_slice());
     Ok(())
 }

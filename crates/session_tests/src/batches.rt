@@ -1,6 +1,6 @@
 //! Batches that are submitted in turn, and what comes of them.
 use crate::answers::{answer, ask};
-use crate::sample::{created, fresh, status, submit};
+use crate::sample::{created, fresh, status, submit, submit_grown};
 use cube_model::{Agg, Answer, Fault, LineOrder, Measure};
 use sample_star::{Asked, EVERY_ROW, FACTS, FIRST_FACT, Fact, SECOND_FACT, THIRD_FACT, line_order};
 use sector_device::MemDisk;
@@ -141,10 +141,26 @@ const AT_THE_LIMIT: [Fact<'static>; 2] = [
     },
 ];
 
+/// How a batch is handed over: its rows at once, or as a batch that grows.
+#[derive(Clone, Copy)]
+enum Way {
+    Whole,
+    Grown,
+}
+
 /// The place of the first submit of a case that comes to another end.
-fn first_other(alloc: Global, session: &mut Session<MemDisk>, case: &Case) -> Option<usize> {
+fn first_other(
+    alloc: Global,
+    session: &mut Session<MemDisk>,
+    way: Way,
+    case: &Case,
+) -> Option<usize> {
     for (place, (number, facts, want)) in case.submits.iter().enumerate() {
-        if submit(alloc, session, *number, facts) != *want {
+        let answer = match way {
+            Way::Whole => submit(alloc, session, *number, facts),
+            Way::Grown => submit_grown(alloc, session, *number, facts),
+        };
+        if answer != *want {
             return Some(place);
         }
     }
@@ -152,9 +168,9 @@ fn first_other(alloc: Global, session: &mut Session<MemDisk>, case: &Case) -> Op
 }
 
 /// The same on a new warehouse, and its status then.
-fn told(alloc: Global, case: &Case) -> Result<(Option<usize>, Status), Fault> {
+fn told(alloc: Global, way: Way, case: &Case) -> Result<(Option<usize>, Status), Fault> {
     let mut session = fresh(alloc)?;
-    let other = first_other(alloc, &mut session, case);
+    let other = first_other(alloc, &mut session, way, case);
     Ok((other, session.status()?))
 }
 
@@ -162,7 +178,15 @@ fn told(alloc: Global, case: &Case) -> Result<(Option<usize>, Status), Fault> {
 fn batches_are_taken_or_refused(rt: HostRuntime) {
     for case in &CASES {
         let wanted = (None, status(case.batches, case.rows));
-        assert_eq!(rt; told(rt.alloc(), case), Ok(wanted));
+        assert_eq!(rt; told(rt.alloc(), Way::Whole, case), Ok(wanted));
+    }
+}
+
+#[test]
+fn batches_that_grow_are_taken_or_refused_alike(rt: HostRuntime) {
+    for case in &CASES {
+        let wanted = (None, status(case.batches, case.rows));
+        assert_eq!(rt; told(rt.alloc(), Way::Grown, case), Ok(wanted));
     }
 }
 

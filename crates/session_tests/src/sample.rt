@@ -1,10 +1,14 @@
 //! Sessions over the sample star.
-use cube_model::Fault;
+ghost use Rattle.std.specs.Prelude.{◌≤◌, ◌+◌, length, IfOk};
+ghost use Rattle.cube_model.specs.Limits.{most_batch_rows};
+ghost use Rattle.warehouse.specs.Growing.{IsOfSession};
+
+use cube_model::{Fault, LineOrder};
 use dimensions::Dims;
 use sample_star::{FACTS, Fact, STAR, dim_rows, line_orders};
 use sector_device::{MemDisk, Sectors};
 use std::alloc::Global;
-use warehouse::{Session, Status, create, open};
+use warehouse::{GrowingBatch, Session, Status, create, open};
 
 /// The dimensions of the sample star.
 pub(crate) fn sample_dims(alloc: Global) -> Result<Dims, Fault> {
@@ -38,6 +42,49 @@ pub(crate) fn submit<D: Sectors>(
 ) -> Result<(), Fault> {
     let rows = line_orders(alloc, facts)?;
     session.submit(alloc, number, rows.as_slice())
+}
+
+/// Rows as a batch that grows by one part of them, and then by the other.
+fn grown<D: Sectors>(
+    alloc: Global,
+    session: &Session<D>,
+    first: &[LineOrder],
+    second: &[LineOrder],
+) -> Result<GrowingBatch, Fault>
+    requires { length first.now + length second.now ≤ most_batch_rows }
+    ensures { IfOk result (IsOfSession session.now) }
+{
+    let mut batch = session.begin_batch(alloc, 2)?;
+    session.add_rows(alloc, &mut batch, first)?;
+    session.add_rows(alloc, &mut batch, second)?;
+    Ok(batch)
+}
+
+/// Submits rows as such a batch.
+fn submit_parts<D: Sectors>(
+    alloc: Global,
+    session: &mut Session<D>,
+    number: u32,
+    first: &[LineOrder],
+    second: &[LineOrder],
+) -> Result<(), Fault> {
+    if first.len() > 9 || second.len() > 9 {
+        return Err(Fault::TooManyRows);
+    }
+    let batch = grown(alloc, session, first, second)?;
+    session.submit_batch(alloc, number, &batch)
+}
+
+/// Submits fact rows as a batch that grows by one half of them, and then by the other.
+pub(crate) fn submit_grown<D: Sectors>(
+    alloc: Global,
+    session: &mut Session<D>,
+    number: u32,
+    facts: &[Fact<'_>],
+) -> Result<(), Fault> {
+    let rows = line_orders(alloc, facts)?;
+    let half = rows.len() / 2;
+    submit_parts(alloc, session, number, &rows[..half], &rows[half..])
 }
 
 /// A warehouse without batches on a memory disk of 64 sectors.

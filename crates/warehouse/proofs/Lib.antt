@@ -1,5 +1,6 @@
 pub mod Refusing
 pub mod Preparing
+pub mod GrownBatches
 pub mod Standing
 pub mod Submitting
 pub mod Making

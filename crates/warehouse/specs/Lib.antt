@@ -3,6 +3,8 @@ pub mod Loaded
 pub mod Session
 pub mod Found
 pub mod Prepared
+pub mod Growing
+pub mod Submitting
 pub mod Status
 pub mod Beginning
 pub mod Running

@@ -4,6 +4,7 @@
 mod beginning;
 mod command;
 mod creation;
+mod growing;
 pub mod laws;
 mod opening;
 mod prepared;
@@ -15,6 +16,7 @@ mod submit;
 
 pub use command::{Command, Reply};
 pub use creation::create;
+pub use growing::GrowingBatch;
 pub use opening::open;
 pub use running::run;
 pub use session::Session;

@@ -1,6 +1,7 @@
 //! What a submit puts on the device, made ready before the first device call.
-ghost use Rattle.std.specs.Prelude.{◌≡◌, false, length, IfOk, IfErr};
+ghost use Rattle.std.specs.Prelude.{◌≡◌, ◌<◌, ◌≤◌, false, length, IfOk, IfErr};
 ghost use Rattle.cube_model.specs.declared.fault.Fault.TheVariants.{Memory};
+ghost use Rattle.cube_model.specs.Limits.{most_batch_rows, most_batches};
 ghost use Rattle.batch_admission.specs.Accepted.{StandsBehind};
 ghost use Rattle.warehouse_root.specs.Root.{AreProperTotals, IsProper};
 ghost use Rattle.object_store.specs.Commit.{ArePuts};
@@ -8,6 +9,7 @@ ghost use Rattle.object_store.specs.Content.{Content};
 ghost use Rattle.warehouse_objects.specs.Lawful.{dimension_puts};
 ghost use Rattle.warehouse_objects.specs.Stands.{Stands, root_of, stored};
 ghost use Rattle.warehouse_objects.specs.Warehouse.{Warehouse, AreStorable};
+ghost use Rattle.warehouse.specs.Growing.{totals_in};
 ghost use Rattle.warehouse.specs.Loaded.{Agrees, IsLoaded};
 ghost use Rattle.warehouse.specs.Refusing.{is_of_device};
 
@@ -65,7 +67,26 @@ impl Prepared {
     {
         numbers_fit(rows);
         let segment = encode(alloc, number, rows)?;
-        let root = root.with_batch(alloc, rows.len() as u32, totals)?;
+        Prepared::with_segment(alloc, root, segment, rows.len() as u32, totals)
+    }
+
+    // A segment of so many rows, and the root with them and their totals.
+    pub(crate) fn with_segment(
+        alloc: Global,
+        root: &Root,
+        segment: Vec<u8>,
+        rows: u32,
+        totals: StoredTotals,
+    ) -> Result<Prepared, Fault>
+        requires batches { length root.now.batches < most_batches }
+        requires rows { rows ≤ most_batch_rows }
+        requires totals { AreProperTotals totals }
+        ensures segment { IfOk result (λ p. p.segment.items ≡ segment.items) }
+        ensures root { IfOk result (λ p. p.root ≡ with_batch rows totals root.now) }
+        ensures spelled { IfOk result (λ p. IsRoot p.root_bytes.items p.root) }
+        ensures memory { IfErr result (λ fault. fault ≡ Memory) }
+    {
+        let root = root.with_batch(alloc, rows, totals)?;
         let root_bytes = root.encode(alloc)?;
         Ok(Prepared {
             segment,
@@ -94,8 +115,9 @@ impl Prepared {
 }
 
 // The check of a further batch behind those of a root.
-fn admission_of(root: &Root) -> Admission
+pub(crate) fn admission_of(root: &Root) -> Admission
     ensures count { result.count ≡ length root.now.batches }
+    ensures totals { result.totals ≡ totals_in root.now }
     ensures stands { (w : Warehouse) → root_of w ≡ root.now → StandsBehind result w.batches }
 {
     let _layout = root.layout();
@@ -114,7 +136,7 @@ fn admission_of(root: &Root) -> Admission
 }
 
 // Totals as they are stored.
-fn stored_of(totals: Totals) -> StoredTotals
+pub(crate) fn stored_of(totals: Totals) -> StoredTotals
     ensures { result ≡ stored totals }
 {
     StoredTotals {
@@ -128,7 +150,7 @@ fn stored_of(totals: Totals) -> StoredTotals
 }
 
 // The cause to refuse a batch. None speaks of the device.
-fn cause_of(fault: Fault) -> Fault
+pub(crate) fn cause_of(fault: Fault) -> Fault
     ensures cause { is_of_device fault ≡ false → result ≡ fault }
     ensures apart { is_of_device result ≡ false }
 {

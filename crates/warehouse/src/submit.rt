@@ -1,13 +1,16 @@
 //! Adding a batch to a warehouse.
-ghost use Rattle.std.specs.Prelude.{◌≡◌, ◌≢◌, ◌<◌, ◌⊎◌, ◌↔◌, true, false, length, IfOk, IfErr, OnOk, IsErrOf};
+ghost use Rattle.std.specs.Prelude.{◌≡◌, ◌≢◌, ◌<◌, ◌⊎◌, ◌↔◌, true, false, List, length, IfOk, IfErr, OnOk, IsErrOf};
 ghost use Rattle.cube_model.specs.declared.fault.Fault.TheVariants.{Device, Failed};
+ghost use Rattle.cube_model.specs.declared.rows.LineOrder.{LineOrder};
 ghost use Rattle.cube_model.specs.Admission.{IsAdmissible};
 ghost use Rattle.wire.specs.Limits.{most_objects};
 ghost use Rattle.object_store.specs.Disk.{Leaves};
 ghost use Rattle.warehouse_objects.specs.Warehouse.{Warehouse, loaded};
 ghost use Rattle.warehouse_objects.specs.Stands.{Stands};
+ghost use Rattle.warehouse.specs.Loaded.{Agrees};
 ghost use Rattle.warehouse.specs.Prepared.{IsPrepared, Prepares};
 ghost use Rattle.warehouse.specs.Session.{has_failed, content_of, device_of, disk_of, IsAt, Breaks, SubmitRefuses};
+ghost use Rattle.warehouse.specs.Submitting.{IsReady, WithOrWithout};
 
 use crate::prepared::{Prepared, kept_is_what_stands};
 use crate::session::Session;
@@ -45,6 +48,31 @@ impl<D: Sectors> Session<D> {
             Ok(prepared) => prepared,
             Err(fault) => return Err(fault),
         };
+        self.put(alloc, number, prepared)
+    }
+
+    // Puts a batch that was made ready.
+    pub(crate) fn put(
+        &mut self,
+        alloc: Global,
+        number: u32,
+        prepared: Prepared,
+    ) -> Result<(), Fault>
+        requires fine { has_failed self.old ≡ false }
+        requires few { length (content_of D.Sectors self.old).objects < most_objects }
+        requires ready { (rows : List LineOrder) × IsPrepared self.old.root number rows prepared }
+        ensures leaves { (w : Warehouse) (rows : List LineOrder) → IsReady D.Sectors self.old w number rows prepared
+            → Leaves (disk_of D.Sectors self.old) (disk_of D.Sectors self.new) (WithOrWithout w number rows) }
+        ensures ok { OnOk result ((w : Warehouse) (rows : List LineOrder) → IsReady D.Sectors self.old w number rows prepared
+            → IsAt D.Sectors self.new (loaded w rows) × (D.keeps_word (device_of self.new) → IsAdmissible w.rows w.batches number rows)) }
+        ensures refused { IfErr result (λ fault. fault ≢ Device → (w : Warehouse) (rows : List LineOrder) → IsReady D.Sectors self.old w number rows prepared
+            → IsAt D.Sectors self.new w × Leaves (disk_of D.Sectors self.old) (disk_of D.Sectors self.new) (λ c. Stands c w)) }
+        ensures causes { IfErr result (λ fault. fault ≢ Device → (w : Warehouse) (rows : List LineOrder) → IsReady D.Sectors self.old w number rows prepared
+            → D.keeps_word (device_of self.new) → SubmitRefuses D.Sectors self.old w number rows fault) }
+        ensures failed { IsErrOf result Failed → ⊥ }
+        ensures device { IsErrOf result Device → Breaks D.Sectors self.old self.new }
+        ensures word { D.keeps_word (device_of self.new) → D.keeps_word (device_of self.old) }
+    {
         let puts = [(segment_id(number), prepared.segment.as_slice())];
         match self.store.commit(
             alloc,
@@ -72,13 +100,28 @@ impl<D: Sectors> Session<D> {
         ensures leaves { (w : Warehouse) → IsAt D.Sectors self.now w
             → Leaves (disk_of D.Sectors self.now) (disk_of D.Sectors self.now) (λ c. Stands c w) }
     {
+        self.can_put()?;
+        Prepared::of(alloc, &self.dims, &self.root, number, rows)
+    }
+
+    // Whether a further batch may be put, as far as that does not depend on the batch. No device call is made.
+    pub(crate) fn can_put(&self) -> Result<(), Fault>
+        ensures fine { OnOk result (has_failed self.now ≡ false) }
+        ensures few { OnOk result (length (content_of D.Sectors self.now).objects < most_objects) }
+        ensures agrees { (w : Warehouse) → IsAt D.Sectors self.now w → D.keeps_word (device_of self.now) → Agrees w self.now.dims self.now.root }
+        ensures stands { IfErr result (λ _. (w : Warehouse) → IsAt D.Sectors self.now w → D.keeps_word (device_of self.now) → ⊥) }
+        ensures failed { IsErrOf result Failed ↔ (has_failed self.now ≡ true) }
+        ensures device { IsErrOf result Device → ⊥ }
+        ensures leaves { (w : Warehouse) → IsAt D.Sectors self.now w
+            → Leaves (disk_of D.Sectors self.now) (disk_of D.Sectors self.now) (λ c. Stands c w) }
+    {
+        kept_is_what_stands(&self.dims, &self.root);
         if self.is_broken() {
             return Err(Fault::Failed);
         }
-        kept_is_what_stands(&self.dims, &self.root);
         if self.store.objects() as usize >= MOST_OBJECTS {
             return Err(Fault::BadLayout); // more than a warehouse has
         }
-        Prepared::of(alloc, &self.dims, &self.root, number, rows)
+        Ok(())
     }
 }

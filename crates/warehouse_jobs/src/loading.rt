@@ -1,7 +1,12 @@
 //! Loading the fact rows of a file.
 ghost use Rattle.std.specs.Prelude.{◌≡◌, ◌≤◌, ℕ, List, Some, None, length, IfOk, IfErr};
+ghost use Rattle.cube_model.specs.declared.rows.LineOrder.{LineOrder};
+ghost use Rattle.cube_model.specs.Limits.{most_batch_rows};
+ghost use Rattle.batch_loader.specs.Reading.{RefusesBatch, TakesBatch};
+ghost use Rattle.batch_loader.specs.Tables.{lineorder_row};
 ghost use Rattle.ssb_reports.specs.Writing.{Writes};
 ghost use Rattle.warehouse_objects.specs.Warehouse.{Warehouse};
+ghost use Rattle.warehouse.specs.Growing.{Grows, IsOfSession};
 ghost use Rattle.warehouse.specs.Session.{device_of, IsAt};
 ghost use Rattle.warehouse_jobs.specs.Loading.{DoesBatch, Loads, Refuses, TakesIn};
 ghost use Rattle.warehouse_jobs.specs.Printed.{count_line};
@@ -11,11 +16,14 @@ use crate::printing::{write_batch, write_count};
 use crate::taken::Taken;
 use batch_loader::{Lines, read_batch_into};
 use cube_model::limits::MOST_BATCHES;
-use cube_model::{Fault, Items, LineOrder};
+use cube_model::{Fault, Items};
 use sector_device::Sectors;
 use std::alloc::Global;
 use std::io::{Read, Write};
-use warehouse::Session;
+use warehouse::{GrowingBatch, Session};
+
+// How many rows are read, looked at and written as columns together.
+const PIECE_ROWS: usize = 1_024;
 
 // A load does no more batches than a warehouse may have, and its next step ends it.
 const MOST_STEPS: u32 = MOST_BATCHES as u32 + 1;
@@ -48,22 +56,48 @@ fn load_lines<D: Sectors, R: Read, W: Write>(
 ) -> Result<(), Fault>
     requires positive { 1 ≤ first }
     requires some { 1 ≤ size }
+    requires few { size ≤ most_batch_rows }
     requires number { lines.old.number ≡ 0 }
     requires fault { lines.old.fault ≡ None }
     ensures loads { (w : Warehouse) (text : List ℕ) → IsAt D.Sectors session.old w → lines.old.left ≡ Some text → D.keeps_word (device_of session.new)
         → Loads D.Sectors w first size text session.old session.new (W.contents out.old) (W.contents out.new) result }
     ensures word { D.keeps_word (device_of session.new) → D.keeps_word (device_of session.old) }
 {
-    let mut rows = Items::new(alloc);
     for done in 0..MOST_STEPS {
         let number = first.saturating_add(done);
-        rows = read_batch_into(alloc, lines, size, rows)?;
-        if rows.is_empty() {
+        let batch = next_batch(alloc, session, lines, size)?;
+        if batch.row_count() == 0 {
             return end(session, out);
         }
-        load_batch(alloc, session, number, rows.as_slice(), out)?;
+        load_batch(alloc, session, number, &batch, out)?;
     }
     Err(Fault::TooManyBatches) // no load has so many steps
+}
+
+// Reads the next batch of a text, so many rows, and fewer only at its end. Each piece of it is looked at and written as
+// columns while it lies near the processor still.
+fn next_batch<D: Sectors, R: Read>(
+    alloc: Global,
+    session: &Session<D>,
+    lines: &mut Lines<R>,
+    size: usize,
+) -> Result<GrowingBatch, Fault>
+    requires few { size ≤ most_batch_rows }
+    requires fault { lines.old.fault ≡ None }
+    ensures ok { IfOk result (λ batch. (rows : List LineOrder) × TakesBatch lineorder_row size lines.old lines.new rows × Grows session.now rows batch) }
+    ensures refused { IfErr result (RefusesBatch lineorder_row size lines.old) }
+{
+    let mut batch = session.begin_batch(alloc, size)?;
+    let mut rows = Items::new(alloc);
+    for piece in 0..size.div_ceil(PIECE_ROWS) {
+        let most = PIECE_ROWS.min(size - piece * PIECE_ROWS);
+        rows = read_batch_into(alloc, lines, most, rows)?;
+        session.add_rows(alloc, &mut batch, rows.as_slice())?;
+        if rows.len() < most {
+            return Ok(batch);
+        }
+    }
+    Ok(batch)
 }
 
 // Writes how many batches the warehouse has.
@@ -79,15 +113,16 @@ fn load_batch<D: Sectors, W: Write>(
     alloc: Global,
     session: &mut Session<D>,
     number: u32,
-    rows: &[LineOrder],
+    batch: &GrowingBatch,
     out: &mut W,
 ) -> Result<(), Fault>
-    ensures does { (w : Warehouse) → IsAt D.Sectors session.old w → D.keeps_word (device_of session.new)
-        → DoesBatch D.Sectors w number rows.now session.old session.new (W.contents out.old) (W.contents out.new) result }
+    requires batch { IsOfSession session.old batch.now }
+    ensures does { (w : Warehouse) (rows : List LineOrder) → IsAt D.Sectors session.old w → Grows session.old rows batch.now → D.keeps_word (device_of session.new)
+        → DoesBatch D.Sectors w number rows session.old session.new (W.contents out.old) (W.contents out.new) result }
     ensures word { D.keeps_word (device_of session.new) → D.keeps_word (device_of session.old) }
 {
-    let taken = take_in(alloc, session, number, rows)?;
-    write_batch(out, number, rows.len(), taken)
+    let taken = take_in(alloc, session, number, batch)?;
+    write_batch(out, number, batch.row_count() as usize, taken)
 }
 
 // Adds the batch of a number, unless it is there already.
@@ -95,17 +130,18 @@ fn take_in<D: Sectors>(
     alloc: Global,
     session: &mut Session<D>,
     number: u32,
-    rows: &[LineOrder],
+    batch: &GrowingBatch,
 ) -> Result<Taken, Fault>
-    ensures taken { IfOk result (λ taken. (w : Warehouse) → IsAt D.Sectors session.old w → D.keeps_word (device_of session.new)
-        → TakesIn D.Sectors w number rows.now session.old session.new taken) }
-    ensures refused { IfErr result (λ fault. (w : Warehouse) → IsAt D.Sectors session.old w → D.keeps_word (device_of session.new)
-        → Refuses D.Sectors w number rows.now session.old session.new fault) }
+    requires batch { IsOfSession session.old batch.now }
+    ensures taken { IfOk result (λ taken. (w : Warehouse) (rows : List LineOrder) → IsAt D.Sectors session.old w → Grows session.old rows batch.now → D.keeps_word (device_of session.new)
+        → TakesIn D.Sectors w number rows session.old session.new taken) }
+    ensures refused { IfErr result (λ fault. (w : Warehouse) (rows : List LineOrder) → IsAt D.Sectors session.old w → Grows session.old rows batch.now → D.keeps_word (device_of session.new)
+        → Refuses D.Sectors w number rows session.old session.new fault) }
     ensures word { D.keeps_word (device_of session.new) → D.keeps_word (device_of session.old) }
 {
     if number <= session.status()?.batches {
         return Ok(Taken::Skipped);
     }
-    session.submit(alloc, number, rows)?;
+    session.submit_batch(alloc, number, batch)?;
     Ok(Taken::Added)
 }

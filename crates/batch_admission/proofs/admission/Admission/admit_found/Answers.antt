@@ -1,10 +1,10 @@
 use Rattle.std.proofs.Common.{◌≤◌, ap, arith, length}
 use Rattle.cube_model.specs.Limits.{most_batch_rows}
-use Rattle.batch_admission.proofs.AcceptedLaws.{Admits-found, not_long}
+use Rattle.batch_admission.proofs.AcceptedLaws.{Admits-found, CanFollow-found, not_long}
 use Rattle.batch_admission.proofs.admission.Admission.admit_found.Goals as goal
 
-pub returns : goal.returns
-returns c = λ dimensions batches rows stands is.
+pub returns-clause-admits : goal.returns-clause-admits
+returns-clause-admits c = λ dimensions batches rows stands is.
     let count = ap (λ found. found.row_count) is in
     let few : length rows ≤ most_batch_rows = omega (arith, count, c.keep.ensures.few) in
     Admits-found dimensions c.args.self.now c.args.number rows batches stands c.keep.new.self c.args.found.now c.keep.result

@@ -1,135 +1,31 @@
-use Rattle.std.proofs.Common.{◌≡◌, ℕ, ◌≤◌, true, false, Err, List, [], ◌∷◌, ⊎_elim, inl, inr, length, refl, sym, ◌∙◌, ap, subst}
-use Rattle.wire.specs.Limits.{most_root_bytes}
-use Rattle.cube_model.specs.Admission.{IsAdmissible}
-use Rattle.object_store.specs.Content.{Content}
-use Rattle.object_store.specs.Commit.{ArePuts}
-use Rattle.object_store.specs.Store as stores
-use Rattle.warehouse_root.proofs.CallerLemmas.{root_is_short}
-use Rattle.warehouse_objects.specs.Warehouse.{loaded}
-use Rattle.warehouse_objects.specs.Stands.{Stands, root_of}
-use Rattle.warehouse.specs.Loaded.{IsLoaded}
-use Rattle.warehouse.specs.Session.{is_at}
-use Rattle.warehouse_objects.proofs.CallerLemmas.{batch_is_put}
-use Rattle.warehouse.proofs.Refusing.{device_or}
-use Rattle.warehouse.proofs.Standing.{store_at, session_at, as_before_at, as_before_leaves}
-use Rattle.warehouse.proofs.Submitting.{put_is, few_more, loaded_after, stands_after, submit_leaves, submit_causes}
+use Rattle.std.proofs.Common.{⊎_elim, inl, inr}
+use Rattle.std.proofs.lemmas.Result.{IfErr-weaker}
 use Rattle.warehouse.proofs.session.Session.submit.Goals as goal
 
 pub returns-in-Err-clause-causes : goal.returns-in-Err-clause-causes
 returns-in-Err-clause-causes g c cause w at k =
     ⊎_elim (λ refused. inl refused) (λ memory. inr (memory.0, inl memory.1)) (c.in-Err.ensures.model w at k)
 
-pub commit-requires-clause-puts : goal.commit-requires-clause-puts
-commit-requires-clause-puts g c =
-    let ready = c.in-Ok.ensures.ready in
-    let p = c.in-Ok.prepared in
-    let puts : List (ℕ × List ℕ) = (c.segment_id.result, c.as_slice.result.now) ∷ [] in
-    let puts_are = put_is c.segment_id.result c.args.number c.as_slice.result.now c.args.rows.now c.segment_id.ensures (c.as_slice.ensures.value ∙ ready.segment) in
-    let bytes_are = c.as_slice-2.ensures.value ∙ ready.spelled.spelled in
-    subst ArePuts (sym puts_are) (batch_is_put c.args.number c.args.rows.now ready.follows.batch)
+pub returns-clause-refused : goal.returns-clause-refused
+returns-clause-refused g c =
+    IfErr-weaker c.put.result _ _
+    (λ fault as_before cause w at.
+    as_before cause w c.args.rows.now (record {
+      at = at;
+      prepared_is = c.in-Ok.ensures.ready;
+      admissible = λ k. c.in-Ok.ensures.model w at k;
+      still = c.in-Ok.ensures.leaves w at;
+    }))
+    c.put.ensures.refused
 
-pub commit-requires-clause-root : goal.commit-requires-clause-root
-commit-requires-clause-root g c =
-    let ready = c.in-Ok.ensures.ready in
-    let p = c.in-Ok.prepared in
-    subst (λ (b : List ℕ). length b ≤ most_root_bytes) (sym c.as_slice-2.ensures.value) (root_is_short p.root_bytes.items p.root ready.spelled)
-
-pub commit-requires-clause-few : goal.commit-requires-clause-few
-commit-requires-clause-few g c =
-    let s = c.args.self.now in
-    let content = stores.content_of g.D.Sectors s.store in
-    few_more content ((c.segment_id.result, c.as_slice.result.now) ∷ []) c.as_slice-2.result.now c.number.result refl c.in-Ok.ensures.few
-
-pub invariant_of-self : goal.invariant_of-self
-invariant_of-self g c =
-    record {
-      loaded = λ fine k.
-          let s = c.args.self.now in
-          let content = stores.content_of g.D.Sectors s.store in
-          let ready = c.in-Ok.ensures.ready in
-          let p = c.in-Ok.prepared in
-          let puts : List (ℕ × List ℕ) = (c.segment_id.result, c.as_slice.result.now) ∷ [] in
-          let puts_are = put_is c.segment_id.result c.args.number c.as_slice.result.now c.args.rows.now c.segment_id.ensures (c.as_slice.ensures.value ∙ ready.segment) in
-          let bytes_are = c.as_slice-2.ensures.value ∙ ready.spelled.spelled in
-          let before = c.in-Ok-commit.ensures.fine.0 in
-          let was = s.loaded before ((c.commit.ensures.leaves before).word k) in
-          subst (λ (x : Content). IsLoaded x s.dims p.root) (sym (c.in-Ok-commit.ensures.ok k))
-          (loaded_after content puts c.as_slice-2.result.now c.number.result c.args.number c.args.rows.now p.root puts_are bytes_are c.number.ensures s.dims s.root was (ready.of_layout ∙ was.of_layout));
-    }
-
-pub invariant_of-self-in-Err-commit : goal.invariant_of-self-in-Err-commit
-invariant_of-self-in-Err-commit g c =
-    record {
-      loaded = λ fine k.
-          let s = c.args.self.now in
-          ⊎_elim
-          (λ e. let broken = c.in-Err-commit.ensures.device (ap (λ f. Err f) e) in let both : true ≡ false = sym broken.failed ∙ fine in absurd (cc))
-          (λ no.
-          let same = c.in-Err-commit.ensures.refused no in
-          subst (λ (x : Content). IsLoaded x s.dims s.root) (sym same.content) (s.loaded (sym same.failed ∙ fine) (subst (λ d. g.D.Sectors.keeps_word d) same.device k)))
-          (device_or c.in-Err-commit.fault);
-    }
-
-pub returns-in-Ok-commit-clause-leaves : goal.returns-in-Ok-commit-clause-leaves
-returns-in-Ok-commit-clause-leaves g c w at =
-    let s = c.args.self.now in
-    let content = stores.content_of g.D.Sectors s.store in
-    let ready = c.in-Ok.ensures.ready in
-    let p = c.in-Ok.prepared in
-    let puts : List (ℕ × List ℕ) = (c.segment_id.result, c.as_slice.result.now) ∷ [] in
-    let puts_are = put_is c.segment_id.result c.args.number c.as_slice.result.now c.args.rows.now c.segment_id.ensures (c.as_slice.ensures.value ∙ ready.segment) in
-    let bytes_are = c.as_slice-2.ensures.value ∙ ready.spelled.spelled in
-    let model : g.D.Sectors.keeps_word (stores.device_of s.store) → IsAdmissible w.rows w.batches c.args.number c.args.rows.now × (p.root ≡ root_of (loaded w c.args.rows.now)) = λ k. c.in-Ok.ensures.model w at k in
-    submit_leaves content puts c.as_slice-2.result.now c.number.result c.args.number c.args.rows.now p.root puts_are bytes_are c.number.ensures w (stores.disk_of g.D.Sectors s.store) (stores.disk_of g.D.Sectors c.commit.new.self) at.stands (λ k. model k) ready.fits (c.commit.ensures.leaves at.fine)
-
-pub returns-in-Err-commit-clause-leaves : goal.returns-in-Err-commit-clause-leaves
-returns-in-Err-commit-clause-leaves g c w at =
-    let s = c.args.self.now in
-    let content = stores.content_of g.D.Sectors s.store in
-    let ready = c.in-Ok.ensures.ready in
-    let p = c.in-Ok.prepared in
-    let puts : List (ℕ × List ℕ) = (c.segment_id.result, c.as_slice.result.now) ∷ [] in
-    let puts_are = put_is c.segment_id.result c.args.number c.as_slice.result.now c.args.rows.now c.segment_id.ensures (c.as_slice.ensures.value ∙ ready.segment) in
-    let bytes_are = c.as_slice-2.ensures.value ∙ ready.spelled.spelled in
-    let model : g.D.Sectors.keeps_word (stores.device_of s.store) → IsAdmissible w.rows w.batches c.args.number c.args.rows.now × (p.root ≡ root_of (loaded w c.args.rows.now)) = λ k. c.in-Ok.ensures.model w at k in
-    submit_leaves content puts c.as_slice-2.result.now c.number.result c.args.number c.args.rows.now p.root puts_are bytes_are c.number.ensures w (stores.disk_of g.D.Sectors s.store) (stores.disk_of g.D.Sectors c.commit.new.self) at.stands (λ k. model k) ready.fits (c.commit.ensures.leaves at.fine)
-
-pub returns-in-Ok-commit-clause-ok : goal.returns-in-Ok-commit-clause-ok
-returns-in-Ok-commit-clause-ok g c w at =
-    let s = c.args.self.now in
-    let content = stores.content_of g.D.Sectors s.store in
-    let ready = c.in-Ok.ensures.ready in
-    let p = c.in-Ok.prepared in
-    let puts : List (ℕ × List ℕ) = (c.segment_id.result, c.as_slice.result.now) ∷ [] in
-    let puts_are = put_is c.segment_id.result c.args.number c.as_slice.result.now c.args.rows.now c.segment_id.ensures (c.as_slice.ensures.value ∙ ready.segment) in
-    let bytes_are = c.as_slice-2.ensures.value ∙ ready.spelled.spelled in
-    let model : g.D.Sectors.keeps_word (stores.device_of s.store) → IsAdmissible w.rows w.batches c.args.number c.args.rows.now × (p.root ≡ root_of (loaded w c.args.rows.now)) = λ k. c.in-Ok.ensures.model w at k in
-    let word = (c.commit.ensures.leaves at.fine).word in (
-      is_at g.D.Sectors _ (loaded w c.args.rows.now) c.in-Ok-commit.ensures.fine.1 (λ k. subst (λ (x : Content). Stands x (loaded w c.args.rows.now)) (sym (c.in-Ok-commit.ensures.ok k))
-          (stands_after content puts c.as_slice-2.result.now c.number.result c.args.number c.args.rows.now p.root puts_are bytes_are c.number.ensures w (at.stands (word k)) (model (word k)).0 ready.fits (model (word k)).1)),
-      λ k. (model (word k)).0,
-    )
-
-pub returns-in-Err-commit-clause-refused : goal.returns-in-Err-commit-clause-refused
-returns-in-Err-commit-clause-refused g c cause w at =
-    let same = c.in-Err-commit.ensures.refused cause in (
-      session_at g.D.Sectors w _ (as_before_at g.D.Sectors w c.args.self.now.store c.commit.new.self (store_at g.D.Sectors w c.args.self.now at) same),
-      as_before_leaves g.D.Sectors w c.args.self.now.store c.commit.new.self same (c.in-Ok.ensures.leaves w at),
-    )
-
-pub returns-in-Err-commit-clause-causes : goal.returns-in-Err-commit-clause-causes
-returns-in-Err-commit-clause-causes g c cause w at k =
-    let s = c.args.self.now in
-    let content = stores.content_of g.D.Sectors s.store in
-    let ready = c.in-Ok.ensures.ready in
-    let p = c.in-Ok.prepared in
-    let puts : List (ℕ × List ℕ) = (c.segment_id.result, c.as_slice.result.now) ∷ [] in
-    let puts_are = put_is c.segment_id.result c.args.number c.as_slice.result.now c.args.rows.now c.segment_id.ensures (c.as_slice.ensures.value ∙ ready.segment) in
-    let bytes_are = c.as_slice-2.ensures.value ∙ ready.spelled.spelled in
-    let model : g.D.Sectors.keeps_word (stores.device_of s.store) → IsAdmissible w.rows w.batches c.args.number c.args.rows.now × (p.root ≡ root_of (loaded w c.args.rows.now)) = λ k. c.in-Ok.ensures.model w at k in
-    let word = (c.commit.ensures.leaves at.fine).word in
-    inr (
-      (model (word k)).0,
-      submit_causes content puts c.as_slice-2.result.now c.number.result c.args.number c.args.rows.now p.root puts_are bytes_are c.number.ensures w (stores.room_of s.store) c.in-Err-commit.fault (model (word k)).1
-          (c.in-Err-commit.ensures.refuses cause (λ e. let bad : true ≡ false = sym (c.in-Err-commit.ensures.failed.0 (ap (λ f. Err f) e)) ∙ at.fine in absurd (cc))),
-    )
+pub returns-clause-causes : goal.returns-clause-causes
+returns-clause-causes g c =
+    IfErr-weaker c.put.result _ _
+    (λ fault causes cause w at.
+    causes cause w c.args.rows.now (record {
+      at = at;
+      prepared_is = c.in-Ok.ensures.ready;
+      admissible = λ k. c.in-Ok.ensures.model w at k;
+      still = c.in-Ok.ensures.leaves w at;
+    }))
+    c.put.ensures.causes

@@ -1,0 +1,98 @@
+-- A batch that grows.
+use Rattle.std.proofs.Common.{◌≡◌, ℕ, true, false, List, [], ◌∷◌, ◌++◌, All, map, length, Option, Some, None, is_some, refl, sym, ap, ◌∙◌, inr}
+use Rattle.std.specs.Prelude.{Result, Ok, Err, IfOk, IfErr}
+use Rattle.std.specs.List.{AllByRecursion}
+use Rattle.std.proofs.lemmas.List.{map-append}
+use Rattle.std.proofs.lemmas.List.Elements.{All-append, All-nil}
+use Rattle.cube_model.specs.declared.fault.Fault.{Fault}
+use Rattle.cube_model.specs.declared.fault.Fault.TheVariants.{Memory}
+use Rattle.cube_model.specs.declared.rows.DimRows.{DimRows}
+use Rattle.cube_model.specs.declared.rows.LineOrder.{LineOrder}
+use Rattle.cube_model.specs.Admission.{all_rows}
+use Rattle.column_segment.specs.Columns.{Column, FitsColumn, number_columns}
+use Rattle.column_segment.specs.Encoding.{HaveRows}
+use Rattle.column_segment.specs.Segment.{FitColumns}
+use Rattle.column_segment.specs.declared.encoding.BatchColumns.{BatchColumns}
+use Rattle.batch_admission.specs.Found.{Found, cause_of, found_in}
+use Rattle.batch_admission.specs.Totals.{totals_of}
+use Rattle.batch_admission.proofs.CallerLemmas.{found-earlier}
+use Rattle.warehouse_root.specs.declared.layout.Layout.TheVariants.{First}
+use Rattle.warehouse_root.specs.declared.totals.StoredTotals.{StoredTotals}
+use Rattle.warehouse_root.specs.Root.{PlainRoot, with_batch}
+use Rattle.warehouse_objects.specs.Stands.{root_of, stored}
+use Rattle.warehouse_objects.specs.Warehouse.{Warehouse, loaded}
+use Rattle.warehouse.specs.Growing.{IsGrown, totals_in}
+use Rattle.warehouse.specs.Prepared.{Admitted, Prepares}
+use Rattle.warehouse.specs.declared.growing.GrowingBatch.{GrowingBatch}
+use Rattle.warehouse.specs.declared.prepared.Prepared.{Prepared}
+
+-- ---- the numbers of rows fit their columns
+
+no_row_fits : (columns : List Column) → AllByRecursion (λ column. All (FitsColumn column) []) columns
+no_row_fits [] = tt
+no_row_fits (column ∷ columns) = (All-nil (FitsColumn column), no_row_fits columns)
+
+pub fits-none : FitColumns []
+fits-none = no_row_fits number_columns
+
+both_fit : (columns : List Column) (before rows : List LineOrder) → AllByRecursion (λ column. All (FitsColumn column) before) columns
+    → AllByRecursion (λ column. All (FitsColumn column) rows) columns → AllByRecursion (λ column. All (FitsColumn column) (before ++ rows)) columns
+both_fit [] before rows fit also = tt
+both_fit (column ∷ columns) before rows fit also =
+    (All-append (FitsColumn column) before rows fit.0 also.0, both_fit columns before rows fit.1 also.1)
+
+pub fits-both : (before rows : List LineOrder) → FitColumns before → FitColumns rows → FitColumns (before ++ rows)
+fits-both = both_fit number_columns
+
+-- ---- further rows
+
+no_cause : (cause : Option Fault) → is_some cause ≡ false → cause ≡ None
+no_cause None none = refl
+no_cause (Some fault) none = cc
+
+some_cause : (cause : Option Fault) → is_some cause ≡ true → cause ≡ None → ⊥
+some_cause None some none = cc
+some_cause (Some fault) some none = cc
+
+module _ (dimensions : DimRows) (root : PlainRoot) (before rows : List LineOrder) (batch : GrowingBatch) (more : Found) (grown : IsGrown dimensions root before batch)
+    (looked : more ≡ found_in dimensions (totals_in root) (before ++ rows)) where
+  -- where nothing was found in all of them, nothing was found in the first
+  pub had_columns : is_some (cause_of more) ≡ false → HaveRows before batch.columns
+  had_columns none = grown.columns (ap cause_of grown.found ∙ found-earlier dimensions (totals_in root) before rows (ap cause_of (sym looked) ∙ no_cause (cause_of more) none))
+
+  -- and then these have columns too
+  pub grown-more : (columns : BatchColumns) → is_some (cause_of more) ≡ false → FitColumns rows → (HaveRows before batch.columns → HaveRows (before ++ rows) columns)
+      → IsGrown dimensions root (before ++ rows) (record { found = more; columns = columns })
+  grown-more columns none fits push = record {
+    found = looked;
+    fits = fits-both before rows grown.fits fits;
+    columns = λ clean. push (had_columns none);
+  }
+
+  -- where something was found, no columns are asked for
+  pub grown-refused : is_some (cause_of more) ≡ true → FitColumns rows → IsGrown dimensions root (before ++ rows) (record { found = more; columns = batch.columns })
+  grown-refused some fits = record {
+    found = looked;
+    fits = fits-both before rows grown.fits fits;
+    columns = λ clean. absurd (some_cause (cause_of more) some clean);
+  }
+
+-- ---- the root with the batch
+
+root-more : (w : Warehouse) (rows : List LineOrder) (root after : PlainRoot) (count : ℕ) (totals : StoredTotals) → root_of w ≡ root → count ≡ length rows
+    → totals ≡ stored (totals_of (all_rows (w.batches ++ rows ∷ []))) → after ≡ with_batch count totals root → after ≡ root_of (loaded w rows)
+root-more w rows root after count totals is many sums made =
+    let counts : map length w.batches ++ count ∷ [] ≡ map length (w.batches ++ rows ∷ []) = ap (λ n. map length w.batches ++ n ∷ []) many ∙ sym (map-append length w.batches (rows ∷ [])) in
+    made ∙ ap (with_batch count totals) (sym is) ∙ (λ i. record {
+      layout = First;
+      batches = counts i;
+      target = w.target;
+      additions = w.additions;
+      totals = sums i;
+      cuboids = [];
+    })
+
+pub prepares-with : (w : Warehouse) (number : ℕ) (rows : List LineOrder) (root : PlainRoot) (count : ℕ) (totals : StoredTotals) (result : Result Prepared Fault) → root_of w ≡ root → count ≡ length rows
+    → Admitted w number rows (Ok totals) → IfOk result (λ p. p.root ≡ with_batch count totals root) → IfErr result (λ fault. fault ≡ Memory) → Prepares w number rows result
+prepares-with w number rows root count totals (Ok p) is many admitted made memory = (admitted.0, root-more w rows root p.root count totals is many admitted.1 made)
+prepares-with w number rows root count totals (Err fault) is many admitted made memory = inr (admitted.0, memory)

@@ -1,0 +1,29 @@
+use Rattle.std.proofs.Common.{rules}
+use Rattle.std.proofs.lemmas.Result.{on_ok_weaker}
+use Rattle.warehouse.specs.Growing.{totals_in}
+use Rattle.warehouse.proofs.GrownBatches.{grown-more, grown-refused, had_columns}
+use Rattle.warehouse.proofs.growing.GrowingBatch.push.Goals as goal
+
+pub push-requires : goal.push-requires
+push-requires c =
+    let root = c.requires.few.0 in
+    let few = c.requires.few.1 in
+    record {
+      few = (
+        few.0,
+        had_columns c.args.dims.now root few.0 c.args.rows.now c.args.self.now c.more-self.result few.1 (c.more-self.ensures (totals_in root) few.0 few.1.found) (search rules),
+        few.2,
+      );
+    }
+
+pub returns-then-is_some-clause-ok : goal.returns-then-is_some-clause-ok
+returns-then-is_some-clause-ok c = λ root before grown.
+    grown-refused c.args.dims.now root before c.args.rows.now c.args.self.now c.more-self.result grown (c.more-self.ensures (totals_in root) before grown.found) (search rules) c.numbers_fit.ensures
+
+pub returns-clause-ok : goal.returns-clause-ok
+returns-clause-ok c =
+    on_ok_weaker c.push.result
+    (λ pushed root before grown.
+    grown-more c.args.dims.now root before c.args.rows.now c.args.self.now c.more-self.result grown (c.more-self.ensures (totals_in root) before grown.found) c.push.new.self (search rules) c.numbers_fit.ensures
+    (pushed before))
+    c.push.ensures.ok

@@ -1,0 +1,187 @@
+//! A batch that grows by rows until it is submitted.
+ghost use Rattle.std.specs.Prelude.{◌≡◌, ◌≢◌, ◌≤◌, ◌<◌, ◌↔◌, ◌++◌, [], List, None, true, false, length, IfErr, IfOk, IsErrOf, IsOkUnless, OnOk};
+ghost use Rattle.batch_admission.specs.Found.{cause_of, found_in};
+ghost use Rattle.cube_model.specs.declared.fault.Fault.TheVariants.{Device, Failed, Memory};
+ghost use Rattle.cube_model.specs.declared.rows.DimRows.{DimRows};
+ghost use Rattle.cube_model.specs.declared.rows.LineOrder.{LineOrder};
+ghost use Rattle.cube_model.specs.Admission.{IsAdmissible};
+ghost use Rattle.cube_model.specs.Limits.{most_batch_rows};
+ghost use Rattle.object_store.specs.Disk.{Leaves};
+ghost use Rattle.warehouse.specs.Growing.{IsGrown, totals_in};
+ghost use Rattle.warehouse.specs.Prepared.{Admitted, IsPrepared, MayFollow, Prepares};
+ghost use Rattle.warehouse.specs.Refusing.{is_of_device};
+ghost use Rattle.warehouse.specs.Session.{Breaks, IsAt, SubmitRefuses, content_of, device_of, disk_of, has_failed};
+ghost use Rattle.warehouse.specs.Submitting.{WithOrWithout};
+ghost use Rattle.warehouse_objects.specs.Stands.{Stands, root_of};
+ghost use Rattle.warehouse_objects.specs.Warehouse.{Warehouse, loaded};
+ghost use Rattle.warehouse_root.specs.Root.{AreProperTotals, PlainRoot};
+ghost use Rattle.wire.specs.Limits.{most_objects};
+
+use crate::prepared::{Prepared, admission_of, cause_of, stored_of};
+use crate::session::Session;
+use batch_admission::Findings;
+use column_segment::BatchColumns;
+use cube_model::{Fault, LineOrder};
+use dimensions::Dims;
+use sector_device::Sectors;
+use std::alloc::Global;
+use warehouse_objects::numbers_fit;
+use warehouse_root::{Root, StoredTotals};
+
+/// A batch that grows by rows until it is submitted to the session that began it. Its rows are checked and written as
+/// columns as they come, and are not kept.
+#[derive(Drop)]
+pub struct GrowingBatch {
+    pub(crate) found: Findings,
+    pub(crate) columns: BatchColumns,
+}
+
+impl GrowingBatch {
+    ghost use Rattle.warehouse.specs.Growing.{HasRoomFor};
+
+    /// How many rows it has.
+    pub fn row_count(&self) -> u32
+        ensures count { (dimensions : DimRows) (root : PlainRoot) (rows : List LineOrder) → IsGrown dimensions root rows self.now → result ≡ length rows }
+        ensures few { result ≤ most_batch_rows }
+    {
+        self.found.row_count()
+    }
+
+    // A batch of no row behind those of a root, with room for so many.
+    fn behind(alloc: Global, root: &Root, rows: usize) -> Result<GrowingBatch, Fault>
+        ensures ok { IfOk result (λ batch. (dimensions : DimRows) → IsGrown dimensions root.now [] batch) }
+        ensures memory { IfErr result (λ fault. fault ≡ Memory) }
+    {
+        let columns = BatchColumns::new(alloc, rows)?;
+        let found = admission_of(root).findings();
+        Ok(GrowingBatch { found, columns })
+    }
+
+    // Looks at further rows, and adds them unless there is a cause to refuse the batch.
+    fn push(&mut self, alloc: Global, dims: &Dims, rows: &[LineOrder]) -> Result<(), Fault>
+        requires few { (root : PlainRoot) × HasRoomFor dims.now root (length rows.now) self.old }
+        ensures ok { OnOk result ((root : PlainRoot) (before : List LineOrder) → IsGrown dims.now root before self.old
+            → IsGrown dims.now root (before ++ rows.now) self.new) }
+        ensures memory { IsOkUnless result Memory }
+    {
+        numbers_fit(rows);
+        self.found = self.found.more(dims, rows);
+        if self.found.cause().is_some() {
+            return Ok(());
+        }
+        self.columns.push(alloc, rows)
+    }
+
+    // Makes the batch ready behind those of a root, or answers the first cause to refuse it, or `Memory`.
+    fn prepared(&self, alloc: Global, root: &Root, number: u32) -> Result<Prepared, Fault>
+        requires grown { (dimensions : DimRows) × (rows : List LineOrder) × IsGrown dimensions root.now rows self.now }
+        ensures ready { IfOk result (λ p. (dimensions : DimRows) (rows : List LineOrder) → IsGrown dimensions root.now rows self.now → IsPrepared root.now number rows p) }
+        ensures model { (w : Warehouse) (rows : List LineOrder) → root_of w ≡ root.now → IsGrown w.rows root.now rows self.now → Prepares w number rows result }
+        ensures apart { IfErr result (λ fault. is_of_device fault ≡ false) }
+    {
+        let totals = admitted(root, number, &self.found)?;
+        let segment = self.columns.encode(alloc, number)?;
+        Prepared::with_segment(alloc, root, segment, self.row_count(), totals)
+    }
+}
+
+impl<D: Sectors> Session<D> {
+    ghost use Rattle.warehouse.specs.Growing.{CanGrow, Grows, IsOfSession};
+
+    /// A batch of no row yet, behind those that are there, with room for so many rows. It can only fail for want of memory.
+    pub fn begin_batch(&self, alloc: Global, rows: usize) -> Result<GrowingBatch, Fault>
+        ensures ok { IfOk result (Grows self.now []) }
+        ensures memory { IfErr result (λ fault. fault ≡ Memory) }
+    {
+        GrowingBatch::behind(alloc, &self.root, rows)
+    }
+
+    /// Adds rows to a batch of this session, with which it has at most 65,536. A cause to refuse it is told when it is
+    /// submitted. It can only fail for want of memory.
+    pub fn add_rows(
+        &self,
+        alloc: Global,
+        batch: &mut GrowingBatch,
+        rows: &[LineOrder],
+    ) -> Result<(), Fault>
+        requires few { CanGrow self.now (length rows.now) batch.old }
+        ensures ok { OnOk result ((before : List LineOrder) → Grows self.now before batch.old → Grows self.now (before ++ rows.now) batch.new) }
+        ensures memory { IsOkUnless result Memory }
+    {
+        batch.push(alloc, &self.dims, rows)
+    }
+
+    /// Adds a batch that has grown in this session, as `submit` does its rows.
+    pub fn submit_batch(
+        &mut self,
+        alloc: Global,
+        number: u32,
+        batch: &GrowingBatch,
+    ) -> Result<(), Fault>
+        requires batch { IsOfSession self.old batch.now }
+
+        // A stop at any moment leaves the warehouse as it was, or with this batch if it is admissible.
+        ensures leaves { (w : Warehouse) (rows : List LineOrder) → IsAt D.Sectors self.old w → Grows self.old rows batch.now
+            → Leaves (disk_of D.Sectors self.old) (disk_of D.Sectors self.new) (WithOrWithout w number rows) }
+
+        // Then with it.
+        ensures ok { OnOk result ((w : Warehouse) (rows : List LineOrder) → IsAt D.Sectors self.old w → Grows self.old rows batch.now
+            → IsAt D.Sectors self.new (loaded w rows) × (D.keeps_word (device_of self.new) → IsAdmissible w.rows w.batches number rows)) }
+
+        // After a refusal, unless the device failed, as it was at each moment.
+        ensures refused { IfErr result (λ fault. fault ≢ Device → (w : Warehouse) → IsAt D.Sectors self.old w →
+            IsAt D.Sectors self.new w × Leaves (disk_of D.Sectors self.old) (disk_of D.Sectors self.new) (λ c. Stands c w)) }
+
+        // When each error comes.
+        ensures causes { IfErr result (λ fault. fault ≢ Device → (w : Warehouse) (rows : List LineOrder) → IsAt D.Sectors self.old w
+            → Grows self.old rows batch.now → D.keeps_word (device_of self.new) → SubmitRefuses D.Sectors self.old w number rows fault) }
+        ensures failed { IsErrOf result Failed ↔ (has_failed self.old ≡ true) }
+        ensures device { IsErrOf result Device → Breaks D.Sectors self.old self.new }
+        ensures word { D.keeps_word (device_of self.new) → D.keeps_word (device_of self.old) }
+    {
+        let prepared = match self.prepared_batch(alloc, number, batch) {
+            Ok(prepared) => prepared,
+            Err(fault) => return Err(fault),
+        };
+        self.put(alloc, number, prepared)
+    }
+
+    // What a batch that has grown puts on the device, or the first cause to refuse it. No device call is made.
+    fn prepared_batch(
+        &self,
+        alloc: Global,
+        number: u32,
+        batch: &GrowingBatch,
+    ) -> Result<Prepared, Fault>
+        requires batch { IsOfSession self.now batch.now }
+        ensures fine { IfOk result (λ _. has_failed self.now ≡ false) }
+        ensures few { IfOk result (λ _. length (content_of D.Sectors self.now).objects < most_objects) }
+        ensures ready { IfOk result (λ p. (rows : List LineOrder) → Grows self.now rows batch.now → IsPrepared self.now.root number rows p) }
+        ensures model { (w : Warehouse) (rows : List LineOrder) → IsAt D.Sectors self.now w → Grows self.now rows batch.now
+            → D.keeps_word (device_of self.now) → Prepares w number rows result }
+        ensures failed { IsErrOf result Failed ↔ (has_failed self.now ≡ true) }
+        ensures device { IsErrOf result Device → ⊥ }
+        ensures leaves { (w : Warehouse) → IsAt D.Sectors self.now w
+            → Leaves (disk_of D.Sectors self.now) (disk_of D.Sectors self.now) (λ c. Stands c w) }
+    {
+        self.can_put()?;
+        batch.prepared(alloc, &self.root, number)
+    }
+}
+
+// The totals with those of a further batch, by what was found in its rows, or the first cause to refuse it.
+fn admitted(root: &Root, number: u32, found: &Findings) -> Result<StoredTotals, Fault>
+    ensures follows { IfOk result (λ _. (dimensions : DimRows) (rows : List LineOrder) → found.now ≡ found_in dimensions (totals_in root.now) rows
+        → MayFollow (length root.now.batches) number rows) }
+    ensures clean { IfOk result (λ _. cause_of found.now ≡ None) }
+    ensures proper { IfOk result AreProperTotals }
+    ensures model { (w : Warehouse) (rows : List LineOrder) → root_of w ≡ root.now → found.now ≡ found_in w.rows (totals_in root.now) rows
+        → Admitted w number rows result }
+    ensures apart { IfErr result (λ fault. is_of_device fault ≡ false) }
+{
+    let mut admission = admission_of(root);
+    match admission.admit_found(number, found) {
+        Ok(()) => Ok(stored_of(admission.totals())),
+        Err(fault) => Err(cause_of(fault)),
+    }
+}
