@@ -90,7 +90,7 @@ impl Segment {
     pub fn is_empty(&self) -> bool
         ensures { IsTrue result ↔ (length self.now.rows ≡ 0) }
     {
-        self.layout.rows == 0
+        self.len() == 0
     }
 
     /// Adds rows to others, from a place on: so many, or as many as there are.

@@ -13,5 +13,4 @@ mod Keyed
 mod Leading
 mod Modes
 mod Taken
-mod RowKeys
 mod AxisCodes

@@ -27,11 +27,6 @@ pub record IsRowKey (dimensions : DimRows) (modes : List (List ℕ)) (view : Vie
   pub fits : KeyFits key
   pub members : HasMembers dimensions modes view row
 
--- the keys of the first of some fact rows, so many
-pub record AreRowKeys (dimensions : DimRows) (modes : List (List ℕ)) (view : View) (rows : List LineOrder) (count : ℕ) (keys : List Key) : Type 0 where
-  pub many : length keys ≡ count
-  pub each : (place : ℕ) → place < count → (key : Key) → key ≡ slice_index_or keys place key → IsRowKey dimensions modes view (row_at rows place) key
-
 -- the cell of one fact row, which has its members
 pub record IsCellOfRow (dimensions : DimRows) (modes : List (List ℕ)) (view : View) (row : LineOrder) (cell : Cell) : Type 0 where
   pub is : cell_over dimensions modes view (row ∷ []) ≡ Some cell

@@ -1,18 +1,18 @@
 //! Grouping fact rows by the levels of a view.
-ghost use Rattle.std.specs.Prelude.{◌≡◌, ◌⊎◌, [], ℕ, List, IfErr, IfOk, OnOk, length};
+ghost use Rattle.std.specs.Prelude.{◌≡◌, ◌⊎◌, [], true, IfErr, IfOk, OnOk};
 ghost use Rattle.cube_model.specs.declared.fault.Fault.{Fault};
 ghost use Rattle.cube_model.specs.declared.rows.DimRows.{DimRows};
-ghost use Rattle.lattice.specs.declared.view.View.{View};
-ghost use Rattle.cuboid_upkeep.specs.Steps.{AreGrouped, AreRowKeys, AreUnfit};
-ghost use Rattle.cuboid_upkeep.specs.Tables.{AreTablesOf, modes_in};
+ghost use Rattle.cuboid_upkeep.specs.AxisCodes.{AreCodesOfRows};
+ghost use Rattle.cuboid_upkeep.specs.Steps.{AreGrouped, AreUnfit};
+ghost use Rattle.cuboid_upkeep.specs.Tables.{AreModeEntries, AreTablesOf, modes_in};
 
+use crate::axis_codes::AxisCodes;
 use crate::guesses::{Guesses, Weights};
 use crate::key_tables::KeyTables;
-use crate::row_cell::row_cell;
-use crate::row_keys::row_keys;
+use crate::row_cell::coded_cell;
 use crate::taking::take_in;
 use cube_model::Fault;
-use cuboid_cells::{Cell, Key};
+use cuboid_cells::Cell;
 use dimensions::Dims;
 use group_plan::ModeRows;
 use indexmap::IndexSet;
@@ -36,55 +36,64 @@ pub(crate) fn group_rows<F: ModeRows>(
     ensures refused { IfErr result (λ fault. (fault ≡ Fault.Memory)
         ⊎ ((fault ≡ Fault.BadLayout) × AreUnfit dims.now (modes_in tables.now) view (F.rows rows.now))) }
 {
-    let keys = row_keys(alloc, dims, view, tables, rows)?;
-    group_keyed(alloc, Weights::of(dims, view), keys.as_slice(), rows)
+    let codes = AxisCodes::of(alloc, dims, view, tables, rows)?;
+    group_coded(alloc, Weights::of(dims, view), view, tables, &codes, rows)
 }
 
-// The same by the keys of the rows.
-fn group_keyed<F: ModeRows>(
+// The same by the codes of the rows on the axes.
+fn group_coded<F: ModeRows>(
     alloc: Global,
     weights: Weights,
-    keys: &[Key],
+    view: View,
+    tables: &KeyTables<'_>,
+    codes: &AxisCodes,
     rows: &F,
 ) -> Result<Vec<Cell>, Fault>
-    requires { length keys.now ≡ length (F.rows rows.now) }
-    ensures ok { IfOk result (λ cells. (dimensions : DimRows) (modes : List (List ℕ)) (view : View)
-        → AreRowKeys dimensions modes view (F.rows rows.now) (length (F.rows rows.now)) keys.now
-        → AreGrouped dimensions modes view (F.rows rows.now) cells.items) }
+    requires entries { view.ship_mode ≡ true → AreModeEntries (modes_in tables.now) (F.modes rows.now) tables.now.entries.items }
+    ensures ok { IfOk result (λ cells. (dimensions : DimRows) → AreCodesOfRows dimensions view (F.rows rows.now) codes.now
+        → AreGrouped dimensions (modes_in tables.now) view (F.rows rows.now) cells.items) }
     ensures refused { IfErr result (λ fault. (fault ≡ Fault.Memory) ⊎ ((fault ≡ Fault.BadLayout)
-        × ((dimensions : DimRows) (modes : List (List ℕ)) (view : View)
-        → AreRowKeys dimensions modes view (F.rows rows.now) (length (F.rows rows.now)) keys.now
-        → AreUnfit dimensions modes view (F.rows rows.now)))) }
+        × ((dimensions : DimRows) → AreCodesOfRows dimensions view (F.rows rows.now) codes.now
+        → AreUnfit dimensions (modes_in tables.now) view (F.rows rows.now)))) }
 {
-    let room = keys.len().min(ROOM);
+    let room = rows.count().min(ROOM);
     let mut numbers = IndexSet::with_capacity(alloc, room)?;
     let mut cells = Vec::with_capacity(alloc, room)?;
     let mut guesses = Guesses::new(alloc, weights);
-    take_in_rows(&mut numbers, &mut cells, &mut guesses, keys, rows)?;
+    take_in_rows(
+        &mut numbers,
+        &mut cells,
+        &mut guesses,
+        view,
+        tables,
+        codes,
+        rows,
+    )?;
     Ok(cells)
 }
 
-// Takes the cells of fact rows in, where no cell was before.
+// Takes the cells of fact rows in, where no cell was before. A row's key is put together where its cell is looked for, and
+// kept nowhere.
 fn take_in_rows<F: ModeRows>(
     numbers: &mut IndexSet<u128>,
     cells: &mut Vec<Cell>,
     guesses: &mut Guesses,
-    keys: &[Key],
+    view: View,
+    tables: &KeyTables<'_>,
+    codes: &AxisCodes,
     rows: &F,
 ) -> Result<(), Fault>
-    requires keys { length keys.now ≡ length (F.rows rows.now) }
+    requires entries { view.ship_mode ≡ true → AreModeEntries (modes_in tables.now) (F.modes rows.now) tables.now.entries.items }
     requires no_number { numbers.old.keys ≡ [] }
     requires no_cell { cells.old.items ≡ [] }
-    ensures ok { OnOk result ((dimensions : DimRows) (modes : List (List ℕ)) (view : View)
-        → AreRowKeys dimensions modes view (F.rows rows.now) (length (F.rows rows.now)) keys.now
-        → AreGrouped dimensions modes view (F.rows rows.now) cells.new.items) }
+    ensures ok { OnOk result ((dimensions : DimRows) → AreCodesOfRows dimensions view (F.rows rows.now) codes.now
+        → AreGrouped dimensions (modes_in tables.now) view (F.rows rows.now) cells.new.items) }
     ensures refused { IfErr result (λ fault. (fault ≡ Fault.Memory) ⊎ ((fault ≡ Fault.BadLayout)
-        × ((dimensions : DimRows) (modes : List (List ℕ)) (view : View)
-        → AreRowKeys dimensions modes view (F.rows rows.now) (length (F.rows rows.now)) keys.now
-        → AreUnfit dimensions modes view (F.rows rows.now)))) }
+        × ((dimensions : DimRows) → AreCodesOfRows dimensions view (F.rows rows.now) codes.now
+        → AreUnfit dimensions (modes_in tables.now) view (F.rows rows.now)))) }
 {
-    for place in 0..keys.len() {
-        let cell = row_cell(keys[place], rows, place)?;
+    for place in 0..rows.count() {
+        let cell = coded_cell(view, tables, codes, rows, place)?;
         take_in(numbers, cells, guesses, &cell)?;
     }
     Ok(())

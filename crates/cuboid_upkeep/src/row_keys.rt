@@ -1,70 +1,24 @@
 //! The keys of fact rows.
-ghost use Rattle.std.specs.Prelude.{◌≡◌, ◌⊎◌, ◌<◌, ◌^◌, true, All, IfErr, IfNone, IfOk, IfSome, length};
-ghost use Rattle.cube_model.specs.declared.fault.Fault.{Fault};
+ghost use Rattle.std.specs.Prelude.{◌≡◌, ◌<◌, ◌^◌, true, IfNone, IfSome, length};
 ghost use Rattle.cube_model.specs.declared.rows.DimRows.{DimRows};
 ghost use Rattle.group_plan.specs.Rows.{row_at};
 ghost use Rattle.cuboid_cells.specs.Cells.{IsModeCode};
 ghost use Rattle.cuboid_upkeep.specs.AxisCodes.{AreCodesOfRows};
 ghost use Rattle.cuboid_upkeep.specs.Codes.{IsMode, mode_code};
 ghost use Rattle.cuboid_upkeep.specs.Grouping.{HasMembers};
-ghost use Rattle.cuboid_upkeep.specs.Steps.{AreRowKeys, IsRowKey};
-ghost use Rattle.cuboid_upkeep.specs.Tables.{AreModeEntries, AreTablesOf, modes_in};
+ghost use Rattle.cuboid_upkeep.specs.Steps.{IsRowKey};
+ghost use Rattle.cuboid_upkeep.specs.Tables.{AreModeEntries, modes_in};
 
 use crate::axis_codes::{AxisCodes, code_of_row};
 use crate::key_tables::KeyTables;
-use cube_model::Fault;
 use cuboid_cells::Key;
 use cuboid_cells::limits::ALL_CODE;
-use dimensions::Dims;
 use group_plan::ModeRows;
 use lattice::View;
-use std::alloc::Global;
-
-// The keys of the rows of a batch, or `BadLayout` where a row has not its members.
-pub(crate) fn row_keys<F: ModeRows>(
-    alloc: Global,
-    dims: &Dims,
-    view: View,
-    tables: &KeyTables<'_>,
-    rows: &F,
-) -> Result<Vec<Key>, Fault>
-    requires tables { AreTablesOf dims.now view (F.modes rows.now) tables.now }
-    ensures ok { IfOk result (λ keys. AreRowKeys dims.now (modes_in tables.now) view (F.rows rows.now)
-        (length (F.rows rows.now)) keys.items) }
-    ensures refused { IfErr result (λ fault. (fault ≡ Fault.Memory) ⊎ ((fault ≡ Fault.BadLayout)
-        × (All (HasMembers dims.now (modes_in tables.now) view) (F.rows rows.now) → ⊥))) }
-{
-    let codes = AxisCodes::of(alloc, dims, view, tables, rows)?;
-    keys_by_codes(alloc, view, tables, &codes, rows)
-}
-
-// The same by the codes of the rows on the axes.
-fn keys_by_codes<F: ModeRows>(
-    alloc: Global,
-    view: View,
-    tables: &KeyTables<'_>,
-    codes: &AxisCodes,
-    rows: &F,
-) -> Result<Vec<Key>, Fault>
-    requires entries { view.ship_mode ≡ true → AreModeEntries (modes_in tables.now) (F.modes rows.now) tables.now.entries.items }
-    ensures ok { IfOk result (λ keys. (dimensions : DimRows) → AreCodesOfRows dimensions view (F.rows rows.now) codes.now
-        → AreRowKeys dimensions (modes_in tables.now) view (F.rows rows.now) (length (F.rows rows.now)) keys.items) }
-    ensures refused { IfErr result (λ fault. (fault ≡ Fault.Memory) ⊎ ((fault ≡ Fault.BadLayout)
-        × ((dimensions : DimRows) → All (HasMembers dimensions (modes_in tables.now) view) (F.rows rows.now) → ⊥))) }
-{
-    let mut keys = Vec::with_capacity(alloc, rows.count())?;
-    for place in 0..rows.count() {
-        let Some(key) = row_key(view, tables, codes, rows, place) else {
-            return Err(Fault::BadLayout);
-        };
-        keys.push(key)?;
-    }
-    Ok(keys)
-}
 
 // The key of the row at a place. Nothing where its ship mode is none of the modes.
 #[inline(always)]
-fn row_key<F: ModeRows>(
+pub(crate) fn row_key<F: ModeRows>(
     view: View,
     tables: &KeyTables<'_>,
     codes: &AxisCodes,

@@ -1,6 +1,7 @@
 -- What the writes of a creation make of what images show.
-use Rattle.std.proofs.Common.{◌≡◌, ◌≢◌, ⊎_elim, inl, inr, ℕ, ◌%◌, ◌<◌, ◌≤◌, List, [], length, map, refl, sym, ◌∙◌, ap, subst, arith}
+use Rattle.std.proofs.Common.{◌≡◌, ◌≢◌, ◌⊎◌, ⊎_elim, inl, inr, ℕ, ◌%◌, ◌<◌, ◌≤◌, List, [], length, map, refl, sym, ◌∙◌, ap, subst, arith}
 use Rattle.std.proofs.lemmas.List.Elements.{All-nil}
+use Rattle.sector_device.specs.declared.device.Sectors.{Ghosts}
 use Rattle.sector_device.specs.Device.{Image, DeviceState, IsSettled, LeavesOnly}
 use Rattle.sector_device.specs.Moments.{leaves_also}
 use Rattle.extents.specs.Extents.{IsInRange}
@@ -12,7 +13,7 @@ use Rattle.object_store.specs.declared.plan.Plan.{Plan}
 use Rattle.object_store.specs.Content.{Content}
 use Rattle.object_store.specs.Commit.{IsFew, created, put_all, put_each, size_of}
 use Rattle.object_store.specs.Shows.{ShowsBy, HasNone}
-use Rattle.object_store.specs.Disk.{Disk, Each, IsBlank, LeavesOrNone, OnlyImagesOf, ShowsSomeOrNone}
+use Rattle.object_store.specs.Disk.{Disk, disk, Each, IsBlank, LeavesOrNone, OnlyImagesOf, ShowsSomeOrNone}
 use Rattle.object_store.specs.Moments.{passes_then}
 use Rattle.object_store.specs.Ready.{content_from, IsKept, IsReady}
 use Rattle.object_store.specs.Reading.{IsOnlyRead, IsNewest}
@@ -128,11 +129,23 @@ module _ (d0 d1 : Disk) (word : d1.keeps_word → d0.keeps_word) (size : d1.stat
   }
 
   -- and then the writes of a creation
-  pub created_leaves : (d2 : Disk) (puts : List (ℕ × List ℕ)) (root : List ℕ) (layout : ℕ) (plan : Plan) → (d2.keeps_word → d1.keeps_word) → d2.state.size ≡ d1.state.size → (d1.keeps_word → HasNone d1.state.reads)
-      → IsPlan d1.state.size [] [] puts root 1 layout plan → (d2.keeps_word → LeavesOnly d1.state d2.state (IsEither plan puts d1.state.reads)) → Each d0 IsBlank → LeavesOrNone d0 d2 (λ c. c ≡ created puts root layout)
-  created_leaves d2 puts root layout plan word2 size2 none planned moments blank =
-      passes_then (ShowsSomeOrNone (λ (c : Content). c ≡ created puts root layout)) d0 d1 d2 (looked (λ (c : Content). c ≡ created puts root layout) blank) (record {
+  pub created_leaves : (d2 : Disk) (P : Content → Type 0) → (d2.keeps_word → d1.keeps_word) → d2.state.size ≡ d1.state.size
+      → (d2.keeps_word → LeavesOnly d1.state d2.state (ShowsSomeOrNone P d1.state.size)) → Each d0 IsBlank → LeavesOrNone d0 d2 P
+  created_leaves d2 P word2 size2 moments blank =
+      passes_then (ShowsSomeOrNone P) d0 d1 d2 (looked P blank) (record {
         word = word2;
         size = λ w. size2;
-        moments = λ w. leaves_also d1.state d2.state _ _ (either_shows puts root layout d1.state (none (word2 w)) plan planned) (moments w);
+        moments = moments;
       })
+
+-- a device that was only read, and then not called, or written by a creation
+module _ {D : Type 0} (g : Ghosts D) (d0 : Disk) (one two : D) (word : g.keeps_word one → d0.keeps_word) (size : (g.state one).size ≡ d0.state.size) (only : g.keeps_word one → IsOnlyRead d0.state (g.state one)) where
+  pub created_or_looked : (P : Content → Type 0) → (g.keeps_word two → g.keeps_word one) → (g.state two).size ≡ (g.state one).size
+      → (two ≡ one) ⊎ (g.keeps_word two → LeavesOnly (g.state one) (g.state two) (ShowsSomeOrNone P (g.state one).size)) → Each d0 IsBlank → LeavesOrNone d0 (disk g two) P
+  created_or_looked P word2 size2 moments blank =
+      ⊎_elim (λ same. subst (λ (d : D). LeavesOrNone d0 (disk g d) P) (sym same) (looked d0 (disk g one) word size only P blank))
+      (λ written. created_leaves d0 (disk g one) word size only (disk g two) P word2 size2 written blank) moments
+
+  -- an image still has no valid superblock where it was not called
+  pub blank_where_same : two ≡ one → Each d0 IsBlank → Each (disk g two) IsBlank
+  blank_where_same same blank = subst (λ (d : D). Each (disk g d) IsBlank) (sym same) (still_blank d0 (disk g one) word size only blank)

@@ -1,7 +1,8 @@
 -- Where the puts of a commit are placed. Our own.
 use Rattle.std.specs.Prelude.{◌≡◌, ◌⊎◌, ℕ, ◌^◌, ◌<◌, List, All}
 use Rattle.extents.specs.Extents.{SomeHolds, AreLaidOut}
-use Rattle.extents.specs.Runs.{FreeSectors, IsFree}
+use Rattle.extents.specs.declared.extent.Extent.{Extent}
+use Rattle.extents.specs.Runs.{FreeSectors, IsFree, IsFreeBeside}
 use Rattle.cube_model.specs.declared.fault.Fault.{Fault}
 use Rattle.cube_model.specs.declared.fault.Fault.TheVariants.{Memory, Full}
 use Rattle.catalogue.specs.declared.entry.Entry.{Entry}
@@ -18,6 +19,12 @@ pub record ArePlaced (first : FreeSectors) (puts : List (ℕ × List ℕ)) (entr
   pub were_free : (sector : ℕ) → SomeHolds (extents_of entries) sector → IsFree first sector
   pub still_free : (sector : ℕ) → IsFree now sector → IsFree first sector × (¬ SomeHolds (extents_of entries) sector)
   pub count : now.count ≡ first.count
+
+-- entries for some puts, placed beside the sectors in use, and what is then free
+pub record ArePlacedBeside (sectors : ℕ) (used : List Extent) (puts : List (ℕ × List ℕ)) (entries : List Entry) (now : FreeSectors) : Type 0 where
+  pub first : FreeSectors
+  pub beside : IsFreeBeside sectors used first
+  pub placed : ArePlaced first puts entries now
 
 -- a refusal for want of memory, or of room
 abbrev pub LacksMemoryOr : Type 0 → Fault → Type 0

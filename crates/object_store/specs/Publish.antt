@@ -1,13 +1,14 @@
 -- What a commit is to write, and what a stop within its writes leaves. Our own.
-use Rattle.std.specs.Prelude.{◌≡◌, ◌≢◌, ◌⊎◌, ℕ, ◌%◌, List, ◌∷◌, length, map}
+use Rattle.std.specs.Prelude.{◌≡◌, ◌≢◌, ◌⊎◌, ℕ, ◌+◌, ◌%◌, List, ◌∷◌, length, map}
 use Rattle.sector_device.specs.Device.{Image}
 use Rattle.extents.specs.declared.extent.Extent.{Extent}
 use Rattle.extents.specs.Extents.{SomeHolds, AreLaidOut}
+use Rattle.superblock.specs.declared.superblock.Super.{Super}
 use Rattle.superblock.specs.Superblock as superblocks
 use Rattle.catalogue.specs.declared.entry.Entry.{Entry}
 use Rattle.catalogue.specs.Catalogue as catalogues
 use Rattle.object_store.specs.declared.plan.Plan.{Plan}
-use Rattle.object_store.specs.Commit.{size_of, put_each}
+use Rattle.object_store.specs.Commit.{size_of, put_each, drop_each}
 use Rattle.object_store.specs.Places.{bytes_at, extent_of, extents_of, objects_at, sizes_at, used_by}
 
 -- the entries are for these objects, in order
@@ -33,6 +34,18 @@ pub record IsPlan (sectors : ℕ) (used : List Extent) (kept : List Entry) (puts
   pub written : AreLaidOut sectors (written_by plan)
   pub apart : (sector : ℕ) → SomeHolds (written_by plan) sector → SomeHolds used sector → ⊥
   pub laid_out : AreLaidOut sectors (used_by plan.superblock plan.entries.items)
+
+-- the plan of a commit over what stands there
+abbrev pub IsPlanOver : Super → List Entry → List (ℕ × List ℕ) → List ℕ → List ℕ → ℕ → Plan → Type 0
+IsPlanOver super entries puts drops root layout plan =
+    IsPlan super.sectors (used_by super entries) (drop_each (λ e. e.id) drops entries) puts root (super.generation + 1) layout plan
+
+-- the plan of some commit of these puts
+pub record IsSomePlanOver (super : Super) (entries : List Entry) (puts : List (ℕ × List ℕ)) (plan : Plan) : Type 0 where
+  pub drops : List ℕ
+  pub root : List ℕ
+  pub layout : ℕ
+  pub planned : IsPlanOver super entries puts drops root layout plan
 
 -- the slot of a plan's superblock
 abbrev pub slot_of : Plan → ℕ

@@ -1,8 +1,9 @@
 // The device calls of a creation.
 ghost use Rattle.std.specs.Prelude.{◌≡◌, ◌≢◌, ◌⊎◌, ◌+◌, ◌-◌, ◌^◌, ◌≤◌, ◌<◌, ℕ, [], min, IfOk, IfErr, OnOk, OnErr};
 ghost use Rattle.cube_model.specs.declared.fault.Fault.{Fault};
+ghost use Rattle.sector_device.specs.Device.{IsSettled, LeavesOnly};
 ghost use Rattle.object_store.specs.Commit.{ArePuts, IsFew, IsLayout, IsRoot, created, puts_of};
-ghost use Rattle.object_store.specs.Disk.{disk, Each, IsBlank, LeavesOrNone, OnlyImagesOf};
+ghost use Rattle.object_store.specs.Disk.{disk, Each, IsBlank, LeavesOrNone, OnlyImagesOf, ShowsSomeOrNone};
 ghost use Rattle.object_store.specs.Ready.{IsKept, IsReady, content_from};
 ghost use Rattle.object_store.specs.Room.{LacksPlaces, asked_for};
 ghost use Rattle.object_store.specs.Shows.{HasNone};
@@ -49,6 +50,39 @@ pub(crate) fn create<D: Sectors>(
         Ok(Some(_)) => return Err(Fault::AlreadyFormatted),
         Err(_) => return Err(Fault::Device),
     }
+    publish_first(alloc, device, puts, root, layout)
+}
+
+// Puts the first generation over slots without a superblock.
+fn publish_first<D: Sectors>(
+    alloc: Global,
+    device: &mut D,
+    puts: &[(u32, &[u8])],
+    root: &[u8],
+    layout: u32,
+) -> Result<Plan, Fault>
+    requires least { 64 ≤ (D.state device.old).size }
+    requires puts { ArePuts (puts_of puts.now) }
+    requires root { IsRoot root.now }
+    requires layout { IsLayout layout }
+    requires few { IsFew (created (puts_of puts.now) root.now layout) }
+    requires settled { D.keeps_word device.old → IsSettled (D.state device.old) }
+    requires none { D.keeps_word device.old → HasNone (D.state device.old).reads }
+    ensures size { (D.state device.new).size ≡ (D.state device.old).size }
+    ensures word { D.keeps_word device.new → D.keeps_word device.old }
+    ensures kept { IfOk result (λ plan. IsKept (D.state device.new).size plan.superblock plan.entries.items plan.root.items) }
+    ensures ready { IfOk result (λ plan. D.keeps_word device.new
+        → IsReady (D.state device.new) plan.superblock plan.entries.items plan.root.items) }
+    ensures content { IfOk result (λ plan. D.keeps_word device.new
+        → content_from (D.state device.new).reads plan.superblock plan.entries.items plan.root.items ≡ created (puts_of puts.now) root.now layout) }
+    ensures failures { OnOk result (D.failed device.new ≡ D.failed device.old) }
+    ensures moments { (device.new ≡ device.old) ⊎ (D.keeps_word device.new → LeavesOnly (D.state device.old) (D.state device.new)
+        (ShowsSomeOrNone (λ c. c ≡ created (puts_of puts.now) root.now layout) (D.state device.old).size)) }
+    ensures untouched { IfErr result (λ fault. fault ≢ Fault.Device → device.new ≡ device.old) }
+    ensures device { IfErr result (λ fault. fault ≡ Fault.Device → D.failed device.new ≡ min (D.failed device.old + 1) (2 ^ 64 - 1)) }
+    ensures full { IfErr result (λ fault. fault ≡ Fault.Full → LacksPlaces (D.state device.old).size [] (asked_for [] (puts_of puts.now) root.now)) }
+    ensures causes { IfErr result (λ fault. (fault ≡ Fault.Device) ⊎ ((fault ≡ Fault.Memory) ⊎ (fault ≡ Fault.Full))) }
+{
     let plan = first_plan(alloc, device.count(), puts, root, layout)?;
     match publish(device, puts, &plan) {
         Ok(()) => Ok(plan),

@@ -116,9 +116,30 @@ fn read_catalogue<D: Sectors>(
     ensures refused { IfErr result (λ fault. (fault ≡ Fault.Memory) ⊎ ((fault ≡ Fault.Device) ⊎ ((fault ≡ Fault.BadLayout)
         × (D.keeps_word device.new → SpellNone superblock.now (bytes_at (D.state device.old).reads superblock.now.catalogue superblock.now.bytes))))) }
 {
+    let bytes = read_bytes(alloc, device, superblock)?;
+    parse(alloc, superblock, &bytes)
+}
+
+// The bytes of the catalogue that a superblock names.
+fn read_bytes<D: Sectors>(
+    alloc: Global,
+    device: &mut D,
+    superblock: &Super,
+) -> Result<Vec<u8>, Fault>
+    requires proper { IsProper superblock.now }
+    requires sized { superblock.now.sectors ≡ (D.state device.old).size }
+    ensures size { (D.state device.new).size ≡ (D.state device.old).size }
+    ensures word { D.keeps_word device.new → D.keeps_word device.old }
+    ensures only { D.keeps_word device.new → IsOnlyRead (D.state device.old) (D.state device.new) }
+    ensures bytes { IfOk result (λ bytes. D.keeps_word device.new
+        → bytes.items ≡ bytes_at (D.state device.old).reads superblock.now.catalogue superblock.now.bytes) }
+    ensures failures { OnOk result (D.failed device.new ≡ D.failed device.old) }
+    ensures device { IfErr result (λ fault. fault ≡ Fault.Device → D.failed device.new ≡ min (D.failed device.old + 1) (2 ^ 64 - 1)) }
+    ensures causes { IfErr result (λ fault. (fault ≡ Fault.Memory) ⊎ (fault ≡ Fault.Device)) }
+{
     let mut bytes = Vec::from_elem(alloc, 0u8, superblock.bytes as usize)?;
     match read_range(device, superblock.catalogue, 0, &mut bytes) {
-        Ok(()) => parse(alloc, superblock, &bytes),
+        Ok(()) => Ok(bytes),
         Err(_) => Err(Fault::Device),
     }
 }

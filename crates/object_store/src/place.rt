@@ -5,16 +5,34 @@ ghost use Rattle.extents.specs.declared.extent.Extent.{Extent};
 ghost use Rattle.extents.specs.Extents.{AreLaidOut};
 ghost use Rattle.extents.specs.Runs.{IsFreeBeside};
 ghost use Rattle.object_store.specs.Commit.{ArePuts, puts_of};
-ghost use Rattle.object_store.specs.Room.{FitsFail, lengths_of};
-ghost use Rattle.object_store.specs.Planning.{ArePlaced, LacksMemoryOr};
+ghost use Rattle.object_store.specs.Room.{FitsFail, LacksPlaces, lengths_of};
+ghost use Rattle.object_store.specs.Planning.{ArePlaced, ArePlacedBeside, LacksMemoryOr};
 
 use catalogue::Entry;
 use cube_model::Fault;
 use extents::{Extent, Free};
 use std::alloc::Global;
 
-/// The free sectors beside extents that keep the rules of the layout.
-pub(crate) fn free_beside(alloc: Global, sectors: u32, used: &[Extent]) -> Result<Free, Fault>
+/// An entry for each put, in order, each by first fit beside extents that keep the rules of the layout, and what is then
+/// free.
+pub(crate) fn place_beside(
+    alloc: Global,
+    sectors: u32,
+    used: &[Extent],
+    puts: &[(u32, &[u8])],
+) -> Result<(Free, Vec<Entry>), Fault>
+    requires used { AreLaidOut sectors used.now }
+    requires puts { ArePuts (puts_of puts.now) }
+    ensures ok { IfOk result (λ both. ArePlacedBeside sectors used.now (puts_of puts.now) both.1.items both.0) }
+    ensures refused { IfErr result (LacksMemoryOr (LacksPlaces sectors used.now (lengths_of (puts_of puts.now)))) }
+{
+    let mut free = free_beside(alloc, sectors, used)?;
+    let placed = place(alloc, &mut free, puts)?;
+    Ok((free, placed))
+}
+
+// The free sectors beside extents that keep the rules of the layout.
+fn free_beside(alloc: Global, sectors: u32, used: &[Extent]) -> Result<Free, Fault>
     requires { AreLaidOut sectors used.now }
     ensures ok { IfOk result (IsFreeBeside sectors used.now) }
     ensures memory { IfErr result (λ fault. fault ≡ Fault.Memory) }
@@ -22,12 +40,8 @@ pub(crate) fn free_beside(alloc: Global, sectors: u32, used: &[Extent]) -> Resul
     Free::from_used(alloc, sectors, used)
 }
 
-/// An entry for each put, in order, each by first fit.
-pub(crate) fn place(
-    alloc: Global,
-    free: &mut Free,
-    puts: &[(u32, &[u8])],
-) -> Result<Vec<Entry>, Fault>
+// An entry for each put, in order, each by first fit.
+fn place(alloc: Global, free: &mut Free, puts: &[(u32, &[u8])]) -> Result<Vec<Entry>, Fault>
     requires { ArePuts (puts_of puts.now) }
     ensures ok { IfOk result (λ placed. ArePlaced free.old (puts_of puts.now) placed.items free.new) }
     ensures refused { IfErr result (LacksMemoryOr (FitsFail free.old (lengths_of (puts_of puts.now)))) }

@@ -13,7 +13,7 @@ ghost use Rattle.object_store.specs.Publish.{IsPlan};
 
 use crate::entries::{put_entries, without};
 use crate::layout::used_extents;
-use crate::place::{free_beside, place};
+use crate::place::place_beside;
 use catalogue::{Entry, encode};
 use cube_model::Fault;
 use extents::Extent;
@@ -68,10 +68,8 @@ pub(crate) fn prepare(
     ensures refused { IfErr result
         (LacksMemoryOr (LacksPlaces stamp.sectors used.now (asked_for (sizes_at kept.items) (puts_of puts.now) root.now))) }
 {
-    let mut free = free_beside(alloc, stamp.sectors, used)?;
-    let placed = place(alloc, &mut free, puts)?;
-    let (entries, catalogue) = catalogued(alloc, &placed, kept, root)?;
-    let root = Vec::from_slice(alloc, root)?;
+    let (mut free, placed) = place_beside(alloc, stamp.sectors, used, puts)?;
+    let (entries, catalogue, root) = catalogued(alloc, &placed, kept, root)?;
     let extent = free.take(catalogue.len().div_ceil(512) as u32)?;
     let superblock = Super {
         layout: stamp.layout,
@@ -89,24 +87,26 @@ pub(crate) fn prepare(
     })
 }
 
-// The entries that are kept and those that were placed, and the bytes of their catalogue.
+// The entries that are kept and those that were placed, the bytes of their catalogue, and the root in it.
 fn catalogued(
     alloc: Global,
     placed: &[Entry],
     kept: Vec<Entry>,
     root: &[u8],
-) -> Result<(Vec<Entry>, Vec<u8>), Fault>
+) -> Result<(Vec<Entry>, Vec<u8>, Vec<u8>), Fault>
     requires ascending { AreAscending kept.items }
     requires few { length (put_each (λ e. e.id) placed.now kept.items) ≤ most_objects }
     requires root { IsRoot root.now }
-    ensures entries { IfOk result (λ both. both.0.items ≡ put_each (λ e. e.id) placed.now kept.items) }
-    ensures catalogue { IfOk result (λ both. both.1.items ≡ catalogue_of both.0.items root.now) }
+    ensures entries { IfOk result (λ made. made.0.items ≡ put_each (λ e. e.id) placed.now kept.items) }
+    ensures catalogue { IfOk result (λ made. made.1.items ≡ catalogue_of made.0.items root.now) }
+    ensures root { IfOk result (λ made. made.2.items ≡ root.now) }
     ensures memory { IfErr result (λ fault. fault ≡ Fault.Memory) }
 {
     let mut entries = kept;
     put_entries(&mut entries, placed)?;
     let catalogue = encode(alloc, &entries, root)?;
-    Ok((entries, catalogue))
+    let root = Vec::from_slice(alloc, root)?;
+    Ok((entries, catalogue, root))
 }
 
 /// The plan of a commit over what stands there.

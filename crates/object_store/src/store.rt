@@ -1,5 +1,5 @@
 // A store on a device.
-ghost use Rattle.std.specs.Prelude.{◌≡◌, ◌≢◌, ◌⊎◌, ◌+◌, ◌-◌, ◌*◌, ◌^◌, ◌<◌, ◌≤◌, ◌↔◌, min, ℕ, true, false, [], Some, length, option_map, IfOk, IfErr, IsSomeAnd, IsTrue, OnOk, OnErr, IsErrOf};
+ghost use Rattle.std.specs.Prelude.{◌≡◌, ◌≢◌, ◌⊎◌, ◌+◌, ◌-◌, ◌*◌, ◌^◌, ◌<◌, ◌≤◌, ◌↔◌, min, ℕ, true, false, List, [], Some, length, option_map, IfOk, IfErr, IsSomeAnd, IsTrue, OnOk, OnErr, IsErrOf};
 ghost use Rattle.cube_model.specs.declared.fault.Fault.TheVariants.{Device, Failed, Full, Worn, Memory, AlreadyFormatted, DeviceSize};
 ghost use Rattle.std.specs.Vec.{vec_capacity};
 ghost use Rattle.superblock.specs.Superblock.{sectors_of};
@@ -7,6 +7,7 @@ ghost use Rattle.wire.specs.Parts.{Gives};
 ghost use Rattle.object_store.specs.Content.{bytes_of};
 ghost use Rattle.object_store.specs.Commit.{ArePuts, IsFew, IsLayout, IsRoot, committed, created, puts_of, find_by};
 ghost use Rattle.object_store.specs.Ready.{IsKept, IsReady};
+ghost use Rattle.object_store.specs.Publish.{IsPlanOver, IsSomePlanOver};
 ghost use Rattle.object_store.specs.Room.{LacksRoom, empty_room};
 ghost use Rattle.object_store.specs.Disk.{disk, IsBlank, AllShow, Leaves, LeavesOrNone, Each, OnlyImagesOf, IsShown, MayShowNothing, HasOneImage};
 ghost use Rattle.object_store.specs.Found.{Explains, is_of_layout};
@@ -15,7 +16,7 @@ ghost use Rattle.object_store.specs.Shows.{HasNone};
 use crate::create::create;
 use crate::entries::find as find_entry;
 use crate::find::find;
-use crate::plan::next_plan;
+use crate::plan::{Plan, next_plan};
 use crate::publish::publish;
 use crate::read::{push_sectors, read_range};
 use catalogue::Entry;
@@ -342,13 +343,38 @@ impl<D: Sectors> Store<D> {
             Refuses (content_of D.Sectors self.old) (room_of self.old) (puts_of puts.now) drops.now root.now fault) }
         ensures readable { IfErr result (λ fault. is_of_layout fault ≡ false) }
     {
+        let plan = self.plan(alloc, puts, drops, root, layout)?;
+        self.put_plan(puts, plan)
+    }
+
+    // The plan of a commit. Nothing is written yet.
+    fn plan(
+        &self,
+        alloc: Global,
+        puts: &[(u32, &[u8])],
+        drops: &[u32],
+        root: &[u8],
+        layout: u32,
+    ) -> Result<Plan, Fault>
+        requires puts { ArePuts (puts_of puts.now) }
+        requires root { IsRoot root.now }
+        requires layout { IsLayout layout }
+        requires few { IsFew (committed (puts_of puts.now) drops.now root.now layout (content_of D.Sectors self.now)) }
+        ensures ok { IfOk result (IsPlanOver self.now.superblock self.now.entries.items (puts_of puts.now) drops.now root.now layout) }
+        ensures fine { OnOk result (has_failed self.now ≡ false) }
+        ensures failed { IsErrOf result Failed ↔ (has_failed self.now ≡ true) }
+        ensures not_device { IsErrOf result Device → ⊥ }
+        ensures refuses { IfErr result (λ fault. fault ≢ Failed →
+            Refuses (content_of D.Sectors self.now) (room_of self.now) (puts_of puts.now) drops.now root.now fault) }
+        ensures readable { IfErr result (λ fault. is_of_layout fault ≡ false) }
+    {
         if self.is_broken() {
             return Err(Fault::Failed);
         }
         if self.superblock.generation == u64::MAX {
             return Err(Fault::Worn);
         }
-        let plan = next_plan(
+        next_plan(
             alloc,
             &self.superblock,
             &self.entries,
@@ -356,7 +382,24 @@ impl<D: Sectors> Store<D> {
             drops,
             root,
             layout,
-        )?;
+        )
+    }
+
+    // Writes what a plan names, and takes the plan over. Where the device fails, the store has failed.
+    fn put_plan(&mut self, puts: &[(u32, &[u8])], plan: Plan) -> Result<(), Fault>
+        requires fine { has_failed self.old ≡ false }
+        requires planned { IsSomePlanOver self.old.superblock self.old.entries.items (puts_of puts.now) plan }
+        ensures leaves { (drops root : List ℕ) (layout : ℕ) → IsPlanOver self.old.superblock self.old.entries.items (puts_of puts.now) drops root layout plan
+            → Leaves (disk_of D.Sectors self.old) (disk_of D.Sectors self.new)
+            (IsOneOf (content_of D.Sectors self.old) (committed (puts_of puts.now) drops root layout (content_of D.Sectors self.old))) }
+        ensures ok { OnOk result ((drops root : List ℕ) (layout : ℕ) → IsPlanOver self.old.superblock self.old.entries.items (puts_of puts.now) drops root layout plan
+            → (disk_of D.Sectors self.new).keeps_word
+            → content_of D.Sectors self.new ≡ committed (puts_of puts.now) drops root layout (content_of D.Sectors self.old)) }
+        ensures fine { OnOk result (has_failed self.new ≡ false) }
+        ensures failures { OnOk result ((disk_of D.Sectors self.new).failures ≡ (disk_of D.Sectors self.old).failures) }
+        ensures device { OnErr result (Breaks D.Sectors self.old self.new) }
+        ensures cause { IfErr result (λ fault. fault ≡ Device) }
+    {
         match publish(&mut self.device, puts, &plan) {
             Ok(()) => {
                 self.superblock = plan.superblock;

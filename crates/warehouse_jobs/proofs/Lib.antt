@@ -2,6 +2,7 @@ pub mod Cuts
 pub mod Turns
 pub mod Through
 pub mod Endings
+pub mod Stepping
 pub mod Reported
 pub mod Performed
 pub mod Added

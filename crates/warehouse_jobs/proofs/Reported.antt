@@ -1,13 +1,18 @@
 -- How a report ends.
-use Rattle.std.proofs.Common.{◌≡◌, ⊎_elim, inl, inr, ℕ, true, List, Option, Result, Err}
+use Rattle.std.proofs.Common.{◌≡◌, ⊎_elim, inl, inr, ℕ, true, List, Option, Result, Ok, Err, subst}
 use Rattle.std.proofs.KnownBytes.{Keeps-refl}
+use Rattle.std.specs.Io.KnownBytes.{Appends}
 use Rattle.sector_device.specs.declared.device.Sectors.{Ghosts}
 use Rattle.cube_model.specs.declared.fault.Fault.{Fault}
 use Rattle.cube_model.specs.declared.fault.Fault.TheVariants.{Device}
+use Rattle.cube_model.specs.declared.answer.Answer.{Answer}
 use Rattle.cube_model.specs.declared.query.Query.{Query}
+use Rattle.cube_model.specs.Answers.{answer_as_of}
+use Rattle.ssb_reports.specs.Report.{report_of}
+use Rattle.ssb_reports.specs.Writing.{AppendsBeginning, Writes}
 use Rattle.warehouse_objects.specs.Warehouse.{Warehouse}
 use Rattle.warehouse.specs.declared.session.Session.{Session}
-use Rattle.warehouse.specs.Session.{IsAt, QueryRefuses, has_failed}
+use Rattle.warehouse.specs.Session.{IsAt, IsAsked, QueryRefuses, has_failed}
 use Rattle.warehouse.proofs.Refusing.{device_or}
 use Rattle.warehouse_jobs.specs.Reporting.{ReportEnds}
 
@@ -20,3 +25,18 @@ report-refused g w count query new before fault result failed causes stop =
       Keeps-refl before,
       ⊎_elim (λ e. inl (e, failed e)) (λ no. inr (causes no)) (device_or fault),
     ))
+
+-- the answer was found, and its report written
+pub report-written : {D : Type 0} (g : Ghosts D) (w : Warehouse) (count : ℕ) (query : Query) (new : Session D g) (before after : Option (List ℕ)) (found : Answer) (result : Result Unit Fault)
+    → IsAt g new w → IsAsked w count query × (found ≡ answer_as_of query count w.rows w.batches) → Writes before after result (report_of query found) → ReportEnds g w count query new before after result
+report-written g w count query new before after found (Ok done) at asked written = (
+  at,
+  asked.0,
+  subst (λ (answer : Answer). Appends before after (report_of query answer)) asked.1 written,
+)
+report-written g w count query new before after found (Err fault) at asked written = inl (
+  written.0,
+  at,
+  asked.0,
+  subst (λ (answer : Answer). AppendsBeginning before after (report_of query answer)) asked.1 written.1,
+)

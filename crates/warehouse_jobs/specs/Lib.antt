@@ -1,6 +1,7 @@
 pub mod Printed
 pub mod Cutting
 pub mod Loading
+pub mod Steps
 pub mod Reporting
 pub mod Jobs
 pub mod Lawful

@@ -1,14 +1,15 @@
 //! Loading the fact rows of a file.
-ghost use Rattle.std.specs.Prelude.{◌≡◌, ◌≤◌, ℕ, List, Some, None, length, IfOk, IfErr};
+ghost use Rattle.std.specs.Prelude.{◌≡◌, ◌≤◌, ◌++◌, [], ℕ, List, Some, None, length, IfOk, IfErr, OnOk};
 ghost use Rattle.cube_model.specs.declared.rows.LineOrder.{LineOrder};
 ghost use Rattle.cube_model.specs.Limits.{most_batch_rows};
 ghost use Rattle.batch_loader.specs.Reading.{RefusesBatch, TakesBatch};
 ghost use Rattle.batch_loader.specs.Tables.{lineorder_row};
 ghost use Rattle.ssb_reports.specs.Writing.{Writes};
 ghost use Rattle.warehouse_objects.specs.Warehouse.{Warehouse};
-ghost use Rattle.warehouse.specs.Growing.{Grows, IsOfSession};
+ghost use Rattle.warehouse.specs.Growing.{CanGrow, Grows, IsOfSession};
 ghost use Rattle.warehouse.specs.Session.{device_of, IsAt};
 ghost use Rattle.warehouse_jobs.specs.Loading.{DoesBatch, Loads, Refuses, TakesIn};
+ghost use Rattle.warehouse_jobs.specs.Steps.{Steps};
 ghost use Rattle.warehouse_jobs.specs.Printed.{count_line};
 
 use crate::job::{BatchNumber, BatchRows};
@@ -16,7 +17,7 @@ use crate::printing::{write_batch, write_count};
 use crate::taken::Taken;
 use batch_loader::{Lines, read_batch_into};
 use cube_model::limits::MOST_BATCHES;
-use cube_model::{Fault, Items};
+use cube_model::{Fault, Items, LineOrder};
 use sector_device::Sectors;
 use std::alloc::Global;
 use std::io::{Read, Write};
@@ -65,17 +66,40 @@ fn load_lines<D: Sectors, R: Read, W: Write>(
 {
     for done in 0..MOST_STEPS {
         let number = first.saturating_add(done);
-        let batch = next_batch(alloc, session, lines, size)?;
-        if batch.row_count() == 0 {
-            return end(session, out);
+        match load_next(alloc, session, number, size, lines, out) {
+            Ok(true) => {}
+            Ok(false) => return end(session, out),
+            Err(fault) => return Err(fault),
         }
-        load_batch(alloc, session, number, &batch, out)?;
     }
     Err(Fault::TooManyBatches) // no load has so many steps
 }
 
-// Reads the next batch of a text, so many rows, and fewer only at its end. Each piece of it is looked at and written as
-// columns while it lies near the processor still.
+// Does the next batch of a text, with a number, and says whether there was one.
+fn load_next<D: Sectors, R: Read, W: Write>(
+    alloc: Global,
+    session: &mut Session<D>,
+    number: u32,
+    size: usize,
+    lines: &mut Lines<R>,
+    out: &mut W,
+) -> Result<bool, Fault>
+    requires few { size ≤ most_batch_rows }
+    requires fault { lines.old.fault ≡ None }
+    ensures steps { (w : Warehouse) → IsAt D.Sectors session.old w → D.keeps_word (device_of session.new)
+        → Steps D.Sectors size w number lines.old lines.new session.old session.new (W.contents out.old) (W.contents out.new) result }
+    ensures fault { OnOk result (lines.new.fault ≡ None) }
+    ensures word { D.keeps_word (device_of session.new) → D.keeps_word (device_of session.old) }
+{
+    let batch = next_batch(alloc, session, lines, size)?;
+    if batch.row_count() == 0 {
+        return Ok(false);
+    }
+    load_batch(alloc, session, number, &batch, out)?;
+    Ok(true)
+}
+
+// Reads the next batch of a text, so many rows, and fewer only at its end.
 fn next_batch<D: Sectors, R: Read>(
     alloc: Global,
     session: &Session<D>,
@@ -88,16 +112,54 @@ fn next_batch<D: Sectors, R: Read>(
     ensures refused { IfErr result (RefusesBatch lineorder_row size lines.old) }
 {
     let mut batch = session.begin_batch(alloc, size)?;
+    fill(alloc, session, lines, size, &mut batch)?;
+    Ok(batch)
+}
+
+// Puts the rows of the next lines into a batch of none, so many, and fewer only at the end of the text. Each piece of them
+// is looked at and written as columns while it lies near the processor still.
+fn fill<D: Sectors, R: Read>(
+    alloc: Global,
+    session: &Session<D>,
+    lines: &mut Lines<R>,
+    size: usize,
+    batch: &mut GrowingBatch,
+) -> Result<(), Fault>
+    requires few { size ≤ most_batch_rows }
+    requires fault { lines.old.fault ≡ None }
+    requires none { Grows session.now [] batch.old }
+    ensures ok { OnOk result ((rows : List LineOrder) × TakesBatch lineorder_row size lines.old lines.new rows × Grows session.now rows batch.new) }
+    ensures refused { IfErr result (RefusesBatch lineorder_row size lines.old) }
+{
     let mut rows = Items::new(alloc);
     for piece in 0..size.div_ceil(PIECE_ROWS) {
         let most = PIECE_ROWS.min(size - piece * PIECE_ROWS);
-        rows = read_batch_into(alloc, lines, most, rows)?;
-        session.add_rows(alloc, &mut batch, rows.as_slice())?;
+        rows = next_piece(alloc, session, lines, most, rows, batch)?;
         if rows.len() < most {
-            return Ok(batch);
+            return Ok(());
         }
     }
-    Ok(batch)
+    Ok(())
+}
+
+// Reads so many further rows, fewer only at the end of the text, into the room of earlier ones, and adds them to a batch.
+fn next_piece<D: Sectors, R: Read>(
+    alloc: Global,
+    session: &Session<D>,
+    lines: &mut Lines<R>,
+    most: usize,
+    done: Items<LineOrder>,
+    batch: &mut GrowingBatch,
+) -> Result<Items<LineOrder>, Fault>
+    requires few { CanGrow session.now most batch.old }
+    requires fault { lines.old.fault ≡ None }
+    ensures taken { IfOk result (TakesBatch lineorder_row most lines.old lines.new) }
+    ensures grown { IfOk result (λ rows. (before : List LineOrder) → Grows session.now before batch.old → Grows session.now (before ++ rows) batch.new) }
+    ensures refused { IfErr result (RefusesBatch lineorder_row most lines.old) }
+{
+    let rows = read_batch_into(alloc, lines, most, done)?;
+    session.add_rows(alloc, batch, rows.as_slice())?;
+    Ok(rows)
 }
 
 // Writes how many batches the warehouse has.

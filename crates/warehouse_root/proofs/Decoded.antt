@@ -6,25 +6,26 @@ use Rattle.warehouse_root.specs.declared.cuboid.StoredCuboid.{StoredCuboid}
 use Rattle.warehouse_root.specs.declared.layout.Layout.{Layout}
 use Rattle.warehouse_root.specs.declared.reading.Counts.{Counts}
 use Rattle.warehouse_root.specs.declared.totals.StoredTotals.{StoredTotals}
-use Rattle.warehouse_root.specs.Reading.{AreCountsOf, ReadsCounts, ReadsCuboids, ReadsRows, ReadsTotals, parts_of}
-use Rattle.warehouse_root.specs.Root.{IsProper, IsRootOf, PlainRoot, counts_of, cuboid_of, root_of, totals_of}
+use Rattle.warehouse_root.specs.Reading.{AreCountsOf, ArePartsOf, ReadsCounts, ReadsCuboids, ReadsFront, ReadsRows, ReadsTotals, SpellNoRoot, parts_of}
+use Rattle.warehouse_root.specs.Root.{IsProper, IsRoot, IsRootOf, PlainRoot, counts_of, cuboid_of, root_of, totals_of}
 use Rattle.warehouse_root.proofs.CallerLemmas.{RootFits, length-root_of, root_fits, root_of-one}
 use Rattle.warehouse_root.proofs.Fields.{four-one}
 
-module _ (layout : Layout) (bytes : List ℕ) where
-  -- a root has more bytes than its counts
-  pub too_short : length bytes < 16 → (root : PlainRoot) → IsRootOf layout bytes root → ⊥
-  too_short short root is = omega (arith, short, ap length is.is_root.spelled, length-root_of root)
+module _ (bytes : List ℕ) where
+  -- a root has more bytes than its counts and its totals
+  pub too_short : length bytes < 64 → SpellNoRoot bytes
+  too_short short root is = omega (arith, short, ap length is.spelled, length-root_of root)
 
   -- the counts of a root are those that stand at its front
-  pub counts_are_of : (mid : List ℕ) (counts : Counts) → ReadsCounts bytes mid counts → (root : PlainRoot) → IsRootOf layout bytes root → AreCountsOf (length bytes) counts
+  pub counts_are_of : (mid : List ℕ) (counts : Counts) → ReadsCounts bytes mid counts → (root : PlainRoot) → IsRoot bytes root → AreCountsOf (length bytes) counts
   counts_are_of mid counts reads root is =
-      let fits = root_fits root is.is_root.proper in
+      let fits = root_fits root is.proper in
       let same = four-one 4 4 4 4 counts.batches counts.target counts.additions counts.cuboids (length root.batches) root.target root.additions (length root.cuboids)
       mid (totals_of root.totals ++ (flat_map (spelling 4) root.batches ++ flat_map cuboid_of root.cuboids))
-      reads.fit.batches reads.fit.target reads.fit.additions reads.fit.cuboids fits.many fits.target fits.additions fits.cuboids (sym reads.spelled ∙ is.is_root.spelled) in
-      omega (arith, ap length is.is_root.spelled, length-root_of root, same.0, same.3)
+      reads.fit.batches reads.fit.target reads.fit.additions reads.fit.cuboids fits.many fits.target fits.additions fits.cuboids (sym reads.spelled ∙ is.spelled) in
+      omega (arith, ap length is.spelled, length-root_of root, same.0, same.3)
 
+module _ (layout : Layout) (bytes : List ℕ) where
   module _ (r0 r1 r2 r3 : List ℕ) (counts : Counts) (totals : StoredTotals) (batches : List ℕ) (cuboids : List StoredCuboid)
       (reads0 : ReadsCounts bytes r0 counts) (whole : AreCountsOf (length bytes) counts) (reads1 : ReadsTotals r0 r1 totals)
       (reads2 : ReadsRows counts.batches r1 r2 batches) (reads3 : ReadsCuboids counts.cuboids r2 r3 cuboids) where
@@ -63,3 +64,12 @@ module _ (layout : Layout) (bytes : List ℕ) where
     -- the parts are a root, where they keep the rules
     pub is_root_of : IsProper (parts_of layout counts totals batches cuboids) → IsRootOf layout bytes (parts_of layout counts totals batches cuboids)
     is_root_of proper = record { of_layout = refl; is_root = record { spelled = parts_spelled; proper = proper } }
+
+-- the front and what stands behind it
+pub parts_of_bytes : (bytes r1 r2 r3 : List ℕ) (counts : Counts) (totals : StoredTotals) (batches : List ℕ) (cuboids : List StoredCuboid)
+    → ReadsFront bytes r1 counts totals → ReadsRows counts.batches r1 r2 batches → ReadsCuboids counts.cuboids r2 r3 cuboids → ArePartsOf bytes counts totals batches cuboids
+parts_of_bytes bytes r1 r2 r3 counts totals batches cuboids front rows last = record {
+  many = rows.many;
+  is_root_of = λ layout. is_root_of layout bytes front.mid r1 r2 r3 counts totals batches cuboids front.counts_read front.whole front.totals_read rows last;
+  parts_are = λ layout. parts_are layout bytes front.mid r1 r2 r3 counts totals batches cuboids front.counts_read front.whole front.totals_read rows last;
+}

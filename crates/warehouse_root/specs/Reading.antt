@@ -6,7 +6,7 @@ use Rattle.warehouse_root.specs.declared.cuboid.StoredCuboid.{StoredCuboid}
 use Rattle.warehouse_root.specs.declared.layout.Layout.{Layout}
 use Rattle.warehouse_root.specs.declared.totals.StoredTotals.{StoredTotals}
 use Rattle.warehouse_root.specs.declared.reading.Counts.{Counts}
-use Rattle.warehouse_root.specs.Root.{PlainRoot, counts_of, cuboid_of, totals_of}
+use Rattle.warehouse_root.specs.Root.{IsProper, IsRoot, IsRootOf, PlainRoot, counts_of, cuboid_of, totals_of}
 
 -- a root with these counts has so many bytes
 abbrev pub AreCountsOf : ℕ → Counts → Type 0
@@ -77,3 +77,20 @@ pub record ReadsCuboids (count : ℕ) (old new : List ℕ) (cuboids : List Store
   pub many : length cuboids ≡ count
   pub spelled : old ≡ flat_map cuboid_of cuboids ++ new
   pub left : length old ≡ 12 * count + length new
+
+-- the counts and the totals were read from the front of `old`, which is as long as the counts say, and `new` is left
+pub record ReadsFront (old new : List ℕ) (counts : Counts) (totals : StoredTotals) : Type 0 where
+  pub mid : List ℕ
+  pub counts_read : ReadsCounts old mid counts
+  pub whole : AreCountsOf (length old) counts
+  pub totals_read : ReadsTotals mid new totals
+
+-- the bytes are those of a root of these parts, where they keep the rules, and of no other root
+pub record ArePartsOf (bytes : List ℕ) (counts : Counts) (totals : StoredTotals) (batches : List ℕ) (cuboids : List StoredCuboid) : Type 0 where
+  pub many : length batches ≡ counts.batches
+  pub is_root_of : (layout : Layout) → IsProper (parts_of layout counts totals batches cuboids) → IsRootOf layout bytes (parts_of layout counts totals batches cuboids)
+  pub parts_are : (layout : Layout) (root : PlainRoot) → IsRootOf layout bytes root → parts_of layout counts totals batches cuboids ≡ root
+
+-- the bytes are those of no root
+abbrev pub SpellNoRoot : List ℕ → Type 0
+SpellNoRoot bytes = (root : PlainRoot) → ¬ IsRoot bytes root

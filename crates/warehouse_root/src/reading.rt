@@ -1,7 +1,7 @@
 //! Reading the parts of a root from the front of bytes.
-ghost use Rattle.std.specs.Prelude.{◌≡◌, ◌*◌, ◌≤◌, ◌<◌, ◌↔◌, length, IfErr, IfOk, IsErr, IsOkUnless, IsTrue};
+ghost use Rattle.std.specs.Prelude.{◌≡◌, ◌⊎◌, ◌*◌, ◌≤◌, ◌<◌, ◌↔◌, length, IfErr, IfOk, IsErr, IsOkUnless, IsTrue};
 ghost use Rattle.cube_model.specs.declared.fault.Fault.{Fault};
-ghost use Rattle.warehouse_root.specs.Reading.{ReadsCounts, ReadsCuboid, ReadsCuboids, ReadsRows, ReadsTotals};
+ghost use Rattle.warehouse_root.specs.Reading.{ArePartsOf, ReadsCounts, ReadsCuboid, ReadsCuboids, ReadsFront, ReadsRows, ReadsTotals, SpellNoRoot};
 
 use crate::cuboid::StoredCuboid;
 use crate::totals::StoredTotals;
@@ -29,8 +29,48 @@ impl Counts {
     }
 }
 
+// The parts of a root, before any rule is looked at.
+#[derive(Drop)]
+pub(crate) struct Parts {
+    pub(crate) counts: Counts,
+    pub(crate) totals: StoredTotals,
+    pub(crate) batches: Vec<u32>,
+    pub(crate) cuboids: Vec<StoredCuboid>,
+}
+
+// The parts that the bytes spell. `BadLayout` where they are not as many as their counts say.
+pub(crate) fn read_parts(alloc: Global, bytes: &[u8]) -> Result<Parts, Fault>
+    ensures ok { IfOk result (λ parts. ArePartsOf bytes.now parts.counts parts.totals parts.batches.items parts.cuboids.items) }
+    ensures refused { IfErr result (λ fault. (fault ≡ Fault.Memory) ⊎ ((fault ≡ Fault.BadLayout) × SpellNoRoot bytes.now)) }
+{
+    let mut cursor = Cursor::new(bytes);
+    let (counts, totals) = read_front(&mut cursor)?;
+    let batches = read_rows(alloc, &mut cursor, counts.batches as usize)?;
+    let cuboids = read_cuboids(alloc, &mut cursor, counts.cuboids as usize)?;
+    Ok(Parts {
+        counts,
+        totals,
+        batches,
+        cuboids,
+    })
+}
+
+// The counts and the totals at the front of bytes that are as many as the counts say.
+fn read_front(cursor: &mut Cursor<'_>) -> Result<(Counts, StoredTotals), Fault>
+    ensures ok { IfOk result (λ front. ReadsFront cursor.old cursor.new front.0 front.1) }
+    ensures refused { IfErr result (λ fault. (fault ≡ Fault.BadLayout) × SpellNoRoot cursor.old) }
+{
+    let bytes = cursor.len();
+    let counts = read_counts(cursor)?;
+    if !counts.are_of(bytes) {
+        return Err(Fault::BadLayout);
+    }
+    let totals = read_totals(cursor)?;
+    Ok((counts, totals))
+}
+
 // The counts at the front of bytes.
-pub(crate) fn read_counts(cursor: &mut Cursor<'_>) -> Result<Counts, Fault>
+fn read_counts(cursor: &mut Cursor<'_>) -> Result<Counts, Fault>
     ensures ok { IfOk result (ReadsCounts cursor.old cursor.new) }
     ensures short { IsErr result ↔ (length cursor.old < 16) }
     ensures fault { IsOkUnless result Fault.BadLayout }
@@ -44,7 +84,7 @@ pub(crate) fn read_counts(cursor: &mut Cursor<'_>) -> Result<Counts, Fault>
 }
 
 // The totals at the front of bytes.
-pub(crate) fn read_totals(cursor: &mut Cursor<'_>) -> Result<StoredTotals, Fault>
+fn read_totals(cursor: &mut Cursor<'_>) -> Result<StoredTotals, Fault>
     ensures ok { IfOk result (ReadsTotals cursor.old cursor.new) }
     ensures short { IsErr result ↔ (length cursor.old < 48) }
     ensures fault { IsOkUnless result Fault.BadLayout }
@@ -60,11 +100,7 @@ pub(crate) fn read_totals(cursor: &mut Cursor<'_>) -> Result<StoredTotals, Fault
 }
 
 // The rows of so many batches at the front of bytes.
-pub(crate) fn read_rows(
-    alloc: Global,
-    cursor: &mut Cursor<'_>,
-    count: usize,
-) -> Result<Vec<u32>, Fault>
+fn read_rows(alloc: Global, cursor: &mut Cursor<'_>, count: usize) -> Result<Vec<u32>, Fault>
     requires { 4 * count ≤ length cursor.old }
     ensures ok { IfOk result (λ batches. ReadsRows count cursor.old cursor.new batches.items) }
     ensures memory { IfErr result (λ fault. fault ≡ Fault.Memory) }
@@ -78,7 +114,7 @@ pub(crate) fn read_rows(
 }
 
 // So many cuboids at the front of bytes.
-pub(crate) fn read_cuboids(
+fn read_cuboids(
     alloc: Global,
     cursor: &mut Cursor<'_>,
     count: usize,

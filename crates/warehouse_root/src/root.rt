@@ -1,22 +1,21 @@
 //! The root of a warehouse.
-ghost use Rattle.std.specs.Prelude.{◌≡◌, ◌⊎◌, ◌↔◌, ◌≤◌, ◌<◌, List, length, IfErr, IfOk, IsTrue};
+ghost use Rattle.std.specs.Prelude.{◌≡◌, ◌⊎◌, ◌↔◌, ◌≤◌, ◌<◌, List, [], ◌∷◌, ◌++◌, length, IfErr, IfOk, IsTrue, OnOk};
 ghost use Rattle.std.specs.List.{Contains};
 ghost use Rattle.cube_model.specs.declared.fault.Fault.{Fault};
 ghost use Rattle.cube_model.specs.Limits.{most_batch_rows, most_batches};
 ghost use Rattle.warehouse_root.specs.Objects.{object_ids};
-ghost use Rattle.warehouse_root.specs.Root.{AreProperTotals, IsProper, IsRoot, IsRootOf, PlainRoot, first_root, with_batch};
+ghost use Rattle.warehouse_root.specs.Root.{AreProperTotals, IsProper, IsRoot, IsRootOf, PlainRoot, first_root, root_of, with_batch};
 
 use crate::cuboid::StoredCuboid;
 use crate::decoding::keep_rules;
 use crate::encoding::{push_counts, push_cuboids, push_rows, push_totals};
 use crate::layout::Layout;
 use crate::objects::{is_among, is_stored, push_numbers, push_runs, segment_id};
-use crate::reading::{read_counts, read_cuboids, read_rows, read_totals};
+use crate::reading::read_parts;
 use crate::totals::StoredTotals;
 use cube_model::Fault;
 use std::alloc::Global;
 use std::marker::Model;
-use wire::Cursor;
 
 /// What a warehouse says of its batches and its stored cuboids. It keeps the rules of a root.
 #[derive(Debug, Drop)]
@@ -84,9 +83,7 @@ impl Root {
         ensures ok { IfOk result (λ root. root ≡ with_batch rows totals self.now) }
         ensures memory { IfErr result (λ fault. fault ≡ Fault.Memory) }
     {
-        let mut batches = Vec::with_capacity(alloc, self.batches.len() + 1)?;
-        batches.extend_from_slice(&self.batches)?;
-        batches.push(rows)?;
+        let batches = with_rows(alloc, &self.batches, rows)?;
         let cuboids = Vec::from_slice(alloc, &self.cuboids)?;
         Ok(Root {
             layout: self.layout,
@@ -105,17 +102,25 @@ impl Root {
     {
         let (batches, cuboids) = (self.batches.len(), self.cuboids.len());
         let mut out = Vec::with_capacity(alloc, 64 + 4 * batches + 12 * cuboids)?;
+        self.push_parts(&mut out)?;
+        Ok(out)
+    }
+
+    // Adds the bytes of the root.
+    fn push_parts(&self, out: &mut Vec<u8>) -> Result<(), Fault>
+        ensures ok { OnOk result (out.new.items ≡ out.old.items ++ root_of self.now) }
+        ensures memory { IfErr result (λ fault. fault ≡ Fault.Memory) }
+    {
         push_counts(
-            &mut out,
-            batches as u32,
+            out,
+            self.batches.len() as u32,
             self.target,
             self.additions,
-            cuboids as u32,
+            self.cuboids.len() as u32,
         )?;
-        push_totals(&mut out, &self.totals)?;
-        push_rows(&mut out, &self.batches)?;
-        push_cuboids(&mut out, &self.cuboids)?;
-        Ok(out)
+        push_totals(out, &self.totals)?;
+        push_rows(out, &self.batches)?;
+        push_cuboids(out, &self.cuboids)
     }
 
     /// The root of a layout that the bytes spell. `BadLayout` where they spell none that keeps the rules.
@@ -124,24 +129,23 @@ impl Root {
         ensures refused { IfErr result (λ fault. (fault ≡ Fault.Memory)
             ⊎ ((fault ≡ Fault.BadLayout) × ((root : PlainRoot) → ¬ IsRootOf layout bytes.now root))) }
     {
-        let mut cursor = Cursor::new(bytes);
-        let counts = read_counts(&mut cursor)?;
-        if !counts.are_of(bytes.len()) {
-            return Err(Fault::BadLayout);
-        }
-        let totals = read_totals(&mut cursor)?;
-        let batches = read_rows(alloc, &mut cursor, counts.batches as usize)?;
-        let cuboids = read_cuboids(alloc, &mut cursor, counts.cuboids as usize)?;
-        if !keep_rules(layout, &counts, &totals, &batches, &cuboids) {
+        let parts = read_parts(alloc, bytes)?;
+        if !keep_rules(
+            layout,
+            &parts.counts,
+            &parts.totals,
+            &parts.batches,
+            &parts.cuboids,
+        ) {
             return Err(Fault::BadLayout);
         }
         Ok(Root {
             layout,
-            batches,
-            target: counts.target,
-            additions: counts.additions,
-            totals,
-            cuboids,
+            batches: parts.batches,
+            target: parts.counts.target,
+            additions: parts.counts.additions,
+            totals: parts.totals,
+            cuboids: parts.cuboids,
         })
     }
 
@@ -208,4 +212,16 @@ impl Root {
     {
         is_among(1, self.layout.dimensions(), id) || is_stored(&self.batches, &self.cuboids, id)
     }
+}
+
+// The rows of some batches, and of one batch more.
+fn with_rows(alloc: Global, batches: &[u32], rows: u32) -> Result<Vec<u32>, Fault>
+    requires { length batches.now < most_batches }
+    ensures ok { IfOk result (λ more. more.items ≡ batches.now ++ rows ∷ []) }
+    ensures memory { IfErr result (λ fault. fault ≡ Fault.Memory) }
+{
+    let mut more = Vec::with_capacity(alloc, batches.len() + 1)?;
+    more.extend_from_slice(batches)?;
+    more.push(rows)?;
+    Ok(more)
 }

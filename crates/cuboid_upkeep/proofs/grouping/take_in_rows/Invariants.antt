@@ -1,7 +1,8 @@
-use Rattle.std.proofs.Common.{ℕ, List, length, take}
+use Rattle.std.proofs.Common.{take}
 use Rattle.cube_model.specs.declared.rows.DimRows.{DimRows}
-use Rattle.lattice.specs.declared.view.View.{View}
-use Rattle.cuboid_upkeep.specs.Steps.{AreKeyed, AreRowKeys}
+use Rattle.cuboid_upkeep.specs.AxisCodes.{AreCodesOfRows}
+use Rattle.cuboid_upkeep.specs.Steps.{AreKeyed}
+use Rattle.cuboid_upkeep.specs.Tables.{modes_in}
 use Rattle.cuboid_upkeep.proofs.Grouped.{Grouping}
 use Rattle.cuboid_upkeep.proofs.grouping.take_in_rows.Given as goal
 
@@ -9,5 +10,5 @@ abbrev pub invariant-loop-place : goal.invariant-loop-place
 invariant-loop-place g l =
     let rows = g.F.FactRows.rows l.rows in
     AreKeyed l.numbers.keys l.cells.items
-    × ((dimensions : DimRows) (modes : List (List ℕ)) (view : View) → AreRowKeys dimensions modes view rows (length rows) l.keys
-    → Grouping dimensions modes view (take l.place rows) l.numbers.keys l.cells.items)
+    × ((dimensions : DimRows) → AreCodesOfRows dimensions l.view rows l.codes
+    → Grouping dimensions (modes_in l.tables) l.view (take l.place rows) l.numbers.keys l.cells.items)

@@ -1,9 +1,8 @@
-use Rattle.std.proofs.Common.{◌≡◌, ◌+◌, ◌≤◌, [], ◌∷◌, ◌++◌, length, refl, ap, ◌∙◌, rules, arith}
-use Rattle.std.proofs.lemmas.List.{length_push}
-use Rattle.std.proofs.lemmas.Result.{err_from_is_err_and}
-use Rattle.warehouse_jobs.specs.Loading.{with_batch, with_batches}
-use Rattle.warehouse_jobs.proofs.Endings.{loads-closed, loads-failed, loads-unread, never_more, numbered}
-use Rattle.warehouse_jobs.proofs.Through.{through-more, through-none}
+use Rattle.std.proofs.Common.{◌≤◌, [], length, refl, arith}
+use Rattle.warehouse_jobs.specs.Loading.{with_batches}
+use Rattle.warehouse_jobs.proofs.Endings.{never_more}
+use Rattle.warehouse_jobs.proofs.Stepping.{stepped, stepped-fault, stepped-last}
+use Rattle.warehouse_jobs.proofs.Through.{through-none}
 use Rattle.warehouse_jobs.proofs.Turns.{still}
 use Rattle.warehouse_jobs.proofs.loading.load_lines.Goals as goal
 
@@ -18,56 +17,35 @@ loop-done-init g c = record {
   );
 }
 
-pub returns-in_err-batch-clause-loads : goal.returns-in_err-batch-clause-loads
-returns-in_err-batch-clause-loads g c w text at left k =
-    let th = c.loop-done.invariant.through w text at left k in
-    loads-unread g.D.Sectors w c.args.first c.args.size text c.args.session.now c.loop-done.session (g.W.Write.contents c.args.out.now) (g.W.Write.contents c.loop-done.out) c.loop-done.lines th.0 th.2 _ _
-    c.requires.some c.in_err-batch.ensures.refused (err_from_is_err_and _ c.from_residual.ensures.1)
-
-pub returns-then-row_count-eq0-clause-loads : goal.returns-then-row_count-eq0-clause-loads
-returns-then-row_count-eq0-clause-loads g c w text at left k =
-    let th = c.loop-done.invariant.through w text at left k in
-    let many = c.row_count.ensures.count _ _ c.in_ok-batch.ensures.ok.0 c.in_ok-batch.ensures.ok.2 in
-    let zero : c.row_count.result ≡ 0 = search rules in
-    let none : length c.in_ok-batch.ensures.ok.0 ≡ 0 = omega (arith, zero, many) in
-    loads-closed g.D.Sectors w c.args.first c.args.size text c.args.session.now c.loop-done.session (g.W.Write.contents c.args.out.now) (g.W.Write.contents c.loop-done.out) c.loop-done.lines th.0 th.2
-    (g.W.Write.contents c.end.new.out) c.next_batch.new.lines c.in_ok-batch.ensures.ok.0 _ _ c.requires.some none c.in_ok-batch.ensures.ok.1
-    refl (c.end.ensures (with_batches w c.args.first th.0) th.2.at k)
-
-pub returns-in_err-load_batch-clause-loads : goal.returns-in_err-load_batch-clause-loads
-returns-in_err-load_batch-clause-loads g c w text at left k =
-    let old = c.load_batch.ensures.word k in
+pub returns-in-Ok-false-clause-loads : goal.returns-in-Ok-false-clause-loads
+returns-in-Ok-false-clause-loads g c w text at left k =
+    let old = c.load_next.ensures.word k in
     let th = c.loop-done.invariant.through w text at left old in
-    let many = c.row_count.ensures.count _ _ c.in_ok-batch.ensures.ok.0 c.in_ok-batch.ensures.ok.2 in
-    let any : 1 ≤ c.row_count.result = search rules in
-    let some : 1 ≤ length c.in_ok-batch.ensures.ok.0 = omega (arith, any, many) in
-    let number : c.saturating_add-number.result ≡ c.args.first + length th.0 =
-    numbered g.D.Sectors w c.args.first c.args.size text c.args.session.now c.loop-done.session (g.W.Write.contents c.args.out.now) (g.W.Write.contents c.loop-done.out) c.loop-done.lines th.0 th.2 c.saturating_add-number.result
-    (omega (arith, c.ranges.first.fits)) (omega (arith, c.saturating_add-number.ensures, th.1)) old in
-    loads-failed g.D.Sectors w c.args.first c.args.size text c.args.session.now c.loop-done.session (g.W.Write.contents c.args.out.now) (g.W.Write.contents c.loop-done.out) c.loop-done.lines th.0 th.2
-    c.load_batch.new.session (g.W.Write.contents c.load_batch.new.out) c.next_batch.new.lines c.in_ok-batch.ensures.ok.0 _ _ c.requires.some some c.in_ok-batch.ensures.ok.1
-    (rw number at (c.in_err-load_batch.ensures.does (with_batches w c.args.first th.0) c.in_ok-batch.ensures.ok.0 th.2.at c.in_ok-batch.ensures.ok.2 k)) (err_from_is_err_and _ c.from_residual-in_err-load_batch.ensures.1)
+    stepped-last g.D.Sectors w c.args.first c.args.size text c.args.session.now c.loop-done.session c.load_next.new.session (g.W.Write.contents c.args.out.now) (g.W.Write.contents c.loop-done.out)
+    (g.W.Write.contents c.load_next.new.out) c.loop-done.lines c.load_next.new.lines th.0 th.2 c.requires.some c.saturating_add-number.result
+    (omega (arith, c.ranges.first.fits)) (omega (arith, c.saturating_add-number.ensures, th.1)) old c.load_next.result (c.load_next.ensures.steps (with_batches w c.args.first th.0) th.2.at k)
+    _ c.in-Ok-false.is c.in-Ok-false.field-0-test (g.W.Write.contents c.end.new.out) _ (λ here. c.end.ensures (with_batches w c.args.first th.0) here k)
+
+pub returns-in-Err-clause-loads : goal.returns-in-Err-clause-loads
+returns-in-Err-clause-loads g c w text at left k =
+    let old = c.load_next.ensures.word k in
+    let th = c.loop-done.invariant.through w text at left old in
+    stepped-fault g.D.Sectors w c.args.first c.args.size text c.args.session.now c.loop-done.session c.load_next.new.session (g.W.Write.contents c.args.out.now) (g.W.Write.contents c.loop-done.out)
+    (g.W.Write.contents c.load_next.new.out) c.loop-done.lines c.load_next.new.lines th.0 th.2 c.requires.some c.saturating_add-number.result
+    (omega (arith, c.ranges.first.fits)) (omega (arith, c.saturating_add-number.ensures, th.1)) old c.load_next.result (c.load_next.ensures.steps (with_batches w c.args.first th.0) th.2.at k)
+    _ c.in-Err.is
 
 pub loop-done-preserved : goal.loop-done-preserved
 loop-done-preserved g c = record {
-  fault = c.in_ok-batch.ensures.ok.1.fault;
-  word = λ k. c.loop-done.invariant.word (c.load_batch.ensures.word k);
+  fault = c.in-Ok-true.ensures.fault;
+  word = λ k. c.loop-done.invariant.word (c.load_next.ensures.word k);
   through = λ w text at left k.
-      let old = c.load_batch.ensures.word k in
+      let old = c.load_next.ensures.word k in
       let th = c.loop-done.invariant.through w text at left old in
-      let many = c.row_count.ensures.count _ _ c.in_ok-batch.ensures.ok.0 c.in_ok-batch.ensures.ok.2 in
-      let any : 1 ≤ c.row_count.result = search rules in
-      let some : 1 ≤ length c.in_ok-batch.ensures.ok.0 = omega (arith, any, many) in
-      let number : c.saturating_add-number.result ≡ c.args.first + length th.0 =
-      numbered g.D.Sectors w c.args.first c.args.size text c.args.session.now c.loop-done.session (g.W.Write.contents c.args.out.now) (g.W.Write.contents c.loop-done.out) c.loop-done.lines th.0 th.2 c.saturating_add-number.result
-      (omega (arith, c.ranges.first.fits)) (omega (arith, c.saturating_add-number.ensures, th.1)) old in
-      let does = rw number at (c.in_ok-load_batch.ensures.does (with_batches w c.args.first th.0) c.in_ok-batch.ensures.ok.0 th.2.at c.in_ok-batch.ensures.ok.2 k) in (
-        th.0 ++ c.in_ok-batch.ensures.ok.0 ∷ [],
-        length_push th.0 c.in_ok-batch.ensures.ok.0 ∙ ap (λ n. n + 1) th.1,
-        through-more g.D.Sectors w c.args.first c.args.size text c.args.session.now c.loop-done.session c.load_batch.new.session (g.W.Write.contents c.args.out.now) (g.W.Write.contents c.loop-done.out)
-            (g.W.Write.contents c.load_batch.new.out) c.loop-done.lines c.next_batch.new.lines th.0 c.in_ok-batch.ensures.ok.0 c.requires.some some th.2 c.in_ok-batch.ensures.ok.1 does.0
-            (still g.D.Sectors c.load_batch.new.session (with_batch (with_batches w c.args.first th.0) (c.args.first + length th.0) c.in_ok-batch.ensures.ok.0) g.met.D.Sectors.only_now does.0.at) does.1,
-      );
+      stepped g.D.Sectors w c.args.first c.args.size text c.args.session.now c.loop-done.session c.load_next.new.session (g.W.Write.contents c.args.out.now) (g.W.Write.contents c.loop-done.out)
+      (g.W.Write.contents c.load_next.new.out) c.loop-done.lines c.load_next.new.lines th.0 th.2 c.requires.some c.saturating_add-number.result
+      (omega (arith, c.ranges.first.fits)) (omega (arith, c.saturating_add-number.ensures, th.1)) old c.load_next.result (c.load_next.ensures.steps (with_batches w c.args.first th.0) th.2.at k)
+      _ c.in-Ok-true.is c.in-Ok-true.field-0-test c.loop-done.done th.1 (λ v here. still g.D.Sectors c.load_next.new.session v g.met.D.Sectors.only_now here);
 }
 
 pub returns-clause-loads : goal.returns-clause-loads

@@ -4,15 +4,22 @@ use Rattle.std.proofs.lemmas.Result.{err_from_is_err_and}
 use Rattle.batch_loader.specs.Tables.{lineorder_row}
 use Rattle.batch_loader.proofs.TakingPieces.{IsTaking-piece, RefusesBatch-piece, TakesBatch-last}
 use Rattle.batch_loader.proofs.TakingRows.{IsTaking, IsTaking-start, IsTaking-whole}
-use Rattle.warehouse_jobs.proofs.loading.next_batch.Goals as goal
+use Rattle.warehouse_jobs.proofs.loading.fill.Goals as goal
 
 pub loop-piece-init : goal.loop-piece-init
 loop-piece-init g c =
     let none : min c.args.size 0 ≡ 0 = omega arith in (
       [],
       subst (IsTaking lineorder_row c.args.size c.args.lines.now c.args.lines.now []) (sym none) (IsTaking-start lineorder_row c.args.size c.args.lines.now c.requires.fault),
-      c.in_ok-batch.ensures.ok,
+      c.requires.none,
     )
+
+pub next_piece-requires : goal.next_piece-requires
+next_piece-requires g c =
+    let from = c.loop-piece.piece * 1024 in
+    let begins : min c.args.size from ≡ from = omega (arith, c.loop-piece-test.true, c.div_ceil-piece-end.ensures) in
+    let few : length c.loop-piece.invariant.0 + c.min-most.result ≤ 65536 = omega (arith, begins, c.min-most.ensures, c.loop-piece.invariant.1.count_is, c.requires.few) in
+    record { few = (c.loop-piece.invariant.0, c.loop-piece.invariant.2, few); fault = c.loop-piece.invariant.1.fault }
 
 pub returns-in_err-rows-clause-refused : goal.returns-in_err-rows-clause-refused
 returns-in_err-rows-clause-refused g c =
@@ -20,16 +27,8 @@ returns-in_err-rows-clause-refused g c =
     let begins : min c.args.size from ≡ from = omega (arith, c.loop-piece-test.true, c.div_ceil-piece-end.ensures) in
     let within : from + c.min-most.result ≤ c.args.size = omega (arith, begins, c.min-most.ensures) in
     let before = subst (IsTaking lineorder_row c.args.size c.args.lines.now c.loop-piece.lines c.loop-piece.invariant.0) begins c.loop-piece.invariant.1 in
-    let p = err_from_is_err_and c.from_residual-in_err-rows.result c.from_residual-in_err-rows.ensures.1 in
-    rw (p.1, p.2) (RefusesBatch-piece lineorder_row c.args.size c.min-most.result c.args.lines.now c.loop-piece.lines c.loop-piece.invariant.0 from _ within (c.in_err-rows.ensures.refused before.fault) before)
-
-pub add_rows-requires : goal.add_rows-requires
-add_rows-requires g c =
-    let from = c.loop-piece.piece * 1024 in
-    let begins : min c.args.size from ≡ from = omega (arith, c.loop-piece-test.true, c.div_ceil-piece-end.ensures) in
-    let few : length c.loop-piece.invariant.0 + length c.in_ok-rows.rows ≤ 65536 =
-    omega (arith, begins, c.min-most.ensures, c.loop-piece.invariant.1.count_is, c.in_ok-rows.ensures.taken.few, c.requires.few) in
-    record { few = (c.loop-piece.invariant.0, c.loop-piece.invariant.2, rw (sym c.as_slice.ensures) at few) }
+    let p = err_from_is_err_and c.from_residual.result c.from_residual.ensures.1 in
+    rw (p.1, p.2) (RefusesBatch-piece lineorder_row c.args.size c.min-most.result c.args.lines.now c.loop-piece.lines c.loop-piece.invariant.0 from _ within c.in_err-rows.ensures.refused before)
 
 pub returns-then-len-most-clause-ok : goal.returns-then-len-most-clause-ok
 returns-then-len-most-clause-ok g c =
@@ -39,9 +38,9 @@ returns-then-len-most-clause-ok g c =
     let before = subst (IsTaking lineorder_row c.args.size c.args.lines.now c.loop-piece.lines c.loop-piece.invariant.0) begins c.loop-piece.invariant.1 in
     let short : length c.in_ok-rows.rows < c.min-most.result = omega (arith, c.if-len-most.true, c.len.ensures) in (
       c.loop-piece.invariant.0 ++ c.in_ok-rows.rows,
-      TakesBatch-last lineorder_row c.args.size c.min-most.result c.args.lines.now c.loop-piece.lines c.read_batch_into.new.lines c.loop-piece.invariant.0 c.in_ok-rows.rows from within short
+      TakesBatch-last lineorder_row c.args.size c.min-most.result c.args.lines.now c.loop-piece.lines c.next_piece.new.lines c.loop-piece.invariant.0 c.in_ok-rows.rows from within short
           c.in_ok-rows.ensures.taken before,
-      rw c.as_slice.ensures at (c.in_ok-add_rows.ensures.ok c.loop-piece.invariant.0 c.loop-piece.invariant.2),
+      c.in_ok-rows.ensures.grown c.loop-piece.invariant.0 c.loop-piece.invariant.2,
     )
 
 pub loop-piece-preserved : goal.loop-piece-preserved
@@ -53,10 +52,10 @@ loop-piece-preserved g c =
     let before = subst (IsTaking lineorder_row c.args.size c.args.lines.now c.loop-piece.lines c.loop-piece.invariant.0) begins c.loop-piece.invariant.1 in
     let whole : length c.in_ok-rows.rows ≡ c.min-most.result = omega (arith, c.if-len-most.false, c.len.ensures, c.in_ok-rows.ensures.taken.few) in (
       c.loop-piece.invariant.0 ++ c.in_ok-rows.rows,
-      subst (IsTaking lineorder_row c.args.size c.args.lines.now c.read_batch_into.new.lines (c.loop-piece.invariant.0 ++ c.in_ok-rows.rows)) ends
-          (IsTaking-piece lineorder_row c.args.size c.min-most.result c.args.lines.now c.loop-piece.lines c.read_batch_into.new.lines c.loop-piece.invariant.0 c.in_ok-rows.rows from within whole
+      subst (IsTaking lineorder_row c.args.size c.args.lines.now c.next_piece.new.lines (c.loop-piece.invariant.0 ++ c.in_ok-rows.rows)) ends
+          (IsTaking-piece lineorder_row c.args.size c.min-most.result c.args.lines.now c.loop-piece.lines c.next_piece.new.lines c.loop-piece.invariant.0 c.in_ok-rows.rows from within whole
           c.in_ok-rows.ensures.taken before),
-      rw c.as_slice.ensures at (c.in_ok-add_rows.ensures.ok c.loop-piece.invariant.0 c.loop-piece.invariant.2),
+      c.in_ok-rows.ensures.grown c.loop-piece.invariant.0 c.loop-piece.invariant.2,
     )
 
 pub returns-clause-ok : goal.returns-clause-ok

@@ -4,7 +4,7 @@ use Rattle.cube_model.specs.declared.rows.LineOrder.{LineOrder}
 use Rattle.batch_loader.specs.Tables.{lineorder_row}
 use Rattle.batch_loader.proofs.TakingRows.{IsTaking}
 use Rattle.warehouse.specs.Growing.{Grows}
-use Rattle.warehouse_jobs.proofs.loading.next_batch.Given as goal
+use Rattle.warehouse_jobs.proofs.loading.fill.Given as goal
 
 abbrev pub invariant-loop-piece : goal.invariant-loop-piece
 invariant-loop-piece g l =

@@ -1,0 +1,11 @@
+use Rattle.std.proofs.Common.{◌≤◌, ◌+◌, length, arith, sym}
+use Rattle.warehouse_jobs.proofs.loading.next_piece.Goals as goal
+
+pub add_rows-requires : goal.add_rows-requires
+add_rows-requires g c =
+    let before = c.requires.few in
+    let few : length before.0 + length c.in_ok-rows.rows ≤ 65536 = omega (arith, before.2, c.in_ok-rows.ensures.taken.few) in
+    record { few = (before.0, before.1, rw (sym c.as_slice.ensures) at few) }
+
+pub returns-clause-grown : goal.returns-clause-grown
+returns-clause-grown g c before grown = rw c.as_slice.ensures at (c.in_ok-add_rows.ensures.ok before grown)
