@@ -1,5 +1,5 @@
 //! Reading the parts of a dimension from the front of bytes.
-ghost use Rattle.std.specs.Prelude.{◌≡◌, ◌⊎◌, ◌<◌, ◌^◌, ◌*◌, ◌≤◌, length, IfErr, IfOk, IsErr, IsOkUnless, OnOk};
+ghost use Rattle.std.specs.Prelude.{◌≡◌, ◌⊎◌, ◌+◌, ◌<◌, ◌^◌, ◌*◌, ◌≤◌, [], length, IfErr, IfOk, IsErr, IsOkUnless, OnOk};
 ghost use Rattle.cube_model.specs.declared.fault.Fault.{Fault};
 ghost use Rattle.dimensions.specs.Coded.{HaveTexts};
 ghost use Rattle.dimensions.specs.Shapes.{lowers_of};
@@ -103,9 +103,21 @@ pub(crate) fn read_keys(
 {
     let mut part = Cursor::new(cursor.bytes(4 * count)?);
     let mut keys = Vec::with_capacity(alloc, count)?;
+    push_keys(&mut part, count, &mut keys)?;
+    Ok(Items::from_vec(keys))
+}
+
+// Reads so many keys from the front of bytes that hold them, to where no key is yet.
+fn push_keys(part: &mut Cursor<'_>, count: usize, keys: &mut Vec<u32>) -> Result<(), Fault>
+    requires long { 4 * count ≤ length part.old }
+    requires none { keys.old.items ≡ [] }
+    ensures ok { OnOk result (ReadsKeys count part.old part.new keys.new.items) }
+    ensures left { OnOk result (length part.old ≡ 4 * count + length part.new) }
+    ensures memory { IfErr result (λ fault. fault ≡ Fault.Memory) }
+{
     for _ in 0..count {
         let key = part.u32()?;
         keys.push(key)?;
     }
-    Ok(Items::from_vec(keys))
+    Ok(())
 }

@@ -1,5 +1,8 @@
-use Rattle.std.proofs.Common.{◌≡◌, ◌+◌, ◌++◌, ◌∷◌, List, [], sym, subst, take, get_or}
+use Rattle.std.proofs.Common.{◌≡◌, ◌+◌, ◌++◌, ◌∷◌, List, [], Err, ap, sym, subst, take, get_or}
 use Rattle.std.proofs.lemmas.List.{take_more}
+use Rattle.std.proofs.lemmas.List.Elements.{Contains-get_or}
+use Rattle.std.proofs.lemmas.Result.{err_from_is_err_and}
+use Rattle.cube_model.specs.declared.fault.Fault.TheVariants.{BadLayout}
 use Rattle.cuboid_cells.specs.declared.cell.Cell.{Cell}
 use Rattle.cube_query.specs.CellSlots.{AreCellSlots}
 use Rattle.cube_query.specs.CellTallies.{IsMost}
@@ -29,3 +32,14 @@ loop-place-preserved c =
       c.cell_slot_of.ensures.cover,
       c.cell_slot_of.ensures.grow (entries_of c.reserve.new.self) c.loop-place.invariant.3,
     )
+
+pub returns-in_err-group_slot-clause-refused : goal.returns-in_err-group_slot-clause-refused
+returns-in_err-group_slot-clause-refused c =
+    let p = err_from_is_err_and c.from_residual-in_err-group_slot.result c.from_residual-in_err-group_slot.ensures.1 in
+    rw (p.1, p.2) (λ bad.
+    let is : c.in_err-group_slot.field-0.0 ≡ BadLayout = cc bad in
+    record {
+      cell = get_or c.args.cells.now c.loop-place.place no_cell;
+      among = Contains-get_or c.args.cells.now c.loop-place.place no_cell c.loop-place-test.true;
+      none = c.in_err-group_slot.ensures.refused (ap (λ fault. Err fault) is);
+    })
