@@ -1,5 +1,5 @@
 //! Cells of a cuboid, merged into the tallies at the slots of their groups.
-ghost use Rattle.std.specs.Prelude.{◌≡◌, ◌⊎◌, ◌↔◌, ◌≤◌, ◌<◌, ◌^◌, ℕ, [], ◌∷◌, length, nat_abs, slice_index_or, Some, IsTrue, MatchOption};
+ghost use Rattle.std.specs.Prelude.{◌≡◌, ◌⊎◌, ◌↔◌, ◌≤◌, ◌<◌, ◌^◌, ℕ, [], ◌∷◌, false, true, length, nat_abs, slice_index_or, Some, IsTrue, MatchOption};
 ghost use Rattle.cube_model.specs.declared.measure.Agg.{Agg};
 ghost use Rattle.cube_query.specs.CellTallies.{AllTake, AreBelow, HasCellRoom, HasRoomForAll, HaveCellRoom, HaveRoomForAll, IsMost, MergesCells, Weighs, cell_tally, count_in, counted, size_in, summary_in, with_cell, with_cells};
 ghost use Rattle.cube_query.specs.Columns.{tallies_at};
@@ -61,10 +61,34 @@ fn sizes_of(aggs: &[Agg], cell: &Cell) -> u128
     size
 }
 
-/// Whether each column has room for cells at the slots of their groups, which add no more than a weight. It takes no memory.
-///
-/// The weight tells it mostly. The cells are read only where it is too much for a column.
-pub fn have_room_for_cells(
+/// Merges cells in at the slots of their groups, in all columns, unless one of these has no room for them. They add no more
+/// than a weight. Whether all had room; else nothing changes. It takes no memory.
+pub fn merge_where_room(
+    columns: &mut [Vec<Tally>],
+    aggs: &[Agg],
+    cells: &[Cell],
+    group_slots: &[Option<u32>],
+    weight: Weight,
+) -> bool
+    requires columns { length columns.old ≡ length aggs.now }
+    requires group_slots { length group_slots.now ≡ length cells.now }
+    requires most { IsMost aggs.now cells.now group_slots.now weight }
+    ensures room { HaveRoomForAll aggs.now cells.now group_slots.now columns.old → result ≡ true }
+    ensures merged { result ≡ true → (slot : ℕ) → tallies_at columns.new slot
+        ≡ with_cells aggs.now slot cells.now group_slots.now (tallies_at columns.old slot) }
+    ensures same { result ≡ false → columns.new ≡ columns.old }
+{
+    if !have_room_for_cells(columns, aggs, cells, group_slots, weight) {
+        return false;
+    }
+    merge_in_cells(columns, aggs, cells, group_slots);
+    true
+}
+
+// Whether each column has room for cells at the slots of their groups, which add no more than a weight. It takes no memory.
+//
+// The weight tells it mostly. The cells are read only where it is too much for a column.
+fn have_room_for_cells(
     columns: &[Vec<Tally>],
     aggs: &[Agg],
     cells: &[Cell],
@@ -197,8 +221,8 @@ fn sum_in(agg: Agg, cell: &Cell) -> i64
     }
 }
 
-/// Merges cells in at the slots of their groups, in all columns. It takes no memory.
-pub fn merge_in_cells(
+// Merges cells in at the slots of their groups, in all columns. It takes no memory.
+fn merge_in_cells(
     columns: &mut [Vec<Tally>],
     aggs: &[Agg],
     cells: &[Cell],

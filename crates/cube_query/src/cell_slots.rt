@@ -1,5 +1,5 @@
 //! The slots of the groups of cells.
-ghost use Rattle.std.specs.Prelude.{◌≡◌, ◌⊎◌, ◌<◌, ℕ, List, Some, Err, IfOk, IfErr};
+ghost use Rattle.std.specs.Prelude.{◌≡◌, ◌⊎◌, ◌<◌, ℕ, List, [], Some, Err, IfOk, IfErr, OnOk};
 ghost use Rattle.std.specs.List.{All};
 ghost use Rattle.cube_model.specs.declared.rows.LineOrder.{LineOrder};
 ghost use Rattle.cuboid_cells.specs.Cells.{IsCellOf};
@@ -47,16 +47,41 @@ pub fn cell_slots_of(
 {
     slots.reserve(cells.len())?;
     let mut group_slots = Vec::with_capacity(alloc, cells.len())?;
+    let weight = push_cell_slots(numbers, slots, aggs, cells, &mut group_slots)?;
+    Ok(SlottedCells {
+        group_slots,
+        weight,
+    })
+}
+
+// Puts the slots of the groups of cells into a list that holds none yet, and tells what the cells add.
+fn push_cell_slots(
+    numbers: &CellNumbers,
+    slots: &mut Slots,
+    aggs: &[Agg],
+    cells: &[Cell],
+    group_slots: &mut Vec<Option<u32>>,
+) -> Result<Weight, Fault>
+    requires cells { All (IsCellOf numbers.now.view) cells.now }
+    requires numbers { AreSlots (group_count numbers.now.dimensions numbers.now.query.columns) (entries_of slots.old) }
+    requires cover { Cover (group_count numbers.now.dimensions numbers.now.query.columns) slots.old }
+    requires empty { group_slots.old.items ≡ [] }
+    ensures group_slots { OnOk result
+        (AreCellSlots numbers.now (entries_of slots.new) cells.now group_slots.new.items) }
+    ensures most { IfOk result (IsMost aggs.now cells.now group_slots.new.items) }
+    ensures refused { result ≡ Err Fault.BadLayout → HaveNoStandIn numbers.now cells.now }
+    ensures only { IfErr result (λ fault. (fault ≡ Fault.Memory) ⊎ (fault ≡ Fault.BadLayout)) }
+    ensures cover { Cover (group_count numbers.now.dimensions numbers.now.query.columns) slots.new }
+    ensures grow { Grow (group_count numbers.now.dimensions numbers.now.query.columns) (entries_of slots.old)
+        (entries_of slots.new) }
+{
     let mut weight = Weight::none();
     for place in 0..cells.len() {
         let group_slot = cell_slot_of(numbers, slots, &cells[place])?;
         weight = weight.with(aggs, &cells[place], group_slot);
         group_slots.push(group_slot)?;
     }
-    Ok(SlottedCells {
-        group_slots,
-        weight,
-    })
+    Ok(weight)
 }
 
 // The slot of the group of a cell, if its rows are selected.

@@ -1,5 +1,5 @@
 //! The lines of the groups that have rows.
-ghost use Rattle.std.specs.Prelude.{◌≡◌, ◌<◌, ℕ, List, true, map, length, IfOk};
+ghost use Rattle.std.specs.Prelude.{◌≡◌, ◌<◌, ◌++◌, ◌∷◌, [], ℕ, List, true, map, length, IfOk, OnOk};
 ghost use Rattle.std.specs.List.{All};
 ghost use Rattle.cube_model.specs.Answers.{answer};
 ghost use Rattle.cube_model.specs.Proper.{IsProper};
@@ -37,6 +37,26 @@ fn line_of(
     Ok(Line { key, values })
 }
 
+// Puts the line of a group behind others.
+fn push_line(
+    alloc: Global,
+    plan: &PlanOver,
+    aggregates: &[Agg],
+    columns: &[Vec<Tally>],
+    group: (u128, u32),
+    lines: &mut Vec<Line>,
+) -> Result<(), AllocError>
+    requires columns { length columns.now ≡ length aggregates.now }
+    requires below { group.0 < group_count plan.now.dimensions plan.now.query.columns }
+    requires seen { is_seen (tallies_at columns.now group.1) ≡ true }
+    ensures { OnOk result (lines.new.items ≡ lines.old.items
+        ++ entry_line (key_at plan.now.dimensions plan.now.query.columns) aggregates.now columns.now group ∷ []) }
+{
+    let line = line_of(alloc, plan, aggregates, columns, group)?;
+    lines.push(line)?;
+    Ok(())
+}
+
 // The lines of groups, in their order.
 fn lines_among(
     alloc: Global,
@@ -53,8 +73,7 @@ fn lines_among(
 {
     let mut lines = Vec::with_capacity(alloc, groups.len())?;
     for i in 0..groups.len() {
-        let line = line_of(alloc, plan, aggregates, columns, groups[i])?;
-        lines.push(line)?;
+        push_line(alloc, plan, aggregates, columns, groups[i], &mut lines)?;
     }
     Ok(Items::from_vec(lines))
 }

@@ -22,7 +22,7 @@ ghost use Rattle.cuboid_upkeep.specs.Grouping.{StandFor};
 ghost use Rattle.lattice.specs.Determined.{Serves};
 
 use crate::asked::asked_columns;
-use crate::cell_columns::{have_room_for_cells, merge_in_cells};
+use crate::cell_columns::merge_where_room;
 use crate::cell_slots::{SlottedCells, cell_slots_of};
 use crate::chosen_rows::ChosenRows;
 use crate::columns::{count_in_all, make_room, no_columns};
@@ -172,8 +172,8 @@ impl Fold {
         let slots = &mut self.slots;
         let slotted = ready_for_cells(self.alloc, dims, &self.plan, slots, columns, cells, modes)?;
         let aggregates = self.plan.query().aggregates.as_slice();
-        if !have_room_for_cells(
-            columns.as_slice(),
+        if !merge_where_room(
+            columns.as_mut_slice(),
             aggregates,
             cells.as_slice(),
             slotted.group_slots.as_slice(),
@@ -181,12 +181,6 @@ impl Fold {
         ) {
             return Err(Fault::BadLayout);
         }
-        merge_in_cells(
-            columns.as_mut_slice(),
-            aggregates,
-            cells.as_slice(),
-            slotted.group_slots.as_slice(),
-        );
         Ok(())
     }
 

@@ -1,7 +1,6 @@
 -- The codes of fact rows on the axes, and the keys that they make.
-use Rattle.std.proofs.Common.{◌≡◌, ◌⊎◌, ◌∙◌, ◌<◌, ◌+◌, inl, inr, ap, sym, subst, true, ℕ, List, [], ◌∷◌, ◌++◌, All, length, arith, below_more}
-use Rattle.std.proofs.lemmas.List.{get_or_append_left, get_or_push, length_push}
-use Rattle.std.proofs.lemmas.List.Elements.{All-get_or, All-weaker}
+use Rattle.std.proofs.Common.{◌≡◌, ◌⊎◌, ◌∙◌, inl, inr, ap, true, ℕ, List, All}
+use Rattle.std.proofs.lemmas.List.Elements.{All-weaker}
 use Rattle.cube_model.specs.declared.attr.Axis.{Axis}
 use Rattle.cube_model.specs.declared.attr.Axis.TheVariants.{Customer, Supplier, Part, Date}
 use Rattle.cube_model.specs.declared.fault.Fault.{Fault}
@@ -9,34 +8,16 @@ use Rattle.cube_model.specs.declared.fault.Fault.TheVariants.{BadLayout, Memory}
 use Rattle.cube_model.specs.declared.rows.DimRows.{DimRows}
 use Rattle.cube_model.specs.declared.rows.LineOrder.{LineOrder}
 use Rattle.group_plan.specs.Numbers.{IsKnownOn}
-use Rattle.group_plan.specs.Rows.{no_row, row_at}
 use Rattle.lattice.specs.declared.level.Level.{Level}
 use Rattle.lattice.specs.declared.level.Level.TheVariants as level
 use Rattle.lattice.specs.declared.view.View.{View}
 use Rattle.lattice.specs.Views.{level_on}
 use Rattle.cuboid_cells.specs.declared.key.Key.{Key}
 use Rattle.cuboid_cells.specs.Cells.{IsModeCode, KeyFits}
-use Rattle.cuboid_cells.specs.Limits.{all_code}
-use Rattle.cuboid_upkeep.specs.AxisCodes.{AreAxisCodes, IsAxisCode}
+use Rattle.cuboid_upkeep.specs.AxisCodes.{IsAxisCode}
 use Rattle.cuboid_upkeep.specs.Codes.{IsMode, mode_code}
 use Rattle.cuboid_upkeep.specs.Grouping.{HasMembers, key_of}
 use Rattle.cuboid_upkeep.specs.Steps.{IsRowKey}
-
--- one of the rows lacks something
-pub one_lacks : (P : LineOrder → Type 0) (rows : List LineOrder) (place : ℕ) → place < length rows → (P (row_at rows place) → ⊥) → All P rows → ⊥
-one_lacks P rows place within lacks all = lacks (All-get_or P rows place no_row within all)
-
--- the codes of one row more
-pub one_code_more : (dimensions : DimRows) (axis : Axis) (grouped : Level) (rows : List LineOrder) (place : ℕ) (codes : List ℕ) (code : ℕ)
-    → IsAxisCode dimensions axis grouped (row_at rows place) code → (length codes ≡ place) × AreAxisCodes dimensions axis grouped rows place codes
-    → (length (codes ++ code ∷ []) ≡ place + 1) × AreAxisCodes dimensions axis grouped rows (place + 1) (codes ++ code ∷ [])
-one_code_more dimensions axis grouped rows place codes code is before = (
-  omega (arith, length_push codes code, before.0),
-  below_more _ _
-      (λ k less.
-      subst (IsAxisCode dimensions axis grouped (row_at rows k)) (sym (get_or_append_left codes (code ∷ []) all_code k (omega (arith, less, before.0)))) (before.1 k less))
-      (subst (IsAxisCode dimensions axis grouped (row_at rows place)) (sym (get_or_push codes code all_code place before.0)) is),
-)
 
 -- a row lacks its member on an axis: it has not its members
 pub lacks_members : (dimensions : DimRows) (view : View) (axis : Axis) (rows : List LineOrder) (fault : Fault)

@@ -1,5 +1,5 @@
 //! The codes of the members that fact rows have, axis by axis.
-ghost use Rattle.std.specs.Prelude.{◌≡◌, ◌⊎◌, ◌<◌, ◌^◌, ℕ, List, All, IfErr, IfOk, length};
+ghost use Rattle.std.specs.Prelude.{◌≡◌, ◌⊎◌, ◌<◌, ◌^◌, ℕ, List, false, true, All, IfErr, IfOk, length};
 ghost use Rattle.cube_model.specs.declared.attr.Axis.{Axis};
 ghost use Rattle.cube_model.specs.declared.fault.Fault.{Fault};
 ghost use Rattle.cube_model.specs.declared.rows.DimRows.{DimRows};
@@ -105,14 +105,72 @@ fn axis_codes<F: ModeRows>(
     if is_all(grouped) {
         return Ok(found);
     }
-    found.reserve(rows.count())?;
-    for place in 0..rows.count() {
-        let Some(code) = codes.code(dims, axis, grouped, rows, place) else {
-            return Err(Fault::BadLayout);
-        };
-        found.push(code)?;
+    found.resize(rows.count(), ALL_CODE)?;
+    if !put_codes(found.as_mut_slice(), dims, axis, grouped, codes, rows) {
+        return Err(Fault::BadLayout);
     }
     Ok(found)
+}
+
+// Puts the codes of rows on one axis, each at its row's place. Whether each row has its member there.
+//
+// Each kind of tables has a loop of its own, so that no row asks which it is.
+#[inline(always)]
+fn put_codes<F: ModeRows>(
+    found: &mut [u16],
+    dims: &Dims,
+    axis: Axis,
+    grouped: Level,
+    codes: LevelCodes<'_>,
+    rows: &F,
+) -> bool
+    requires codes { AreCodesOf dims.now axis grouped codes }
+    requires count { length found.old ≡ length (F.rows rows.now) }
+    ensures ok { result ≡ true →
+        AreAxisCodes dims.now axis grouped (F.rows rows.now) (length (F.rows rows.now)) found.new }
+    ensures lacks { result ≡ false →
+        ((grouped ≡ level.All → ⊥) × (All (λ row. IsKnownOn dims.now row axis) (F.rows rows.now) → ⊥)) }
+{
+    match codes {
+        LevelCodes::Places => put_led(found, dims, axis, grouped, LevelCodes::Places, rows),
+        LevelCodes::Column(codes) => {
+            put_led(found, dims, axis, grouped, LevelCodes::Column(codes), rows)
+        }
+        LevelCodes::Above(lowers, codes) => {
+            let codes = LevelCodes::Above(lowers, codes);
+            put_led(found, dims, axis, grouped, codes, rows)
+        }
+        LevelCodes::Twice(lowest, lowers, codes) => {
+            let codes = LevelCodes::Twice(lowest, lowers, codes);
+            put_led(found, dims, axis, grouped, codes, rows)
+        }
+    }
+}
+
+// The same in one loop.
+#[inline(always)]
+fn put_led<F: ModeRows>(
+    found: &mut [u16],
+    dims: &Dims,
+    axis: Axis,
+    grouped: Level,
+    codes: LevelCodes<'_>,
+    rows: &F,
+) -> bool
+    requires codes { AreCodesOf dims.now axis grouped codes }
+    requires count { length found.old ≡ length (F.rows rows.now) }
+    ensures ok { result ≡ true →
+        AreAxisCodes dims.now axis grouped (F.rows rows.now) (length (F.rows rows.now)) found.new }
+    ensures lacks { result ≡ false →
+        ((grouped ≡ level.All → ⊥) × (All (λ row. IsKnownOn dims.now row axis) (F.rows rows.now) → ⊥)) }
+{
+    for place in 0..found.len() {
+        let Some(code) = codes.code(dims, axis, grouped, rows, place) else {
+            return false;
+        };
+        found[place] = code;
+    }
+    true
 }
 
 // The code of the row at a place on an axis, of which the codes are given.

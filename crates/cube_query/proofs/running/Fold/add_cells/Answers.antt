@@ -1,4 +1,4 @@
-use Rattle.std.proofs.Common.{◌≡◌, ◌∙◌, Err, List, ℕ, [], ◌++◌, length, sym, ap, refl, subst, arith}
+use Rattle.std.proofs.Common.{◌≡◌, ◌∙◌, Err, List, ℕ, [], ◌++◌, length, sym, ap, subst, arith}
 use Rattle.std.specs.Option.{option_map}
 use Rattle.std.proofs.lemmas.List.{with_items_is}
 use Rattle.std.proofs.lemmas.Result.{err_from_is_err_and}
@@ -33,52 +33,8 @@ returns-in_err-slotted-clause-refused c =
     let is : c.in_err-slotted.field-0.0 ≡ BadLayout = cc bad in
     c.in_err-slotted.ensures.refused (ap (λ fault. Err fault) is) rows stand (known_behind c.args.dims.now 1 can.0 rows can.1.1.known))
 
-pub have_room_for_cells-requires-clause-columns : goal.have_room_for_cells-requires-clause-columns
-have_room_for_cells-requires-clause-columns c =
-    let inside = c.self.inside in
-    let dims = c.args.dims.now in
-    let over = subst (λ (state : FoldState). IsOver dims state) (sym c.self.view_is) c.requires.over in
-    let entries = entries_of c.ready_for_cells.new.slots in
-    let kept = kept_ready dims inside.plan over inside.slots inside.columns.items c.self.invariant c.ready_for_cells.new.slots c.ready_for_cells.new.columns.items c.ready_for_cells.ensures.cover c.ready_for_cells.ensures.grow c.ready_for_cells.ensures.same in
-    ap length c.as_slice.ensures.value
-    ∙ tallies-length (query_of inside.plan).aggregates c.ready_for_cells.new.columns.items (length entries) [] (kept.fresh (length entries) (omega arith))
-    ∙ sym (ap length (c.as_slice-aggregates.ensures ∙ ap (λ q. q.aggregates) c.query.ensures))
-
-pub have_room_for_cells-requires-clause-group_slots : goal.have_room_for_cells-requires-clause-group_slots
-have_room_for_cells-requires-clause-group_slots c =
-    let inside = c.self.inside in
-    let dims = c.args.dims.now in
-    let modes : List (List ℕ) = modes_of (option_map (λ modes. modes.now) c.args.modes) in
-    let plain = c.args.cells.now in
-    ap length c.as_slice-3.ensures.value
-    ∙ AreGroupSlots-length dims (query_of inside.plan) (entries_of c.ready_for_cells.new.slots) c.in_ok-slotted.ensures.group_slots.rows c.in_ok-slotted.slotted.group_slots.items c.in_ok-slotted.ensures.group_slots.slots
-    ∙ stand_count dims modes plain.view plain.cells c.in_ok-slotted.ensures.group_slots.rows c.in_ok-slotted.ensures.group_slots.stand ∙ sym (ap length c.as_slice-2.ensures)
-
-pub returns-then-not-have_room_for_cells-clause-err : goal.returns-then-not-have_room_for_cells-clause-err
-returns-then-not-have_room_for_cells-clause-err c =
-    let inside = c.self.inside in
-    let dims = c.args.dims.now in
-    let over = subst (λ (state : FoldState). IsOver dims state) (sym c.self.view_is) c.requires.over in
-    shown_ready dims inside.plan over inside.slots inside.columns.items c.self.invariant c.ready_for_cells.new.slots c.ready_for_cells.new.columns.items c.ready_for_cells.ensures.cover c.ready_for_cells.ensures.grow c.ready_for_cells.ensures.same ∙ c.self.view_is
-
-pub returns-then-not-have_room_for_cells-clause-refused : goal.returns-then-not-have_room_for_cells-clause-refused
-returns-then-not-have_room_for_cells-clause-refused c = λ bad rows stand can.
-    let inside = c.self.inside in
-    let dims = c.args.dims.now in
-    let modes : List (List ℕ) = modes_of (option_map (λ modes. modes.now) c.args.modes) in
-    let plain = c.args.cells.now in
-    let over = subst (λ (state : FoldState). IsOver dims state) (sym c.self.view_is) c.requires.over in
-    let given = subst (λ (state : FoldState). CanTake dims state rows) (sym c.self.view_is) can in
-    let aggregates : c.as_slice-aggregates.result.now ≡ (query_of inside.plan).aggregates = c.as_slice-aggregates.ensures ∙ ap (λ q. q.aggregates) c.query.ensures in
-    let room = room_for_cells dims inside.plan over inside.slots inside.columns.items c.self.invariant c.ready_for_cells.new.slots c.ready_for_cells.new.columns.items c.ready_for_cells.ensures.cover c.ready_for_cells.ensures.grow c.ready_for_cells.ensures.same
-    modes plain c.in_ok-slotted.ensures.group_slots.rows c.in_ok-slotted.slotted.group_slots.items c.in_ok-slotted.ensures.group_slots.stand c.in_ok-slotted.ensures.group_slots.slots rows stand given.0 given.1.0 given.1.1 c.in_ok-slotted.ensures.long in
-    let there : HaveRoomForAll c.as_slice-aggregates.result.now c.as_slice-2.result.now c.as_slice-3.result.now c.as_slice.result.now =
-    same_room (sym aggregates) (sym c.as_slice-2.ensures) (sym c.as_slice-3.ensures.value) (sym c.as_slice.ensures.value) room in
-    let yes = c.have_room_for_cells.ensures.1 there in
-    absurd (cc (yes, c.if-not-have_room_for_cells.true))
-
-pub merge_in_cells-requires-clause-columns : goal.merge_in_cells-requires-clause-columns
-merge_in_cells-requires-clause-columns c =
+pub merge_where_room-requires-clause-columns : goal.merge_where_room-requires-clause-columns
+merge_where_room-requires-clause-columns c =
     let inside = c.self.inside in
     let dims = c.args.dims.now in
     let over = subst (λ (state : FoldState). IsOver dims state) (sym c.self.view_is) c.requires.over in
@@ -88,20 +44,42 @@ merge_in_cells-requires-clause-columns c =
     ∙ tallies-length (query_of inside.plan).aggregates c.ready_for_cells.new.columns.items (length entries) [] (kept.fresh (length entries) (omega arith))
     ∙ sym (ap length (c.as_slice-aggregates.ensures ∙ ap (λ q. q.aggregates) c.query.ensures))
 
-pub merge_in_cells-requires-clause-group_slots : goal.merge_in_cells-requires-clause-group_slots
-merge_in_cells-requires-clause-group_slots c =
+pub merge_where_room-requires-clause-group_slots : goal.merge_where_room-requires-clause-group_slots
+merge_where_room-requires-clause-group_slots c =
     let inside = c.self.inside in
     let dims = c.args.dims.now in
     let modes : List (List ℕ) = modes_of (option_map (λ modes. modes.now) c.args.modes) in
     let plain = c.args.cells.now in
-    ap length c.as_slice-5.ensures.value
+    ap length c.as_slice-2.ensures.value
     ∙ AreGroupSlots-length dims (query_of inside.plan) (entries_of c.ready_for_cells.new.slots) c.in_ok-slotted.ensures.group_slots.rows c.in_ok-slotted.slotted.group_slots.items c.in_ok-slotted.ensures.group_slots.slots
-    ∙ stand_count dims modes plain.view plain.cells c.in_ok-slotted.ensures.group_slots.rows c.in_ok-slotted.ensures.group_slots.stand ∙ sym (ap length c.as_slice-4.ensures)
+    ∙ stand_count dims modes plain.view plain.cells c.in_ok-slotted.ensures.group_slots.rows c.in_ok-slotted.ensures.group_slots.stand ∙ sym (ap length c.as_slice.ensures)
 
-pub merge_in_cells-requires-clause-room : goal.merge_in_cells-requires-clause-room
-merge_in_cells-requires-clause-room c =
-    same_room refl (c.as_slice-2.ensures ∙ sym c.as_slice-4.ensures) (c.as_slice-3.ensures.value ∙ sym c.as_slice-5.ensures.value) (c.as_slice.ensures.value ∙ sym c.as_mut_slice.ensures.value)
-    (c.have_room_for_cells.ensures.0 c.if-not-have_room_for_cells.false)
+pub returns-then-not-merge_where_room-clause-err : goal.returns-then-not-merge_where_room-clause-err
+returns-then-not-merge_where_room-clause-err c =
+    let inside = c.self.inside in
+    let dims = c.args.dims.now in
+    let over = subst (λ (state : FoldState). IsOver dims state) (sym c.self.view_is) c.requires.over in
+    let left = c.merge_where_room.new.columns in
+    let len : length left ≡ c.ready_for_cells.new.columns.len = c.merge_where_room.auto.columns ∙ c.as_mut_slice.ensures.len in
+    let same : left ≡ c.ready_for_cells.new.columns.items = c.merge_where_room.ensures.same c.if-not-merge_where_room.true ∙ c.as_mut_slice.ensures.value in
+    ap (shown inside.plan c.ready_for_cells.new.slots) (with_items_is c.ready_for_cells.new.columns left len ∙ same)
+    ∙ shown_ready dims inside.plan over inside.slots inside.columns.items c.self.invariant c.ready_for_cells.new.slots c.ready_for_cells.new.columns.items c.ready_for_cells.ensures.cover c.ready_for_cells.ensures.grow c.ready_for_cells.ensures.same ∙ c.self.view_is
+
+pub returns-then-not-merge_where_room-clause-refused : goal.returns-then-not-merge_where_room-clause-refused
+returns-then-not-merge_where_room-clause-refused c = λ bad rows stand can.
+    let inside = c.self.inside in
+    let dims = c.args.dims.now in
+    let modes : List (List ℕ) = modes_of (option_map (λ modes. modes.now) c.args.modes) in
+    let plain = c.args.cells.now in
+    let over = subst (λ (state : FoldState). IsOver dims state) (sym c.self.view_is) c.requires.over in
+    let given = subst (λ (state : FoldState). CanTake dims state rows) (sym c.self.view_is) can in
+    let aggregates : c.as_slice-aggregates.result.now ≡ (query_of inside.plan).aggregates = c.as_slice-aggregates.ensures ∙ ap (λ q. q.aggregates) c.query.ensures in
+    let room = room_for_cells dims inside.plan over inside.slots inside.columns.items c.self.invariant c.ready_for_cells.new.slots c.ready_for_cells.new.columns.items c.ready_for_cells.ensures.cover c.ready_for_cells.ensures.grow c.ready_for_cells.ensures.same
+    modes plain c.in_ok-slotted.ensures.group_slots.rows c.in_ok-slotted.slotted.group_slots.items c.in_ok-slotted.ensures.group_slots.stand c.in_ok-slotted.ensures.group_slots.slots rows stand given.0 given.1.0 given.1.1 c.in_ok-slotted.ensures.long in
+    let there : HaveRoomForAll c.as_slice-aggregates.result.now c.as_slice.result.now c.as_slice-2.result.now c.as_mut_slice.result.now =
+    same_room (sym aggregates) (sym c.as_slice.ensures) (sym c.as_slice-2.ensures.value) (sym c.as_mut_slice.ensures.value) room in
+    let yes = c.merge_where_room.ensures.room there in
+    absurd (cc (yes, c.if-not-merge_where_room.true))
 
 pub invariant_of-self-2 : goal.invariant_of-self-2
 invariant_of-self-2 c =
@@ -111,9 +89,9 @@ invariant_of-self-2 c =
     let plain = c.args.cells.now in
     let over = subst (λ (state : FoldState). IsOver dims state) (sym c.self.view_is) c.requires.over in
     let aggregates : c.as_slice-aggregates.result.now ≡ (query_of inside.plan).aggregates = c.as_slice-aggregates.ensures ∙ ap (λ q. q.aggregates) c.query.ensures in
-    let merged = c.merge_in_cells.new.columns in
-    let is = λ (slot : ℕ). c.merge_in_cells.ensures slot ∙ (λ i. with_cells (aggregates i) slot (c.as_slice-4.ensures i) (c.as_slice-5.ensures.value i) (tallies_at (c.as_mut_slice.ensures.value i) slot)) in
-    let len : length merged ≡ c.ready_for_cells.new.columns.len = c.merge_in_cells.auto.columns ∙ c.as_mut_slice.ensures.len in
+    let merged = c.merge_where_room.new.columns in
+    let is = λ (slot : ℕ). c.merge_where_room.ensures.merged c.if-not-merge_where_room.false slot ∙ (λ i. with_cells (aggregates i) slot (c.as_slice.ensures i) (c.as_slice-2.ensures.value i) (tallies_at (c.as_mut_slice.ensures.value i) slot)) in
+    let len : length merged ≡ c.ready_for_cells.new.columns.len = c.merge_where_room.auto.columns ∙ c.as_mut_slice.ensures.len in
     subst (IsKept inside.plan c.ready_for_cells.new.slots) (sym (with_items_is c.ready_for_cells.new.columns merged len))
     (kept_merged dims inside.plan over inside.slots inside.columns.items c.self.invariant c.ready_for_cells.new.slots c.ready_for_cells.new.columns.items c.ready_for_cells.ensures.cover c.ready_for_cells.ensures.grow c.ready_for_cells.ensures.same
     modes plain c.in_ok-slotted.ensures.group_slots.rows c.in_ok-slotted.slotted.group_slots.items c.in_ok-slotted.ensures.group_slots.stand c.in_ok-slotted.ensures.group_slots.slots merged is)
@@ -127,9 +105,9 @@ returns-clause-ok c = λ rows stand.
     let over = subst (λ (state : FoldState). IsOver dims state) (sym c.self.view_is) c.requires.over in
     let serves = subst (λ (state : FoldState). Serves plain.view state.query) (sym c.self.view_is) c.requires.serves in
     let aggregates : c.as_slice-aggregates.result.now ≡ (query_of inside.plan).aggregates = c.as_slice-aggregates.ensures ∙ ap (λ q. q.aggregates) c.query.ensures in
-    let merged = c.merge_in_cells.new.columns in
-    let is = λ (slot : ℕ). c.merge_in_cells.ensures slot ∙ (λ i. with_cells (aggregates i) slot (c.as_slice-4.ensures i) (c.as_slice-5.ensures.value i) (tallies_at (c.as_mut_slice.ensures.value i) slot)) in
-    let len : length merged ≡ c.ready_for_cells.new.columns.len = c.merge_in_cells.auto.columns ∙ c.as_mut_slice.ensures.len in
+    let merged = c.merge_where_room.new.columns in
+    let is = λ (slot : ℕ). c.merge_where_room.ensures.merged c.if-not-merge_where_room.false slot ∙ (λ i. with_cells (aggregates i) slot (c.as_slice.ensures i) (c.as_slice-2.ensures.value i) (tallies_at (c.as_mut_slice.ensures.value i) slot)) in
+    let len : length merged ≡ c.ready_for_cells.new.columns.len = c.merge_where_room.auto.columns ∙ c.as_mut_slice.ensures.len in
     let count = AreGroupSlots-length dims (query_of inside.plan) (entries_of c.ready_for_cells.new.slots) c.in_ok-slotted.ensures.group_slots.rows c.in_ok-slotted.slotted.group_slots.items c.in_ok-slotted.ensures.group_slots.slots
     ∙ stand_count dims modes plain.view plain.cells c.in_ok-slotted.ensures.group_slots.rows c.in_ok-slotted.ensures.group_slots.stand in
     record {

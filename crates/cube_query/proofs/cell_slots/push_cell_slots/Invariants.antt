@@ -3,7 +3,7 @@ use Rattle.group_plan.specs.Numbers.{group_count}
 use Rattle.cube_query.specs.CellSlots.{AreCellSlots}
 use Rattle.cube_query.specs.CellTallies.{IsMost}
 use Rattle.cube_query.specs.Slots.{entries_of, Cover, Grow}
-use Rattle.cube_query.proofs.cell_slots.cell_slots_of.Given as goal
+use Rattle.cube_query.proofs.cell_slots.push_cell_slots.Given as goal
 
 abbrev pub invariant-loop-place : goal.invariant-loop-place
 invariant-loop-place l = AreCellSlots l.numbers (entries_of l.slots) (take l.place l.cells) l.group_slots.items

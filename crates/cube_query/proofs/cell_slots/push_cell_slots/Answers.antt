@@ -9,7 +9,7 @@ use Rattle.cube_query.specs.CellTallies.{IsMost}
 use Rattle.cube_query.specs.Slots.{entries_of}
 use Rattle.cube_query.proofs.CellMerges.{no_cell}
 use Rattle.cube_query.proofs.CellSlots.{cell_slots-length, cell_slots-push}
-use Rattle.cube_query.proofs.cell_slots.cell_slots_of.Goals as goal
+use Rattle.cube_query.proofs.cell_slots.push_cell_slots.Goals as goal
 
 pub loop-place-preserved : goal.loop-place-preserved
 loop-place-preserved c =
@@ -30,12 +30,12 @@ loop-place-preserved c =
       subst (λ (cs : List Cell). IsMost c.args.aggs.now cs c.push.new.self.items c.with-weight.result) (sym cells)
           (subst (λ gs. IsMost c.args.aggs.now (front ++ cell ∷ []) gs c.with-weight.result) (sym c.in_ok-push.ensures.items) most),
       c.cell_slot_of.ensures.cover,
-      c.cell_slot_of.ensures.grow (entries_of c.reserve.new.self) c.loop-place.invariant.3,
+      c.cell_slot_of.ensures.grow (entries_of c.args.slots.now) c.loop-place.invariant.3,
     )
 
 pub returns-in_err-group_slot-clause-refused : goal.returns-in_err-group_slot-clause-refused
 returns-in_err-group_slot-clause-refused c =
-    let p = err_from_is_err_and c.from_residual-in_err-group_slot.result c.from_residual-in_err-group_slot.ensures.1 in
+    let p = err_from_is_err_and c.from_residual.result c.from_residual.ensures.1 in
     rw (p.1, p.2) (λ bad.
     let is : c.in_err-group_slot.field-0.0 ≡ BadLayout = cc bad in
     record {
