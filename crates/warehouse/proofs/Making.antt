@@ -1,11 +1,19 @@
 -- Making a warehouse.
-use Rattle.std.proofs.Common.{◌≡◌, ⊎_elim, inl, inr, ℕ, List, [], ◌∷◌, length, refl, sym, ◌∙◌, ap, subst, arith}
+use Rattle.std.proofs.Common.{◌≡◌, ◌≢◌, ◌⊎◌, ◌+◌, ◌-◌, ◌^◌, ◌<◌, min, ⊎_elim, inl, inr, ℕ, false, List, [], ◌∷◌, length, Result, Ok, Err, IfErr, IfOk, refl, sym, ◌∙◌, ap, subst, arith}
+use Rattle.cube_model.specs.declared.fault.Fault.{Fault}
+use Rattle.cube_model.specs.declared.fault.Fault.TheVariants.{AlreadyFormatted, Device, DeviceSize, Full, Memory}
+use Rattle.sector_device.specs.declared.device.Sectors.{Ghosts}
+use Rattle.sector_device.specs.Device.{Image, IsImage}
 use Rattle.cube_model.specs.declared.attr.Axis.TheVariants.{Customer, Supplier, Part, Date}
 use Rattle.cube_model.specs.declared.rows.DimRows.{DimRows}
 use Rattle.object_store.specs.Content.{Content}
 use Rattle.object_store.specs.Commit.{created, IsFew}
-use Rattle.object_store.specs.Disk.{Disk, LeavesOrNone, ShowsSomeOrNone}
-use Rattle.object_store.specs.Moments.{passes_also}
+use Rattle.object_store.specs.Disk.{Disk, disk, Each, IsBlank, LeavesOrNone, OnlyImagesOf, ShowsSomeOrNone}
+use Rattle.object_store.specs.Moments.{begins, passes_also}
+use Rattle.object_store.specs.Room.{LacksRoom, empty_room}
+use Rattle.object_store.specs.Shows.{HasNone}
+use Rattle.object_store.specs.Store.{content_of, disk_of, has_failed}
+use Rattle.object_store.specs.declared.store.Store.{Store}
 use Rattle.object_store.proofs.CallerLemmas.{few_created}
 use Rattle.warehouse_root.specs.declared.layout.Layout.TheVariants.{First}
 use Rattle.warehouse_root.specs.Layouts.{number_of}
@@ -14,6 +22,7 @@ use Rattle.warehouse_root.specs.Root.{PlainRoot}
 use Rattle.warehouse_objects.specs.Warehouse.{AreStorable, fresh}
 use Rattle.warehouse_objects.specs.Stands.{Stands, dimension_of, root_of}
 use Rattle.warehouse_objects.specs.Lawful.{dimension_puts}
+use Rattle.warehouse.specs.Creating.{MakesStore, RefusesToMake}
 use Rattle.warehouse.specs.Loaded.{IsLoaded}
 use Rattle.warehouse_objects.proofs.CallerLemmas.{stands_created}
 
@@ -56,3 +65,58 @@ module _ (rows : DimRows) (puts : List (ℕ × List ℕ)) (bytes : List ℕ) (la
   create_leaves old new =
       passes_also (ShowsSomeOrNone (λ (c : Content). c ≡ created puts bytes layout)) (ShowsSomeOrNone (λ (c : Content). Stands c (fresh rows))) old new
       (λ k size image. ⊎_elim (λ none. inl none) (λ shown. inr (shown.0, shown.1, subst (λ (c : Content). Stands c (fresh rows)) (sym shown.2) stands_at_first)))
+
+  module _ {D : Type 0} (g : Ghosts D) (device : D) where
+    -- what a store was made of is the warehouse
+    pub makes_store : (result : Result (Store D g) (Fault × D)) → IfOk result (λ store. Each (disk g device) IsBlank → LeavesOrNone (disk g device) (disk_of g store) (λ c. c ≡ created puts bytes layout))
+        → IfOk result (λ store. has_failed store ≡ false) → IfOk result (λ store. (disk_of g store).keeps_word → content_of g store ≡ created puts bytes layout)
+        → IfOk result (λ store. (disk_of g store).keeps_word → HasNone (g.state device).reads) → IfOk result (MakesStore g device rows root)
+    makes_store (Ok store) leaves fine content none = record {
+      leaves = λ blank. create_leaves (disk g device) (disk_of g store) (leaves blank);
+      fine = fine;
+      stands = λ k. subst (λ (c : Content). Stands c (fresh rows)) (sym (content k)) stands_at_first;
+      loaded = λ k. subst (λ (c : Content). IsLoaded c rows root) (sym (content k)) loaded_at_first;
+      unformatted = none;
+    }
+    makes_store (Err e) leaves fine content none = tt
+
+    -- nor was one made where there is no store of it
+    pub refuses_to_make : (result : Result (Store D g) (Fault × D)) → IfErr result (λ e. Each (disk g device) IsBlank → LeavesOrNone (disk g device) (disk g e.1) (λ c. c ≡ created puts bytes layout))
+        → IfErr result (λ e. e.0 ≢ Device → Each (disk g device) IsBlank → Each (disk g e.1) IsBlank)
+        → IfErr result (λ e. g.keeps_word e.1 → Each (disk g device) IsBlank → e.0 ≢ AlreadyFormatted)
+        → IfErr result (λ e. e.0 ≡ AlreadyFormatted → OnlyImagesOf (disk g device) (disk g e.1))
+        → IfErr result (λ e. (HasNone (g.state device).reads → ⊥) → OnlyImagesOf (disk g device) (disk g e.1))
+        → IfErr result (λ e. e.0 ≡ Device → g.failed e.1 ≡ min (g.failed device + 1) (2 ^ 64 - 1))
+        → IfErr result (λ e. e.0 ≡ DeviceSize → (g.state device).size < 64)
+        → IfErr result (λ e. e.0 ≡ Full → LacksRoom (empty_room (g.state device).size) puts [] bytes)
+        → IfErr result (λ e. (e.0 ≡ AlreadyFormatted) ⊎ ((e.0 ≡ DeviceSize) ⊎ ((e.0 ≡ Device) ⊎ ((e.0 ≡ Full) ⊎ (e.0 ≡ Memory)))))
+        → IfErr result (λ e. RefusesToMake g device rows e.0 e.1)
+    refuses_to_make (Ok store) leaves still_blank not_already only spared failures size full causes = tt
+    refuses_to_make (Err e) leaves still_blank not_already only spared failures size full causes = record {
+      leaves = λ blank. create_leaves (disk g device) (disk g e.1) (leaves blank);
+      still_blank = still_blank;
+      not_already = not_already;
+      only = only;
+      spared = spared;
+      failures = failures;
+      size = size;
+      full = λ is.
+          subst (λ (p : List (ℕ × List ℕ)). LacksRoom (empty_room (g.state device).size) p [] (roots.root_of (roots.first_root First))) are
+          (subst (λ (l : List ℕ). LacksRoom (empty_room (g.state device).size) puts [] l) (bytes_are ∙ ap roots.root_of root_is) (full is));
+      causes = causes;
+    }
+
+-- there was no memory before the first device call
+pub no_memory : {D : Type 0} (g : Ghosts D) (device : D) (rows : DimRows) (fault : Fault)
+    → (g.keeps_word device → (image : Image) → (g.state device).left_since (g.state device).moment image → IsImage (g.state device) image) → fault ≡ Memory → RefusesToMake g device rows fault device
+no_memory g device rows fault now memory = record {
+  leaves = λ blank. begins (ShowsSomeOrNone (λ (c : Content). Stands c (fresh rows))) (disk g device) now (λ k image is. inl (blank k image is));
+  still_blank = λ other blank. blank;
+  not_already = λ k blank already. let is : Memory ≡ AlreadyFormatted = sym memory ∙ already in absurd cc;
+  only = λ already. begins (λ _ (image : Image). IsImage (g.state device) image) (disk g device) now (λ k image is. is);
+  spared = λ formatted. begins (λ _ (image : Image). IsImage (g.state device) image) (disk g device) now (λ k image is. is);
+  failures = λ other. let is : Memory ≡ Device = sym memory ∙ other in absurd cc;
+  size = λ other. let is : Memory ≡ DeviceSize = sym memory ∙ other in absurd cc;
+  full = λ other. let is : Memory ≡ Full = sym memory ∙ other in absurd cc;
+  causes = inr (inr (inr (inr memory)));
+}

@@ -7,5 +7,6 @@ pub mod Growing
 pub mod Submitting
 pub mod Status
 pub mod Beginning
+pub mod Creating
 pub mod Running
 pub mod Headline

@@ -9,6 +9,8 @@ ghost use Rattle.warehouse_root.specs.Root as roots;
 ghost use Rattle.warehouse_objects.specs.Lawful.{dimension_puts};
 ghost use Rattle.warehouse_objects.specs.Warehouse.{fresh};
 ghost use Rattle.warehouse_objects.specs.Stands.{Stands};
+ghost use Rattle.warehouse.specs.Beginning.{IsBeginning};
+ghost use Rattle.warehouse.specs.Creating.{MakesStore, RefusesToMake};
 ghost use Rattle.warehouse.specs.Session.{disk_of, IsAt};
 
 use crate::beginning::Beginning;
@@ -49,20 +51,7 @@ pub fn create<D: Sectors>(alloc: Global, device: D, dims: Dims) -> Result<Sessio
         Ok(beginning) => beginning,
         Err(fault) => return Err((fault, device)),
     };
-    kept_is_what_stands(&dims, &beginning.root);
-    let puts = [
-        (1, beginning.customers.as_slice()),
-        (2, beginning.suppliers.as_slice()),
-        (3, beginning.parts.as_slice()),
-        (4, beginning.dates.as_slice()),
-    ];
-    match Store::create(
-        alloc,
-        device,
-        &puts,
-        beginning.root_bytes.as_slice(),
-        Layout::First.number(),
-    ) {
+    match make_store(alloc, device, &dims, &beginning) {
         Ok(store) => Ok(Session {
             store,
             dims,
@@ -70,4 +59,31 @@ pub fn create<D: Sectors>(alloc: Global, device: D, dims: Dims) -> Result<Sessio
         }),
         Err(e) => Err(e),
     }
+}
+
+// Makes the store of a warehouse without batches from what was made ready for it. A refusal hands the device back.
+fn make_store<D: Sectors>(
+    alloc: Global,
+    device: D,
+    dims: &Dims,
+    beginning: &Beginning,
+) -> Result<Store<D>, (Fault, D)>
+    requires begins { IsBeginning dims.now beginning.now }
+    ensures ok { IfOk result (MakesStore D.Sectors device dims.now beginning.now.root) }
+    ensures refused { IfErr result (λ e. RefusesToMake D.Sectors device dims.now e.0 e.1) }
+{
+    kept_is_what_stands(dims, &beginning.root);
+    let puts = [
+        (1, beginning.customers.as_slice()),
+        (2, beginning.suppliers.as_slice()),
+        (3, beginning.parts.as_slice()),
+        (4, beginning.dates.as_slice()),
+    ];
+    Store::create(
+        alloc,
+        device,
+        &puts,
+        beginning.root_bytes.as_slice(),
+        Layout::First.number(),
+    )
 }

@@ -1,5 +1,5 @@
 -- Batches that are read and counted one after another.
-use Rattle.std.proofs.Common.{◌≡◌, ◌⊎◌, ⊎_elim, get_or, map, ◌+◌, ◌≤◌, suc, ℕ, List, ◌++◌, Option, Some, None, length, take, slice_get, Result, Ok, Err, IfErr, IsErrOf, OnOk, refl, sym, ◌∙◌, ap, subst, arith}
+use Rattle.std.proofs.Common.{◌≡◌, ◌⊎◌, ⊎_elim, get_or, map, ◌+◌, ◌≤◌, suc, ℕ, List, ◌++◌, Option, Some, None, length, take, slice_get, Result, Ok, Err, IfErr, IfOk, IsErrOf, OnOk, refl, sym, ◌∙◌, ap, subst, arith}
 use Rattle.std.specs.Option.{IfSome, IsSomeAnd, MatchOption, option_map}
 use Rattle.std.proofs.lemmas.Option.{get_or_from_slice_get, slice_get-map, slice_get_within}
 use Rattle.cube_model.specs.Admission.{all_rows}
@@ -112,6 +112,12 @@ module _ (bytes : List ℕ) (number count : ℕ) where
 pub ok_so : {X : Type 0} (A B : Type 0) (result : Result X Fault) → (A → B) → OnOk result A → OnOk result B
 ok_so A B (Ok x) so a = so a
 ok_so A B (Err fault) so a = tt
+
+-- what was found, said of less
+pub found_so : {X : Type 0} (A B C : Type 0) (result : Result (Option X) Fault) → (B → C) → IfOk result (λ found. MatchOption found A (λ _. B)) → IfOk result (λ found. MatchOption found A (λ _. C))
+found_so A B C (Ok None) so known = known
+found_so A B C (Ok (Some x)) so known = so known
+found_so A B C (Err fault) so known = tt
 
 pub of_fault : {X : Type 0} (P : Fault → Type 0) (result : Result X Fault) (fault : Fault) → IfErr result P → IsErrOf result fault → P fault
 of_fault {X} P result fault all is = subst (λ (r : Result X Fault). IfErr r P) is all

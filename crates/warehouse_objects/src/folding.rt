@@ -59,22 +59,43 @@ pub fn fold_batches<D: Sectors>(
     ensures causes { IfErr result (λ fault. (fault ≡ Memory) ⊎ ((fault ≡ Device) ⊎ (fault ≡ BadLayout))) }
 {
     let _usable = store.is_broken();
+    let columns = fold.asked_columns()?;
+    add_batches(alloc, store, root, dims, fold, columns.as_slice(), as_of)
+}
+
+// Counts the rows of the first batches of a store into a fold that stands for no row yet. Of a batch behind one of as many
+// rows only the columns at which the fold's query looks are read.
+fn add_batches<D: Sectors>(
+    alloc: Global,
+    store: &mut Store<D>,
+    root: &Root,
+    dims: &Dims,
+    fold: &mut Fold,
+    columns: &[FactColumn],
+    as_of: u32,
+) -> Result<(), Fault>
+    requires fine { has_failed store.old ≡ false }
+    requires begun { StandsFor dims.now fold.old [] }
+    requires few { as_of ≤ length root.now.batches }
+    requires asked { columns.now ≡ asked_columns fold.old.query }
+    ensures ok { OnOk result (D.keeps_word (device_of store.new) → (w : Warehouse) → Stands (content_of D.Sectors store.old) w
+        → StandsFor dims.now fold.new (all_rows (take as_of w.batches))) }
+    ensures over { OnOk result (IsFoldOver dims.now fold.new) }
+    ensures query { fold.new.query ≡ fold.old.query }
+    ensures refused { IsErrOf result BadLayout → D.keeps_word (device_of store.new) → (w : Warehouse) → Stands (content_of D.Sectors store.old) w
+        → root.now ≡ root_of w → dims.now ≡ w.rows → ⊥ }
+    ensures leaves { Leaves (disk_of D.Sectors store.old) (disk_of D.Sectors store.new) (λ c. c ≡ content_of D.Sectors store.old) }
+    ensures stays { (IsErrOf result Device → ⊥) → IsStill D.Sectors store.old store.new }
+    ensures device { IsErrOf result Device → Breaks D.Sectors store.old store.new }
+    ensures causes { IfErr result (λ fault. (fault ≡ Memory) ⊎ ((fault ≡ Device) ⊎ (fault ≡ BadLayout))) }
+{
+    let _usable = store.is_broken();
     let _layout = root.layout();
     let batches = root.batches();
-    let columns = fold.asked_columns()?;
     let mut earlier = None;
     for before in 0..as_of {
         let count = batches[before as usize];
-        let segment = add_batch(
-            alloc,
-            store,
-            dims,
-            fold,
-            columns.as_slice(),
-            earlier,
-            before,
-            count,
-        )?;
+        let segment = add_batch(alloc, store, dims, fold, columns, earlier, before, count)?;
         earlier = Some(segment);
     }
     Ok(())
@@ -138,34 +159,64 @@ fn add_columns<D: Sectors>(
     ensures causes { IfErr result (λ fault. (fault ≡ Memory) ⊎ (fault ≡ Device)) }
 {
     let _usable = store.is_broken();
-    let Some(earlier) = earlier else {
-        return Ok(None);
-    };
-    if earlier.len() != count as usize {
-        return Ok(None);
+    match of_as_many_rows(earlier, count) {
+        Some(earlier) => add_over(store, dims, fold, columns, earlier, before),
+        None => Ok(None),
     }
+}
+
+// An earlier batch, if there is one of so many rows.
+fn of_as_many_rows(earlier: Option<Segment>, count: u32) -> Option<Segment>
+    ensures { IfSome result (λ segment. (earlier ≡ Some segment) × (length segment.rows ≡ count)) }
+{
+    let segment = earlier?;
+    if segment.len() != count as usize {
+        return None;
+    }
+    Some(segment)
+}
+
+// Counts the rows of the batch behind so many others in by the columns at which the fold's query looks, read over those of
+// an earlier batch of as many rows. It answers that segment, or nothing, and has counted nothing, where these columns do
+// not settle it.
+fn add_over<D: Sectors>(
+    store: &mut Store<D>,
+    dims: &Dims,
+    fold: &mut Fold,
+    columns: &[FactColumn],
+    earlier: Segment,
+    before: u32,
+) -> Result<Option<Segment>, Fault>
+    requires fine { has_failed store.old ≡ false }
+    requires over { IsOver dims.now fold.old }
+    requires few { before < most_batches }
+    requires asked { columns.now ≡ asked_columns fold.old.query }
+    ensures ok { IfOk result (λ found. MatchOption found (fold.new ≡ fold.old)
+        (λ _. CountsBatch dims.now fold.old fold.new before (D.keeps_word (device_of store.new)) (content_of D.Sectors store.old))) }
+    ensures query { fold.new.query ≡ fold.old.query }
+    ensures leaves { Leaves (disk_of D.Sectors store.old) (disk_of D.Sectors store.new) (λ c. c ≡ content_of D.Sectors store.old) }
+    ensures stays { (IsErrOf result Device → ⊥) → IsStill D.Sectors store.old store.new }
+    ensures device { IsErrOf result Device → Breaks D.Sectors store.old store.new }
+    ensures causes { IfErr result (λ fault. (fault ≡ Memory) ⊎ (fault ≡ Device)) }
+{
     let Some(segment) = batch_over(store, columns, earlier, before)? else {
         return Ok(None);
     };
     agreeing_rows_are_the_same();
-    if !can_take_in(dims, fold, &segment)? {
-        return Ok(None);
-    }
-    Ok(Some(segment))
+    taken_in(dims, fold, segment)
 }
 
-// Counts the rows of a batch in, if the fold can take them. It says whether.
-fn can_take_in(dims: &Dims, fold: &mut Fold, segment: &Segment) -> Result<bool, Fault>
+// A batch whose rows were counted in. Nothing, and none was counted, where the fold cannot take them.
+fn taken_in(dims: &Dims, fold: &mut Fold, segment: Segment) -> Result<Option<Segment>, Fault>
     requires over { IsOver dims.now fold.old }
-    ensures yes { IfOk result (λ yes. IsTrue yes → Takes dims.now fold.old segment.now.rows fold.new) }
-    ensures no { IfOk result (λ yes. yes ≡ false → fold.new ≡ fold.old) }
+    ensures ok { IfOk result (λ found. MatchOption found (fold.new ≡ fold.old) (λ _. Takes dims.now fold.old segment.rows fold.new)) }
     ensures query { fold.new.query ≡ fold.old.query }
     ensures memory { IfErr result (λ fault. fault ≡ Memory) }
 {
-    match fold.add_segment(dims, segment) {
-        Ok(()) => Ok(true),
+    match fold.add_segment(dims, &segment) {
+        Ok(()) => Ok(Some(segment)),
         Err(Fault::Memory) => Err(Fault::Memory),
-        Err(_) => Ok(false),
+        Err(_) => Ok(None),
     }
 }
 

@@ -55,8 +55,30 @@ pub fn read_dims<D: Sectors>(alloc: Global, store: &mut Store<D>) -> Result<Dims
 {
     rows_are_one();
     let (customers, suppliers) = read_two(alloc, store, 1)?;
+    read_others(alloc, store, &customers, &suppliers)
+}
+
+// The dimensions of a store of which objects 1 and 2 were read. `BadLayout` where objects 3 and 4 are none that go with
+// them.
+fn read_others<D: Sectors>(
+    alloc: Global,
+    store: &mut Store<D>,
+    customers: &[u8],
+    suppliers: &[u8],
+) -> Result<Dims, Fault>
+    requires fine { has_failed store.old ≡ false }
+    ensures ok { IfOk result (λ dims. D.keeps_word (device_of store.new) → bytes_of (content_of D.Sectors store.old) 1 ≡ Some customers.now
+        → bytes_of (content_of D.Sectors store.old) 2 ≡ Some suppliers.now → HasRows (content_of D.Sectors store.old) dims) }
+    ensures storable { IfOk result AreStorable }
+    ensures refused { IsErrOf result BadLayout → D.keeps_word (device_of store.new) → bytes_of (content_of D.Sectors store.old) 1 ≡ Some customers.now
+        → bytes_of (content_of D.Sectors store.old) 2 ≡ Some suppliers.now → (w : Warehouse) → ¬ Stands (content_of D.Sectors store.old) w }
+    ensures leaves { Leaves (disk_of D.Sectors store.old) (disk_of D.Sectors store.new) (λ c. c ≡ content_of D.Sectors store.old) }
+    ensures stays { (IsErrOf result Device → ⊥) → IsStill D.Sectors store.old store.new }
+    ensures device { IsErrOf result Device → Breaks D.Sectors store.old store.new }
+    ensures causes { IfErr result (λ fault. (fault ≡ Memory) ⊎ ((fault ≡ Device) ⊎ (fault ≡ BadLayout))) }
+{
     let (parts, dates) = read_two(alloc, store, 3)?;
-    decoded(alloc, &customers, &suppliers, &parts, &dates)
+    decoded(alloc, customers, suppliers, &parts, &dates)
 }
 
 // Objects with the ids from one on.

@@ -1,0 +1,39 @@
+-- How a warehouse without batches is put on a device without one. Our own.
+use Rattle.std.specs.Prelude.{◌≡◌, ◌≢◌, ◌⊎◌, ◌+◌, ◌-◌, ◌^◌, ◌<◌, min, false, []}
+use Rattle.sector_device.specs.declared.device.Sectors.{Ghosts}
+use Rattle.cube_model.specs.declared.fault.Fault.{Fault}
+use Rattle.cube_model.specs.declared.fault.Fault.TheVariants.{AlreadyFormatted, Device, DeviceSize, Full, Memory}
+use Rattle.cube_model.specs.declared.rows.DimRows.{DimRows}
+use Rattle.object_store.specs.Disk.{disk, Each, IsBlank, LeavesOrNone, OnlyImagesOf}
+use Rattle.object_store.specs.Room.{LacksRoom, empty_room}
+use Rattle.object_store.specs.Shows.{HasNone}
+use Rattle.object_store.specs.Store.{content_of, disk_of, has_failed}
+use Rattle.object_store.specs.declared.store.Store.{Store}
+use Rattle.warehouse_root.specs.declared.layout.Layout.TheVariants.{First}
+use Rattle.warehouse_root.specs.Root.{PlainRoot, first_root, root_of}
+use Rattle.warehouse_objects.specs.Lawful.{dimension_puts}
+use Rattle.warehouse_objects.specs.Warehouse.{fresh}
+use Rattle.warehouse_objects.specs.Stands.{Stands}
+use Rattle.warehouse.specs.Loaded.{IsLoaded}
+
+-- the store stands for the warehouse of no batch, and its root is that one
+pub record MakesStore {D : Type 0} (g : Ghosts D) (device : D) (rows : DimRows) (root : PlainRoot) (store : Store D g) : Type 0 where
+  -- until the end an image has no valid superblock, or stands for it
+  pub leaves : Each (disk g device) IsBlank → LeavesOrNone (disk g device) (disk_of g store) (λ c. Stands c (fresh rows))
+  pub fine : has_failed store ≡ false
+  pub stands : (disk_of g store).keeps_word → Stands (content_of g store) (fresh rows)
+  pub loaded : (disk_of g store).keeps_word → IsLoaded (content_of g store) rows root
+  -- the reads at the start showed no valid superblock
+  pub unformatted : (disk_of g store).keeps_word → HasNone (g.state device).reads
+
+-- no store was made: why, and what the device that is handed back is
+pub record RefusesToMake {D : Type 0} (g : Ghosts D) (device : D) (rows : DimRows) (fault : Fault) (back : D) : Type 0 where
+  pub leaves : Each (disk g device) IsBlank → LeavesOrNone (disk g device) (disk g back) (λ c. Stands c (fresh rows))
+  pub still_blank : fault ≢ Device → Each (disk g device) IsBlank → Each (disk g back) IsBlank
+  pub not_already : g.keeps_word back → Each (disk g device) IsBlank → fault ≢ AlreadyFormatted
+  pub only : fault ≡ AlreadyFormatted → OnlyImagesOf (disk g device) (disk g back)
+  pub spared : (HasNone (g.state device).reads → ⊥) → OnlyImagesOf (disk g device) (disk g back)
+  pub failures : fault ≡ Device → g.failed back ≡ min (g.failed device + 1) (2 ^ 64 - 1)
+  pub size : fault ≡ DeviceSize → (g.state device).size < 64
+  pub full : fault ≡ Full → LacksRoom (empty_room (g.state device).size) (dimension_puts rows) [] (root_of (first_root First))
+  pub causes : (fault ≡ AlreadyFormatted) ⊎ ((fault ≡ DeviceSize) ⊎ ((fault ≡ Device) ⊎ ((fault ≡ Full) ⊎ (fault ≡ Memory))))
