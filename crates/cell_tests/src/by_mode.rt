@@ -57,9 +57,24 @@ fn take_in(
 // The cells of the sample rows under a view.
 fn grouped(alloc: Global, index: u16) -> Result<Cells, Fault> {
     let dims = dims_of(alloc)?;
+    grouped_among(alloc, &dims, index)
+}
+
+// The same over dimensions that are there.
+fn grouped_among(alloc: Global, dims: &Dims, index: u16) -> Result<Cells, Fault> {
     let modes = modes_of(alloc, &MODES)?;
+    grouped_over(alloc, dims, &modes, index)
+}
+
+// The same over dimensions and ship modes that are there.
+fn grouped_over(
+    alloc: Global,
+    dims: &Dims,
+    modes: &Dictionary,
+    index: u16,
+) -> Result<Cells, Fault> {
     let mut cells = cells_of(alloc, index)?;
-    take_in(alloc, &dims, &mut cells, Some(&modes))?;
+    take_in(alloc, dims, &mut cells, Some(modes))?;
     Ok(cells)
 }
 
@@ -114,29 +129,59 @@ static GIVEN: [(Option<&[&[u8]]>, u16, bool); 6] = [
 // What comes of the sample rows, and whether there is no cell afterwards.
 fn taken(
     alloc: Global,
+    texts: Option<&[&[u8]]>,
+    index: u16,
+) -> Result<(Result<(), Fault>, bool), Fault> {
+    let dims = dims_of(alloc)?;
+    taken_among(alloc, &dims, texts, index)
+}
+
+// The same over dimensions that are there.
+fn taken_among(
+    alloc: Global,
     dims: &Dims,
     texts: Option<&[&[u8]]>,
     index: u16,
 ) -> Result<(Result<(), Fault>, bool), Fault> {
-    let modes = modes_of(alloc, texts.unwrap_or(&[]))?;
+    match texts {
+        Some(texts) => {
+            let modes = modes_of(alloc, texts)?;
+            taken_over(alloc, dims, Some(&modes), index)
+        }
+        None => taken_over(alloc, dims, None, index),
+    }
+}
+
+// The same over dimensions and ship modes that are there, or over none.
+fn taken_over(
+    alloc: Global,
+    dims: &Dims,
+    modes: Option<&Dictionary>,
+    index: u16,
+) -> Result<(Result<(), Fault>, bool), Fault> {
     let mut cells = cells_of(alloc, index)?;
-    let given = if texts.is_some() { Some(&modes) } else { None };
-    let found = take_in(alloc, dims, &mut cells, given);
+    let found = take_in(alloc, dims, &mut cells, modes);
     Ok((found, cells.as_slice().is_empty()))
 }
 
+// What is wanted of the sample rows: they are taken, or refused with no cell afterwards.
+fn wanted(are_taken: bool) -> (Result<(), Fault>, bool) {
+    if are_taken {
+        (Ok(()), false)
+    } else {
+        (Err(Fault::BadLayout), true)
+    }
+}
+
 #[test]
-fn refuses_rows_of_no_mode(rt: HostRuntime) -> Result<(), Fail> {
-    let dims = dims_of(rt.alloc())?;
-    for (texts, view, some) in GIVEN {
-        let want = if some { Ok(()) } else { Err(Fault::BadLayout) };
+fn refuses_rows_of_no_mode(rt: HostRuntime) {
+    for (texts, view, some) in &GIVEN {
         assert_eq!(rt;
-            taken(rt.alloc(), &dims, texts, view),
-            Ok((want, !some)),
+            taken(rt.alloc(), *texts, *view),
+            Ok(wanted(*some)),
             "view {view}"
         );
     }
-    Ok(())
 }
 
 // How many cells have a number, until one has a code of no member.
@@ -155,13 +200,19 @@ fn numbered(numbers: &CellNumbers, cells: &Cells) -> Result<usize, Fault>
 }
 
 // How many cells of the sample rows have a number by a query of one group, over ship modes or none.
-fn numbered_cells(
+fn numbered_cells(alloc: Global, texts: Option<&[&[u8]]>, index: u16) -> Result<usize, Fault> {
+    let dims = dims_of(alloc)?;
+    numbered_among(alloc, &dims, texts, index)
+}
+
+// The same over dimensions that are there.
+fn numbered_among(
     alloc: Global,
     dims: &Dims,
     texts: Option<&[&[u8]]>,
     index: u16,
 ) -> Result<usize, Fault> {
-    let cells = grouped(alloc, index)?;
+    let cells = grouped_among(alloc, dims, index)?;
     match texts {
         Some(texts) => numbered_over(alloc, dims, &cells, texts),
         None => numbered_by_all(alloc, dims, &cells, None),
@@ -224,20 +275,22 @@ fn many(index: u16) -> usize {
     if index == 511 { 2 } else { 1 }
 }
 
+// What is wanted of the numbers of cells: all have one, or they are refused.
+fn wanted_numbers(index: u16, have_numbers: bool) -> Result<usize, Fault> {
+    if have_numbers {
+        Ok(many(index))
+    } else {
+        Err(Fault::BadLayout)
+    }
+}
+
 #[test]
-fn cells_of_no_mode_have_no_numbers(rt: HostRuntime) -> Result<(), Fail> {
-    let dims = dims_of(rt.alloc())?;
-    for (texts, view, some) in GIVEN {
-        let want = if some {
-            Ok(many(view))
-        } else {
-            Err(Fault::BadLayout)
-        };
+fn cells_of_no_mode_have_no_numbers(rt: HostRuntime) {
+    for (texts, view, some) in &GIVEN {
         assert_eq!(rt;
-            numbered_cells(rt.alloc(), &dims, texts, view),
-            want,
+            numbered_cells(rt.alloc(), *texts, *view),
+            wanted_numbers(*view, *some),
             "view {view}"
         );
     }
-    Ok(())
 }

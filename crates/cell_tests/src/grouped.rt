@@ -6,7 +6,7 @@ use cuboid_upkeep::add_rows;
 use dimensions::Dims;
 use group_plan::RowSlice;
 use lattice::View;
-use sample_star::{FACTS, FIRST_FACT, Fact, STAR, THIRD_FACT, dim_rows, line_orders};
+use sample_star::{FACTS, FIRST_FACT, Fact, SECOND_FACT, STAR, THIRD_FACT, dim_rows, line_orders};
 use std::alloc::Global;
 use std::test::Fail;
 
@@ -87,9 +87,14 @@ fn grouped(alloc: Global, index: u16, batches: &[&[Fact<'_>]]) -> Result<Cells, 
     Ok(cells)
 }
 
+// The cells of the sample rows, as one batch, under a view.
+fn grouped_sample(alloc: Global, index: u16) -> Result<Cells, Fault> {
+    grouped(alloc, index, &[&FACTS])
+}
+
 #[test]
 fn groups_the_sample_rows_by_manufacturer_and_day(rt: HostRuntime) -> Result<(), Fail> {
-    let cells = grouped(rt.alloc(), 248, &[&FACTS])?;
+    let cells = grouped_sample(rt.alloc(), 248)?;
     let bytes = cells.encode(rt.alloc(), Span { from: 0, to: 1 })?;
     assert_eq!(rt; bytes.as_slice(), SPELLED.as_slice());
     Ok(())
@@ -98,7 +103,7 @@ fn groups_the_sample_rows_by_manufacturer_and_day(rt: HostRuntime) -> Result<(),
 const ALL: u16 = 65_535;
 
 // A view, and the codes of its two cells: of the first and the third row, and of the second.
-const CITIES: [(u16, [u16; 4], [u16; 4]); 4] = [
+static CITIES: [(u16, [u16; 4], [u16; 4]); 4] = [
     // City of the customer and manufacturer, city of the supplier and manufacturer.
     (59, [0, ALL, 0, ALL], [1, ALL, 0, ALL]),
     (203, [ALL, 0, 0, ALL], [ALL, 1, 0, ALL]),
@@ -107,20 +112,27 @@ const CITIES: [(u16, [u16; 4], [u16; 4]); 4] = [
     (191, [0, ALL, ALL, ALL], [1, ALL, ALL, ALL]),
 ];
 
+// The cell of the first and the third row, and that of the second.
+fn two_cells(first: [u16; 4], second: [u16; 4]) -> [Cell; 2] {
+    [cell(first, 2, FIRST_AND_THIRD), cell(second, 1, SECOND)]
+}
+
 #[test]
 fn groups_the_sample_rows_by_place(rt: HostRuntime) -> Result<(), Fail> {
-    for (view, first, second) in CITIES {
-        let cells = grouped(rt.alloc(), view, &[&FACTS])?;
-        let want = [cell(first, 2, FIRST_AND_THIRD), cell(second, 1, SECOND)];
+    for (view, first, second) in &CITIES {
+        let cells = grouped_sample(rt.alloc(), *view)?;
+        let want = two_cells(*first, *second);
         assert_eq!(rt; cells.as_slice(), want.as_slice(), "view {view}");
     }
     Ok(())
 }
 
+// The sample rows in three batches, the third row first, and two batches of no row.
+static BATCHES: [&[Fact<'static>]; 5] = [&[THIRD_FACT], &[], &[FIRST_FACT], &[], &[SECOND_FACT]];
+
 #[test]
 fn groups_batches_as_their_rows(rt: HostRuntime) -> Result<(), Fail> {
-    let batches: [&[Fact<'_>]; 5] = [&FACTS[2..], &[], &FACTS[..1], &[], &FACTS[1..2]];
-    let cells = grouped(rt.alloc(), 248, &batches)?;
+    let cells = grouped(rt.alloc(), 248, &BATCHES)?;
     let want = [at_day(0, 1, FIRST), at_day(1, 2, LAST_TWO)];
     assert_eq!(rt; cells.as_slice(), want.as_slice());
     Ok(())
@@ -189,7 +201,7 @@ fn taken_behind(
     index: u16,
     facts: &[Fact<'_>],
 ) -> Result<(Result<(), Fault>, bool), Fault> {
-    let mut cells = grouped(alloc, index, &[&FACTS])?;
+    let mut cells = grouped_sample(alloc, index)?;
     let before = Vec::from_slice(alloc, cells.as_slice())?;
     let found = take_in(alloc, dims, facts, &mut cells);
     Ok((found, before.as_slice() == cells.as_slice()))
@@ -198,11 +210,15 @@ fn taken_behind(
 #[test]
 fn refuses_rows_and_stays_as_it_was(rt: HostRuntime) -> Result<(), Fail> {
     let dims = sample_dims(rt.alloc())?;
-    for (view, facts, taken) in BEHIND {
-        let want = if taken { Ok(()) } else { Err(Fault::BadLayout) };
+    for (view, facts, taken) in &BEHIND {
+        let want = if *taken {
+            Ok(())
+        } else {
+            Err(Fault::BadLayout)
+        };
         assert_eq!(rt;
-            taken_behind(rt.alloc(), &dims, view, facts),
-            Ok((want, !taken)),
+            taken_behind(rt.alloc(), &dims, *view, facts),
+            Ok((want, !*taken)),
             "view {view}"
         );
     }

@@ -26,16 +26,26 @@ fn reads_what_is_spelled(rt: HostRuntime) -> Result<(), Fail> {
     Ok(())
 }
 
+// The batches of a run that a source gives, and its cells spelled anew.
+fn spelled_anew(alloc: Global, bytes: &[u8]) -> Result<(u32, u32, Vec<u8>), Fault> {
+    let (span, cells) = decode_from(alloc, &mut SliceSource::new(bytes), 9)?;
+    let bytes = cells.encode(alloc, Span { from: 0, to: 1 })?;
+    Ok((span.from, span.to, bytes))
+}
+
+// Why the bytes of a source are refused.
+fn refusal_of_source(alloc: Global, bytes: &[u8]) -> Option<Fault> {
+    match decode_from(alloc, &mut SliceSource::new(bytes), 9) {
+        Ok(_) => None,
+        Err(fault) => Some(fault),
+    }
+}
+
 #[test]
 fn reads_from_a_source(rt: HostRuntime) -> Result<(), Fail> {
-    let (span, cells) = decode_from(rt.alloc(), &mut SliceSource::new(&SPELLED), 9)?;
-    let bytes = cells.encode(rt.alloc(), Span { from: 0, to: 1 })?;
-    assert_eq!(rt;
-        (span.from, span.to, bytes.as_slice()),
-        (0, 1, SPELLED.as_slice())
-    );
-    let cut = decode_from(rt.alloc(), &mut SliceSource::new(&SPELLED[..339]), 9);
-    assert_eq!(rt; cut.err(), BAD);
+    let (from, to, bytes) = spelled_anew(rt.alloc(), &SPELLED)?;
+    assert_eq!(rt; (from, to, bytes.as_slice()), (0, 1, SPELLED.as_slice()));
+    assert_eq!(rt; refusal_of_source(rt.alloc(), &SPELLED[..339]), BAD);
     Ok(())
 }
 

@@ -1,5 +1,6 @@
 //! Free sectors: the first fit, what is joined, what is refused.
-ghost use Rattle.std.specs.Prelude.{◌≡◌, ℕ, ◌<◌, IfSome};
+ghost use Rattle.std.specs.Prelude.{◌≡◌, ℕ, ◌≤◌, ◌<◌, IfSome};
+ghost use Rattle.std.specs.Bool.{OnTrue};
 ghost use Rattle.extents.specs.Extents.{Holds, IsInRange};
 ghost use Rattle.extents.specs.Runs.{IsFree};
 
@@ -121,30 +122,52 @@ fn refuses_extents_that_share_a_sector(rt: HostRuntime) {
     assert_eq!(rt; found, [Some(Fault::BadLayout), None, None]);
 }
 
+// Asks for as many sectors as an extent has, and tells whether it is what is taken.
+fn takes(free: &mut Free, want: Extent) -> bool
+    requires { 0 < want.len }
+    ensures count { free.new.count ≡ free.old.count }
+    ensures fewer { (sector : ℕ) → IsFree free.new sector → IsFree free.old sector }
+    ensures in_range { OnTrue result (IsInRange free.new.count want) }
+    ensures gone { OnTrue result ((sector : ℕ) → Holds want sector → ¬ IsFree free.new sector) }
+{
+    taken(free, want.len) == Some(want)
+}
+
+// Takes extents of three, two, two, two and nine sectors, and tells whether each is the first fit: then no sector from 2 up to
+// 11 is free.
+fn takes_first_fits(free: &mut Free) -> bool
+    ensures count { free.new.count ≡ free.old.count }
+    ensures room { OnTrue result (11 ≤ free.new.count) }
+    ensures in_use { OnTrue result ((sector : ℕ) → 2 ≤ sector → sector < 11 → ¬ IsFree free.new sector) }
+{
+    takes(free, extent(2, 3))
+        && takes(free, extent(5, 2))
+        && takes(free, extent(7, 2))
+        && takes(free, extent(9, 2))
+        && taken(free, 9).is_some()
+}
+
+// Gives back the second, the fourth and the third of those extents: only sectors from 5 on are free then that were not.
+fn give_back_three(free: &mut Free) -> Result<(), Fault>
+    requires room { 11 ≤ free.old.count }
+    requires in_use { (sector : ℕ) → 5 ≤ sector → sector < 11 → ¬ IsFree free.old sector }
+    ensures count { free.new.count ≡ free.old.count }
+    ensures before { (sector : ℕ) → sector < 5 → IsFree free.new sector → IsFree free.old sector }
+{
+    free.give_back(extent(5, 2))?;
+    free.give_back(extent(9, 2))?;
+    free.give_back(extent(7, 2))
+}
+
 // Takes extents of three, two, two, two and nine sectors, each the first fit, and gives back the second, the fourth and the
 // third. Then it asks for seven sectors, gives back the first extent, and asks for nine and for one.
 fn joined(free: &mut Free) -> Result<[Option<Extent>; 3], Fault> {
-    let (Some(first), Some(second), Some(third), Some(fourth), Some(_)) = (
-        taken(free, 3),
-        taken(free, 2),
-        taken(free, 2),
-        taken(free, 2),
-        taken(free, 9),
-    ) else {
-        return Err(Fault::Full);
-    };
-    let are_first_fits = first == extent(2, 3)
-        && second == extent(5, 2)
-        && third == extent(7, 2)
-        && fourth == extent(9, 2);
-    if !are_first_fits {
+    if !takes_first_fits(free) {
         return Err(Fault::BadLayout);
     }
-    free.give_back(second)?;
-    free.give_back(fourth)?;
-    free.give_back(third)?;
+    give_back_three(free)?;
     let seven = taken(free, 7);
-    free.give_back(first)?;
+    free.give_back(extent(2, 3))?;
     let nine = taken(free, 9);
     Ok([seven, nine, taken(free, 1)])
 }

@@ -42,11 +42,16 @@ fn said(alloc: Global, fault: Fault) -> Result<String, Fault> {
     }
 }
 
+// Whether just this is said of a fault.
+fn is_said(alloc: Global, fault: Fault, want: &str) -> Result<bool, Fault> {
+    let found = said(alloc, fault)?;
+    Ok(found.as_str() == want)
+}
+
 // The place of the first case of which something else is said.
 fn first_other(alloc: Global) -> Result<Option<usize>, Fault> {
     for (place, (fault, want)) in CASES.iter().enumerate() {
-        let found = said(alloc, *fault)?;
-        if found.as_str() != *want {
+        if !is_said(alloc, *fault, want)? {
             return Ok(Some(place));
         }
     }

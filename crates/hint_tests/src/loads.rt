@@ -61,11 +61,16 @@ fn said(alloc: Global, fault: Fault, cut: Cut, batches: u32) -> Result<String, F
     }
 }
 
+// Whether just this is said of a load.
+fn is_said(alloc: Global, fault: Fault, cut: Cut, batches: u32, want: &str) -> Result<bool, Fault> {
+    let found = said(alloc, fault, cut, batches)?;
+    Ok(found.as_str() == want)
+}
+
 // The place of the first case of which something else is said.
 fn first_other(alloc: Global) -> Result<Option<usize>, Fault> {
     for (place, (fault, cut, batches, want)) in CASES.iter().enumerate() {
-        let found = said(alloc, *fault, *cut, *batches)?;
-        if found.as_str() != *want {
+        if !is_said(alloc, *fault, *cut, *batches, want)? {
             return Ok(Some(place));
         }
     }

@@ -60,16 +60,31 @@ fn text_of(alloc: Global, parts: &[(usize, &str)]) -> Result<Vec<u8>, Fault> {
     Ok(text)
 }
 
+// What is said of a table of these parts.
+fn said_of(alloc: Global, table: Table, parts: &[(usize, &str)]) -> Result<String, Fault> {
+    let text = text_of(alloc, parts)?;
+    let texts = Texts {
+        table,
+        text: text.as_slice(),
+    };
+    said(alloc, &texts)
+}
+
+// Whether just this is said of a table of these parts.
+fn is_said(
+    alloc: Global,
+    table: Table,
+    parts: &[(usize, &str)],
+    want: &str,
+) -> Result<bool, Fault> {
+    let found = said_of(alloc, table, parts)?;
+    Ok(found.as_str() == want)
+}
+
 // The place of the first case of which something else is said.
 fn first_other(alloc: Global) -> Result<Option<usize>, Fault> {
     for (place, (table, parts, want)) in CASES.iter().enumerate() {
-        let text = text_of(alloc, parts)?;
-        let texts = Texts {
-            table: *table,
-            text: text.as_slice(),
-        };
-        let found = said(alloc, &texts)?;
-        if found.as_str() != *want {
+        if !is_said(alloc, *table, parts, want)? {
             return Ok(Some(place));
         }
     }
@@ -92,16 +107,19 @@ fn cities(alloc: Global, count: u32) -> Result<String, Fault> {
     Ok(text)
 }
 
+// What is said of a table of so many such customers.
+fn said_of_cities(alloc: Global, count: u32) -> Result<String, Fault> {
+    let text = cities(alloc, count)?;
+    let texts = Texts {
+        table: Table::Customer,
+        text: text.as_bytes(),
+    };
+    said(alloc, &texts)
+}
+
 #[test]
 fn a_city_too_many_has_its_lines(rt: HostRuntime) -> Result<(), Fail> {
-    let text = cities(rt.alloc(), 65_536)?;
-    let found = said(
-        rt.alloc(),
-        &Texts {
-            table: Table::Customer,
-            text: text.as_bytes(),
-        },
-    )?;
+    let found = said_of_cities(rt.alloc(), 65_536)?;
     assert_eq!(rt;
         found.as_str(),
         "fault 27 TooManyMembers customer row 65536\ncustomer.tbl line 65536: the 65536th member of a column, and there may be 65535"

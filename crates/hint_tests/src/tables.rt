@@ -109,15 +109,20 @@ static CASES: [(Table, &str, &str); 21] = [
     (Table::Lineorder, "", "no refusal"),
 ];
 
+// Whether just this is said of the text of a table.
+fn is_said(alloc: Global, table: Table, text: &str, want: &str) -> Result<bool, Fault> {
+    let texts = Texts {
+        table,
+        text: text.as_bytes(),
+    };
+    let found = said(alloc, &texts)?;
+    Ok(found.as_str() == want)
+}
+
 // The place of the first case of which something else is said.
 fn first_other(alloc: Global) -> Result<Option<usize>, Fault> {
     for (place, (table, text, want)) in CASES.iter().enumerate() {
-        let texts = Texts {
-            table: *table,
-            text: text.as_bytes(),
-        };
-        let found = said(alloc, &texts)?;
-        if found.as_str() != *want {
+        if !is_said(alloc, *table, text, want)? {
             return Ok(Some(place));
         }
     }

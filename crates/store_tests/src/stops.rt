@@ -4,7 +4,6 @@ use cube_model::Fault;
 use object_store::Store;
 use sector_device::{Fuse, MemDisk};
 use std::alloc::Global;
-use std::test::Fail;
 
 // The calls of `open` on a store of one object: a sync, two slots, and one sector of the catalogue.
 const OPENING: u64 = 4;
@@ -111,27 +110,48 @@ fn unsynced(alloc: Global) -> Result<Store<Fuse<MemDisk>>, Fault> {
     }
 }
 
-#[test]
-fn answers_failed_after_a_failed_sync(rt: HostRuntime) -> Result<(), Fail> {
-    let mut store = unsynced(rt.alloc())?;
+// The answers to a read of a byte of object 1, a replacement of it, and a read of the whole.
+type Answers = (
+    Result<bool, Fault>,
+    Result<(), Fault>,
+    Result<Option<Vec<u8>>, Fault>,
+);
+
+// What a store answers to these, in this order.
+fn answers(alloc: Global, store: &mut Store<Fuse<MemDisk>>) -> Answers {
     let mut to = [0; 1];
-    assert_eq!(rt; store.read_at(1, 0, &mut to), Err(Fault::Failed));
-    assert_eq!(rt;
-        (
-            put(rt.alloc(), &mut store, 1, b"third"),
-            store.get(rt.alloc(), 1)
-        ),
-        (Err(Fault::Failed), Err(Fault::Failed))
-    );
-    Ok(())
+    let read = store.read_at(1, 0, &mut to);
+    let replaced = put(alloc, store, 1, b"third");
+    (read, replaced, store.get(alloc, 1))
+}
+
+// The answers of a store whose last sync failed.
+fn answers_unsynced(alloc: Global) -> Result<Answers, Fault> {
+    let mut store = unsynced(alloc)?;
+    Ok(answers(alloc, &mut store))
 }
 
 #[test]
-fn opens_what_was_not_synced_and_syncs_it(rt: HostRuntime) -> Result<(), Fail> {
-    let device = unsynced(rt.alloc())?.close();
-    let mut store = opened(rt.alloc(), device)?;
-    assert_eq!(rt; five(&mut store), Ok(NEW));
-    let disk = store.close().close();
-    assert_eq!(rt; left(rt.alloc(), disk, &[0]), Ok(NEW));
-    Ok(())
+fn answers_failed_after_a_failed_sync(rt: HostRuntime) {
+    assert_eq!(rt;
+        answers_unsynced(rt.alloc()),
+        Ok((Err(Fault::Failed), Err(Fault::Failed), Err(Fault::Failed)))
+    );
+}
+
+// The store that is opened on the device of one whose last sync failed.
+fn opened_unsynced(alloc: Global) -> Result<Store<Fuse<MemDisk>>, Fault> {
+    opened(alloc, unsynced(alloc)?.close())
+}
+
+// What is found there of object 1, and what a stop leaves of it then.
+fn found_and_left(alloc: Global) -> Result<(Option<[u8; 5]>, Option<[u8; 5]>), Fault> {
+    let mut store = opened_unsynced(alloc)?;
+    let found = five(&mut store)?;
+    Ok((found, left(alloc, store.close().close(), &[0])?))
+}
+
+#[test]
+fn opens_what_was_not_synced_and_syncs_it(rt: HostRuntime) {
+    assert_eq!(rt; found_and_left(rt.alloc()), Ok((NEW, NEW)));
 }
