@@ -12,3 +12,4 @@ pub mod Pieces
 pub mod Windows
 pub mod ShortNumbers
 pub mod RowBuffers
+pub mod RowLaws

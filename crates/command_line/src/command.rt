@@ -19,34 +19,41 @@ known. Status 2 says that the words were not understood. 'ssbcube COMMAND
 
 /// The commands of the program, and their words.
 pub fn command<'a>(alloc: Global) -> Result<Command<'a>, AllocError> {
-    let program = Command::new(alloc, "ssbcube")
+    let mut commands = Vec::new(alloc);
+    push_loading(alloc, &mut commands)?;
+    push_asking(alloc, &mut commands)?;
+    program(alloc).subcommands(commands)
+}
+
+// The program without its commands, and what its help says of it.
+fn program<'a>(alloc: Global) -> Command<'a> {
+    Command::new(alloc, "ssbcube")
         .version("0.1.0")
         .about(ABOUT)
         .after_help(HELP)
         .subcommand_required(true)
-        .arg_required_else_help(true);
-    let program = with_tables(alloc, program)?;
-    with_answers(alloc, program)
+        .arg_required_else_help(true)
 }
 
-// The program with the commands that read tables.
-fn with_tables<'a>(alloc: Global, program: Command<'a>) -> Result<Command<'a>, AllocError> {
-    let program = with(program, eval::words(alloc))?;
-    let program = with(program, create::words(alloc))?;
-    with(program, load::words(alloc))
+// Puts the commands that read tables behind others. It can only fail for want of memory.
+fn push_loading<'a>(alloc: Global, commands: &mut Vec<Command<'a>>) -> Result<(), AllocError> {
+    push(commands, eval::words(alloc))?;
+    push(commands, create::words(alloc))?;
+    push(commands, load::words(alloc))
 }
 
-// The program with the commands that ask a warehouse.
-fn with_answers<'a>(alloc: Global, program: Command<'a>) -> Result<Command<'a>, AllocError> {
-    let program = with(program, report::words(alloc))?;
-    let program = with(program, cube::words(alloc))?;
-    with(program, status::words(alloc))
+// Puts the commands that ask a warehouse behind others. It can only fail for want of memory.
+fn push_asking<'a>(alloc: Global, commands: &mut Vec<Command<'a>>) -> Result<(), AllocError> {
+    push(commands, report::words(alloc))?;
+    push(commands, cube::words(alloc))?;
+    push(commands, status::words(alloc))
 }
 
-// The program with a further command.
-fn with<'a>(
-    program: Command<'a>,
+// Puts a command behind others, where there was memory for its words.
+fn push<'a>(
+    commands: &mut Vec<Command<'a>>,
     command: Result<Command<'a>, AllocError>,
-) -> Result<Command<'a>, AllocError> {
-    program.subcommand(command?)
+) -> Result<(), AllocError> {
+    commands.push(command?)?;
+    Ok(())
 }

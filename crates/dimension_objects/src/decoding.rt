@@ -1,15 +1,17 @@
 //! Reading dimensions.
-ghost use Rattle.std.specs.Prelude.{◌≡◌, ◌⊎◌, IfErr, IfOk};
+ghost use Rattle.std.specs.Prelude.{◌≡◌, ◌≢◌, ◌⊎◌, ℕ, List, [], length, IfErr, IfOk};
 ghost use Rattle.cube_model.specs.declared.fault.Fault.{Fault};
 ghost use Rattle.cube_model.specs.declared.rows.DimRows.{DimRows};
+ghost use Rattle.dimensions.specs.Coded.{HaveTexts};
+ghost use Rattle.dimensions.specs.Shapes.{lowers_of};
 ghost use Rattle.dimension_objects.specs.Spelled.{AreDimensionObjects};
-ghost use Rattle.dimension_objects.specs.Columns.{IsSpelled, SpellsNoRows};
+ghost use Rattle.dimension_objects.specs.Columns.{IsSpelled, ReadsHeader, SpellsNoRows};
 
 use crate::columns::empty_columns;
 use crate::order::{linked_columns, row_columns, stored_columns};
 use crate::reading::{read_columns, read_header, read_keys, read_texts};
 use cube_model::{Axis, Fault, Items, valid_rows_keep_the_rules};
-use dimensions::{CodedDims, CodedRows, Dims};
+use dimensions::{CodedColumn, CodedDims, CodedRows, Dims};
 use std::alloc::Global;
 use wire::Cursor;
 
@@ -53,24 +55,7 @@ fn read_rows(alloc: Global, axis: Axis, bytes: &[u8]) -> Result<CodedRows, Fault
     let mut cursor = Cursor::new(bytes);
     let rows = read_header(&mut cursor, axis)?;
     let mut columns = empty_columns(alloc, axis)?;
-    read_texts(alloc, &mut cursor, stored_columns(axis), &mut columns)?;
-    read_columns(
-        alloc,
-        &mut cursor,
-        axis,
-        rows,
-        linked_columns(axis),
-        &mut columns,
-    )?;
-    let keys = read_keys(alloc, &mut cursor, rows as usize)?;
-    read_columns(
-        alloc,
-        &mut cursor,
-        axis,
-        rows,
-        row_columns(axis),
-        &mut columns,
-    )?;
+    let keys = read_parts(alloc, &mut cursor, axis, rows, &mut columns)?;
     if !cursor.is_empty() {
         return Err(Fault::BadLayout);
     }
@@ -78,4 +63,29 @@ fn read_rows(alloc: Global, axis: Axis, bytes: &[u8]) -> Result<CodedRows, Fault
         keys,
         columns: Items::from_vec(columns),
     })
+}
+
+// Reads what stands behind the header into columns with no text and no code, and answers the keys. `BadLayout` only where no rows have
+// bytes that begin so.
+fn read_parts(
+    alloc: Global,
+    cursor: &mut Cursor<'_>,
+    axis: Axis,
+    rows: u32,
+    columns: &mut Vec<CodedColumn>,
+) -> Result<Items<u32>, Fault>
+    requires count { length columns.old.items ≡ length (lowers_of axis) }
+    requires have { HaveTexts columns.old.items }
+    ensures ok { IfOk result (λ keys. (bytes : List ℕ) → ReadsHeader axis bytes cursor.old rows → cursor.new ≡ []
+        → IsSpelled axis bytes (record { keys = keys; columns = columns.new.items })) }
+    ensures behind { IfOk result (λ _. (bytes : List ℕ) → ReadsHeader axis bytes cursor.old rows → cursor.new ≢ []
+        → SpellsNoRows axis bytes) }
+    ensures refused { IfErr result (λ fault. (fault ≡ Fault.Memory) ⊎ ((fault ≡ Fault.BadLayout)
+        × ((bytes : List ℕ) → ReadsHeader axis bytes cursor.old rows → SpellsNoRows axis bytes))) }
+{
+    read_texts(alloc, cursor, stored_columns(axis), columns)?;
+    read_columns(alloc, cursor, axis, rows, linked_columns(axis), columns)?;
+    let keys = read_keys(alloc, cursor, rows as usize)?;
+    read_columns(alloc, cursor, axis, rows, row_columns(axis), columns)?;
+    Ok(keys)
 }

@@ -83,11 +83,23 @@ fn read_codes(alloc: Global, cursor: &mut Cursor<'_>, count: usize) -> Result<It
 {
     let mut part = Cursor::new(cursor.bytes(2 * count)?);
     let mut codes = Vec::with_capacity(alloc, count)?;
+    push_codes(&mut part, count, &mut codes)?;
+    Ok(Items::from_vec(codes))
+}
+
+// Reads so many codes from the front of bytes that hold them, to where no code is yet.
+fn push_codes(part: &mut Cursor<'_>, count: usize, codes: &mut Vec<u16>) -> Result<(), Fault>
+    requires long { 2 * count ≤ length part.old }
+    requires none { codes.old.items ≡ [] }
+    ensures ok { OnOk result (ReadsCodes count part.old part.new codes.new.items) }
+    ensures left { OnOk result (length part.old ≡ 2 * count + length part.new) }
+    ensures memory { IfErr result (λ fault. fault ≡ Fault.Memory) }
+{
     for _ in 0..count {
         let code = part.u16()?;
         codes.push(code)?;
     }
-    Ok(Items::from_vec(codes))
+    Ok(())
 }
 
 // Reads so many keys.

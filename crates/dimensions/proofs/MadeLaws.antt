@@ -214,6 +214,19 @@ module _ (law : ValidRowsKeepTheRules) (coded : CodedDims) (fault : Fault) where
   refused_dates (inl memory) = inl memory
   refused_dates (inr bad) = inr (bad.0, λ rows valid short are. bad.1 (rows_on rows Date) (good_dates rows ((law rows).0 valid) short) are.dates)
 
+  pub refused_places : IsRefusal Customer coded.customers fault ⊎ IsRefusal Supplier coded.suppliers fault → IsRefused
+  refused_places (inl customers) = refused_customers customers
+  refused_places (inr suppliers) = refused_suppliers suppliers
+
+  pub refused_parts_or_dates : IsRefusal Part coded.parts fault ⊎ IsRefusal Date coded.dates fault → IsRefused
+  refused_parts_or_dates (inl parts) = refused_parts parts
+  refused_parts_or_dates (inr dates) = refused_dates dates
+
+-- there are no more days than an attribute may have members
+pub few_coded_days : (coded : CodedRows) (dates : Dimension) → IsDimensionOf Date coded dates → (keys : List ℕ) → keys ≡ dates.table.keys → length keys ≤ most_members
+few_coded_days coded dates made keys are =
+    omega (arith, ap length are, ap length made.is.table.keys, length-map (table_rows Date dates.table) (λ row. row.key), made.good.keep.few_rows)
+
 -- the days by their keys
 pub days_of : (rows : List DateRow) (table : Table) → IsTable Date (map row_of_date rows) table → map decimal table.keys ≡ map (λ row. decimal row.key) rows
 days_of rows table is = ap (map decimal) is.keys ∙ days rows

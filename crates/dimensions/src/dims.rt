@@ -9,11 +9,11 @@ ghost use Rattle.dictionary.specs.Columns.{codes_of};
 ghost use Rattle.dictionary.specs.Dictionary.{firsts};
 ghost use Rattle.dictionary.specs.Spelling.{AreShort};
 ghost use Rattle.dimensions.specs.Shapes.{lowers_of};
-ghost use Rattle.dimensions.specs.Coded.{texts_at_places};
-ghost use Rattle.dimensions.specs.Made.{AreCodedDims, HaveAllTexts, StandForNoRows};
+ghost use Rattle.dimensions.specs.Coded.{HaveTexts, texts_at_places};
+ghost use Rattle.dimensions.specs.Made.{AreCodedDims, HaveAllTexts, IsDimensionOf, IsRefusal, StandForNoRows};
 ghost use Rattle.dimensions.specs.Shown.{IsDimension, rows_on};
 
-use crate::coded::CodedDims;
+use crate::coded::{CodedDims, CodedRows};
 use crate::dimension::Dimension;
 use crate::ranks::Ranks;
 use crate::shape::column_of_attr;
@@ -95,10 +95,14 @@ impl Dims {
             parts,
             dates,
         } = coded;
-        let customers = Dimension::of_coded(alloc, Axis::Customer, customers)?;
-        let suppliers = Dimension::of_coded(alloc, Axis::Supplier, suppliers)?;
-        let parts = Dimension::of_coded(alloc, Axis::Part, parts)?;
-        let dates = Dimension::of_coded(alloc, Axis::Date, dates)?;
+        let (customers, suppliers) = two_of_coded(
+            alloc,
+            Axis::Customer,
+            customers,
+            Axis::Supplier,
+            suppliers,
+        )?;
+        let (parts, dates) = two_of_coded(alloc, Axis::Part, parts, Axis::Date, dates)?;
         let days = Ranks::of_days(alloc, dates.keys())?;
         Ok(Dims {
             customers,
@@ -219,4 +223,22 @@ impl Dims {
             Some(column) => self.dimension(attr.axis()).ranks(column),
         }
     }
+}
+
+// Two dimensions of rows by codes, or why the rows of one of them are refused.
+fn two_of_coded(
+    alloc: Global,
+    axis: Axis,
+    coded: CodedRows,
+    other_axis: Axis,
+    other: CodedRows,
+) -> Result<(Dimension, Dimension), Fault>
+    requires texts { HaveTexts coded.columns }
+    requires other_texts { HaveTexts other.columns }
+    ensures ok { IfOk result (λ made. IsDimensionOf axis coded made.0 × IsDimensionOf other_axis other made.1) }
+    ensures refused { IfErr result (λ fault. IsRefusal axis coded fault ⊎ IsRefusal other_axis other fault) }
+{
+    let dimension = Dimension::of_coded(alloc, axis, coded)?;
+    let other = Dimension::of_coded(alloc, other_axis, other)?;
+    Ok((dimension, other))
 }

@@ -1,5 +1,5 @@
 //! A dimension's rows by codes.
-ghost use Rattle.std.specs.Prelude.{◌≡◌, ◌≤◌, ◌<◌, ◌^◌, ◌==◌, ℕ, List, true, false, [], length, codes, vec_len, slice_index_or, IfOk, IfErr, IfSome, map};
+ghost use Rattle.std.specs.Prelude.{◌≡◌, ◌≢◌, ◌≤◌, ◌<◌, ◌^◌, ◌==◌, ℕ, List, true, false, [], length, codes, vec_len, slice_index_or, IfOk, IfErr, IfSome, map};
 ghost use Rattle.std.specs.Bool.{OnTrue, OnFalse};
 ghost use Rattle.std.specs.List.{position_or_len};
 ghost use Rattle.std.specs.Str.{bytes_eq};
@@ -36,7 +36,7 @@ impl Drop for Table {
 }
 
 impl Table {
-    ghost use Rattle.dimensions.specs.Columns.{code_at};
+    ghost use Rattle.dimensions.specs.Columns.{HasCode, code_at};
     ghost use Rattle.dimensions.specs.Tables.{column_at, IsTable, IsSomeTable, Numbers, HasNoRoom, EntersAt, AddsRow, BuildsTable};
     ghost use Rattle.dimensions.specs.Made.{MakesTable};
     ghost use Rattle.dimensions.specs.Coded.{HaveTexts};
@@ -152,14 +152,36 @@ impl Table {
         ensures broken { IfOk result (λ fits. OnFalse fits ((i : ℕ) × (i < vec_len self.old.columns) × ((new : Column) × EntersAt self.old (R.shown row.now) codes.now i false new))) }
         ensures memory { IfErr result (λ fault. fault ≡ Fault.Memory) }
     {
-        let place = self.keys.len();
         for i in 0..self.columns.len() {
-            let place = place_in(self.columns[i].lower(), place, codes);
-            if !self.columns[i].enter(alloc, place, row.text(i), codes[i])? {
+            if !self.enter_text(alloc, row, codes, i)? {
                 return Ok(false);
             }
         }
         Ok(true)
+    }
+
+    // Puts a row's text into a column, and says whether it has the upper text that it has in this row.
+    fn enter_text<R: TableRow>(
+        &mut self,
+        alloc: Global,
+        row: &R,
+        codes: &[u16; COLUMN_LIMIT],
+        column: usize,
+    ) -> Result<bool, Fault>
+        requires column { column < vec_len self.old.columns }
+        requires few { column < 4 }
+        requires text { column < length (R.shown row.now).texts }
+        requires limit { (column_at self.old column).texts.limit ≡ most_members }
+        requires lower { IfSome (column_at self.old column).lower (λ lower. lower < 4) }
+        requires code { HasCode (column_at self.old column).texts (text_in column (R.shown row.now)) (slice_index_or codes.now column 0) }
+        ensures keys { self.new.keys ≡ self.old.keys }
+        ensures count { vec_len self.new.columns ≡ vec_len self.old.columns }
+        ensures others { (other : ℕ) → other ≢ column → column_at self.new other ≡ column_at self.old other }
+        ensures ok { IfOk result (λ fits. EntersAt self.old (R.shown row.now) codes.now column fits (column_at self.new column)) }
+        ensures memory { IfErr result (λ fault. fault ≡ Fault.Memory) }
+    {
+        let place = place_in(self.columns[column].lower(), self.keys.len(), codes);
+        self.columns[column].enter(alloc, place, row.text(column), codes[column])
     }
 
     /// How many rows there are.

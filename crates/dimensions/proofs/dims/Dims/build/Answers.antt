@@ -1,11 +1,12 @@
-use Rattle.std.proofs.Common.{◌∙◌, ap, map, subst, Ok, Err}
+use Rattle.std.proofs.Common.{◌∙◌, ap, arith, length, map, subst, Ok, Err}
 use Rattle.std.specs.Fmt.{decimal}
+use Rattle.std.proofs.lemmas.List.{length-map}
 use Rattle.std.proofs.lemmas.Result.{err_from_is_err_and}
 use Rattle.cube_model.specs.declared.attr.Axis.TheVariants.{Customer, Supplier, Part, Date}
 use Rattle.dimensions.specs.TextRows.{row_of_customer, row_of_supplier, row_of_part, row_of_date}
 use Rattle.dimensions.specs.Shown.{BuildsDimension}
 use Rattle.dimensions.proofs.MadeLaws.{days_of}
-use Rattle.dimensions.proofs.ShownLaws.{refused_customers, refused_suppliers, refused_parts, refused_dates, accepted, shown_is, are_dimensions}
+use Rattle.dimensions.proofs.ShownLaws.{refused_customers, refused_suppliers, refused_parts, refused_dates, accepted, few_days, shown_is, are_dimensions}
 use Rattle.dimensions.proofs.dims.Dims.build.Goals as goal
 
 pub returns-in_err-customers-clause-err : goal.returns-in_err-customers-clause-err
@@ -37,6 +38,18 @@ returns-in_err-dates-clause-err c =
     let parts = subst (λ l. BuildsDimension Part (map row_of_part l) (Ok c.in_ok-parts.parts)) c.as_slice-3.ensures c.in_ok-parts.ensures in
     let dates = subst (λ l. BuildsDimension Date (map row_of_date l) (Err c.in_err-dates.field-0.0)) c.as_slice-4.ensures c.in_err-dates.ensures in
     rw (p.1, p.2) (refused_dates c.args.rows.now c.in_err-dates.field-0.0 customers.1 suppliers.1 parts.1 dates)
+
+pub of_days-requires : goal.of_days-requires
+of_days-requires c =
+    let dates = subst (λ l. BuildsDimension Date (map row_of_date l) (Ok c.in_ok-dates.dates)) c.as_slice-4.ensures c.in_ok-dates.ensures in
+    omega (
+      arith,
+      ap length c.keys.ensures.keys,
+      ap length dates.0.table.keys,
+      length-map (map row_of_date c.args.rows.now.dates) (λ row. row.key),
+      length-map c.args.rows.now.dates row_of_date,
+      few_days c.args.rows.now dates.1,
+    )
 
 pub invariant_of-result : goal.invariant_of-result
 invariant_of-result c =

@@ -1,7 +1,7 @@
 use Rattle.std.proofs.Common.{◌≡◌, ◌+◌, ◌*◌, ◌^◌, ◌<◌, ◌++◌, length}
 use Rattle.std.specs.List.{AllByRecursion}
 use Rattle.dictionary.specs.Columns.{codes_spelling}
-use Rattle.dimension_objects.proofs.reading.read_codes.Given as goal
+use Rattle.dimension_objects.proofs.reading.push_codes.Given as goal
 
 abbrev pub invariant-loop : goal.invariant-loop
 invariant-loop l = record {
