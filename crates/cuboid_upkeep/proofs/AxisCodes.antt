@@ -8,7 +8,6 @@ use Rattle.cube_model.specs.declared.fault.Fault.TheVariants.{BadLayout, Memory}
 use Rattle.cube_model.specs.declared.rows.DimRows.{DimRows}
 use Rattle.cube_model.specs.declared.rows.LineOrder.{LineOrder}
 use Rattle.group_plan.specs.Numbers.{IsKnownOn}
-use Rattle.lattice.specs.declared.level.Level.{Level}
 use Rattle.lattice.specs.declared.level.Level.TheVariants as level
 use Rattle.lattice.specs.declared.view.View.{View}
 use Rattle.lattice.specs.Views.{level_on}

@@ -5,7 +5,6 @@ use Rattle.cube_model.specs.declared.fault.Fault.{Fault}
 use Rattle.cube_model.specs.declared.fault.Fault.TheVariants.{BadLayout, Memory, TooManyCells}
 use Rattle.cube_model.specs.declared.rows.DimRows.{DimRows}
 use Rattle.cube_model.specs.declared.rows.LineOrder.{LineOrder}
-use Rattle.group_plan.specs.Rows.{row_at}
 use Rattle.lattice.specs.declared.view.View.{View}
 use Rattle.lattice.specs.Views.{index_of}
 use Rattle.cuboid_cells.specs.declared.cell.Cell.{Cell}

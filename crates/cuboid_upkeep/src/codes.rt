@@ -2,10 +2,8 @@
 ghost use Rattle.std.specs.Prelude.{◌≡◌, ◌↔◌, ◌<◌, ◌≤◌, ℕ, Some, IfNone, IfSome, IsTrue, length};
 ghost use Rattle.cube_model.specs.Places.{row_count_of};
 ghost use Rattle.dimensions.specs.Coded.{AreGoodRows};
-ghost use Rattle.dimensions.specs.Columns.{code_at};
 ghost use Rattle.dimensions.specs.Shapes.{lowers_of};
 ghost use Rattle.dimensions.specs.Shown.{rows_on};
-ghost use Rattle.dimensions.specs.TextRows.{column_of};
 ghost use Rattle.group_plan.specs.Numbers.{IsKnownOn};
 ghost use Rattle.group_plan.specs.Rows.{row_at};
 ghost use Rattle.lattice.specs.declared.level.Level.TheVariants as level;
@@ -70,7 +68,7 @@ impl<'a> LevelCodes<'a> {
 
     // The code that they lead to from the place of a row.
     #[inline(always)]
-    fn read(self, place: usize) -> u16
+    pub(crate) fn read(self, place: usize) -> u16
         requires { (code : ℕ) × Leads (tables_of self) place code × (code < 65536) }
         ensures { (code : ℕ) → Leads (tables_of self.entry) place code → result ≡ code }
     {
@@ -114,20 +112,6 @@ impl<'a> LevelCodes<'a> {
     }
 }
 
-// The code of a column's text at a row: read at the row, or above the code of a lower column.
-fn column_code(dims: &Dims, axis: Axis, column: usize, place: usize) -> u16
-    requires good { AreGoodRows axis (rows_on dims.now axis) }
-    requires column { column < length (lowers_of axis) }
-    requires place { place < row_count_of dims.now axis }
-    ensures { result ≡ code_at (column_of column (rows_on dims.now axis)) place }
-{
-    let at = match lower_column(axis, column) {
-        None => place,
-        Some(lower) => usize::from(column_code(dims, axis, lower, place)),
-    };
-    dims.codes(axis, column)[at]
-}
-
 // Whether a level is that of every member together.
 #[inline(always)]
 pub(crate) fn is_all(grouped: Level) -> bool
@@ -148,20 +132,6 @@ fn column_of_level(axis: Axis, grouped: Level) -> Option<usize>
         (Axis::Customer | Axis::Supplier | Axis::Part, Level::Lowest) => Some(0),
         (Axis::Customer | Axis::Supplier | Axis::Part, Level::Middle) => Some(1),
         (Axis::Customer | Axis::Supplier | Axis::Part, Level::Highest) => Some(2),
-    }
-}
-
-// The code of the member of a level at a row of a dimension.
-pub(crate) fn code_at_row(dims: &Dims, axis: Axis, grouped: Level, place: usize) -> u16
-    requires good { AreGoodRows axis (rows_on dims.now axis) }
-    requires grouped { grouped ≡ level.All → ⊥ }
-    requires place { place < row_count_of dims.now axis }
-    ensures value { result ≡ member_code dims.now axis grouped place }
-    ensures apart { IsCodeAt grouped result }
-{
-    match column_of_level(axis, grouped) {
-        None => place as u16,
-        Some(column) => column_code(dims, axis, column, place),
     }
 }
 

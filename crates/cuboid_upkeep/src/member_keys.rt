@@ -8,7 +8,7 @@ ghost use Rattle.cuboid_cells.specs.Limits.{all_code};
 ghost use Rattle.cuboid_upkeep.specs.Codes.{member_code};
 ghost use Rattle.cuboid_upkeep.specs.StandIns.{AreAtCodes, AreKeysOf, HaveAllCodes, HoldAllCodes, missing_in, with_key};
 
-use crate::codes::{code_at_row, code_count};
+use crate::codes::{LevelCodes, code_count};
 use cube_model::{Axis, valid_rows_keep_the_rules};
 use dimensions::Dims;
 use lattice::Level;
@@ -91,12 +91,13 @@ fn put_keys(dims: &Dims, axis: Axis, grouped: Level, keys: &mut [Option<u32>])
     ensures length { length keys.new ≡ length keys.old }
 {
     let all = dims.keys(axis);
+    let codes = LevelCodes::of(dims, axis, grouped);
     let mut missing = keys.len();
     for place in 0..all.len() {
         if missing == 0 {
             return;
         }
-        let code = code_at_row(dims, axis, grouped, place);
+        let code = codes.read(place);
         missing = put_first(keys, code, all[place], missing);
     }
 }
