@@ -1,6 +1,8 @@
 -- The slots of cells, one cell after another.
-use Rattle.std.proofs.Common.{◌≡◌, ◌∙◌, ap, refl, ℕ, suc, ◌+◌, ◌<◌, ◌≤◌, ◌^◌, List, [], ◌∷◌, ◌++◌, length, get_or, Option, Some, None, arith}
+use Rattle.std.proofs.Common.{◌≡◌, ◌∙◌, ap, refl, ℕ, suc, ◌+◌, ◌-◌, min, ◌<◌, ◌≤◌, ◌^◌, List, [], ◌∷◌, ◌++◌, length, get_or, Option, Some, None, arith}
+use Rattle.std.specs.List.{sum_by}
 use Rattle.std.specs.Prelude.{nat_abs}
+use Rattle.std.proofs.lemmas.List.Sums.{sum_by-cons, sum_by_push}
 use Rattle.std.specs.declared.alloc.Global.{Global}
 use Rattle.std.specs.declared.vec.Vec.{Vec}
 use Rattle.cube_model.specs.declared.measure.Agg.{Agg}
@@ -9,7 +11,7 @@ use Rattle.cuboid_cells.specs.declared.cell.Cell.{Cell}
 use Rattle.cuboid_upkeep.specs.CellNumbers.{AskedOfCells}
 use Rattle.cuboid_upkeep.specs.StandIns.{AreStandIns, IsStandIn}
 use Rattle.cube_query.specs.CellSlots.{AreCellSlots, IsCellSlot}
-use Rattle.cube_query.specs.CellTallies.{AllTake, HaveRoomForAll, IsMost, cell_tally, count_in, size_in}
+use Rattle.cube_query.specs.CellTallies.{AllTake, HaveRoomForAll, IsAtLeast, IsMost, cell_tally, count_in, size_in}
 use Rattle.cube_query.specs.Columns.{tally_at}
 use Rattle.cube_query.specs.Slots.{slot_of}
 use Rattle.cube_query.specs.declared.cell_columns.Weight.{Weight}
@@ -51,66 +53,53 @@ module _ (asked : AskedOfCells) where
       }
 
 -- ---- what cells weigh
-count_push : (cells : List Cell) (group_slots : List (Option ℕ)) (cell : Cell) (group_slot : Option ℕ) → length group_slots ≡ length cells
-    → count_in (cells ++ cell ∷ []) (group_slots ++ group_slot ∷ []) ≡ count_in cells group_slots + count_in (cell ∷ []) (group_slot ∷ [])
-count_push [] [] cell group_slot same = omega arith
-count_push [] (other ∷ group_slots) cell group_slot same = absurd (omega (arith, same))
-count_push (first ∷ cells) [] cell group_slot same = absurd (omega (arith, same))
-count_push (first ∷ cells) (None ∷ group_slots) cell group_slot same = count_push cells group_slots cell group_slot (omega (arith, same))
-count_push (first ∷ cells) (Some other ∷ group_slots) cell group_slot same =
-    (let rest = count_push cells group_slots cell group_slot (omega (arith, same)) in omega (arith, rest))
+-- a sum that stays at its type's greatest, where it is less than that
+pub unsaturated : (a b sum : ℕ) → sum ≡ min (a + b) (2 ^ 64 - 1) → sum < 2 ^ 63 → sum ≡ a + b
+unsaturated a b sum is small = omega (arith, is, small)
 
-size_push : (agg : Agg) (cells : List Cell) (group_slots : List (Option ℕ)) (cell : Cell) (group_slot : Option ℕ) → length group_slots ≡ length cells
-    → size_in agg (cells ++ cell ∷ []) (group_slots ++ group_slot ∷ []) ≡ size_in agg cells group_slots + size_in agg (cell ∷ []) (group_slot ∷ [])
-size_push agg [] [] cell group_slot same = omega arith
-size_push agg [] (other ∷ group_slots) cell group_slot same = absurd (omega (arith, same))
-size_push agg (first ∷ cells) [] cell group_slot same = absurd (omega (arith, same))
-size_push agg (first ∷ cells) (None ∷ group_slots) cell group_slot same = size_push agg cells group_slots cell group_slot (omega (arith, same))
-size_push agg (first ∷ cells) (Some other ∷ group_slots) cell group_slot same =
-    (let rest = size_push agg cells group_slots cell group_slot (omega (arith, same)) in omega (arith, rest))
+pub weighs_more : (aggs : List Agg) (cells : List Cell) (cell : Cell) (old new : Weight) (size : ℕ) → IsAtLeast aggs cells old
+    → new.count ≡ min (old.count + cell.count) (2 ^ 64 - 1) → new.size ≡ min (old.size + size) (2 ^ 64 - 1)
+    → (size < 2 ^ 63 → (k : ℕ) → k < length aggs → (agg : Agg) → nat_abs (cell_tally (get_or aggs k agg) cell).sum ≤ size)
+    → IsAtLeast aggs (cells ++ cell ∷ []) new
+weighs_more aggs cells cell old new size before count_is size_is each = record {
+  count = λ few.
+      let sum = unsaturated old.count cell.count new.count count_is few in
+      omega (arith, before.count (omega (arith, few, sum)), sum, sum_by_push (λ (own : Cell). own.count) cells cell);
+  sizes = λ small k within agg.
+      let chosen = get_or aggs k agg in
+      let sum = unsaturated old.size size new.size size_is small in
+      omega (
+        arith,
+        before.sizes (omega (arith, small, sum)) k within agg,
+        each (omega (arith, small, sum)) k within agg,
+        sum,
+        sum_by_push (λ (own : Cell). nat_abs (cell_tally chosen own).sum) cells cell,
+      );
+}
 
-pub most_none : (aggs : List Agg) (weight : Weight) → IsMost aggs [] [] weight
-most_none aggs weight few small = record { count = omega arith; sizes = λ k within agg. omega arith }
+-- the cells that have a slot stand for no more rows than all
+count_within : (cells : List Cell) (group_slots : List (Option ℕ)) → count_in cells group_slots ≤ sum_by (λ cell. cell.count) cells
+count_within [] group_slots = omega arith
+count_within (cell ∷ cells) [] = omega arith
+count_within (cell ∷ cells) (None ∷ group_slots) =
+    (let rest = count_within cells group_slots in omega (arith, rest, sum_by-cons (λ (own : Cell). own.count) cell cells))
+count_within (cell ∷ cells) (Some slot ∷ group_slots) =
+    (let rest = count_within cells group_slots in omega (arith, rest, sum_by-cons (λ (own : Cell). own.count) cell cells))
 
-module _ (aggs : List Agg) (cells : List Cell) (group_slots : List (Option ℕ)) (same : length group_slots ≡ length cells) (cell : Cell) (old : Weight) (most : IsMost aggs cells group_slots old) where
-  -- a cell with no slot adds nothing
-  pub most_skip : (group_slot : Option ℕ) → group_slot ≡ None → IsMost aggs (cells ++ cell ∷ []) (group_slots ++ group_slot ∷ []) old
-  most_skip group_slot none few small =
-      let before = most few small in
-      let counted : count_in (cell ∷ []) (group_slot ∷ []) ≡ 0 = ap (λ (g : Option ℕ). count_in (cell ∷ []) (g ∷ [])) none in
-      record {
-        count = omega (arith, before.count, count_push cells group_slots cell group_slot same, counted);
-        sizes = λ k within agg.
-            let chosen = get_or aggs k agg in
-            let sized : size_in chosen (cell ∷ []) (group_slot ∷ []) ≡ 0 = ap (λ (g : Option ℕ). size_in chosen (cell ∷ []) (g ∷ [])) none in
-            omega (arith, before.sizes k within agg, size_push chosen cells group_slots cell group_slot same, sized);
-      }
+-- and neither are their sums greater
+size_within : (agg : Agg) (cells : List Cell) (group_slots : List (Option ℕ)) → size_in agg cells group_slots ≤ sum_by (λ cell. nat_abs (cell_tally agg cell).sum) cells
+size_within agg [] group_slots = omega arith
+size_within agg (cell ∷ cells) [] = omega arith
+size_within agg (cell ∷ cells) (None ∷ group_slots) =
+    (let rest = size_within agg cells group_slots in omega (arith, rest, sum_by-cons (λ (own : Cell). nat_abs (cell_tally agg own).sum) cell cells))
+size_within agg (cell ∷ cells) (Some slot ∷ group_slots) =
+    (let rest = size_within agg cells group_slots in omega (arith, rest, sum_by-cons (λ (own : Cell). nat_abs (cell_tally agg own).sum) cell cells))
 
-  -- a weight that is more than a tally holds says nothing
-  pub most_past : (group_slot : Option ℕ) → (old.count < 2 ^ 63 → old.size < 2 ^ 63 → ⊥) → IsMost aggs (cells ++ cell ∷ []) (group_slots ++ group_slot ∷ []) old
-  most_past group_slot past few small = absurd (past few small)
-
-  pub most_more : (group_slot : Option ℕ) (new : Weight) (size : ℕ) → new.count ≡ old.count + cell.count → new.size ≡ old.size + size
-      → ((k : ℕ) → k < length aggs → (agg : Agg) → nat_abs (cell_tally (get_or aggs k agg) cell).sum ≤ size)
-      → IsMost aggs (cells ++ cell ∷ []) (group_slots ++ group_slot ∷ []) new
-  most_more group_slot new size count_is size_is each few small =
-      let before = most (omega (arith, few, count_is)) (omega (arith, small, size_is)) in
-      let counted = one_count group_slot in
-      record {
-        count = omega (arith, before.count, count_push cells group_slots cell group_slot same, counted, count_is);
-        sizes = λ k within agg.
-            let chosen = get_or aggs k agg in
-            let sized = one_size chosen group_slot in
-            omega (arith, before.sizes k within agg, size_push chosen cells group_slots cell group_slot same, sized, each k within agg, size_is);
-      }
-    where
-      one_count : (group_slot : Option ℕ) → count_in (cell ∷ []) (group_slot ∷ []) ≤ cell.count
-      one_count None = omega arith
-      one_count (Some slot) = omega arith
-
-      one_size : (agg : Agg) (group_slot : Option ℕ) → size_in agg (cell ∷ []) (group_slot ∷ []) ≤ nat_abs (cell_tally agg cell).sum
-      one_size agg None = omega arith
-      one_size agg (Some slot) = omega arith
+pub most_of_all : (aggs : List Agg) (cells : List Cell) (group_slots : List (Option ℕ)) (weight : Weight) → IsAtLeast aggs cells weight → IsMost aggs cells group_slots weight
+most_of_all aggs cells group_slots weight all few small = record {
+  count = omega (arith, all.count few, count_within cells group_slots);
+  sizes = λ k within agg. omega (arith, all.sizes small k within agg, size_within (get_or aggs k agg) cells group_slots);
+}
 
 -- ---- room for a weight is room for the cells
 pub room_by_weight : (aggs : List Agg) (cells : List Cell) (group_slots : List (Option ℕ)) (columns : List (Vec Tally Global)) (weight : Weight) → length columns ≡ length aggs

@@ -1,7 +1,7 @@
 -- Cells of a cuboid as tallies, merged into those at the slots of their groups. Our own.
-use Rattle.std.specs.Prelude.{◌≡◌, ℕ, ◌+◌, ◌^◌, ◌<◌, ◌≤◌, ◌==◌, true, cond, pos, nat_abs, ◌+ℤ◌, FitsSigned, List, [], ◌∷◌, ◌++◌, length, slice_get, slice_set, slice_index_or, Option, Some, None}
+use Rattle.std.specs.Prelude.{◌≡◌, ℕ, ◌+◌, ◌^◌, ◌<◌, ◌≤◌, ◌==◌, true, cond, pos, nat_abs, ◌+ℤ◌, FitsSigned, List, [], ◌∷◌, length, slice_get, slice_set, slice_index_or, Option, Some, None}
 use Rattle.std.specs.Int.{w64}
-use Rattle.std.specs.List.{list_all}
+use Rattle.std.specs.List.{list_all, sum_by}
 use Rattle.std.specs.declared.alloc.Global.{Global}
 use Rattle.std.specs.declared.vec.Vec.{Vec}
 use Rattle.cube_model.specs.declared.measure.Agg.{Agg}
@@ -119,10 +119,11 @@ pub record AreWithin (aggs : List Agg) (cells : List Cell) (group_slots : List (
 abbrev pub IsMost : List Agg → List Cell → List (Option ℕ) → Weight → Type 0
 IsMost aggs cells group_slots weight = weight.count < 2 ^ 63 → weight.size < 2 ^ 63 → AreWithin aggs cells group_slots weight
 
--- a weight with one cell more is still one of the most
-abbrev pub Weighs : List Agg → Cell → Option ℕ → Weight → Weight → Type 0
-Weighs aggs cell group_slot old new = (cells : List Cell) (group_slots : List (Option ℕ)) → length group_slots ≡ length cells
-    → IsMost aggs cells group_slots old → IsMost aggs (cells ++ cell ∷ []) (group_slots ++ group_slot ∷ []) new
+-- no less than what cells add to tallies wherever they have their slots, each number unless it is more than a tally holds
+pub record IsAtLeast (aggs : List Agg) (cells : List Cell) (weight : Weight) : Type 0 where
+  pub count : weight.count < 2 ^ 63 → sum_by (λ cell. cell.count) cells ≤ weight.count
+  pub sizes : weight.size < 2 ^ 63 → (k : ℕ) → k < length aggs → (agg : Agg)
+      → sum_by (λ cell. nat_abs (cell_tally (slice_index_or aggs k agg) cell).sum) cells ≤ weight.size
 
 -- the tallies of all columns at slots can take so many numbers more, whose absolute values have a sum
 abbrev pub AllTake : List (Vec Tally Global) → List (Option ℕ) → ℕ → ℕ → Type 0

@@ -1,62 +1,67 @@
 //! Cells of a cuboid, merged into the tallies at the slots of their groups.
-ghost use Rattle.std.specs.Prelude.{◌≡◌, ◌⊎◌, ◌↔◌, ◌≤◌, ◌<◌, ◌^◌, ℕ, [], ◌∷◌, false, true, length, nat_abs, slice_index_or, Some, IsTrue, MatchOption};
+ghost use Rattle.std.specs.Prelude.{◌≡◌, ◌⊎◌, ◌↔◌, ◌≤◌, ◌<◌, ◌^◌, ℕ, List, [], ◌∷◌, ◌++◌, take, false, true, length, nat_abs, slice_index_or, Some, IsTrue, MatchOption};
 ghost use Rattle.cube_model.specs.declared.measure.Agg.{Agg};
-ghost use Rattle.cube_query.specs.CellTallies.{AllTake, AreBelow, HasCellRoom, HasRoomForAll, HaveCellRoom, HaveRoomForAll, IsMost, MergesCells, Weighs, cell_tally, count_in, counted, size_in, summary_in, with_cell, with_cells};
+ghost use Rattle.cuboid_cells.specs.declared.cell.Cell.{Cell};
+ghost use Rattle.cube_query.specs.CellTallies.{AllTake, AreBelow, HasCellRoom, HasRoomForAll, HaveCellRoom, HaveRoomForAll, IsAtLeast, IsMost, MergesCells, cell_tally, count_in, counted, size_in, summary_in, with_cell, with_cells};
 ghost use Rattle.cube_query.specs.Columns.{tallies_at};
 
-use crate::room::{LIMIT, all_can_take, slots_can_take};
-use crate::tally::Tally;
+use crate::room::{all_can_take, slots_can_take};
+use crate::tally::{LIMIT, Tally};
 use cube_model::{Agg, Amount, Measure};
 use cuboid_cells::{Cell, Summaries, Summary};
 
-/// What cells add to tallies, at most.
+/// What cells add to tallies, at most. What would pass its type stays at the greatest, which is more than a tally holds.
 #[derive(Clone, Copy)]
 pub struct Weight {
     /// How many rows they stand for.
-    pub count: u128,
+    pub count: u64,
     /// The absolute values of their sums together.
-    pub size: u128,
+    pub size: u64,
 }
 
 impl Weight {
     /// That of no cell.
     pub fn none() -> Weight
-        ensures { result ≡ record { count = 0; size = 0 } }
+        ensures { (aggs : List Agg) → IsAtLeast aggs [] result }
     {
         Weight { count: 0, size: 0 }
     }
 
-    /// The weight with a cell more, if the cell has a slot, by all aggregates. It rises no further where it is more than a
-    /// tally holds.
-    #[inline]
-    pub fn with(self, aggs: &[Agg], cell: &Cell, group_slot: Option<u32>) -> Weight
-        ensures { Weighs aggs.now cell.now group_slot self result }
+    /// The weight with the cells more that stand from one place to another. Each is read once, in a loop that does nothing else.
+    pub fn with_piece(self, aggs: &[Agg], cells: &[Cell], from: usize, to: usize) -> Weight
+        requires order { from ≤ to }
+        requires within { to ≤ length cells.now }
+        requires so_far { IsAtLeast aggs.now (take from cells.now) self }
+        ensures { IsAtLeast aggs.now (take to cells.now) result }
     {
-        let Some(_) = group_slot else {
-            return self;
-        };
-        if self.count >= LIMIT {
-            return self;
+        let mut weight = self;
+        for place in from..to {
+            weight = weight.with(aggs, &cells[place]);
         }
-        if self.size >= LIMIT {
-            return self;
-        }
+        weight
+    }
+
+    // The weight with a cell more, by all aggregates.
+    #[inline]
+    fn with(self, aggs: &[Agg], cell: &Cell) -> Weight
+        ensures { (cells : List Cell) → IsAtLeast aggs.now cells self → IsAtLeast aggs.now (cells ++ cell.now ∷ []) result }
+    {
         Weight {
-            count: self.count + u128::from(cell.count),
-            size: self.size + sizes_of(aggs, cell),
+            count: self.count.saturating_add(cell.count),
+            size: self.size.saturating_add(sizes_of(aggs, cell)),
         }
     }
 }
 
-// The absolute values of the sums of a cell by all aggregates together.
-fn sizes_of(aggs: &[Agg], cell: &Cell) -> u128
-    ensures each { (k : ℕ) → k < length aggs.now → (agg : Agg)
+// The absolute values of the sums of a cell by all aggregates together, unless that is more than a tally holds.
+#[inline]
+fn sizes_of(aggs: &[Agg], cell: &Cell) -> u64
+    ensures { result < 2 ^ 63 → (k : ℕ) → k < length aggs.now → (agg : Agg)
         → nat_abs (cell_tally (slice_index_or aggs.now k agg) cell.now).sum ≤ result }
-    ensures small { result ≤ 2 ^ 127 }
 {
-    let mut size = 0;
+    let mut size: u64 = 0;
     for agg in aggs {
-        size += size_of(*agg, cell);
+        size = size.saturating_add(size_of(*agg, cell));
     }
     size
 }
@@ -163,14 +168,14 @@ fn weight_in(agg: Agg, cells: &[Cell], group_slots: &[Option<u32>]) -> Option<We
         (λ weight. ((weight.count ≡ count_in cells.now group_slots.now) × (weight.count < 2 ^ 63))
         × ((weight.size ≡ size_in agg cells.now group_slots.now) × (weight.size < 2 ^ 63))) }
 {
-    let mut count = 0;
-    let mut size = 0;
+    let mut count: u64 = 0;
+    let mut size: u64 = 0;
     for place in 0..cells.len() {
-        count += count_at(&cells[place], group_slots[place]);
+        count = count.saturating_add(count_at(&cells[place], group_slots[place]));
         if count >= LIMIT {
             return None;
         }
-        size += size_at(agg, &cells[place], group_slots[place]);
+        size = size.saturating_add(size_at(agg, &cells[place], group_slots[place]));
         if size >= LIMIT {
             return None;
         }
@@ -179,20 +184,18 @@ fn weight_in(agg: Agg, cells: &[Cell], group_slots: &[Option<u32>]) -> Option<We
 }
 
 // How many rows a cell stands for, if it has a slot.
-fn count_at(cell: &Cell, group_slot: Option<u32>) -> u128
-    ensures count { result ≡ count_in (cell.now ∷ []) (group_slot ∷ []) }
-    ensures small { result < 2 ^ 64 }
+fn count_at(cell: &Cell, group_slot: Option<u32>) -> u64
+    ensures { result ≡ count_in (cell.now ∷ []) (group_slot ∷ []) }
 {
     match group_slot {
         None => 0,
-        Some(_) => u128::from(cell.count),
+        Some(_) => cell.count,
     }
 }
 
 // The absolute value of the sum of a cell, if it has a slot.
-fn size_at(agg: Agg, cell: &Cell, group_slot: Option<u32>) -> u128
-    ensures size { result ≡ size_in agg (cell.now ∷ []) (group_slot ∷ []) }
-    ensures small { result ≤ 2 ^ 63 }
+fn size_at(agg: Agg, cell: &Cell, group_slot: Option<u32>) -> u64
+    ensures { result ≡ size_in agg (cell.now ∷ []) (group_slot ∷ []) }
 {
     match group_slot {
         None => 0,
@@ -202,11 +205,10 @@ fn size_at(agg: Agg, cell: &Cell, group_slot: Option<u32>) -> u128
 
 // The absolute value of the sum of a cell.
 #[inline]
-fn size_of(agg: Agg, cell: &Cell) -> u128
-    ensures size { result ≡ nat_abs (cell_tally agg cell.now).sum }
-    ensures small { result ≤ 2 ^ 63 }
+fn size_of(agg: Agg, cell: &Cell) -> u64
+    ensures { result ≡ nat_abs (cell_tally agg cell.now).sum }
 {
-    u128::from(sum_in(agg, cell).unsigned_abs())
+    sum_in(agg, cell).unsigned_abs()
 }
 
 // What a cell adds to a sum.

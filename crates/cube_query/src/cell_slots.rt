@@ -1,5 +1,5 @@
 //! The slots of the groups of cells.
-ghost use Rattle.std.specs.Prelude.{◌≡◌, ◌⊎◌, ◌<◌, ℕ, List, [], Some, Err, IfOk, IfErr, OnOk};
+ghost use Rattle.std.specs.Prelude.{◌≡◌, ◌⊎◌, ◌<◌, ◌≤◌, ℕ, List, [], length, take, Some, Err, IfOk, IfErr, OnOk};
 ghost use Rattle.std.specs.List.{All};
 ghost use Rattle.cube_model.specs.declared.rows.LineOrder.{LineOrder};
 ghost use Rattle.cuboid_cells.specs.Cells.{IsCellOf};
@@ -15,6 +15,9 @@ use cube_model::{Agg, Fault};
 use cuboid_cells::Cell;
 use cuboid_upkeep::CellNumbers;
 use std::alloc::Global;
+
+// How many cells are weighed before their slots are looked for: few enough to stay at hand meanwhile.
+const PIECE_CELLS: usize = 128;
 
 /// The slots of the groups of cells, and what the cells that have one add to tallies, at most.
 #[derive(Drop)]
@@ -55,6 +58,9 @@ pub fn cell_slots_of(
 }
 
 // Puts the slots of the groups of cells into a list that holds none yet, and tells what the cells add.
+//
+// Piece by piece the cells are weighed first, in a loop that does nothing else, so that the processor waits for the memory of
+// many of them at once and has them at hand where their slots are looked for.
 fn push_cell_slots(
     numbers: &CellNumbers,
     slots: &mut Slots,
@@ -76,12 +82,43 @@ fn push_cell_slots(
         (entries_of slots.new) }
 {
     let mut weight = Weight::none();
-    for place in 0..cells.len() {
-        let group_slot = cell_slot_of(numbers, slots, &cells[place])?;
-        weight = weight.with(aggs, &cells[place], group_slot);
-        group_slots.push(group_slot)?;
+    for piece in 0..cells.len() / PIECE_CELLS + 1 {
+        let from = piece * PIECE_CELLS;
+        let to = from.saturating_add(PIECE_CELLS).min(cells.len());
+        weight = weight.with_piece(aggs, cells, from, to);
+        push_piece(numbers, slots, cells, from, to, group_slots)?;
     }
     Ok(weight)
+}
+
+// Puts the slots of the groups of the cells from one place to another behind those of the cells before.
+fn push_piece(
+    numbers: &CellNumbers,
+    slots: &mut Slots,
+    cells: &[Cell],
+    from: usize,
+    to: usize,
+    group_slots: &mut Vec<Option<u32>>,
+) -> Result<(), Fault>
+    requires cells { All (IsCellOf numbers.now.view) cells.now }
+    requires order { from ≤ to }
+    requires within { to ≤ length cells.now }
+    requires cover { Cover (group_count numbers.now.dimensions numbers.now.query.columns) slots.old }
+    requires so_far { AreCellSlots numbers.now (entries_of slots.old) (take from cells.now) group_slots.old.items }
+    ensures group_slots { OnOk result
+        (AreCellSlots numbers.now (entries_of slots.new) (take to cells.now) group_slots.new.items) }
+    ensures refused { result ≡ Err Fault.BadLayout → HaveNoStandIn numbers.now cells.now }
+    ensures only { IfErr result (λ fault. (fault ≡ Fault.Memory) ⊎ (fault ≡ Fault.BadLayout)) }
+    ensures cover { Cover (group_count numbers.now.dimensions numbers.now.query.columns) slots.new }
+    ensures grow { (first : List (ℕ × ℕ))
+        → Grow (group_count numbers.now.dimensions numbers.now.query.columns) first (entries_of slots.old)
+        → Grow (group_count numbers.now.dimensions numbers.now.query.columns) first (entries_of slots.new) }
+{
+    for place in from..to {
+        let group_slot = cell_slot_of(numbers, slots, &cells[place])?;
+        group_slots.push(group_slot)?;
+    }
+    Ok(())
 }
 
 // The slot of the group of a cell, if its rows are selected.

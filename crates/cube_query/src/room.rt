@@ -7,12 +7,9 @@ ghost use Rattle.cube_query.specs.Room.{can_take, is_within};
 ghost use Rattle.group_plan.specs.Rows.{row_at};
 
 use crate::columns::number_at;
-use crate::tally::Tally;
+use crate::tally::{LIMIT, Tally};
 use cube_model::Agg;
 use group_plan::FactRows;
-
-// The least count, and the least sum, that a tally does not hold.
-pub(crate) const LIMIT: u128 = 1 << 63;
 
 /// Whether each column has room for rows at the slots of their groups. It takes no memory.
 pub fn have_room<F: FactRows>(
@@ -39,13 +36,13 @@ fn has_room<F: FactRows>(column: &[Tally], agg: Agg, rows: &F, group_slots: &[Op
     ensures { IsTrue result ↔ HasRoom agg column.now (F.rows rows.now) group_slots.now }
 {
     match size_of(agg, rows, group_slots) {
-        Some(size) => all_can_take(column, group_slots, group_slots.len() as u128, size),
+        Some(size) => all_can_take(column, group_slots, group_slots.len() as u64, size),
         None => false,
     }
 }
 
 // The sum of the absolute values of what an aggregate is taken of, over the rows that have a slot, unless it is too large.
-fn size_of<F: FactRows>(agg: Agg, rows: &F, group_slots: &[Option<u32>]) -> Option<u128>
+fn size_of<F: FactRows>(agg: Agg, rows: &F, group_slots: &[Option<u32>]) -> Option<u64>
     requires { length group_slots.now ≡ length (F.rows rows.now) }
     ensures { MatchOption result (2 ^ 63 ≤ size_of agg (chosen (F.rows rows.now) group_slots.now))
         (λ size. (size ≡ size_of agg (chosen (F.rows rows.now) group_slots.now)) × (size < 2 ^ 63)) }
@@ -53,11 +50,11 @@ fn size_of<F: FactRows>(agg: Agg, rows: &F, group_slots: &[Option<u32>]) -> Opti
     let mut size = 0;
     for place in 0..group_slots.len() {
         size += size_at(agg, rows, place, group_slots[place]);
-        if size >= LIMIT {
+        if size >= u128::from(LIMIT) {
             return None;
         }
     }
-    Some(size)
+    Some(size as u64)
 }
 
 // The absolute value of what an aggregate is taken of, at the row at a place, if it has a slot.
@@ -76,11 +73,9 @@ fn size_at<F: FactRows>(agg: Agg, rows: &F, place: usize, group_slot: Option<u32
 pub(crate) fn all_can_take(
     column: &[Tally],
     group_slots: &[Option<u32>],
-    count: u128,
-    size: u128,
+    count: u64,
+    size: u64,
 ) -> bool
-    requires count { count < 2 ^ 64 }
-    requires size { size < 2 ^ 63 }
     ensures { result ≡ list_all (λ group_slot. can_take column.now group_slot count size) group_slots.now }
 {
     group_slots
@@ -89,14 +84,7 @@ pub(crate) fn all_can_take(
 }
 
 /// The same, mostly by the whole column from its front on, where it is not longer than the slots are many.
-pub fn slots_can_take(
-    column: &[Tally],
-    group_slots: &[Option<u32>],
-    count: u128,
-    size: u128,
-) -> bool
-    requires count { count < 2 ^ 64 }
-    requires size { size < 2 ^ 63 }
+pub fn slots_can_take(column: &[Tally], group_slots: &[Option<u32>], count: u64, size: u64) -> bool
     ensures { result ≡ list_all (λ group_slot. can_take column.now group_slot count size) group_slots.now }
 {
     (column.len() <= group_slots.len()
@@ -116,18 +104,14 @@ fn all_within(length: usize, group_slots: &[Option<u32>]) -> bool
 }
 
 // Whether each tally of a column can take so many numbers more.
-fn all_can_add(column: &[Tally], count: u128, size: u128) -> bool
-    requires count { count < 2 ^ 64 }
-    requires size { size < 2 ^ 63 }
+fn all_can_add(column: &[Tally], count: u64, size: u64) -> bool
     ensures { result ≡ list_all (λ tally. can_add tally count size) column.now }
 {
     column.iter().all(|tally| can_add(tally, count, size))
 }
 
 // Whether the tally at a slot, if there is one, can take so many numbers more.
-fn can_take(column: &[Tally], group_slot: Option<u32>, count: u128, size: u128) -> bool
-    requires count { count < 2 ^ 64 }
-    requires size { size < 2 ^ 63 }
+fn can_take(column: &[Tally], group_slot: Option<u32>, count: u64, size: u64) -> bool
     ensures { result ≡ can_take column.now group_slot count size }
 {
     match group_slot {
@@ -140,11 +124,9 @@ fn can_take(column: &[Tally], group_slot: Option<u32>, count: u128, size: u128) 
 }
 
 // Whether a tally can take so many numbers more.
-fn can_add(tally: &Tally, count: u128, size: u128) -> bool
-    requires count { count < 2 ^ 64 }
-    requires size { size < 2 ^ 63 }
+fn can_add(tally: &Tally, count: u64, size: u64) -> bool
     ensures { result ≡ can_add tally.now count size }
 {
-    u128::from(tally.count.get()) + count < LIMIT
-        && u128::from(tally.sum.unsigned_abs()) + size < LIMIT
+    tally.count.get().saturating_add(count) < LIMIT
+        && tally.sum.unsigned_abs().saturating_add(size) < LIMIT
 }

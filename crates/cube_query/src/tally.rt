@@ -9,8 +9,8 @@ ghost use Rattle.cube_query.specs.Tallies as spec;
 use crate::fraction::fraction_of;
 use cube_model::{Agg, Amount, Value};
 
-// The least count that a tally does not hold.
-const LIMIT: u64 = 1 << 63;
+// The least count that a tally does not hold. A sum fits where its absolute value is less.
+pub(crate) const LIMIT: u64 = 1 << 63;
 
 /// A count or a sum would pass its type.
 #[derive(Clone, Copy, Debug, PartialEq, Eq)]

@@ -1,5 +1,5 @@
 -- The codes of the members that fact rows have, axis by axis. Our own.
-use Rattle.std.specs.Prelude.{◌≡◌, ℕ, ◌<◌, List, length, slice_index_or}
+use Rattle.std.specs.Prelude.{◌≡◌, ℕ, ◌<◌, List, All, length, slice_index_or}
 use Rattle.cube_model.specs.declared.attr.Axis.{Axis}
 use Rattle.cube_model.specs.declared.attr.Axis.TheVariants.{Customer, Supplier, Part, Date}
 use Rattle.cube_model.specs.declared.rows.DimRows.{DimRows}
@@ -25,9 +25,17 @@ abbrev pub AreAxisCodes : DimRows → Axis → Level → List LineOrder → ℕ 
 AreAxisCodes dimensions axis grouped rows count codes = (place : ℕ) → place < count
     → IsAxisCode dimensions axis grouped (row_at rows place) (slice_index_or codes place all_code)
 
+-- the codes of all of them
+abbrev pub AreAllAxisCodes : DimRows → Axis → Level → List LineOrder → List ℕ → Type 0
+AreAllAxisCodes dimensions axis grouped rows codes = AreAxisCodes dimensions axis grouped rows (length rows) codes
+
+-- a level groups by members, and a fact row has none of them
+abbrev pub LackMember : DimRows → Axis → Level → List LineOrder → Type 0
+LackMember dimensions axis grouped rows = (grouped ≡ level.All → ⊥) × (All (λ row. IsKnownOn dimensions row axis) rows → ⊥)
+
 -- the same on each axis, at the level by which a view groups
 pub record AreCodesOfRows (dimensions : DimRows) (view : View) (rows : List LineOrder) (codes : AxisCodes) : Type 0 where
-  pub customers : AreAxisCodes dimensions Customer view.customer rows (length rows) codes.customers.items
-  pub suppliers : AreAxisCodes dimensions Supplier view.supplier rows (length rows) codes.suppliers.items
-  pub parts : AreAxisCodes dimensions Part view.part rows (length rows) codes.parts.items
-  pub dates : AreAxisCodes dimensions Date view.date rows (length rows) codes.dates.items
+  pub customers : AreAllAxisCodes dimensions Customer view.customer rows codes.customers.items
+  pub suppliers : AreAllAxisCodes dimensions Supplier view.supplier rows codes.suppliers.items
+  pub parts : AreAllAxisCodes dimensions Part view.part rows codes.parts.items
+  pub dates : AreAllAxisCodes dimensions Date view.date rows codes.dates.items

@@ -4,11 +4,9 @@ ghost use Rattle.cube_model.specs.declared.attr.Axis.{Axis};
 ghost use Rattle.cube_model.specs.declared.fault.Fault.{Fault};
 ghost use Rattle.cube_model.specs.declared.rows.DimRows.{DimRows};
 ghost use Rattle.cube_model.specs.declared.rows.LineOrder.{LineOrder};
-ghost use Rattle.group_plan.specs.Numbers.{IsKnownOn};
 ghost use Rattle.group_plan.specs.Rows.{row_at};
 ghost use Rattle.lattice.specs.declared.level.Level.{Level};
-ghost use Rattle.lattice.specs.declared.level.Level.TheVariants as level;
-ghost use Rattle.cuboid_upkeep.specs.AxisCodes.{AreAxisCodes, IsAxisCode};
+ghost use Rattle.cuboid_upkeep.specs.AxisCodes.{AreAllAxisCodes, AreAxisCodes, IsAxisCode, LackMember};
 ghost use Rattle.cuboid_upkeep.specs.Tables.{AreCodesOf};
 
 use crate::codes::{LevelCodes, is_all};
@@ -96,10 +94,9 @@ fn axis_codes<F: ModeRows>(
     rows: &F,
 ) -> Result<Vec<u16>, Fault>
     requires codes { AreCodesOf dims.now axis grouped codes }
-    ensures ok { IfOk result (λ found.
-        AreAxisCodes dims.now axis grouped (F.rows rows.now) (length (F.rows rows.now)) found.items) }
+    ensures ok { IfOk result (λ found. AreAllAxisCodes dims.now axis grouped (F.rows rows.now) found.items) }
     ensures refused { IfErr result (λ fault. (fault ≡ Fault.Memory) ⊎ ((fault ≡ Fault.BadLayout)
-        × ((grouped ≡ level.All → ⊥) × (All (λ row. IsKnownOn dims.now row axis) (F.rows rows.now) → ⊥)))) }
+        × LackMember dims.now axis grouped (F.rows rows.now))) }
 {
     let mut found = Vec::new(alloc);
     if is_all(grouped) {
@@ -126,10 +123,8 @@ fn put_codes<F: ModeRows>(
 ) -> bool
     requires codes { AreCodesOf dims.now axis grouped codes }
     requires count { length found.old ≡ length (F.rows rows.now) }
-    ensures ok { result ≡ true →
-        AreAxisCodes dims.now axis grouped (F.rows rows.now) (length (F.rows rows.now)) found.new }
-    ensures lacks { result ≡ false →
-        ((grouped ≡ level.All → ⊥) × (All (λ row. IsKnownOn dims.now row axis) (F.rows rows.now) → ⊥)) }
+    ensures ok { result ≡ true → AreAllAxisCodes dims.now axis grouped (F.rows rows.now) found.new }
+    ensures lacks { result ≡ false → LackMember dims.now axis grouped (F.rows rows.now) }
 {
     match codes {
         LevelCodes::Places => put_led(found, dims, axis, grouped, LevelCodes::Places, rows),
@@ -159,10 +154,8 @@ fn put_led<F: ModeRows>(
 ) -> bool
     requires codes { AreCodesOf dims.now axis grouped codes }
     requires count { length found.old ≡ length (F.rows rows.now) }
-    ensures ok { result ≡ true →
-        AreAxisCodes dims.now axis grouped (F.rows rows.now) (length (F.rows rows.now)) found.new }
-    ensures lacks { result ≡ false →
-        ((grouped ≡ level.All → ⊥) × (All (λ row. IsKnownOn dims.now row axis) (F.rows rows.now) → ⊥)) }
+    ensures ok { result ≡ true → AreAllAxisCodes dims.now axis grouped (F.rows rows.now) found.new }
+    ensures lacks { result ≡ false → LackMember dims.now axis grouped (F.rows rows.now) }
 {
     for place in 0..found.len() {
         let Some(code) = codes.code(dims, axis, grouped, rows, place) else {
