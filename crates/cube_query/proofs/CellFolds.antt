@@ -1,7 +1,7 @@
 -- What a fold stands for when cells were merged in: the rows that they stand for.
 use Rattle.std.proofs.Common.{◌≡◌, ◌∙◌, sym, ap, refl, subst, ℕ, zero, suc, ◌<◌, ◌≤◌, Bool, true, false, cond, List, [], ◌∷◌, ◌++◌, map, length, length-append, get_or, Option, Some, None, arith, All}
 use Rattle.std.specs.Prelude.{◌==◌, nat_abs}
-use Rattle.std.specs.List.{AllByRecursion, Contains, filter, list_any}
+use Rattle.std.specs.List.{Contains, filter, list_any}
 use Rattle.std.specs.Ordering.{eq_by_cmp}
 use Rattle.std.specs.declared.alloc.Global.{Global}
 use Rattle.std.specs.declared.vec.Vec.{Vec}
@@ -28,8 +28,9 @@ use Rattle.group_plan.specs.Numbers.{group_count, key_at, IsKnown}
 use Rattle.group_plan.specs.Plans.{IsPlanOver, query_of}
 use Rattle.group_plan.specs.declared.plan.Plan.{Plan}
 use Rattle.group_plan.proofs.Extending.{plan_of_over}
-use Rattle.cube_query.specs.CellTallies.{AreBelow, HaveRoomForAll, with_cells}
-use Rattle.cube_query.specs.Columns.{slotted, tallies_at, tally_at}
+use Rattle.cube_query.specs.CellSlots.{AreMergedIn, asked_of}
+use Rattle.cube_query.specs.CellTallies.{AreBelow, GroupsHaveRoomFor, HasRoomFor, HaveRoomFor, with_cells}
+use Rattle.cube_query.specs.Columns.{size_of, slotted, tallies_at}
 use Rattle.cube_query.specs.FoldInvariant.{AreGroupSlots, CountIn, IsGroupSlot, IsKept}
 use Rattle.cube_query.specs.Groups.{StandsFor, finest, rows_at}
 use Rattle.cube_query.specs.Limits.{AreFoldable}
@@ -37,11 +38,10 @@ use Rattle.cube_query.specs.Slots.{entries_of, Cover, Grow}
 use Rattle.cube_query.specs.Tallies.{number_of, tallies_of, tally_of}
 use Rattle.cube_query.specs.declared.slots.Slots.{Slots}
 use Rattle.cube_query.specs.declared.tally.Tally.{Tally}
-use Rattle.cube_query.proofs.CellGroups.{AreApart, cells_are_rows, count_total-rows, size_total-rows, slot_by, slotted-filter, tally_over}
-use Rattle.cube_query.proofs.CellMerges.{all_untouched, count_in-le, size_in-le}
-use Rattle.cube_query.proofs.Columnwise.{All-at, tallies-length, tallies-one}
-use Rattle.cube_query.proofs.Folds.{kept_ready, shown, stands_count, tallied_for, kept_numbers}
-use Rattle.cube_query.proofs.Marking.{AreGroupSlots-at}
+use Rattle.cube_query.proofs.CellGroups.{AreApart, cells_are_rows, counts-rows, sizes-rows, slot_by, slotted-filter, tally_over}
+use Rattle.cube_query.proofs.CellMerges.{all_untouched}
+use Rattle.cube_query.proofs.Folds.{kept_numbers, kept_ready, shown, shown_ready, stands_count, tallied_for}
+use Rattle.cube_query.proofs.Marking.{AreGroupSlots-at, AreGroupSlots-length}
 use Rattle.cube_query.proofs.Ranges.{range_of_agg}
 use Rattle.cube_query.proofs.Steps.{AreTallied-grow}
 use Rattle.cube_query.proofs.Sums.{length-filter-le, nat_abs-total, sum_by-filter}
@@ -155,84 +155,84 @@ module _ (dimensions : DimRows) (modes : List (List ℕ)) (view : View) (query :
             ∙ sym (ap (λ (more : List LineOrder). tally_over agg (before ++ more)) (slotted-filter slot slot_of_row rows)) in
             λ i. one i ∷ each aggs i
 
--- the same room by other names
-pub same_room : {aggs others : List Agg} {cells other_cells : List Cell} {group_slots other_slots : List (Option ℕ)} {columns other_columns : List (Vec Tally Global)}
-    → aggs ≡ others → cells ≡ other_cells → group_slots ≡ other_slots → columns ≡ other_columns
-    → HaveRoomForAll aggs cells group_slots columns → HaveRoomForAll others other_cells other_slots other_columns
-same_room {others = others} {cells = cells} {other_cells = other_cells} {group_slots = group_slots} {other_slots = other_slots} {columns = columns} aggs_are cells_are slots_are columns_are room =
-    subst (λ (list : List (Vec Tally Global)). HaveRoomForAll others other_cells other_slots list) columns_are
-    (subst (λ (list : List (Option ℕ)). HaveRoomForAll others other_cells list columns) slots_are
-    (subst (λ (list : List Cell). HaveRoomForAll others list group_slots columns) cells_are
-    (subst (λ (list : List Agg). HaveRoomForAll list cells group_slots columns) aggs_are room)))
+-- tallies over some of the rows so far have room for the cells that stand for others
+module _ (dimensions : DimRows) (modes : List (List ℕ)) (plain : PlainCells) (so_far rows : List LineOrder) (stand_for : StandFor dimensions modes rows plain) (foldable : AreFoldable dimensions (so_far ++ rows))
+    (own : List LineOrder) (fewer : length own ≤ length so_far) (smaller : (agg : Agg) → size_of agg own ≤ size_of agg so_far) where
+  room_for : (agg : Agg) → HasRoomFor agg plain.cells (tally_of (map (number_of agg) own))
+  room_for agg =
+      let number = number_of agg in
+      let up = apart plain.cells stand_for.ascending in
+      let counts = counts-rows dimensions modes plain.view plain.cells rows stand_for.group up in
+      let sizes = sizes-rows dimensions modes plain.view agg plain.cells rows stand_for.group up in
+      let total = range_of_agg (so_far ++ rows) foldable.in_range agg in
+      let sums = sum_by-append (λ (row : LineOrder). nat_abs (number row)) so_far rows in
+      record {
+        few = omega (arith, foldable.few, length-append so_far rows, length-map own number, fewer, counts);
+        small = omega (arith, nat_abs-total number own, smaller agg, total, sums, sizes);
+      }
+
+  pub rooms_for : (aggs : List Agg) → HaveRoomFor aggs plain.cells (tallies_of aggs own)
+  rooms_for [] = tt
+  rooms_for (agg ∷ aggs) = (room_for agg, rooms_for aggs)
 
 -- ---- a fold
-module _ (dimensions : DimRows) (plan : Plan) (over : IsPlanOver dimensions plan) (old : Slots) (columns : List (Vec Tally Global)) (kept : IsKept plan old columns) (new : Slots) (longer : List (Vec Tally Global))
-    (cover : Cover (group_count dimensions (query_of plan).columns) new) (grow : Grow (group_count dimensions (query_of plan).columns) (entries_of old) (entries_of new)) (same : (slot : ℕ) → tallies_at longer slot ≡ tallies_at columns slot)
-    (modes : List (List ℕ)) (plain : PlainCells) (stand : List LineOrder) (group_slots : List (Option ℕ)) (standing : AreStandIns dimensions modes plain.view plain.cells stand) (are : AreGroupSlots dimensions (query_of plan) (entries_of new) stand group_slots) where
-  pub slots_below : AreBelow (length (entries_of new)) group_slots
-  slots_below place slot at =
-      let found = AreGroupSlots-at dimensions (query_of plan) (entries_of new) stand group_slots are place slot at in
-      grow.slots.within found.0 slot found.1
+module _ (dimensions : DimRows) (plan : Plan) (over : IsPlanOver dimensions plan) (old : Slots) (columns : List (Vec Tally Global)) (kept : IsKept plan old columns) (new : Slots)
+    (cover : Cover (group_count dimensions (query_of plan).columns) new) (grow : Grow (group_count dimensions (query_of plan).columns) (entries_of old) (entries_of new)) where
+  abbrev as_they_are : (slot : ℕ) → tallies_at columns slot ≡ tallies_at columns slot
+  as_they_are slot = refl
 
-  module _ (merged : List (Vec Tally Global)) (merged_is : (slot : ℕ) → tallies_at merged slot ≡ with_cells (query_of plan).aggregates slot plain.cells group_slots (tallies_at longer slot)) where
-    pub kept_merged : IsKept plan new merged
-    kept_merged =
-        let ready = kept_ready dimensions plan over old columns kept new longer cover grow same in
-        let aggs = (query_of plan).aggregates in
-        record {
-          proper = ready.proper;
-          numbers = ready.numbers;
-          cover = ready.cover;
-          fresh = λ slot h. merged_is slot ∙ ap (with_cells aggs slot plain.cells group_slots) (ready.fresh slot h)
-              ∙ all_untouched aggs slot (length (entries_of new)) plain.cells group_slots [] slots_below h;
-        }
+  -- with more slots it stands for what it stood for
+  pub shown_with_slots : shown plan new columns ≡ shown plan old columns
+  shown_with_slots = shown_ready dimensions plan over old columns kept new columns cover grow as_they_are
 
-    pub stands_merged : (count : length group_slots ≡ length plain.cells) → OneKeyOneGroup dimensions → Serves plain.view (query_of plan) → (rows : List LineOrder) → StandFor dimensions modes rows plain
-        → (so_far : List LineOrder) → StandsFor dimensions (shown plan old columns) so_far → StandsFor dimensions (shown plan new merged) (so_far ++ rows)
-    stands_merged count law serves rows stand_for so_far stands =
-        let query = query_of plan in
-        let entries = entries_of new in
-        let have = rows_have_slots dimensions modes plain.view query entries law serves plain.cells stand group_slots standing are rows stand_for in
-        let counted = rows_counted dimensions modes plain.view query entries law serves plain.cells stand group_slots standing are rows stand_for query.aggregates longer merged count merged_is in
-        stands_count dimensions plan over old columns kept new longer cover grow same rows
-        (map (slot_of_row dimensions modes plain.view query entries law serves plain.cells stand group_slots standing are rows stand_for) rows) have merged counted so_far stands
+  pub kept_with_slots : IsKept plan new columns
+  kept_with_slots = kept_ready dimensions plan over old columns kept new columns cover grow as_they_are
 
-  pub room_for_cells : (rows : List LineOrder) → StandFor dimensions modes rows plain → (so_far : List LineOrder) → StandsFor dimensions (shown plan old columns) so_far → AreFoldable dimensions (so_far ++ rows)
-      → AllByRecursion (λ column. length (entries_of new) ≤ length column.items) longer → HaveRoomForAll (query_of plan).aggregates plain.cells group_slots longer
-  room_for_cells rows stand_for so_far stands foldable long =
-      let query = finest (query_of plan) in
-      let entries = entries_of new in
-      let aggs = query.aggregates in
-      let size = λ (agg : Agg) (row : LineOrder). nat_abs (number_of agg row) in
-      let made = plan_of_over dimensions plan over in
-      let tallied = AreTallied-grow dimensions query (entries_of old) entries columns longer so_far made.rising (kept_numbers dimensions plan over old columns kept) grow same (tallied_for dimensions plan over old columns kept so_far stands) in
-      let many = tallies-length aggs longer (length entries) [] (tallied.fresh (length entries) (omega arith)) in
-      let both = length-append so_far rows in
-      let counts = count_total-rows dimensions modes plain.view plain.cells rows stand_for.group (apart plain.cells stand_for.ascending) in
-      let few_in = count_in-le plain.cells group_slots in
-      λ k h default column.
-      let agg = get_or aggs k default in
-      let number = number_of agg in
-      let total = range_of_agg (so_far ++ rows) foldable.in_range agg in
-      let sums = sum_by-append (size agg) so_far rows in
-      let sizes = size_total-rows dimensions modes plain.view agg plain.cells rows stand_for.group (apart plain.cells stand_for.ascending) in
-      let small_in = size_in-le agg plain.cells group_slots in
-      let p = is_selected dimensions query.conditions in
-      record {
-        few = omega (arith, counts, few_in, foldable.few, both);
-        small = omega (arith, sizes, small_in, total, sums);
-        each = λ place slot at.
-            let found = AreGroupSlots-at dimensions (query_of plan) entries stand group_slots are place slot at in
-            let key = key_at dimensions query.columns found.0 in
-            let q = λ (row : LineOrder). list_any (eq_by_cmp key_cmp key) (keys_of dimensions query row) in
-            let own = rows_at dimensions query key so_far in
-            let within = grow.slots.within found.0 slot found.1 in
-            let tally : tally_at (get_or longer k column).items slot ≡ tally_of (map number own) =
-            tallies-one aggs longer slot own (tallied.each found.0 slot found.1) k h default column in (
-              omega (arith, within, All-at (λ (column : Vec Tally Global). length entries ≤ length column.items) longer long k (omega (arith, h, many)) column),
-              (
-                omega (arith, ap (λ (t : Tally). t.count) tally, foldable.few, both, length-map own number, length-filter-le q (filter p so_far), length-filter-le p so_far, counts, few_in),
-                omega (arith, ap (λ (t : Tally). nat_abs t.sum) tally, nat_abs-total number own, sum_by-filter (size agg) q (filter p so_far), sum_by-filter (size agg) p so_far, total, sums, sizes, small_in),
-              ),
-            );
-      }
+  module _ (modes : List (List ℕ)) (plain : PlainCells) where
+    module _ (merged : List (Vec Tally Global)) (are : AreMergedIn (asked_of dimensions (query_of plan) plain.view modes) (query_of plan).aggregates (entries_of new) plain.cells columns merged) where
+      slots_below : AreBelow (length (entries_of new)) are.group_slots
+      slots_below place slot at =
+          let found = AreGroupSlots-at dimensions (query_of plan) (entries_of new) are.slots.rows are.group_slots are.slots.slots place slot at in
+          grow.slots.within found.0 slot found.1
+
+      pub kept_merged : IsKept plan new merged
+      kept_merged =
+          let aggs = (query_of plan).aggregates in
+          record {
+            proper = kept_with_slots.proper;
+            numbers = kept_with_slots.numbers;
+            cover = kept_with_slots.cover;
+            fresh = λ slot h. are.merged slot ∙ ap (with_cells aggs slot plain.cells are.group_slots) (kept_with_slots.fresh slot h)
+                ∙ all_untouched aggs slot (length (entries_of new)) plain.cells are.group_slots [] slots_below h;
+          }
+
+      pub stands_merged : OneKeyOneGroup dimensions → Serves plain.view (query_of plan) → (rows : List LineOrder) → StandFor dimensions modes rows plain
+          → (so_far : List LineOrder) → StandsFor dimensions (shown plan old columns) so_far → StandsFor dimensions (shown plan new merged) (so_far ++ rows)
+      stands_merged law serves rows stand_for so_far stands =
+          let query = query_of plan in
+          let entries = entries_of new in
+          let stand = are.slots.rows in
+          let standing = are.slots.stand in
+          let slots = are.slots.slots in
+          let count = AreGroupSlots-length dimensions query entries stand are.group_slots slots ∙ stand_count dimensions modes plain.view plain.cells stand standing in
+          let have = rows_have_slots dimensions modes plain.view query entries law serves plain.cells stand are.group_slots standing slots rows stand_for in
+          let counted = rows_counted dimensions modes plain.view query entries law serves plain.cells stand are.group_slots standing slots rows stand_for query.aggregates columns merged count are.merged in
+          stands_count dimensions plan over old columns kept new columns cover grow as_they_are rows
+          (map (slot_of_row dimensions modes plain.view query entries law serves plain.cells stand are.group_slots standing slots rows stand_for) rows) have merged counted so_far stands
+
+    pub room_for_cells : (rows : List LineOrder) → StandFor dimensions modes rows plain → (so_far : List LineOrder) → StandsFor dimensions (shown plan old columns) so_far → AreFoldable dimensions (so_far ++ rows)
+        → GroupsHaveRoomFor (entries_of new) (query_of plan).aggregates plain.cells columns
+    room_for_cells rows stand_for so_far stands foldable number slot found =
+        let query = finest (query_of plan) in
+        let made = plan_of_over dimensions plan over in
+        let tallied = AreTallied-grow dimensions query (entries_of old) (entries_of new) columns columns so_far made.rising (kept_numbers dimensions plan over old columns kept) grow as_they_are
+        (tallied_for dimensions plan over old columns kept so_far stands) in
+        let p = is_selected dimensions query.conditions in
+        let key = key_at dimensions query.columns number in
+        let q = λ (row : LineOrder). list_any (eq_by_cmp key_cmp key) (keys_of dimensions query row) in
+        let size = λ (agg : Agg) (row : LineOrder). nat_abs (number_of agg row) in
+        let own = rows_at dimensions query key so_far in
+        subst (HaveRoomFor query.aggregates plain.cells) (sym (tallied.each number slot found))
+        (rooms_for dimensions modes plain so_far rows stand_for foldable own
+        (omega (arith, length-filter-le q (filter p so_far), length-filter-le p so_far))
+        (λ agg. omega (arith, sum_by-filter (size agg) q (filter p so_far), sum_by-filter (size agg) p so_far)) query.aggregates)

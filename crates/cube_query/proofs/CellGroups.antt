@@ -2,10 +2,10 @@
 use Rattle.std.proofs.Common.{◌≡◌, ◌∙◌, sym, ap, refl, subst, ℕ, ◌≤◌, pos, ◌+ℤ◌, Bool, true, false, cond, not, List, [], ◌∷◌, ◌++◌, map, length, length-append, append-nil, append_assoc, Option, Some, None, arith}
 use Rattle.std.specs.Prelude.{◌==◌, ◌&&◌, ◌||◌, nat_abs}
 use Rattle.std.specs.Int.{int_min, int_max}
-use Rattle.std.specs.List.{filter, fold}
+use Rattle.std.specs.List.{filter, fold, sum_by}
 use Rattle.std.proofs.lemmas.Bool.Decides.{nat_tests}
 use Rattle.std.proofs.lemmas.List.{length-map, map-append}
-use Rattle.std.proofs.lemmas.List.Sums.{sum_by-append}
+use Rattle.std.proofs.lemmas.List.Sums.{sum_by-append, sum_by-cons}
 use Rattle.cube_model.specs.declared.measure.Agg.{Agg}
 use Rattle.cube_model.specs.declared.measure.Agg.TheVariants.{Count, Sum, Min, Max, Avg}
 use Rattle.cube_model.specs.declared.measure.Measure.{Measure}
@@ -22,7 +22,6 @@ use Rattle.cube_query.specs.Columns.{size_of, slotted}
 use Rattle.cube_query.specs.Tallies.{merged, number_of, tally_of}
 use Rattle.cube_query.specs.declared.tally.Tally.{Tally}
 use Rattle.cube_query.proofs.MergeLaws.{SameRows, SameRows-behind, SameRows-refl, SameRows-split, SameRows-trans, tally_of-append}
-use Rattle.cube_query.proofs.CellMerges.{count_total, size_total}
 use Rattle.cube_query.proofs.Sums.{nat_abs-total}
 
 -- the tally over fact rows
@@ -205,24 +204,25 @@ module _ (dimensions : DimRows) (modes : List (List ℕ)) (view : View) where
     all_rows = parted (λ row. number_in row == key_number cell.key) rows
 
   -- ---- the sums of all cells
-  pub count_total-rows : (cells : List Cell) (rows : List LineOrder) → Group dimensions modes view rows cells → AreApart cells → count_total cells ≤ length rows
-  count_total-rows [] rows group apart = omega arith
-  count_total-rows (cell ∷ cells) rows group apart =
+  pub counts-rows : (cells : List Cell) (rows : List LineOrder) → Group dimensions modes view rows cells → AreApart cells → sum_by (λ cell. cell.count) cells ≤ length rows
+  counts-rows [] rows group apart = omega arith
+  counts-rows (cell ∷ cells) rows group apart =
       let own = own_rows rows cell cells group apart in
       let others = other_rows rows cell cells group apart in
-      let rest = count_total-rows cells others (others_group rows cell cells group apart) apart.1 in
+      let rest = counts-rows cells others (others_group rows cell cells group apart) apart.1 in
       let is = (cell_is dimensions modes view Count own cell (own_cell rows cell cells group apart)).1 in
-      omega (arith, rest, is, (all_rows rows cell cells group apart).lengths, length-append own others)
+      omega (arith, rest, is, (all_rows rows cell cells group apart).lengths, length-append own others, sum_by-cons (λ (own : Cell). own.count) cell cells)
 
-  pub size_total-rows : (agg : Agg) (cells : List Cell) (rows : List LineOrder) → Group dimensions modes view rows cells → AreApart cells → size_total agg cells ≤ size_of agg rows
-  size_total-rows agg [] rows group apart = omega arith
-  size_total-rows agg (cell ∷ cells) rows group apart =
+  pub sizes-rows : (agg : Agg) (cells : List Cell) (rows : List LineOrder) → Group dimensions modes view rows cells → AreApart cells → sum_by (λ cell. nat_abs (cell_tally agg cell).sum) cells ≤ size_of agg rows
+  sizes-rows agg [] rows group apart = omega arith
+  sizes-rows agg (cell ∷ cells) rows group apart =
       let size = λ (row : LineOrder). nat_abs (number_of agg row) in
       let own = own_rows rows cell cells group apart in
       let others = other_rows rows cell cells group apart in
-      let rest = size_total-rows agg cells others (others_group rows cell cells group apart) apart.1 in
+      let rest = sizes-rows agg cells others (others_group rows cell cells group apart) apart.1 in
       let is = (cell_is dimensions modes view agg own cell (own_cell rows cell cells group apart)).0 in
-      omega (arith, rest, ap (λ (t : Tally). nat_abs t.sum) is, nat_abs-total (number_of agg) own, (all_rows rows cell cells group apart).sums size, sum_by-append size own others)
+      let sizes = sum_by-cons (λ (own : Cell). nat_abs (cell_tally agg own).sum) cell cells in
+      omega (arith, rest, ap (λ (t : Tally). nat_abs t.sum) is, nat_abs-total (number_of agg) own, (all_rows rows cell cells group apart).sums size, sum_by-append size own others, sizes)
 
   -- ---- the cells of a slot
   pub cells_are_rows : (agg : Agg) (slot : ℕ) (cells : List Cell) (group_slots : List (Option ℕ)) (rows before : List LineOrder) → length group_slots ≡ length cells

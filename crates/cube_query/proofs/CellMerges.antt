@@ -1,11 +1,11 @@
--- Cells that are merged into the tallies of a column.
-use Rattle.std.proofs.Common.{◌≡◌, ◌≢◌, ◌∙◌, sym, ap, refl, subst, ℕ, suc, ◌+◌, ◌<◌, ◌≤◌, ◌^◌, pos, ◌+ℤ◌, Bool, true, false, cond, List, [], ◌∷◌, map, length, length-set, drop, get_or, Option, Some, None, arith, slice_set, get_or-set_same, get_or-set_other, below_more}
-use Rattle.std.specs.Prelude.{◌==◌, nat_abs, slice_get}
+-- Cells that are merged into the tallies of columns.
+use Rattle.std.proofs.Common.{◌≡◌, ◌≢◌, ◌∙◌, sym, ap, refl, subst, ℕ, zero, suc, ◌+◌, ◌<◌, ◌≤◌, pos, ◌+ℤ◌, Bool, true, false, cond, List, [], ◌∷◌, ◌++◌, map, length, length-set, take, get_or, Option, Some, None, arith, slice_set, get_or-set_same, get_or-set_other, below_more}
+use Rattle.std.specs.Prelude.{◌==◌, nat_abs}
 use Rattle.std.specs.Int.{int_min, int_max}
-use Rattle.std.specs.List.{list_all}
-use Rattle.std.proofs.Math.ListN.{drop_of_length-le}
+use Rattle.std.specs.List.{sum_by}
 use Rattle.std.proofs.lemmas.Bool.Decides.{nat_tests}
-use Rattle.std.proofs.lemmas.List.{drop_more}
+use Rattle.std.proofs.lemmas.List.{length-map}
+use Rattle.std.proofs.lemmas.List.Sums.{sum_by-cons, sum_by_more_le}
 use Rattle.std.specs.declared.alloc.Global.{Global}
 use Rattle.std.specs.declared.vec.Vec.{Vec}
 use Rattle.cube_model.specs.declared.measure.Agg.{Agg}
@@ -13,13 +13,11 @@ use Rattle.cube_model.specs.declared.measure.Agg.TheVariants.{Count, Sum, Min, M
 use Rattle.cube_model.specs.declared.rows.LineOrder.{LineOrder}
 use Rattle.cuboid_cells.specs.declared.cell.Cell.{Cell}
 use Rattle.cuboid_cells.specs.declared.summary.Summary.{Summary}
-use Rattle.cube_query.specs.CellTallies.{AreBelow, HasRoomForAll, HaveCellRoom, HaveRoomForAll, MergesCells, after_cells, cell_tally, count_in, size_in, with_cell, with_cells}
-use Rattle.cube_query.specs.Columns.{no_tally, tallies_at, tally_at}
-use Rattle.cube_query.specs.Room.{can_take}
+use Rattle.cube_query.specs.CellTallies.{AreBelow, HasRoomFor, HaveRoomFor, MergesCells, after_cells, cell_tally, with_cells}
+use Rattle.cube_query.specs.Columns.{tallies_at, tally_at}
 use Rattle.cube_query.specs.Tallies.{merged, number_of, tallies_of, tally_of}
 use Rattle.cube_query.specs.declared.tally.Tally.{Tally}
-use Rattle.cube_query.proofs.Rooms.{all_take, can_add-apart, can_add-both, each_takes}
-use Rattle.cube_query.proofs.Sums.{FitsSigned-small, nat_abs-+ℤ}
+use Rattle.cube_query.proofs.Sums.{nat_abs-+ℤ}
 
 -- no cell, and nothing of a measure
 abbrev pub nothing : Summary
@@ -32,67 +30,49 @@ no_cell = record {
   measures = record { quantity = nothing; extendedprice = nothing; revenue = nothing; supplycost = nothing; discounted = nothing; profit = nothing };
 }
 
--- ---- one cell after another
-module _ (agg : Agg) where
-  -- a cell that is merged in first
-  pub one_first : (slot : ℕ) (cell : Cell) (cells : List Cell) (group_slot : Option ℕ) (group_slots : List (Option ℕ)) (column : List Tally)
-      → ((own : ℕ) → group_slot ≡ Some own → own < length column)
-      → after_cells agg slot (cell ∷ cells) (group_slot ∷ group_slots) (tally_at column slot)
-      ≡ after_cells agg slot cells group_slots (tally_at (with_cell agg cell group_slot column) slot)
-  one_first slot cell cells None group_slots column within = refl
-  one_first slot cell cells (Some own) group_slots column within =
-      let new = merged (tally_at column own) (cell_tally agg cell) in
-      ap (after_cells agg slot cells group_slots)
-      ((elim (own == slot) as (λ b. (own == slot) ≡ b → cond b (merged (tally_at column slot) (cell_tally agg cell)) (tally_at column slot) ≡ tally_at (slice_set column own new) slot) [
-        | true ↦ λ e.
-            (let same : slot ≡ own = grind (arith, nat_tests) in
-            ap (λ (n : ℕ). merged (tally_at column n) (cell_tally agg cell)) same
-            ∙ sym (ap (tally_at (slice_set column own new)) same ∙ get_or-set_same column own new no_tally (within own refl)))
-        | false ↦ λ e.
-            (let apart : slot ≢ own = grind (arith, nat_tests) in
-            sym (get_or-set_other column own slot new no_tally apart))
-      ]) refl)
+-- ---- one cell more
+module _ (slot : ℕ) where
+  after_cells-push : (agg : Agg) (cells : List Cell) (group_slots : List (Option ℕ)) (cell : Cell) (group_slot : Option ℕ) (tally : Tally) → length group_slots ≡ length cells
+      → after_cells agg slot (cells ++ cell ∷ []) (group_slots ++ group_slot ∷ []) tally ≡ after_cells agg slot (cell ∷ []) (group_slot ∷ []) (after_cells agg slot cells group_slots tally)
+  after_cells-push agg [] [] cell group_slot tally same = refl
+  after_cells-push agg [] (other ∷ group_slots) cell group_slot tally same = absurd (omega (arith, same))
+  after_cells-push agg (first ∷ cells) [] cell group_slot tally same = absurd (omega (arith, same))
+  after_cells-push agg (first ∷ cells) (None ∷ group_slots) cell group_slot tally same = after_cells-push agg cells group_slots cell group_slot tally (omega (arith, same))
+  after_cells-push agg (first ∷ cells) (Some other ∷ group_slots) cell group_slot tally same =
+      after_cells-push agg cells group_slots cell group_slot (cond (other == slot) (merged tally (cell_tally agg first)) tally) (omega (arith, same))
 
-  -- ---- in the loop
-  abbrev pub IsUnderway : List Cell → List (Option ℕ) → List Tally → ℕ → List Tally → Type 0
-  IsUnderway cells group_slots old count now = (length now ≡ length old)
-      × ((slot : ℕ) → after_cells agg slot (drop count cells) (drop count group_slots) (tally_at now slot) ≡ after_cells agg slot cells group_slots (tally_at old slot))
-      × (HaveCellRoom agg cells group_slots old → HaveCellRoom agg (drop count cells) (drop count group_slots) now)
+  pub with_cells-push : (cells : List Cell) (group_slots : List (Option ℕ)) (cell : Cell) (group_slot : Option ℕ) → length group_slots ≡ length cells → (aggs : List Agg) (tallies : List Tally)
+      → with_cells aggs slot (cells ++ cell ∷ []) (group_slots ++ group_slot ∷ []) tallies ≡ with_cells aggs slot (cell ∷ []) (group_slot ∷ []) (with_cells aggs slot cells group_slots tallies)
+  with_cells-push cells group_slots cell group_slot same [] tallies = refl
+  with_cells-push cells group_slots cell group_slot same (agg ∷ aggs) [] = refl
+  with_cells-push cells group_slots cell group_slot same (agg ∷ aggs) (tally ∷ tallies) =
+      let one = after_cells-push agg cells group_slots cell group_slot tally same in
+      let rest = with_cells-push cells group_slots cell group_slot same aggs tallies in
+      λ i. one i ∷ rest i
 
-module _ (agg : Agg) (cells : List Cell) (group_slots : List (Option ℕ)) (same : length group_slots ≡ length cells) (old now : List Tally) (count : ℕ) (h : count < length cells)
-    (underway : IsUnderway agg cells group_slots old count now) where
-  abbrev cell : Cell
-  cell = get_or cells count no_cell
+  -- no cell at all, where there is a tally for each aggregate
+  none_merged : (aggs : List Agg) (tallies : List Tally) → length tallies ≡ length aggs → with_cells aggs slot [] [] tallies ≡ tallies
+  none_merged [] [] same = refl
+  none_merged [] (tally ∷ tallies) same = absurd (omega (arith, same))
+  none_merged (agg ∷ aggs) [] same = absurd (omega (arith, same))
+  none_merged (agg ∷ aggs) (tally ∷ tallies) same = ap (λ (rest : List Tally). tally ∷ rest) (none_merged aggs tallies (omega (arith, same)))
 
-  abbrev group_slot : Option ℕ
-  group_slot = get_or group_slots count None
+  -- and a cell without a slot
+  unslotted : (cell : Cell) (aggs : List Agg) (tallies : List Tally) → length tallies ≡ length aggs → with_cells aggs slot (cell ∷ []) (None ∷ []) tallies ≡ tallies
+  unslotted cell [] [] same = refl
+  unslotted cell [] (tally ∷ tallies) same = absurd (omega (arith, same))
+  unslotted cell (agg ∷ aggs) [] same = absurd (omega (arith, same))
+  unslotted cell (agg ∷ aggs) (tally ∷ tallies) same = ap (λ (rest : List Tally). tally ∷ rest) (unslotted cell aggs tallies (omega (arith, same)))
 
-  left_cells : drop count cells ≡ cell ∷ drop (count + 1) cells
-  left_cells = drop_more cells count no_cell h
+pub columns_as_they_are : (aggs : List Agg) (columns : List (Vec Tally Global)) → length columns ≡ length aggs → (slot : ℕ) → tallies_at columns slot ≡ with_cells aggs slot [] [] (tallies_at columns slot)
+columns_as_they_are aggs columns same slot = sym (none_merged slot aggs (tallies_at columns slot) (length-map columns (λ (column : Vec Tally Global). tally_at column.items slot) ∙ same))
 
-  left_slots : drop count group_slots ≡ group_slot ∷ drop (count + 1) group_slots
-  left_slots = drop_more group_slots count None (omega (arith, h, same))
+pub columns_without_it : (cell : Cell) (aggs : List Agg) (columns : List (Vec Tally Global)) → length columns ≡ length aggs → (slot : ℕ) → tallies_at columns slot ≡ with_cells aggs slot (cell ∷ []) (None ∷ []) (tallies_at columns slot)
+columns_without_it cell aggs columns same slot = sym (unslotted slot cell aggs (tallies_at columns slot) (length-map columns (λ (column : Vec Tally Global). tally_at column.items slot) ∙ same))
 
-  pub room_here : HaveCellRoom agg cells group_slots old → HaveCellRoom agg (cell ∷ drop (count + 1) cells) (group_slot ∷ drop (count + 1) group_slots) now
-  room_here room =
-      subst (λ (cs : List Cell). HaveCellRoom agg cs (group_slot ∷ drop (count + 1) group_slots) now) left_cells
-      (subst (λ (gs : List (Option ℕ)). HaveCellRoom agg (drop count cells) gs now) left_slots (underway.2 room))
-
-  pub one_merged : (new : List Tally) → length new ≡ length now → ((own : ℕ) → group_slot ≡ Some own → own < length now) → new ≡ with_cell agg cell group_slot now → IsUnderway agg cells group_slots old (count + 1) new
-  one_merged new long within is = (
-    long ∙ underway.0,
-    λ slot.
-        ap (λ (column : List Tally). after_cells agg slot (drop (count + 1) cells) (drop (count + 1) group_slots) (tally_at column slot)) is
-        ∙ sym (one_first agg slot cell (drop (count + 1) cells) group_slot (drop (count + 1) group_slots) now within)
-        ∙ (λ i. after_cells agg slot (sym left_cells i) (sym left_slots i) (tally_at now slot))
-        ∙ underway.1 slot,
-    λ room. subst (HaveCellRoom agg (drop (count + 1) cells) (drop (count + 1) group_slots)) (sym is) (room_here room).1,
-  )
-
-pub all_merged : (agg : Agg) (cells : List Cell) (group_slots : List (Option ℕ)) (old now : List Tally) (count : ℕ) → length cells ≤ count → IsUnderway agg cells group_slots old count now
-    → (slot : ℕ) → tally_at now slot ≡ after_cells agg slot cells group_slots (tally_at old slot)
-all_merged agg cells group_slots old now count h underway slot =
-    sym (ap (λ (cs : List Cell). after_cells agg slot cs (drop count group_slots) (tally_at now slot)) (drop_of_length-le cells h)) ∙ underway.1 slot
+pub as_many : (one other : List (Vec Tally Global)) → ((slot : ℕ) → tallies_at one slot ≡ tallies_at other slot) → length one ≡ length other
+as_many one other same =
+    sym (length-map one (λ (column : Vec Tally Global). tally_at column.items 0)) ∙ ap length (same 0) ∙ length-map other (λ (column : Vec Tally Global). tally_at column.items 0)
 
 -- ---- all columns
 
@@ -137,42 +117,6 @@ module _ (cells : List Cell) (group_slots : List (Option ℕ)) where
   all_columns_merged aggs old new n same h done slot =
       merged_each slot aggs old new same (done.same_length ∙ same) (λ k below agg column. done.merged k (omega (arith, below, h)) agg column)
 
--- ---- the sums of the cells that have a slot
-module _ (cells : List Cell) (group_slots : List (Option ℕ)) (same : length group_slots ≡ length cells) (count : ℕ) (h : count < length cells) where
-  here_cells : drop count cells ≡ get_or cells count no_cell ∷ drop (count + 1) cells
-  here_cells = drop_more cells count no_cell h
-
-  here_slots : drop count group_slots ≡ get_or group_slots count None ∷ drop (count + 1) group_slots
-  here_slots = drop_more group_slots count None (omega (arith, h, same))
-
-  pub count_next : count_in (drop count cells) (drop count group_slots)
-      ≡ count_in (get_or cells count no_cell ∷ []) (get_or group_slots count None ∷ []) + count_in (drop (count + 1) cells) (drop (count + 1) group_slots)
-  count_next =
-      (λ i. count_in (here_cells i) (here_slots i))
-      ∙ one (get_or cells count no_cell) (drop (count + 1) cells) (get_or group_slots count None) (drop (count + 1) group_slots)
-    where
-      one : (cell : Cell) (cells : List Cell) (group_slot : Option ℕ) (group_slots : List (Option ℕ))
-          → count_in (cell ∷ cells) (group_slot ∷ group_slots) ≡ count_in (cell ∷ []) (group_slot ∷ []) + count_in cells group_slots
-      one cell cells None group_slots = omega arith
-      one cell cells (Some slot) group_slots = omega arith
-
-  pub size_next : (agg : Agg) → size_in agg (drop count cells) (drop count group_slots)
-      ≡ size_in agg (get_or cells count no_cell ∷ []) (get_or group_slots count None ∷ []) + size_in agg (drop (count + 1) cells) (drop (count + 1) group_slots)
-  size_next agg =
-      (λ i. size_in agg (here_cells i) (here_slots i))
-      ∙ one (get_or cells count no_cell) (drop (count + 1) cells) (get_or group_slots count None) (drop (count + 1) group_slots)
-    where
-      one : (cell : Cell) (cells : List Cell) (group_slot : Option ℕ) (group_slots : List (Option ℕ))
-          → size_in agg (cell ∷ cells) (group_slot ∷ group_slots) ≡ size_in agg (cell ∷ []) (group_slot ∷ []) + size_in agg cells group_slots
-      one cell cells None group_slots = omega arith
-      one cell cells (Some slot) group_slots = omega arith
-
-pub count_past : (cells : List Cell) (group_slots : List (Option ℕ)) (count : ℕ) → length cells ≤ count → count_in (drop count cells) (drop count group_slots) ≡ 0
-count_past cells group_slots count h = ap (λ (cs : List Cell). count_in cs (drop count group_slots)) (drop_of_length-le cells h)
-
-pub size_past : (agg : Agg) (cells : List Cell) (group_slots : List (Option ℕ)) (count : ℕ) → length cells ≤ count → size_in agg (drop count cells) (drop count group_slots) ≡ 0
-size_past agg cells group_slots count h = ap (λ (cs : List Cell). size_in agg cs (drop count group_slots)) (drop_of_length-le cells h)
-
 -- ---- how far a merge goes
 abbrev joined : Tally → Tally → Tally
 joined left right = record {
@@ -209,89 +153,57 @@ cell_count (Min measure) cell = refl
 cell_count (Max measure) cell = refl
 cell_count (Avg measure) cell = refl
 
--- ---- the sums of all cells
-abbrev pub count_total : List Cell → ℕ
-count_total [] = 0
-count_total (cell ∷ cells) = cell.count + count_total cells
+-- ---- room
+after-count : (agg : Agg) (slot : ℕ) (cells : List Cell) (group_slots : List (Option ℕ)) (tally : Tally) → (after_cells agg slot cells group_slots tally).count ≤ tally.count + sum_by (λ cell. cell.count) cells
+after-count agg slot [] group_slots tally = omega arith
+after-count agg slot (cell ∷ cells) [] tally = omega arith
+after-count agg slot (cell ∷ cells) (None ∷ group_slots) tally =
+    omega (arith, after-count agg slot cells group_slots tally, sum_by-cons (λ (own : Cell). own.count) cell cells)
+after-count agg slot (cell ∷ cells) (Some other ∷ group_slots) tally =
+    let new = merged tally (cell_tally agg cell) in
+    let sum = sum_by-cons (λ (own : Cell). own.count) cell cells in
+    elim (other == slot) as (λ b. (after_cells agg slot cells group_slots (cond b new tally)).count ≤ tally.count + sum_by (λ own. own.count) (cell ∷ cells)) [
+      | true ↦ omega (arith, after-count agg slot cells group_slots new, merged-count tally (cell_tally agg cell), cell_count agg cell, sum)
+      | false ↦ omega (arith, after-count agg slot cells group_slots tally, sum)
+    ]
 
-abbrev pub size_total : Agg → List Cell → ℕ
-size_total agg [] = 0
-size_total agg (cell ∷ cells) = nat_abs (cell_tally agg cell).sum + size_total agg cells
+after-size : (agg : Agg) (slot : ℕ) (cells : List Cell) (group_slots : List (Option ℕ)) (tally : Tally)
+    → nat_abs (after_cells agg slot cells group_slots tally).sum ≤ nat_abs tally.sum + sum_by (λ cell. nat_abs (cell_tally agg cell).sum) cells
+after-size agg slot [] group_slots tally = omega arith
+after-size agg slot (cell ∷ cells) [] tally = omega arith
+after-size agg slot (cell ∷ cells) (None ∷ group_slots) tally =
+    omega (arith, after-size agg slot cells group_slots tally, sum_by-cons (λ (own : Cell). nat_abs (cell_tally agg own).sum) cell cells)
+after-size agg slot (cell ∷ cells) (Some other ∷ group_slots) tally =
+    let new = merged tally (cell_tally agg cell) in
+    let sum = sum_by-cons (λ (own : Cell). nat_abs (cell_tally agg own).sum) cell cells in
+    elim (other == slot) as (λ b. nat_abs (after_cells agg slot cells group_slots (cond b new tally)).sum ≤ nat_abs tally.sum + sum_by (λ own. nat_abs (cell_tally agg own).sum) (cell ∷ cells)) [
+      | true ↦ omega (arith, after-size agg slot cells group_slots new, merged-sum tally (cell_tally agg cell), sum)
+      | false ↦ omega (arith, after-size agg slot cells group_slots tally, sum)
+    ]
 
-pub count_in-le : (cells : List Cell) (group_slots : List (Option ℕ)) → count_in cells group_slots ≤ count_total cells
-count_in-le [] group_slots = omega arith
-count_in-le (cell ∷ cells) [] = omega arith
-count_in-le (cell ∷ cells) (None ∷ group_slots) = (let rest = count_in-le cells group_slots in omega (arith, rest))
-count_in-le (cell ∷ cells) (Some slot ∷ group_slots) = (let rest = count_in-le cells group_slots in omega (arith, rest))
+-- tallies that have room for cells have it for each of them behind those before
+module _ (cells : List Cell) (place : ℕ) (h : place < length cells) (slot : ℕ) (group_slots : List (Option ℕ)) where
+  one_next : (agg : Agg) (tally : Tally) → HasRoomFor agg cells tally → HasRoomFor agg (get_or cells place no_cell ∷ []) (after_cells agg slot (take place cells) group_slots tally)
+  one_next agg tally room =
+      let count = λ (cell : Cell). cell.count in
+      let size = λ (cell : Cell). nat_abs (cell_tally agg cell).sum in
+      let cell = get_or cells place no_cell in
+      record {
+        few = omega (arith, room.few, after-count agg slot (take place cells) group_slots tally, sum_by_more_le count cells place no_cell h, sum_by-cons count cell []);
+        small = omega (arith, room.small, after-size agg slot (take place cells) group_slots tally, sum_by_more_le size cells place no_cell h, sum_by-cons size cell []);
+      }
 
-pub size_in-le : (agg : Agg) (cells : List Cell) (group_slots : List (Option ℕ)) → size_in agg cells group_slots ≤ size_total agg cells
-size_in-le agg [] group_slots = omega arith
-size_in-le agg (cell ∷ cells) [] = omega arith
-size_in-le agg (cell ∷ cells) (None ∷ group_slots) = (let rest = size_in-le agg cells group_slots in omega (arith, rest))
-size_in-le agg (cell ∷ cells) (Some slot ∷ group_slots) = (let rest = size_in-le agg cells group_slots in omega (arith, rest))
+  pub room_next : (aggs : List Agg) (tallies : List Tally) → HaveRoomFor aggs cells tallies → HaveRoomFor aggs (get_or cells place no_cell ∷ []) (with_cells aggs slot (take place cells) group_slots tallies)
+  room_next [] tallies room = tt
+  room_next (agg ∷ aggs) [] room = tt
+  room_next (agg ∷ aggs) (tally ∷ tallies) room = (one_next agg tally room.0, room_next aggs tallies room.1)
 
--- each slot lies in the column, and its tally can take all cells
-abbrev pub CanTakeAll : Agg → List Cell → List (Option ℕ) → List Tally → Type 0
-CanTakeAll agg cells group_slots column = (place slot : ℕ) → slice_get group_slots place ≡ Some (Some slot)
-    → (slot < length column) × (((tally_at column slot).count + count_in cells group_slots < 2 ^ 63) × (nat_abs (tally_at column slot).sum + size_in agg cells group_slots < 2 ^ 63))
-
-pub cell_room : (agg : Agg) (cells : List Cell) (group_slots : List (Option ℕ)) (column : List Tally) → CanTakeAll agg cells group_slots column → HaveCellRoom agg cells group_slots column
-cell_room agg [] group_slots column can = tt
-cell_room agg (cell ∷ cells) [] column can = tt
-cell_room agg (cell ∷ cells) (None ∷ group_slots) column can = (
-  tt,
-  cell_room agg cells group_slots column (λ place slot at. can (suc place) slot at),
-)
-cell_room agg (cell ∷ cells) (Some own ∷ group_slots) column can =
-    let here = can 0 own refl in
-    let tally = cell_tally agg cell in
-    let before = tally_at column own in
-    let new = merged before tally in
-    let count = merged-count before tally in
-    let sum = merged-sum before tally in
-    let counted = cell_count agg cell in (
-      (omega (arith, here.1.0), FitsSigned-small (before.sum +ℤ tally.sum) (omega (arith, here.1.1, nat_abs-+ℤ before.sum tally.sum))),
-      cell_room agg cells group_slots (slice_set column own new) (λ place slot at.
-          let low = can (suc place) slot at in
-          let long = length-set column own new in
-          (elim (own == slot) as (λ b. (own == slot) ≡ b → (slot < length (slice_set column own new)) × (((tally_at (slice_set column own new) slot).count + count_in cells group_slots < 2 ^ 63) × (nat_abs (tally_at (slice_set column own new) slot).sum + size_in agg cells group_slots < 2 ^ 63))) [
-            | true ↦ λ e.
-                (let same : slot ≡ own = grind (arith, nat_tests) in
-                let is : tally_at (slice_set column own new) slot ≡ new = ap (tally_at (slice_set column own new)) same ∙ get_or-set_same column own new no_tally here.0 in (
-                  omega (arith, low.0, long),
-                  (omega (arith, here.1.0, count, counted, ap (λ (t : Tally). t.count) is), omega (arith, here.1.1, sum, ap (λ (t : Tally). nat_abs t.sum) is)),
-                ))
-            | false ↦ λ e.
-                (let apart : slot ≢ own = grind (arith, nat_tests) in
-                let is : tally_at (slice_set column own new) slot ≡ tally_at column slot = get_or-set_other column own slot new no_tally apart in (
-                  omega (arith, low.0, long),
-                  (omega (arith, low.1.0, ap (λ (t : Tally). t.count) is), omega (arith, low.1.1, ap (λ (t : Tally). nat_abs t.sum) is)),
-                ))
-          ]) refl),
-    )
-
--- ---- what the tests say together
-module _ (agg : Agg) (cells : List Cell) (group_slots : List (Option ℕ)) (column : List Tally) (count : ℕ) (count_is : count ≡ count_in cells group_slots) (size : ℕ) (size_is : size ≡ size_in agg cells group_slots) where
-  pub room_there : count < 2 ^ 63 → size < 2 ^ 63 → list_all (λ group_slot. can_take column group_slot count size) group_slots ≡ true → HasRoomForAll agg cells group_slots column
-  room_there few small all = record {
-    few = omega (arith, few, count_is);
-    small = omega (arith, small, size_is);
-    each = λ place slot at.
-        let here = each_takes column count size group_slots all place slot at in
-        let apart = can_add-apart (tally_at column slot) count size here.1 in
-        (here.0, (omega (arith, apart.0, count_is), omega (arith, apart.1, size_is)));
-  }
-
-  pub room_taken : HasRoomForAll agg cells group_slots column → list_all (λ group_slot. can_take column group_slot count size) group_slots ≡ true
-  room_taken room = all_take column count size group_slots (λ place slot at.
-      let here = room.each place slot at in
-      (here.0, can_add-both (tally_at column slot) count size (omega (arith, here.1.0, count_is)) (omega (arith, here.1.1, size_is))))
-
--- the room that the next column has, in the loop
-pub room_now : (aggs : List Agg) (cells : List Cell) (group_slots : List (Option ℕ)) (old now : List (Vec Tally Global)) (n : ℕ) → n < length aggs → HaveRoomForAll aggs cells group_slots old
-    → AreMergedBelow n aggs cells group_slots old now → (agg : Agg) (column : Vec Tally Global) → HasRoomForAll (get_or aggs n agg) cells group_slots (get_or now n column).items
-room_now aggs cells group_slots old now n h room below agg column =
-    subst (λ (c : Vec Tally Global). HasRoomForAll (get_or aggs n agg) cells group_slots c.items) (sym (below.kept n (omega arith) column)) (room n h agg column)
+pub room_in : (slot : ℕ) (cells : List Cell) (aggs : List Agg) (columns : List (Vec Tally Global)) → length columns ≡ length aggs → HaveRoomFor aggs cells (tallies_at columns slot)
+    → (k : ℕ) → k < length aggs → (agg : Agg) (column : Vec Tally Global) → HasRoomFor (get_or aggs k agg) cells (tally_at (get_or columns k column).items slot)
+room_in slot cells [] columns same room k h agg column = absurd (omega (arith, h))
+room_in slot cells (first ∷ aggs) [] same room k h agg column = absurd (omega (arith, same))
+room_in slot cells (first ∷ aggs) (one ∷ columns) same room zero h agg column = room.0
+room_in slot cells (first ∷ aggs) (one ∷ columns) same room (suc k) h agg column = room_in slot cells aggs columns (omega (arith, same)) room.1 k (omega (arith, h)) agg column
 
 -- ---- a slot of no cell
 untouched : (agg : Agg) (slot bound : ℕ) (cells : List Cell) (group_slots : List (Option ℕ)) (tally : Tally) → AreBelow bound group_slots → bound ≤ slot

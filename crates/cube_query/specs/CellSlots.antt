@@ -1,6 +1,9 @@
 -- The slots of the groups of cells. Our own.
-use Rattle.std.specs.Prelude.{ℕ, Option, List}
+use Rattle.std.specs.Prelude.{◌≡◌, ℕ, Option, List, [], ◌∷◌}
 use Rattle.std.specs.List.{Contains}
+use Rattle.std.specs.declared.alloc.Global.{Global}
+use Rattle.std.specs.declared.vec.Vec.{Vec}
+use Rattle.cube_model.specs.declared.measure.Agg.{Agg}
 use Rattle.cube_model.specs.declared.query.Query.{Query}
 use Rattle.cube_model.specs.declared.rows.DimRows.{DimRows}
 use Rattle.cube_model.specs.declared.rows.LineOrder.{LineOrder}
@@ -8,7 +11,10 @@ use Rattle.cuboid_cells.specs.declared.cell.Cell.{Cell}
 use Rattle.lattice.specs.declared.view.View.{View}
 use Rattle.cuboid_upkeep.specs.CellNumbers.{AskedOfCells}
 use Rattle.cuboid_upkeep.specs.StandIns.{AreStandIns, IsStandIn}
+use Rattle.cube_query.specs.CellTallies.{with_cells}
+use Rattle.cube_query.specs.Columns.{tallies_at}
 use Rattle.cube_query.specs.FoldInvariant.{AreGroupSlots, IsGroupSlot}
+use Rattle.cube_query.specs.declared.tally.Tally.{Tally}
 
 -- a query over dimensions that is asked of the cells of a view
 abbrev pub asked_of : DimRows → Query → View → List (List ℕ) → AskedOfCells
@@ -26,8 +32,26 @@ pub record AreCellSlots (asked : AskedOfCells) (entries : List (ℕ × ℕ)) (ce
   pub stand : AreStandIns asked.dimensions asked.modes asked.view cells rows
   pub slots : AreGroupSlots asked.dimensions asked.query entries rows group_slots
 
--- no row stands in for one of the cells
+-- a cell is merged into columns at the slot of its group, if its rows are selected
+pub record IsMergedIn (asked : AskedOfCells) (aggs : List Agg) (entries : List (ℕ × ℕ)) (cell : Cell)
+    (old new : List (Vec Tally Global)) : Type 0 where
+  pub group_slot : Option ℕ
+  pub own : IsCellSlot asked entries cell group_slot
+  pub merged : (slot : ℕ) → tallies_at new slot ≡ with_cells aggs slot (cell ∷ []) (group_slot ∷ []) (tallies_at old slot)
+
+-- cells are, one after another
+pub record AreMergedIn (asked : AskedOfCells) (aggs : List Agg) (entries : List (ℕ × ℕ)) (cells : List Cell)
+    (old new : List (Vec Tally Global)) : Type 0 where
+  pub group_slots : List (Option ℕ)
+  pub slots : AreCellSlots asked entries cells group_slots
+  pub merged : (slot : ℕ) → tallies_at new slot ≡ with_cells aggs slot cells group_slots (tallies_at old slot)
+
+-- no row stands in for a cell
+abbrev pub HasNoStandIn : AskedOfCells → Cell → Type 0
+HasNoStandIn asked cell = (row : LineOrder) → IsStandIn asked.dimensions asked.modes asked.view cell row → ⊥
+
+-- and so it is with one of the cells
 pub record HaveNoStandIn (asked : AskedOfCells) (cells : List Cell) : Type 0 where
   pub cell : Cell
   pub among : Contains cells cell
-  pub none : (row : LineOrder) → IsStandIn asked.dimensions asked.modes asked.view cell row → ⊥
+  pub none : HasNoStandIn asked cell

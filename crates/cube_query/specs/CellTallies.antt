@@ -1,7 +1,6 @@
 -- Cells of a cuboid as tallies, merged into those at the slots of their groups. Our own.
-use Rattle.std.specs.Prelude.{◌≡◌, ℕ, ◌+◌, ◌^◌, ◌<◌, ◌≤◌, ◌==◌, true, cond, pos, nat_abs, ◌+ℤ◌, FitsSigned, List, [], ◌∷◌, length, slice_get, slice_set, slice_index_or, Option, Some, None}
-use Rattle.std.specs.Int.{w64}
-use Rattle.std.specs.List.{list_all, sum_by}
+use Rattle.std.specs.Prelude.{◌≡◌, ℕ, ◌+◌, ◌^◌, ◌<◌, ◌==◌, cond, pos, nat_abs, List, [], ◌∷◌, slice_get, Option, Some, None}
+use Rattle.std.specs.List.{sum_by}
 use Rattle.std.specs.declared.alloc.Global.{Global}
 use Rattle.std.specs.declared.vec.Vec.{Vec}
 use Rattle.cube_model.specs.declared.measure.Agg.{Agg}
@@ -11,10 +10,9 @@ use Rattle.cube_model.specs.declared.measure.Measure.TheVariants.{Quantity, Exte
 use Rattle.cuboid_cells.specs.declared.cell.Cell.{Cell}
 use Rattle.cuboid_cells.specs.declared.summary.Summaries.{Summaries}
 use Rattle.cuboid_cells.specs.declared.summary.Summary.{Summary}
-use Rattle.cube_query.specs.Columns.{tally_at}
-use Rattle.cube_query.specs.Room.{can_take}
+use Rattle.cube_query.specs.Columns.{tallies_at, tally_at}
+use Rattle.cube_query.specs.Slots.{slot_of}
 use Rattle.cube_query.specs.Tallies.{merged}
-use Rattle.cube_query.specs.declared.cell_columns.Weight.{Weight}
 use Rattle.cube_query.specs.declared.tally.Tally.{Tally}
 
 -- what is kept of a measure
@@ -50,24 +48,6 @@ after_cells agg slot (cell ∷ cells) (None ∷ group_slots) tally = after_cells
 after_cells agg slot (cell ∷ cells) (Some other ∷ group_slots) tally =
     after_cells agg slot cells group_slots (cond (other == slot) (merged tally (cell_tally agg cell)) tally)
 
--- a column with a cell merged in at its slot
-abbrev pub with_cell : Agg → Cell → Option ℕ → List Tally → List Tally
-with_cell agg cell None column = column
-with_cell agg cell (Some slot) column = slice_set column slot (merged (tally_at column slot) (cell_tally agg cell))
-
--- the tally at the slot of a cell can take it
-abbrev pub HasCellRoom : Agg → Cell → Option ℕ → List Tally → Type 0
-HasCellRoom agg cell None column = Unit {0}
-HasCellRoom agg cell (Some slot) column =
-    ((tally_at column slot).count + cell.count < 2 ^ 63) × FitsSigned w64 ((tally_at column slot).sum +ℤ (cell_tally agg cell).sum)
-
--- and can take each in turn
-abbrev pub HaveCellRoom : Agg → List Cell → List (Option ℕ) → List Tally → Type 0
-HaveCellRoom agg [] group_slots column = Unit {0}
-HaveCellRoom agg (cell ∷ cells) [] column = Unit {0}
-HaveCellRoom agg (cell ∷ cells) (group_slot ∷ group_slots) column =
-    HasCellRoom agg cell group_slot column × HaveCellRoom agg cells group_slots (with_cell agg cell group_slot column)
-
 -- slots lie below a bound
 abbrev pub AreBelow : ℕ → List (Option ℕ) → Type 0
 AreBelow bound group_slots = (place slot : ℕ) → slice_get group_slots place ≡ Some (Some slot) → slot < bound
@@ -83,49 +63,17 @@ with_cells (agg ∷ aggs) slot cells group_slots [] = []
 with_cells (agg ∷ aggs) slot cells group_slots (tally ∷ tallies) =
     after_cells agg slot cells group_slots tally ∷ with_cells aggs slot cells group_slots tallies
 
--- how many rows the cells that have a slot stand for
-abbrev pub count_in : List Cell → List (Option ℕ) → ℕ
-count_in [] group_slots = 0
-count_in (cell ∷ cells) [] = 0
-count_in (cell ∷ cells) (None ∷ group_slots) = count_in cells group_slots
-count_in (cell ∷ cells) (Some slot ∷ group_slots) = cell.count + count_in cells group_slots
+-- a tally has room for cells: for their rows, and for the absolute values of their sums
+pub record HasRoomFor (agg : Agg) (cells : List Cell) (tally : Tally) : Type 0 where
+  pub few : tally.count + sum_by (λ cell. cell.count) cells < 2 ^ 63
+  pub small : nat_abs tally.sum + sum_by (λ cell. nat_abs (cell_tally agg cell).sum) cells < 2 ^ 63
 
--- the absolute values of their sums together
-abbrev pub size_in : Agg → List Cell → List (Option ℕ) → ℕ
-size_in agg [] group_slots = 0
-size_in agg (cell ∷ cells) [] = 0
-size_in agg (cell ∷ cells) (None ∷ group_slots) = size_in agg cells group_slots
-size_in agg (cell ∷ cells) (Some slot ∷ group_slots) = nat_abs (cell_tally agg cell).sum + size_in agg cells group_slots
+-- and so it is with tallies, one for each aggregate
+abbrev pub HaveRoomFor : List Agg → List Cell → List Tally → Type 0
+HaveRoomFor [] cells tallies = Unit {0}
+HaveRoomFor (agg ∷ aggs) cells [] = Unit {0}
+HaveRoomFor (agg ∷ aggs) cells (tally ∷ tallies) = HasRoomFor agg cells tally × HaveRoomFor aggs cells tallies
 
--- the slot of each cell lies in the column, and its tally can take all cells that have a slot
-pub record HasRoomForAll (agg : Agg) (cells : List Cell) (group_slots : List (Option ℕ)) (column : List Tally) : Type 0 where
-  pub few : count_in cells group_slots < 2 ^ 63
-  pub small : size_in agg cells group_slots < 2 ^ 63
-  pub each : (place slot : ℕ) → slice_get group_slots place ≡ Some (Some slot) → (slot < length column)
-      × (((tally_at column slot).count + count_in cells group_slots < 2 ^ 63)
-      × (nat_abs (tally_at column slot).sum + size_in agg cells group_slots < 2 ^ 63))
-
--- and so it is in each column
-abbrev pub HaveRoomForAll : List Agg → List Cell → List (Option ℕ) → List (Vec Tally Global) → Type 0
-HaveRoomForAll aggs cells group_slots columns = (k : ℕ) → k < length aggs → (agg : Agg) (column : Vec Tally Global)
-    → HasRoomForAll (slice_index_or aggs k agg) cells group_slots (slice_index_or columns k column).items
-
--- no less than what the cells that have a slot add to tallies: their rows, and the absolute values of their sums by each aggregate
-pub record AreWithin (aggs : List Agg) (cells : List Cell) (group_slots : List (Option ℕ)) (weight : Weight) : Type 0 where
-  pub count : count_in cells group_slots ≤ weight.count
-  pub sizes : (k : ℕ) → k < length aggs → (agg : Agg) → size_in (slice_index_or aggs k agg) cells group_slots ≤ weight.size
-
--- so it is unless the cells weigh more than a tally holds
-abbrev pub IsMost : List Agg → List Cell → List (Option ℕ) → Weight → Type 0
-IsMost aggs cells group_slots weight = weight.count < 2 ^ 63 → weight.size < 2 ^ 63 → AreWithin aggs cells group_slots weight
-
--- no less than what cells add to tallies wherever they have their slots, each number unless it is more than a tally holds
-pub record IsAtLeast (aggs : List Agg) (cells : List Cell) (weight : Weight) : Type 0 where
-  pub count : weight.count < 2 ^ 63 → sum_by (λ cell. cell.count) cells ≤ weight.count
-  pub sizes : weight.size < 2 ^ 63 → (k : ℕ) → k < length aggs → (agg : Agg)
-      → sum_by (λ cell. nat_abs (cell_tally (slice_index_or aggs k agg) cell).sum) cells ≤ weight.size
-
--- the tallies of all columns at slots can take so many numbers more, whose absolute values have a sum
-abbrev pub AllTake : List (Vec Tally Global) → List (Option ℕ) → ℕ → ℕ → Type 0
-AllTake columns group_slots count size = (k : ℕ) → k < length columns → (column : Vec Tally Global)
-    → list_all (λ group_slot. can_take (slice_index_or columns k column).items group_slot count size) group_slots ≡ true
+-- the tallies of each group that has a slot have room for cells
+abbrev pub GroupsHaveRoomFor : List (ℕ × ℕ) → List Agg → List Cell → List (Vec Tally Global) → Type 0
+GroupsHaveRoomFor entries aggs cells columns = (number slot : ℕ) → slot_of entries number ≡ Some slot → HaveRoomFor aggs cells (tallies_at columns slot)

@@ -7,8 +7,3 @@ use Rattle.cube_query.specs.declared.tally.Tally.{Tally}
 abbrev pub can_take : List Tally → Option ℕ → ℕ → ℕ → Bool
 can_take column None count size = true
 can_take column (Some slot) count size = nat_lt slot (length column) && can_add (tally_at column slot) count size
-
--- the slot, if there is one, lies below a bound
-abbrev pub is_within : ℕ → Option ℕ → Bool
-is_within bound None = true
-is_within bound (Some slot) = nat_lt slot bound

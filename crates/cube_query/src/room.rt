@@ -3,7 +3,7 @@ ghost use Rattle.std.specs.Prelude.{◌≡◌, ◌↔◌, ◌≤◌, ◌<◌, �
 ghost use Rattle.std.specs.List.{list_all};
 ghost use Rattle.cube_query.specs.Columns.{can_add, chosen, size_of, HasRoom};
 ghost use Rattle.cube_query.specs.FoldInvariant.{HaveRoom};
-ghost use Rattle.cube_query.specs.Room.{can_take, is_within};
+ghost use Rattle.cube_query.specs.Room.{can_take};
 ghost use Rattle.group_plan.specs.Rows.{row_at};
 
 use crate::columns::number_at;
@@ -70,44 +70,12 @@ fn size_at<F: FactRows>(agg: Agg, rows: &F, place: usize, group_slot: Option<u32
 }
 
 // Whether the tally at each of the slots can take so many numbers more, whose absolute values have a sum.
-pub(crate) fn all_can_take(
-    column: &[Tally],
-    group_slots: &[Option<u32>],
-    count: u64,
-    size: u64,
-) -> bool
+fn all_can_take(column: &[Tally], group_slots: &[Option<u32>], count: u64, size: u64) -> bool
     ensures { result ≡ list_all (λ group_slot. can_take column.now group_slot count size) group_slots.now }
 {
     group_slots
         .iter()
         .all(|group_slot| can_take(column, *group_slot, count, size))
-}
-
-/// The same, mostly by the whole column from its front on, where it is not longer than the slots are many.
-pub fn slots_can_take(column: &[Tally], group_slots: &[Option<u32>], count: u64, size: u64) -> bool
-    ensures { result ≡ list_all (λ group_slot. can_take column.now group_slot count size) group_slots.now }
-{
-    (column.len() <= group_slots.len()
-        && all_within(column.len(), group_slots)
-        && all_can_add(column, count, size))
-        || all_can_take(column, group_slots, count, size)
-}
-
-// Whether each slot is a place of a column.
-fn all_within(length: usize, group_slots: &[Option<u32>]) -> bool
-    ensures { result ≡ list_all (is_within length) group_slots.now }
-{
-    group_slots.iter().all(|group_slot| match group_slot {
-        None => true,
-        Some(slot) => (*slot as usize) < length,
-    })
-}
-
-// Whether each tally of a column can take so many numbers more.
-fn all_can_add(column: &[Tally], count: u64, size: u64) -> bool
-    ensures { result ≡ list_all (λ tally. can_add tally count size) column.now }
-{
-    column.iter().all(|tally| can_add(tally, count, size))
 }
 
 // Whether the tally at a slot, if there is one, can take so many numbers more.

@@ -8,8 +8,8 @@ ghost use Rattle.cube_model.specs.Selection.{is_selected};
 ghost use Rattle.cube_model.specs.declared.rows.DimRows.{DimRows};
 ghost use Rattle.cube_model.specs.declared.rows.LineOrder.{LineOrder};
 ghost use Rattle.cube_query.specs.Asked.{asked_columns};
-ghost use Rattle.cube_query.specs.CellSlots.{AreCellSlots, asked_of};
-ghost use Rattle.cube_query.specs.CellTallies.{IsMost};
+ghost use Rattle.cube_query.specs.CellSlots.{AreMergedIn, asked_of};
+ghost use Rattle.cube_query.specs.CellTallies.{GroupsHaveRoomFor};
 ghost use Rattle.cube_query.specs.Columns.{tallies_at};
 ghost use Rattle.cube_query.specs.Groups.{StandsFor, Begins, CanTake, IsFoldOver, IsFoldable, IsOver, Takes};
 ghost use Rattle.group_plan.specs.Numbers.{group_count, IsKnown};
@@ -22,8 +22,7 @@ ghost use Rattle.cuboid_upkeep.specs.Grouping.{StandFor};
 ghost use Rattle.lattice.specs.Determined.{Serves};
 
 use crate::asked::asked_columns;
-use crate::cell_columns::merge_where_room;
-use crate::cell_slots::{SlottedCells, cell_slots_of};
+use crate::cell_slots::with_cells;
 use crate::chosen_rows::ChosenRows;
 use crate::columns::{count_in_all, make_room, no_columns};
 use crate::finish::answer_lines;
@@ -148,8 +147,8 @@ impl Fold {
     ///
     /// The view has to serve the query. The fifth codes of cells are places among the modes, which only a view that groups
     /// by ship mode looks at. `BadLayout` says that the cells stand for no rows that can be taken: a code is
-    /// that of no member, or the sums with them pass their limit. All memory is taken before the first cell is counted:
-    /// some for new groups, and for the time of the call some for each cell and each member of the view's levels.
+    /// that of no member, or the sums with them pass their limit. Each cell is read once. It takes memory for new groups,
+    /// and for the time of the call some for each group and each member of the view's levels.
     pub fn add_cells(
         &mut self,
         dims: &Dims,
@@ -168,19 +167,12 @@ impl Fold {
         ensures only { IfErr result (λ fault. (fault ≡ Fault.Memory) ⊎ (fault ≡ Fault.BadLayout)) }
     {
         one_key_one_group(dims);
-        let columns = &mut self.columns;
         let slots = &mut self.slots;
-        let slotted = ready_for_cells(self.alloc, dims, &self.plan, slots, columns, cells, modes)?;
-        let aggregates = self.plan.query().aggregates.as_slice();
-        if !merge_where_room(
-            columns.as_mut_slice(),
-            aggregates,
-            cells.as_slice(),
-            slotted.group_slots.as_slice(),
-            slotted.weight,
-        ) {
-            return Err(Fault::BadLayout);
-        }
+        let columns = self.columns.as_slice();
+        let merged = columns_with_cells(
+            self.alloc, dims, &self.plan, slots, columns, cells, modes,
+        )?;
+        self.columns = merged;
         Ok(())
     }
 
@@ -323,58 +315,28 @@ fn ready<F: FactRows>(
     Ok(group_slots)
 }
 
-// Makes all ready for cells to be merged in: the slots of their groups, and a place for each slot. Nothing is merged yet.
-fn ready_for_cells(
+// The columns of a fold with cells merged in, beside those that they are made from. Numbers of groups that have no slot are
+// given one.
+fn columns_with_cells(
     alloc: Global,
     dims: &Dims,
     plan: &Plan,
     slots: &mut Slots,
-    columns: &mut Vec<Vec<Tally>>,
+    columns: &[Vec<Tally>],
     cells: &Cells,
     modes: Option<&Dictionary>,
-) -> Result<SlottedCells, Fault>
+) -> Result<Vec<Vec<Tally>>, Fault>
     requires over { IsPlanOver dims.now plan.now }
     requires numbers { AreSlots (group_count dims.now (query_of plan.now).columns) (entries_of slots.old) }
     requires cover { Cover (group_count dims.now (query_of plan.now).columns) slots.old }
-    ensures group_slots { IfOk result (λ slotted. AreCellSlots (asked_of dims.now (query_of plan.now) cells.now.view
-        (modes_of (option_map (λ modes. modes.now) modes.entry))) (entries_of slots.new) cells.now.cells slotted.group_slots.items) }
-    ensures most { IfOk result (λ slotted.
-        IsMost (query_of plan.now).aggregates cells.now.cells slotted.group_slots.items slotted.weight) }
+    requires columns { length columns.now ≡ length (query_of plan.now).aggregates }
+    ensures merged { IfOk result (λ merged. AreMergedIn (asked_of dims.now (query_of plan.now) cells.now.view
+        (modes_of (option_map (λ modes. modes.now) modes.entry))) (query_of plan.now).aggregates (entries_of slots.new)
+        cells.now.cells columns.now merged.items) }
     ensures refused { result ≡ Err Fault.BadLayout → (rows : List LineOrder)
         → StandFor dims.now (modes_of (option_map (λ modes. modes.now) modes.entry)) rows cells.now
-        → All (IsKnown dims.now) rows → ⊥ }
-    ensures only { IfErr result (λ fault. (fault ≡ Fault.Memory) ⊎ (fault ≡ Fault.BadLayout)) }
-    ensures long { OnOk result (AllByRecursion (λ column. length (entries_of slots.new) ≤ length column.items)
-        columns.new.items) }
-    ensures same { (slot : ℕ) → tallies_at columns.new.items slot ≡ tallies_at columns.old.items slot }
-    ensures cover { Cover (group_count dims.now (query_of plan.now).columns) slots.new }
-    ensures grow { Grow (group_count dims.now (query_of plan.now).columns) (entries_of slots.old)
-        (entries_of slots.new) }
-{
-    let slotted = slots_of_cells(alloc, dims, plan, slots, cells, modes)?;
-    make_room(columns, slots)?;
-    Ok(slotted)
-}
-
-// The slots of the groups of cells. Those that have none are given one.
-fn slots_of_cells(
-    alloc: Global,
-    dims: &Dims,
-    plan: &Plan,
-    slots: &mut Slots,
-    cells: &Cells,
-    modes: Option<&Dictionary>,
-) -> Result<SlottedCells, Fault>
-    requires over { IsPlanOver dims.now plan.now }
-    requires numbers { AreSlots (group_count dims.now (query_of plan.now).columns) (entries_of slots.old) }
-    requires cover { Cover (group_count dims.now (query_of plan.now).columns) slots.old }
-    ensures group_slots { IfOk result (λ slotted. AreCellSlots (asked_of dims.now (query_of plan.now) cells.now.view
-        (modes_of (option_map (λ modes. modes.now) modes.entry))) (entries_of slots.new) cells.now.cells slotted.group_slots.items) }
-    ensures most { IfOk result (λ slotted.
-        IsMost (query_of plan.now).aggregates cells.now.cells slotted.group_slots.items slotted.weight) }
-    ensures refused { result ≡ Err Fault.BadLayout → (rows : List LineOrder)
-        → StandFor dims.now (modes_of (option_map (λ modes. modes.now) modes.entry)) rows cells.now
-        → All (IsKnown dims.now) rows → ⊥ }
+        → All (IsKnown dims.now) rows
+        → GroupsHaveRoomFor (entries_of slots.new) (query_of plan.now).aggregates cells.now.cells columns.now → ⊥ }
     ensures only { IfErr result (λ fault. (fault ≡ Fault.Memory) ⊎ (fault ≡ Fault.BadLayout)) }
     ensures cover { Cover (group_count dims.now (query_of plan.now).columns) slots.new }
     ensures grow { Grow (group_count dims.now (query_of plan.now).columns) (entries_of slots.old)
@@ -384,7 +346,7 @@ fn slots_of_cells(
     let cells = cells.as_slice();
     let numbers = CellNumbers::of(alloc, dims, plan, view, modes)?;
     let aggregates = plan.query().aggregates.as_slice();
-    cell_slots_of(alloc, &numbers, slots, aggregates, cells)
+    with_cells(alloc, &numbers, slots, columns, aggregates, cells)
 }
 
 // Makes all ready for the one group of a query: its slot, and a place for each slot. Nothing is counted yet.

@@ -24,9 +24,11 @@ use Rattle.dictionary.proofs.CallerLemmas.{text_at_place}
 use Rattle.cuboid_upkeep.specs.CellNumbers.{AreTables, AskedOfCells, IsCellNumber}
 use Rattle.cuboid_upkeep.specs.Codes.{IsMode, mode_code}
 use Rattle.cuboid_upkeep.specs.Grouping.{HasMembers, StandFor, cell_over, key_of, rows_of}
-use Rattle.cuboid_upkeep.specs.MemberParts.{AreParts, IsOfRow, IsPartAt, part_by, part_in}
+use Rattle.cuboid_upkeep.specs.MemberParts.{AreParts, IsOfRow, IsPartAt, given_by, part_by, part_in}
 use Rattle.cuboid_upkeep.specs.StandIns.{AreKeysOf, HasCode, HaveAllCodes, IsCodeOfMode, IsStandIn, key_at, stand_in}
 use Rattle.cuboid_upkeep.specs.declared.member_keys.MemberKeys.{MemberKeys}
+use Rattle.cuboid_upkeep.specs.declared.member_parts.MemberPart.{MemberPart}
+use Rattle.cuboid_upkeep.specs.declared.member_parts.MemberPart.TheVariants.{NoMember}
 use Rattle.cuboid_upkeep.specs.declared.member_parts.MemberParts.{MemberParts}
 use Rattle.cuboid_upkeep.proofs.Sorted.{ascending_apart, only_one}
 
@@ -160,7 +162,7 @@ module _ (asked : AskedOfCells) (within : Bool) (customers suppliers parts dates
 
 -- ---- the parts of members, one after another
 pub parts_behind : (dimensions : DimRows) (query : Query) (axis : Axis) (level : Level) (keys : MemberKeys) (parts : MemberParts) → AreKeysOf dimensions axis level keys → HaveAllCodes dimensions axis level keys
-    → parts.every ≡ part_by dimensions query axis keys.every → parts.members.items ≡ map (part_by dimensions query axis) keys.members.items → AreParts dimensions query axis level parts
+    → given_by parts.every ≡ part_by dimensions query axis keys.every → map given_by parts.members.items ≡ map (part_by dimensions query axis) keys.members.items → AreParts dimensions query axis level parts
 parts_behind dimensions query axis level keys parts sound whole every members code =
     subst (IsPartAt dimensions query axis level code) (sym here) (at (key_at keys code) (sound code) (λ key has. whole key code has))
   where
@@ -169,10 +171,15 @@ parts_behind dimensions query axis level keys parts sound whole every members co
     at_place (first ∷ list) zero = refl
     at_place (first ∷ list) (suc place) = at_place list place
 
+    given_at_place : (list : List MemberPart) (place : ℕ) → get_or (map given_by list) place None ≡ given_by (get_or list place NoMember)
+    given_at_place [] place = refl
+    given_at_place (first ∷ list) zero = refl
+    given_at_place (first ∷ list) (suc place) = given_at_place list place
+
     here : part_in parts code ≡ part_by dimensions query axis (key_at keys code)
-    here = elim (code == all_code) as (λ b. cond b parts.every (get_or parts.members.items code None) ≡ part_by dimensions query axis (cond b keys.every (get_or keys.members.items code None))) [
+    here = elim (code == all_code) as (λ b. given_by (cond b parts.every (get_or parts.members.items code NoMember)) ≡ part_by dimensions query axis (cond b keys.every (get_or keys.members.items code None))) [
       | true ↦ every
-      | false ↦ ap (λ (all : List (Option (Option ℕ))). get_or all code None) members ∙ at_place keys.members.items code
+      | false ↦ sym (given_at_place parts.members.items code) ∙ ap (λ (all : List (Option (Option ℕ))). get_or all code None) members ∙ at_place keys.members.items code
     ]
 
     at : (key : Option ℕ) → ((own : ℕ) → key ≡ Some own → HasCode dimensions axis level own code) → ((own : ℕ) → HasCode dimensions axis level own code → key ≡ None → ⊥)

@@ -9,6 +9,8 @@ use Rattle.group_plan.specs.Parts.{given_at}
 use Rattle.lattice.specs.declared.level.Level.{Level}
 use Rattle.cuboid_cells.specs.Limits.{all_code}
 use Rattle.cuboid_upkeep.specs.StandIns.{HasCode}
+use Rattle.cuboid_upkeep.specs.declared.member_parts.MemberPart.{MemberPart}
+use Rattle.cuboid_upkeep.specs.declared.member_parts.MemberPart.TheVariants.{NoMember, Nothing, Part}
 use Rattle.cuboid_upkeep.specs.declared.member_parts.MemberParts.{MemberParts}
 
 -- a key, if there is one, is that of a row
@@ -19,9 +21,15 @@ IsOfRow dimensions axis key = IfSome key (λ own. row_index_of dimensions axis o
 abbrev pub part_by : DimRows → Query → Axis → Option ℕ → Option (Option ℕ)
 part_by dimensions query axis key = option_map (λ own. given_at dimensions query axis (row_index_of dimensions axis own)) key
 
--- what stands at a code
+-- what rows with a member give, if there is a member
+abbrev pub given_by : MemberPart → Option (Option ℕ)
+given_by NoMember = None
+given_by Nothing = Some None
+given_by (Part part) = Some (Some part)
+
+-- what those with the member of a code give
 abbrev pub part_in : MemberParts → ℕ → Option (Option ℕ)
-part_in parts code = cond (code == all_code) parts.every (slice_index_or parts.members.items code None)
+part_in parts code = given_by (cond (code == all_code) parts.every (slice_index_or parts.members.items code NoMember))
 
 -- what stands at the code of a member is what a row with the member gives; nothing stands where no member has the code
 abbrev pub IsPartAt : DimRows → Query → Axis → Level → ℕ → Option (Option ℕ) → Type 0

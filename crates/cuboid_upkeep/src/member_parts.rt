@@ -1,6 +1,6 @@
 //! What the members of a level give to the numbers of groups.
 ghost use Rattle.std.specs.Prelude.{◌≡◌, All, IfOk, map};
-ghost use Rattle.cuboid_upkeep.specs.MemberParts.{AreParts, IsOfRow, part_by, part_in};
+ghost use Rattle.cuboid_upkeep.specs.MemberParts.{AreParts, IsOfRow, given_by, part_by, part_in};
 
 use crate::member_keys::keys_of_members;
 use cube_model::Axis;
@@ -10,14 +10,37 @@ use group_plan::PlanOver;
 use lattice::Level;
 use std::alloc::{AllocError, Global};
 
+/// What the rows with the member of a code give to the number of a group.
+#[derive(Clone, Copy, Debug, PartialEq, Eq)]
+pub enum MemberPart {
+    /// No member has the code.
+    NoMember,
+    /// Nothing: a condition does not hold.
+    Nothing,
+    /// A part of the number.
+    Part(u128),
+}
+
+impl MemberPart {
+    // What the rows give, if there is a member.
+    #[inline]
+    fn given(self) -> Option<Option<u128>>
+        ensures { result ≡ given_by self }
+    {
+        match self {
+            MemberPart::NoMember => None,
+            MemberPart::Nothing => Some(None),
+            MemberPart::Part(part) => Some(Some(part)),
+        }
+    }
+}
+
 /// By the codes of a level's members, what a row with the member gives to the number of a group.
-///
-/// At a code that no member has stands nothing, and at that of a member which fails a condition a part that is nothing.
 pub struct MemberParts {
     /// What stands at the code of every member together.
-    pub every: Option<Option<u128>>,
+    pub every: MemberPart,
     /// What stands at each other code.
-    pub members: Vec<Option<Option<u128>>>,
+    pub members: Vec<MemberPart>,
 }
 
 // Written out, so that a proof has one call to follow where the parts are let go.
@@ -31,16 +54,16 @@ impl Drop for MemberParts {
 }
 
 impl MemberParts {
-    // What stands at a code.
+    // What the rows with the member of a code give, if there is a member.
     #[inline]
     pub(crate) fn at(&self, code: u16) -> Option<Option<u128>>
         ensures { result ≡ part_in self.now code }
     {
         if code == ALL_CODE {
-            return self.every;
+            return self.every.given();
         }
         match self.members.get(usize::from(code)) {
-            Some(part) => *part,
+            Some(part) => part.given(),
             None => None,
         }
     }
@@ -71,9 +94,10 @@ fn parts_by_code(
     plan: &PlanOver,
     axis: Axis,
     keys: &[Option<u32>],
-) -> Result<Vec<Option<Option<u128>>>, AllocError>
+) -> Result<Vec<MemberPart>, AllocError>
     requires { All (IsOfRow plan.now.dimensions axis) keys.now }
-    ensures { IfOk result (λ parts. parts.items ≡ map (part_by plan.now.dimensions plan.now.query axis) keys.now) }
+    ensures { IfOk result (λ parts.
+        map given_by parts.items ≡ map (part_by plan.now.dimensions plan.now.query axis) keys.now) }
 {
     let mut parts = Vec::with_capacity(alloc, keys.len())?;
     for key in keys {
@@ -83,12 +107,15 @@ fn parts_by_code(
 }
 
 // What the row with a key gives, if there is a key.
-fn part_of(plan: &PlanOver, axis: Axis, key: Option<u32>) -> Option<Option<u128>>
+fn part_of(plan: &PlanOver, axis: Axis, key: Option<u32>) -> MemberPart
     requires { IsOfRow plan.now.dimensions axis key }
-    ensures { result ≡ part_by plan.now.dimensions plan.now.query axis key }
+    ensures { given_by result ≡ part_by plan.now.dimensions plan.now.query axis key }
 {
-    match key {
-        None => None,
-        Some(key) => Some(plan.part(axis, key)),
+    let Some(key) = key else {
+        return MemberPart::NoMember;
+    };
+    match plan.part(axis, key) {
+        None => MemberPart::Nothing,
+        Some(part) => MemberPart::Part(part),
     }
 }

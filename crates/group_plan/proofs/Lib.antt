@@ -1,4 +1,5 @@
 pub mod AtPlaces
+pub mod DigitsOn
 pub mod EachDigit
 pub mod Extending
 pub mod Filtering

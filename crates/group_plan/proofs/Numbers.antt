@@ -209,7 +209,7 @@ module _ (dimensions : DimRows) (row : LineOrder) where
       )
 
 -- ---- what one place adds is less than there are groups, where there are any
-is_same-same : (left right : Axis) → is_same left right ≡ true → left ≡ right
+pub is_same-same : (left right : Axis) → is_same left right ≡ true → left ≡ right
 is_same-same Customer Customer e = refl
 is_same-same Customer Supplier e = absurd (true≢false (sym e))
 is_same-same Customer Part e = absurd (true≢false (sym e))

@@ -5,7 +5,7 @@ use Rattle.cube_model.specs.declared.attr.Attr.{Attr}
 use Rattle.group_plan.specs.Parts.{room_of}
 
 -- five columns have numbers of 80 bits
-pub room_bound : (columns : List Attr) → length columns ≤ 5 → room_of columns ≤ 2 ^ 80
+room_bound : (columns : List Attr) → length columns ≤ 5 → room_of columns ≤ 2 ^ 80
 room_bound [] few = omega arith
 room_bound (a ∷ []) few = omega arith
 room_bound (a ∷ b ∷ []) few = omega arith
@@ -15,7 +15,7 @@ room_bound (a ∷ b ∷ c ∷ d ∷ e ∷ []) few = omega arith
 room_bound (a ∷ b ∷ c ∷ d ∷ e ∷ f ∷ columns) few = absurd (omega (arith, few))
 
 -- one digit more
-pub product_bound : (digit count : ℕ) (columns : List Attr) → digit ≤ 65536 → count ≤ room_of columns → digit * count ≤ 65536 * room_of columns
+product_bound : (digit count : ℕ) (columns : List Attr) → digit ≤ 65536 → count ≤ room_of columns → digit * count ≤ 65536 * room_of columns
 product_bound digit count columns small within = mul-le digit count 65536 (room_of columns) small within
 
 pub product_fits : (digit count : ℕ) (columns : List Attr) → digit ≤ 65536 → count ≤ room_of columns → length columns ≤ 5 → digit * count < 2 ^ 97

@@ -1,7 +1,7 @@
 -- What the row at a place of a dimension says of a query: whether its conditions hold there, and what it adds to the
 -- number of a group. Our own.
 use Rattle.std.specs.Prelude.{ℕ, ◌+◌, ◌*◌, ◌&&◌, ◌||◌, nat_le, Bool, true, false, if◌then◌else◌, Option, Some, None, List, [], ◌∷◌}
-use Rattle.std.specs.List.{list_any, list_all, position_or_len}
+use Rattle.std.specs.List.{list_any, list_all, position_or_len, sum_by}
 use Rattle.std.specs.Str.{bytes_eq}
 use Rattle.cube_model.specs.declared.attr.Attr.{Attr}
 use Rattle.cube_model.specs.declared.attr.Axis.{Axis}
@@ -15,6 +15,7 @@ use Rattle.cube_model.specs.Attributes.{axis_of, key_on}
 use Rattle.cube_model.specs.Places.{attr_members, row_index_of, text_at}
 use Rattle.cube_model.specs.Selection.{text_le}
 use Rattle.group_plan.specs.Numbers.{group_count}
+use Rattle.group_plan.specs.declared.digits.Digit.{Digit}
 
 -- two dimensions are one
 abbrev pub is_same : Axis → Axis → Bool
@@ -50,6 +51,18 @@ part_at dimensions axis place [] = 0
 part_at dimensions axis place (column ∷ columns) =
     (if is_same (axis_of column) axis then rank_at dimensions column place * group_count dimensions columns else 0)
     + part_at dimensions axis place columns
+
+-- the digits that a dimension has in the numbers of groups: for each of its columns, in order, what a rank there counts
+abbrev pub digits_on : DimRows → Axis → List Attr → List Digit
+digits_on dimensions axis [] = []
+digits_on dimensions axis (column ∷ columns) =
+    if is_same (axis_of column) axis
+    then record { attr = column; weight = group_count dimensions columns } ∷ digits_on dimensions axis columns
+    else digits_on dimensions axis columns
+
+-- what a place adds to the number of a group by some digits: the rank there at each of them
+abbrev pub part_by : DimRows → ℕ → List Digit → ℕ
+part_by dimensions place digits = sum_by (λ digit. rank_at dimensions digit.attr place * digit.weight) digits
 
 -- what a place gives: nothing where a condition does not hold
 abbrev pub given_at : DimRows → Query → Axis → ℕ → Option ℕ

@@ -4,10 +4,10 @@ ghost use Rattle.std.specs.List.{list_any, range_with_len};
 ghost use Rattle.cube_model.specs.Attributes.{axis_of};
 ghost use Rattle.cube_model.specs.Places.{row_index_of, row_count_of};
 ghost use Rattle.group_plan.specs.Numbers.{group_count};
-ghost use Rattle.group_plan.specs.Parts.{given_at, is_on, is_same, is_used};
+ghost use Rattle.group_plan.specs.Parts.{digits_on, given_at, is_on, is_same, is_used};
 ghost use Rattle.group_plan.specs.Plans.{IsShut, IsSide, gives};
 
-use crate::digits::Digits;
+use crate::digits::{Digit, part_by};
 use crate::places::{all_hold_at, is_same};
 use cube_model::{Attr, Axis, Cond, Query};
 use dimensions::Dims;
@@ -125,10 +125,11 @@ fn narrow_parts(
     requires narrow { group_count dims.now query.now.columns ≤ 2 ^ 32 }
     ensures { IfOk result (λ parts. parts.items ≡ map (given_at dims.now query.now axis) (range_with_len 0 (row_count_of dims.now axis))) }
 {
+    let digits = Digit::all_on(alloc, dims, axis, query.columns.as_slice())?;
     let count = dims.row_count(axis);
     let mut parts = Vec::with_capacity(alloc, count)?;
     for place in 0..count {
-        parts.push(narrow(given_at(dims, query, axis, place)))?;
+        parts.push(narrow(given_at(dims, query, axis, digits.as_slice(), place)))?;
     }
     Ok(parts)
 }
@@ -140,13 +141,15 @@ fn wide_parts(
     query: &Query,
     axis: Axis,
 ) -> Result<Vec<Option<u128>>, AllocError>
-    requires { length query.now.columns ≤ 6 }
+    requires few { length query.now.columns ≤ 6 }
+    requires fits { group_count dims.now query.now.columns < 2 ^ 128 }
     ensures { IfOk result (λ parts. parts.items ≡ map (given_at dims.now query.now axis) (range_with_len 0 (row_count_of dims.now axis))) }
 {
+    let digits = Digit::all_on(alloc, dims, axis, query.columns.as_slice())?;
     let count = dims.row_count(axis);
     let mut parts = Vec::with_capacity(alloc, count)?;
     for place in 0..count {
-        parts.push(given_at(dims, query, axis, place))?;
+        parts.push(given_at(dims, query, axis, digits.as_slice(), place))?;
     }
     Ok(parts)
 }
@@ -181,14 +184,15 @@ fn is_on(condition: &Cond, axis: Axis) -> bool
     }
 }
 
-// What the row at a place gives.
-fn given_at(dims: &Dims, query: &Query, axis: Axis, place: usize) -> Option<u128>
+// What the row at a place gives, by the digits of its dimension.
+fn given_at(dims: &Dims, query: &Query, axis: Axis, digits: &[Digit], place: usize) -> Option<u128>
     requires place { place < row_count_of dims.now axis }
-    requires few { length query.now.columns ≤ 6 }
+    requires digits { digits.now ≡ digits_on dims.now axis query.now.columns }
+    requires fits { group_count dims.now query.now.columns < 2 ^ 128 }
     ensures { result ≡ given_at dims.now query.now axis place }
 {
     if all_hold_at(dims, axis, place, query.conditions.as_slice()) {
-        Some(Digits::at(dims, axis, place, query.columns.as_slice()).part)
+        Some(part_by(dims, place, digits))
     } else {
         None
     }

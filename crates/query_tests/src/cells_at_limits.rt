@@ -202,6 +202,7 @@ pub static OTHER_LIMITS: [Case; 3] = [
         offers: &[GREATEST_OFFER, GREATEST_OFFER],
         lines: "3|1140|\n",
     },
+    // A loss behind the greatest that there may be, and gains behind it.
     Case {
         asked: LOSSES,
         before: &[],
@@ -212,13 +213,20 @@ pub static OTHER_LIMITS: [Case; 3] = [
                 ..LOSS_OFFER
             },
             Offer {
-                is_taken: false,
-                ..SAMPLE
+                cells: &[Written {
+                    kept: Kept {
+                        profit: [-GREATEST - 1, -GREATEST - 1, -GREATEST - 1],
+                        ..LOSS_KEPT
+                    },
+                    ..FIRST_DAY
+                }],
+                ..REFUSED
             },
+            SAMPLE,
         ],
-        lines: "1|-9223372036854775807|\n",
+        lines: "4|-9223372036854775092|\n",
     },
-    // More rows than a fold counts, and a sum below the least.
+    // More rows than a fold counts.
     Case {
         asked: LOSSES,
         before: &FACTS,
@@ -233,16 +241,6 @@ pub static OTHER_LIMITS: [Case; 3] = [
             Offer {
                 cells: &[Written {
                     count: 9_223_372_036_854_775_805,
-                    ..FIRST_DAY
-                }],
-                ..REFUSED
-            },
-            Offer {
-                cells: &[Written {
-                    kept: Kept {
-                        profit: [-GREATEST - 1, -GREATEST - 1, -GREATEST - 1],
-                        ..LOSS_KEPT
-                    },
                     ..FIRST_DAY
                 }],
                 ..REFUSED

@@ -1,5 +1,4 @@
-use Rattle.std.proofs.Common.{◌≡◌, ◌∙◌, sym, subst, arith, ◌<◌, ◌^◌, Some, None}
-use Rattle.cube_model.specs.declared.attr.Axis.TheVariants.{Customer, Supplier, Part, Date}
+use Rattle.std.proofs.Common.{◌∙◌, subst, arith, ◌<◌, ◌^◌}
 use Rattle.group_plan.specs.Numbers.{Asked, group_count}
 use Rattle.group_plan.proofs.Outcomes.{no_customer, no_supplier, no_part, no_date, number_by_parts}
 use Rattle.group_plan.proofs.over.PlanOver.number_by.Goals as goal
