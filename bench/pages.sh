@@ -1,5 +1,5 @@
 #!/bin/sh
-# Runs the commands of README.md and of the tour, each page in an empty folder, one behind the other as they are printed there, and
+# Runs the commands of README.md and of each page of the tour's folder, each page in an empty folder, in order, and
 # compares what each prints. At the top of the repository, once crates/ssbcube/out/ssbcube is built: sh bench/pages.sh
 #
 # A command stands behind '$ ', and what it prints in the lines behind it.
@@ -12,7 +12,7 @@ scratch=$(mktemp -d)
 trap 'rm -r "$scratch"' EXIT
 bad=0
 
-for page in README.md crates/user_pages/data/TOUR.md; do
+for page in README.md crates/user_pages/data/*.md; do
     name=$(basename "$page" .md)
     mkdir "$scratch/$name" "$scratch/$name/folder"
     awk -v folder="$scratch/$name" '

@@ -1,5 +1,5 @@
 //! The commands of the program.
-use crate::{create, cube, eval, load, report, status};
+use crate::{create, cube, cuboids, eval, load, report, status};
 use clap::Command;
 use std::alloc::{AllocError, Global};
 
@@ -22,6 +22,7 @@ pub fn command<'a>(alloc: Global) -> Result<Command<'a>, AllocError> {
     let mut commands = Vec::new(alloc);
     push_loading(alloc, &mut commands)?;
     push_asking(alloc, &mut commands)?;
+    push_cuboids(alloc, &mut commands)?;
     program(alloc).subcommands(commands)
 }
 
@@ -47,6 +48,13 @@ fn push_asking<'a>(alloc: Global, commands: &mut Vec<Command<'a>>) -> Result<(),
     push(commands, report::words(alloc))?;
     push(commands, cube::words(alloc))?;
     push(commands, status::words(alloc))
+}
+
+// Adds the commands of stored cuboids. It can only fail for want of memory.
+fn push_cuboids<'a>(alloc: Global, commands: &mut Vec<Command<'a>>) -> Result<(), AllocError> {
+    push(commands, cuboids::choose_words(alloc))?;
+    push(commands, cuboids::upkeep_words(alloc))?;
+    push(commands, cuboids::audit_words(alloc))
 }
 
 // Puts a command behind others, where there was memory for its words.

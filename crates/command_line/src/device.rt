@@ -1,12 +1,14 @@
 //! The file of a warehouse.
+use crate::contents::{Contents, contents_of};
 use crate::refusal::Met;
 use clap::ArgMatches;
 use cube_model::Fault;
 use dimensions::Dims;
-use file_device::{FileDisk, Host, Unread};
+use file_device::{Existing, FileDisk, Host, LockFile, Made, OpenError, Unread};
 use sector_cache::Cached;
 use std::alloc::Global;
 use std::fs::{self, OpenFile};
+use std::io::{self, ErrorKind};
 use std::os::unix::fs::FileExt;
 use std::rt::Files;
 use warehouse::Session;
@@ -17,31 +19,51 @@ pub type Device<F> = Cached<FileDisk<Host<F>, Unread>>;
 /// The sectors that the cache has room for, 512 KiB.
 const CACHED_SECTORS: u32 = 1024;
 
-/// Makes a warehouse without batches in a file, which is made where it is absent.
+/// What a command does with the file of its warehouse.
+#[derive(Clone, Copy)]
+pub enum Access {
+    /// It reads and writes it, with a lock against all other programs.
+    Commit,
+    /// It only reads it, with a lock against programs that write it.
+    Read,
+}
+
+/// Makes a warehouse without batches in a file, which is made where it is absent. At a refusal such a file is removed again, if
+/// nothing was committed in it.
 pub fn create<R: Files + AllocGlobal>(
     rt: &R,
     path: &str,
     sectors: u32,
+    existing: Existing,
     dims: Dims,
 ) -> Result<(), Met>
 where
-    R::File: FileExt,
+    R::File: FileExt + LockFile,
 {
-    let disk = FileDisk::make(rt, path, sectors)?;
-    let _session = session_made(rt.alloc(), disk, dims)?;
-    keep_name(rt, path);
-    Ok(())
+    let Made { disk, is_new } = FileDisk::make(rt, path, sectors, existing)?;
+    let device = match Cached::new(rt.alloc(), disk, CACHED_SECTORS) {
+        Ok(device) => device,
+        Err((fault, _locked)) => {
+            take_back(rt, path, is_new);
+            return Err(Met::from(fault));
+        }
+    };
+    match warehouse::create(rt.alloc(), device, dims) {
+        Ok(_session) => {
+            keep_name(rt, path);
+            Ok(())
+        }
+        Err((fault, device)) => {
+            take_back(rt, path, is_new);
+            Err(met_by(fault, &device))
+        }
+    }
 }
 
-// Makes a warehouse without batches on a disk, behind a cache.
-fn session_made<F: FileExt + OpenFile + Drop>(
-    alloc: Global,
-    disk: FileDisk<Host<F>, Unread>,
-    dims: Dims,
-) -> Result<Session<Device<F>>, Met> {
-    match warehouse::create(alloc, cached(alloc, disk)?, dims) {
-        Ok(session) => Ok(session),
-        Err((fault, device)) => Err(met_by(fault, &device)),
+// Removes a file that is new and in which nothing was committed. Its lock is still held.
+fn take_back<R: Files>(rt: &R, path: &str, is_new: bool) {
+    if is_new && contents_of(rt, path) == Contents::Nothing {
+        let _removed = fs::remove_file(rt, path);
     }
 }
 
@@ -61,11 +83,38 @@ fn keep_name<R: Files>(rt: &R, path: &str) {
 pub fn open<R: Files + AllocGlobal>(
     rt: &R,
     given: &ArgMatches<'_>,
+    access: Access,
 ) -> Result<Session<Device<R::File>>, Met>
 where
-    R::File: FileExt,
+    R::File: FileExt + LockFile,
 {
-    let disk = FileDisk::open(rt, path_of(given))?;
+    match access {
+        Access::Commit => open_to_commit(rt, path_of(given)),
+        Access::Read => open_to_read(rt, path_of(given)),
+    }
+}
+
+/// Opens the warehouse in a file for reading and writing. No other program may have it open.
+pub fn open_to_commit<R: Files + AllocGlobal>(
+    rt: &R,
+    path: &str,
+) -> Result<Session<Device<R::File>>, Met>
+where
+    R::File: FileExt + LockFile,
+{
+    let disk = FileDisk::open(rt, path)?;
+    session_on(rt.alloc(), disk)
+}
+
+/// Opens the warehouse in a file for reading alone. No other program may have it open for writing.
+pub fn open_to_read<R: Files + AllocGlobal>(
+    rt: &R,
+    path: &str,
+) -> Result<Session<Device<R::File>>, Met>
+where
+    R::File: FileExt + LockFile,
+{
+    let disk = FileDisk::open_to_read(rt, path)?;
     session_on(rt.alloc(), disk)
 }
 
@@ -74,7 +123,11 @@ fn session_on<F: FileExt + OpenFile + Drop>(
     alloc: Global,
     disk: FileDisk<Host<F>, Unread>,
 ) -> Result<Session<Device<F>>, Met> {
-    match warehouse::open(alloc, cached(alloc, disk)?) {
+    let device = match Cached::new(alloc, disk, CACHED_SECTORS) {
+        Ok(device) => device,
+        Err((fault, _)) => return Err(Met::from(fault)),
+    };
+    match warehouse::open(alloc, device) {
         Ok(session) => Ok(session),
         Err((fault, device)) => Err(met_by(fault, &device)),
     }
@@ -88,20 +141,36 @@ pub fn met_by<F: FileExt + OpenFile + Drop>(fault: Fault, device: &Device<F>) ->
     }
 }
 
+impl From<OpenError> for Met {
+    fn from(error: OpenError) -> Met {
+        Met {
+            failure: failure_of(error),
+            ..Met::from(Fault::from(error))
+        }
+    }
+}
+
+// What is said of a file that was not opened.
+fn failure_of(error: OpenError) -> Option<io::Error> {
+    match error {
+        OpenError::System(error) => Some(error),
+        OpenError::Locked => Some(io::Error::new(
+            ErrorKind::WouldBlock,
+            "another program has it open",
+        )),
+        OpenError::NotRegular => Some(io::Error::new(
+            ErrorKind::InvalidInput,
+            "not a regular file",
+        )),
+        OpenError::Length => None,
+        OpenError::NotBlank => None,
+    }
+}
+
 /// The file of the warehouse.
 pub fn path_of<'w>(given: &ArgMatches<'w>) -> &'w str {
     match given.get_str("device") {
         Some(path) => path,
         None => "",
-    }
-}
-
-fn cached<F: FileExt + OpenFile + Drop>(
-    alloc: Global,
-    disk: FileDisk<Host<F>, Unread>,
-) -> Result<Device<F>, Fault> {
-    match Cached::new(alloc, disk, CACHED_SECTORS) {
-        Ok(device) => Ok(device),
-        Err((fault, _)) => Err(fault),
     }
 }

@@ -1,31 +1,34 @@
 //! What is wrong with the file of a warehouse.
+use crate::contents::{Contents, contents_of};
+use crate::create::sectors_of;
 use crate::device::path_of;
 use clap::ArgMatches;
 use cube_model::Fault;
-use file_device::sectors_of;
 use std::alloc::Global;
-use std::fs::{self, OpenOptions};
-use std::io;
 use std::rt::Files;
+use std::{fs, io};
 
 /// The bytes of a sector.
 const SECTOR: u64 = 512;
 
-/// What stands behind a refusal of the file of a warehouse, as one line without its end.
+/// What is known of a refusal of the file of a warehouse, as one line without its end.
 pub fn device_hint<R: Files + AllocGlobal>(
     rt: &R,
     given: &ArgMatches<'_>,
     fault: Fault,
 ) -> Result<Option<String>, Fault> {
+    if let Some(file) = swapped_file(rt, given, fault) {
+        let path = path_of(given);
+        let said = format!(in rt.alloc();
+            "{path}: not a warehouse, and {file} is one: are DEV and FILE swapped?"
+        )?;
+        return Ok(Some(said));
+    }
     match fault {
         Fault::DeviceSize => size_hint(rt, given),
         Fault::Full => room_hint(rt.alloc(), given),
-        Fault::NotFormatted => said(
-            rt.alloc(),
-            given,
-            "no warehouse stands there; ssbcube create makes one",
-        ),
-        Fault::AlreadyFormatted => said(rt.alloc(), given, "a warehouse stands there already"),
+        Fault::NotFormatted => said(rt.alloc(), given, missing(rt, given)),
+        Fault::AlreadyFormatted => present_hint(rt, given),
         Fault::BadLayout => said(
             rt.alloc(),
             given,
@@ -40,25 +43,57 @@ fn said(alloc: Global, given: &ArgMatches<'_>, what: &str) -> Result<Option<Stri
     Ok(Some(said))
 }
 
-/// Why a call of the file failed: what the system said, or else says when the file is opened again.
-pub fn failure_hint<R: Files + AllocGlobal>(
+// The table file of a load, where that is a warehouse and its device is none.
+fn swapped_file<'w, R: Files + AllocGlobal>(
+    rt: &R,
+    given: &ArgMatches<'w>,
+    fault: Fault,
+) -> Option<&'w str> {
+    let file = given.get_str("lineorder")?;
+    let is_none = fault == Fault::DeviceSize || fault == Fault::NotFormatted;
+    if is_none && contents_of(rt, file) == Contents::Warehouse {
+        Some(file)
+    } else {
+        None
+    }
+}
+
+// What is said of a file without a valid superblock.
+fn missing<R: Files>(rt: &R, given: &ArgMatches<'_>) -> &'static str {
+    if contents_of(rt, path_of(given)) == Contents::Nothing {
+        "no warehouse is there; ssbcube create makes one"
+    } else {
+        "it is no warehouse, or its first two sectors are damaged"
+    }
+}
+
+// What is said of a file in which `create` makes no warehouse.
+fn present_hint<R: Files + AllocGlobal>(
+    rt: &R,
+    given: &ArgMatches<'_>,
+) -> Result<Option<String>, Fault> {
+    let path = path_of(given);
+    if contents_of(rt, path) == Contents::Warehouse {
+        return said(rt.alloc(), given, "a warehouse stands there already");
+    }
+    let hint = format!(in rt.alloc();
+        "{path} is no empty file: its first sectors hold something that is not a warehouse; --overwrite replaces it"
+    )?;
+    Ok(Some(hint))
+}
+
+/// Why a call of the file failed, where the system said so.
+pub fn failure_hint<R: AllocGlobal>(
     rt: &R,
     given: &ArgMatches<'_>,
     failure: Option<io::Error>,
 ) -> Result<Option<String>, Fault> {
     let path = path_of(given);
-    let said = match failure.or_else(|| unopened(rt, given)) {
+    let said = match failure {
         Some(error) => format!(in rt.alloc(); "{path}: {error}")?,
         None => format!(in rt.alloc(); "{path}: the system refused a call for it")?,
     };
     Ok(Some(said))
-}
-
-fn unopened<R: Files>(rt: &R, given: &ArgMatches<'_>) -> Option<io::Error> {
-    let mut how = OpenOptions::new();
-    let is_created = given.get_str("sectors").is_some();
-    let how = how.read(true).write(true).create(is_created);
-    how.open(rt, path_of(given)).err()
 }
 
 fn size_hint<R: Files + AllocGlobal>(
@@ -70,7 +105,7 @@ fn size_hint<R: Files + AllocGlobal>(
         Ok(metadata) => metadata.len(),
         Err(_) => 0,
     };
-    match given.get_one::<u32>("sectors") {
+    match sectors_of(given) {
         Some(sectors) => wanted_hint(rt.alloc(), path, bytes, sectors),
         None => found_hint(rt.alloc(), path, bytes),
     }
@@ -83,7 +118,7 @@ fn wanted_hint(
     sectors: u32,
 ) -> Result<Option<String>, Fault> {
     let wanted = u64::from(sectors) * SECTOR;
-    let said = if sectors_of(wanted).is_err() {
+    let said = if file_device::sectors_of(wanted).is_err() {
         format!(in alloc; "--sectors {sectors}: a warehouse has 64 to 4294967295 sectors")?
     } else {
         format!(in alloc; "{path}: has {bytes} bytes, and {sectors} sectors have {wanted}")?
@@ -92,7 +127,7 @@ fn wanted_hint(
 }
 
 fn found_hint(alloc: Global, path: &str, bytes: u64) -> Result<Option<String>, Fault> {
-    let said = if sectors_of(bytes).is_err() {
+    let said = if file_device::sectors_of(bytes).is_err() {
         format!(in alloc; "{path}: {bytes} bytes are no 64 or more whole sectors of 512 bytes")?
     } else {
         format!(in alloc; "{path}: {bytes} bytes are fewer or more than it was created with")?
@@ -102,7 +137,7 @@ fn found_hint(alloc: Global, path: &str, bytes: u64) -> Result<Option<String>, F
 
 fn room_hint(alloc: Global, given: &ArgMatches<'_>) -> Result<Option<String>, Fault> {
     let path = path_of(given);
-    let said = match given.get_str("sectors") {
+    let said = match sectors_of(given) {
         Some(sectors) => {
             format!(in alloc; "{path}: {sectors} sectors have no room for the dimension tables")?
         }

@@ -1,6 +1,7 @@
 //! The command `eval`.
 use crate::exit::DONE;
 use crate::files::{DimensionFiles, open, open_dimensions};
+use crate::notes::note_conditions;
 use crate::options::{CUBE_HELP, cube_words, described, dimension_tables, option};
 use crate::output::{is_closed, output, unwritten};
 use crate::progress::Progress;
@@ -9,7 +10,8 @@ use crate::refusal::{Met, Refusal, explained};
 use crate::screens::Screens;
 use clap::{ArgMatches, Command};
 use cube_model::{Fault, Query};
-use ssb_eval::eval_texts;
+use dimensions::Dims;
+use ssb_eval::eval_keeping_dims;
 use std::alloc::{AllocError, Global};
 use std::io::{self, Read};
 use std::rt::{Clock, Files};
@@ -51,8 +53,8 @@ pub fn eval<R: Files + AllocGlobal + Print + Eprint + Clock>(
     }
 }
 
-// Writes the report of a query over the files of its tables, and gives the status of the program.
-fn answer<R: Files + AllocGlobal + Print, F: Read + Drop, L: Read + Drop>(
+// Writes the report of a query over the files of its tables and the notes on its conditions, and gives the status of the program.
+fn answer<R: Files + AllocGlobal + Print + Eprint, F: Read + Drop, L: Read + Drop>(
     rt: &R,
     given: &ArgMatches<'_>,
     query: &Query,
@@ -61,7 +63,10 @@ fn answer<R: Files + AllocGlobal + Print, F: Read + Drop, L: Read + Drop>(
 ) -> Result<u8, Refusal> {
     let mut out = output(rt)?;
     match report(rt.alloc(), query, dimensions, lineorder, &mut out) {
-        Ok(()) => Ok(DONE),
+        Ok(dims) => {
+            note_conditions(rt, given, &dims);
+            Ok(DONE)
+        }
         Err(fault) => not_done(rt, given, fault, out.failure()),
     }
 }
@@ -91,18 +96,19 @@ fn opened<R: Files + AllocGlobal>(
     Ok((query, dimensions, lineorder))
 }
 
+// Writes the report, and gives the dimensions.
 fn report<F: Read + Drop, L: Read + Drop, W: io::Write>(
     alloc: Global,
     query: &Query,
     dimensions: DimensionFiles<F>,
     lineorder: L,
     out: &mut W,
-) -> Result<(), Fault> {
+) -> Result<Dims, Fault> {
     let DimensionFiles {
         customer,
         supplier,
         part,
         date,
     } = dimensions;
-    eval_texts(alloc, customer, supplier, part, date, lineorder, query, out)
+    eval_keeping_dims(alloc, customer, supplier, part, date, lineorder, query, out)
 }

@@ -40,6 +40,11 @@ pub fn open<R: Files>(rt: &R, given: &ArgMatches<'_>, name: &str) -> Result<R::F
     }
 }
 
+/// Whether a load reads standard input.
+pub fn is_standard_input(given: &ArgMatches<'_>) -> bool {
+    given.get_str("device").is_some() && given.get_str("lineorder") == Some("-")
+}
+
 /// The words of a command, and the system whose files they name.
 #[derive(Drop)]
 pub struct GivenFiles<'r, 'g, 'w, R> {
@@ -52,6 +57,7 @@ impl<R: Files> TableFiles for GivenFiles<'_, '_, '_, R> {
 
     fn path(&self, table: Table) -> &str {
         match self.given.get_str(table.name()) {
+            Some("-") if is_standard_input(self.given) => "standard input",
             Some(path) => path,
             None => "",
         }
@@ -59,6 +65,9 @@ impl<R: Files> TableFiles for GivenFiles<'_, '_, '_, R> {
 
     // Only a regular file is the same when it is read again.
     fn open(&self, table: Table) -> Option<R::File> {
+        if is_standard_input(self.given) {
+            return None;
+        }
         let path = self.given.get_str(table.name())?;
         let file = fs::open(self.rt, path).ok()?;
         if file.metadata().ok()?.is_file() {
@@ -72,6 +81,9 @@ impl<R: Files> TableFiles for GivenFiles<'_, '_, '_, R> {
 impl<R: Files> GivenFiles<'_, '_, '_, R> {
     /// The first file that cannot be opened or read, and what the system says.
     pub fn unreadable(&self, alloc: Global) -> Result<Option<String>, Fault> {
+        if is_standard_input(self.given) {
+            return Ok(Some(format!(in alloc; "standard input: a read failed")?));
+        }
         for table in Table::ALL {
             if let Some(path) = self.given.get_str(table.name()) {
                 if let Some(error) = first_error(self.rt, path) {

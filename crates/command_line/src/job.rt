@@ -1,12 +1,14 @@
 //! A job that a command has done to its warehouse.
-use crate::device::{self, Device};
+use crate::device::{self, Access, Device};
 use crate::exit::{DONE, UNFINISHED};
 use crate::load::cut_of;
 use crate::output::{Output, is_closed, output, unwritten};
 use crate::query::query_of;
 use crate::refusal::{Met, Refusal, explained};
+use crate::report::swapped;
 use clap::ArgMatches;
 use cube_model::Fault;
+use file_device::LockFile;
 use ssb_eval::exit_of;
 use std::fs::OpenFile;
 use std::io::{self, Read};
@@ -18,27 +20,45 @@ use warehouse_jobs::{Job, perform};
 /// Asks the query of a command, over the batches that it names.
 pub fn ask<R: Files + AllocGlobal + Print>(rt: &R, given: &ArgMatches<'_>) -> Result<u8, Refusal>
 where
-    R::File: FileExt,
+    R::File: FileExt + LockFile,
 {
     let query = match query_of(rt.alloc(), given) {
         Ok(query) => query,
-        Err(fault) => return Err(explained(rt, given, Met::from(fault))),
+        Err(fault) => return Err(unasked(rt, given, fault)),
     };
     let as_of = given.get_one::<u32>("as-of");
-    perform_job(rt, given, Job::Report { as_of, query }, io::empty())
+    perform_job(
+        rt,
+        given,
+        Access::Read,
+        Job::Report { as_of, query },
+        io::empty(),
+    )
+}
+
+// The refusal of words that spell no query.
+fn unasked<R: Files + AllocGlobal>(rt: &R, given: &ArgMatches<'_>, fault: Fault) -> Refusal {
+    match swapped(rt.alloc(), given) {
+        Some(hint) => Refusal {
+            fault,
+            hint: Some(hint),
+        },
+        None => explained(rt, given, Met::from(fault)),
+    }
 }
 
 /// Opens the warehouse of a command, does a job to it, and gives the status of the program.
 pub fn perform_job<R: Files + AllocGlobal + Print, L: Read + Drop>(
     rt: &R,
     given: &ArgMatches<'_>,
+    access: Access,
     job: Job,
     lineorder: L,
 ) -> Result<u8, Refusal>
 where
-    R::File: FileExt,
+    R::File: FileExt + LockFile,
 {
-    match device::open(rt, given) {
+    match device::open(rt, given, access) {
         Ok(mut session) => done_in(rt, given, &mut session, job, lineorder),
         Err(met) => Err(explained(rt, given, met)),
     }
@@ -53,7 +73,7 @@ fn done_in<R: Files + AllocGlobal + Print, L: Read + Drop>(
     lineorder: L,
 ) -> Result<u8, Refusal>
 where
-    R::File: FileExt,
+    R::File: FileExt + LockFile,
 {
     let mut out = output(rt)?;
     done_to(rt, given, session, job, lineorder, &mut out)
@@ -69,7 +89,7 @@ fn done_to<R: Files + AllocGlobal + Print, L: Read + Drop>(
     out: &mut Output<'_, R>,
 ) -> Result<u8, Refusal>
 where
-    R::File: FileExt,
+    R::File: FileExt + LockFile,
 {
     let done = perform(rt.alloc(), session, job, lineorder, out);
     ended(rt, given, session, done, out.failure())
@@ -84,7 +104,7 @@ fn ended<R: Files + AllocGlobal>(
     failure: Option<io::Error>,
 ) -> Result<u8, Refusal>
 where
-    R::File: FileExt,
+    R::File: FileExt + LockFile,
 {
     match done {
         Ok(_) => Ok(exit_of(&done)),

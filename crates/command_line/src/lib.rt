@@ -1,9 +1,12 @@
 //! The words and the commands of the program, over any system of files and streams.
 #![tactic(auto)]
 
+mod arguments;
 mod command;
+mod contents;
 mod create;
 mod cube;
+mod cuboids;
 mod device;
 mod device_hints;
 mod eval;
@@ -11,6 +14,7 @@ mod exit;
 mod files;
 mod job;
 mod load;
+mod notes;
 mod options;
 mod output;
 mod progress;
@@ -19,9 +23,12 @@ mod refusal;
 mod report;
 mod running;
 mod screens;
+mod sizes;
 mod status;
 mod watched;
 
+pub use arguments::words;
+pub use file_device::LockFile;
 pub use refusal::Refusal;
 pub use running::{refuse, run};
 pub use screens::Screens;

@@ -1,6 +1,7 @@
 //! The command `load`.
+use crate::device::Access;
 use crate::exit::NO_COMMAND;
-use crate::files::open;
+use crate::files::{is_standard_input, open};
 use crate::job::perform_job;
 use crate::options::{number, on_device, word};
 use crate::progress::Progress;
@@ -8,6 +9,7 @@ use crate::refusal::{Met, Refusal, explained};
 use crate::screens::Screens;
 use clap::{ArgMatches, Command};
 use cube_model::limits::MOST_BATCH_ROWS;
+use file_device::LockFile;
 use std::alloc::{AllocError, Global};
 use std::os::unix::fs::FileExt;
 use std::rt::{Clock, Files};
@@ -18,7 +20,9 @@ const ABOUT: &str = "Loads the rows of a fact table into a warehouse, batch by b
 
 const USAGE: &str = "ssbcube load DEV --first N [--rows N] FILE";
 
-const HELP: &str = "The file is cut into batches of --rows rows, numbered from --first on.
+const HELP: &str = "The file is cut into batches of --rows rows, numbered from --first on. A FILE
+of - is standard input.
+
 'batch 1 rows 65536' says that the batch is there to stay, also after a power
 cut; a batch is stored whole or not at all. A batch whose number is there
 already is read and checked, and 'batch 1 skipped' is printed. 'batches N' at
@@ -34,7 +38,7 @@ Examples:
 
 /// The words of the command.
 pub fn words<'a>(alloc: Global) -> Result<Command<'a>, AllocError> {
-    let facts = "The fact table, such as lineorder.tbl";
+    let facts = "The fact table, such as lineorder.tbl; - is standard input";
     let load = on_device(alloc, "load", ABOUT, USAGE, HELP)?;
     let load = load.arg(word(alloc, "lineorder", "FILE", facts))?;
     with_cut(alloc, load)
@@ -58,24 +62,29 @@ pub fn cut_of(given: &ArgMatches<'_>) -> Option<Cut> {
 }
 
 /// Loads the file of the command. Where the batches are printed to a terminal, they say themselves how far it is.
-pub fn load<R: Files + AllocGlobal + Print + Eprint + Clock>(
+pub fn load<R: Files + AllocGlobal + Print + Eprint + Clock + Input>(
     rt: &R,
     given: &ArgMatches<'_>,
     screens: Screens,
 ) -> Result<u8, Refusal>
 where
-    R::File: FileExt,
+    R::File: FileExt + LockFile,
 {
-    let lineorder = match open(rt, given, "lineorder") {
-        Ok(file) => file,
-        Err(fault) => return Err(explained(rt, given, Met::from(fault))),
-    };
     let Some(job) = job_of(given) else {
         return Ok(NO_COMMAND);
     };
     let is_watched = screens.errors && !screens.output;
-    let lineorder = Progress::new(rt, lineorder, is_watched);
-    perform_job(rt, given, job, lineorder)
+    if is_standard_input(given) {
+        let lineorder = Progress::of_stream(rt, rt.reader(), is_watched);
+        return perform_job(rt, given, Access::Commit, job, lineorder);
+    }
+    match open(rt, given, "lineorder") {
+        Ok(file) => {
+            let lineorder = Progress::new(rt, file, is_watched);
+            perform_job(rt, given, Access::Commit, job, lineorder)
+        }
+        Err(fault) => Err(explained(rt, given, Met::from(fault))),
+    }
 }
 
 fn job_of(given: &ArgMatches<'_>) -> Option<Job> {

@@ -24,6 +24,18 @@ impl<'r, R: Clock + Eprint, F: Read + OpenFile + Drop> Progress<'r, R, F> {
             Ok(metadata) => metadata.len(),
             Err(_) => 0,
         };
+        Progress::of_length(rt, reader, length, is_watched)
+    }
+}
+
+impl<'r, R: Clock + Eprint, F: Read + Drop> Progress<'r, R, F> {
+    /// A stream of unknown length of which nothing was read yet.
+    pub fn of_stream(rt: &'r R, reader: F, is_watched: bool) -> Progress<'r, R, F> {
+        Progress::of_length(rt, reader, 0, is_watched)
+    }
+
+    // A reader of so many bytes, of which nothing was read yet.
+    fn of_length(rt: &'r R, reader: F, length: u64, is_watched: bool) -> Progress<'r, R, F> {
         let far = if is_watched {
             Far::new(rt, length)
         } else {

@@ -1,6 +1,7 @@
 //! The command `report`.
 use crate::options::{as_of, on_device, word};
-use clap::Command;
+use clap::{ArgMatches, Command};
+use query_words::read_query;
 use std::alloc::{AllocError, Global};
 
 const ABOUT: &str = "Answers a query of the benchmark over a warehouse.";
@@ -21,4 +22,17 @@ pub fn words<'a>(alloc: Global) -> Result<Command<'a>, AllocError> {
     on_device(alloc, "report", ABOUT, USAGE, HELP)?
         .arg(word(alloc, "query", "Q", query))?
         .arg(as_of(alloc))
+}
+
+/// What is said where the file and the query of a report were given in the other order.
+pub fn swapped(alloc: Global, given: &ArgMatches<'_>) -> Option<String> {
+    let device = given.get_str("device")?;
+    let query = given.get_str("query")?;
+    let is_query = read_query(alloc, Some(device), None, None, None, &[]).is_ok();
+    if !is_query {
+        return None;
+    }
+    format!(in alloc;
+        "{query}: no query of the benchmark, and {device} is one: are DEV and Q swapped?"
+    ).ok()
 }

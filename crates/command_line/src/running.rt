@@ -1,11 +1,13 @@
 //! What the program does with its words.
+use crate::device::Access;
 use crate::exit::{DONE, NO_COMMAND};
 use crate::refusal::Refusal;
 use crate::screens::Screens;
-use crate::{command, create, eval, job, load};
+use crate::{command, create, cuboids, eval, job, load};
 use clap::ArgMatches;
 use clap::error::{Error, ErrorKind};
 use cube_model::Fault;
+use file_device::LockFile;
 use ssb_eval::exit_of;
 use std::io;
 use std::os::unix::fs::FileExt;
@@ -16,13 +18,13 @@ use warehouse_jobs::Job;
 /// command. The report goes to standard output, and a refusal to standard error: its fault, and behind it what is known of it.
 ///
 /// It fails where standard error cannot be written.
-pub fn run<R: Files + AllocGlobal + Print + Eprint + Clock>(
+pub fn run<R: Files + AllocGlobal + Print + Eprint + Clock + Input>(
     rt: &R,
     words: &[String],
     screens: Screens,
 ) -> io::Result<u8>
 where
-    R::File: FileExt,
+    R::File: FileExt + LockFile,
 {
     match matched(rt, words, screens) {
         Ok(status) => Ok(status),
@@ -40,13 +42,13 @@ pub fn refuse<R: Eprint>(rt: &R, refusal: Refusal) -> io::Result<u8> {
     Ok(exit_of(&Err(fault)))
 }
 
-fn matched<R: Files + AllocGlobal + Print + Eprint + Clock>(
+fn matched<R: Files + AllocGlobal + Print + Eprint + Clock + Input>(
     rt: &R,
     words: &[String],
     screens: Screens,
 ) -> Result<u8, Refusal>
 where
-    R::File: FileExt,
+    R::File: FileExt + LockFile,
 {
     let command = command::command(rt.alloc())?;
     match command.try_get_matches_from(words) {
@@ -56,13 +58,13 @@ where
 }
 
 // The status of the command that the words name.
-fn perform<R: Files + AllocGlobal + Print + Eprint + Clock>(
+fn perform<R: Files + AllocGlobal + Print + Eprint + Clock + Input>(
     rt: &R,
     matches: &ArgMatches<'_>,
     screens: Screens,
 ) -> Result<u8, Refusal>
 where
-    R::File: FileExt,
+    R::File: FileExt + LockFile,
 {
     match matches.subcommand() {
         Some(("eval", given)) => eval::eval(rt, given, screens),
@@ -80,12 +82,15 @@ fn consult<R: Files + AllocGlobal + Print>(
     given: &ArgMatches<'_>,
 ) -> Result<u8, Refusal>
 where
-    R::File: FileExt,
+    R::File: FileExt + LockFile,
 {
     match name {
         "report" => job::ask(rt, given),
         "cube" => job::ask(rt, given),
-        "status" => job::perform_job(rt, given, Job::Status, io::empty()),
+        "status" => job::perform_job(rt, given, Access::Read, Job::Status, io::empty()),
+        "choose" => cuboids::choose(rt, given),
+        "upkeep" => job::perform_job(rt, given, Access::Commit, Job::Upkeep, io::empty()),
+        "audit" => job::perform_job(rt, given, Access::Read, Job::Audit, io::empty()),
         _ => Ok(NO_COMMAND),
     }
 }

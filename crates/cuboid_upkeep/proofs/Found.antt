@@ -13,7 +13,7 @@ use Rattle.cuboid_cells.specs.Merges.{merged_if_any}
 abbrev pub has_key : ℕ → Cell → Bool
 has_key number cell = number_of cell.key == number
 
-flipped : (a b : ℕ) → nat_eq a b ≡ (b == a)
+pub flipped : (a b : ℕ) → nat_eq a b ≡ (b == a)
 flipped a b = grind (arith, nat_tests)
 
 pub own_key : (a b : ℕ) → a ≡ b → (a == b) ≡ true

@@ -50,7 +50,7 @@ module _ (number : LineOrder → ℤ) where
       let whole = size_cons row rows in
       picked_small pick closed most (pick a (number row)) rows (closed a (number row) most first (omega (arith, whole, rest))) (omega (arith, whole, rest))
 
-  part_small : (p : LineOrder → Bool) (rows : List LineOrder) → size (filter p rows) ≤ size rows
+  pub part_small : (p : LineOrder → Bool) (rows : List LineOrder) → size (filter p rows) ≤ size rows
   part_small p [] = omega arith
   part_small p (row ∷ rows) =
       let rest = part_small p rows in
@@ -85,7 +85,7 @@ summary_fits measure row rows small =
       greatest = fits_small (fold int_max (number row) (map number rows)) (omega (arith, high, small));
     }
 
-cell_fits : (dimensions : DimRows) (modes : List (List ℕ)) (view : View) (rows : List LineOrder) (cell : Cell) → cell_over dimensions modes view rows ≡ Some cell
+pub cell_fits : (dimensions : DimRows) (modes : List (List ℕ)) (view : View) (rows : List LineOrder) (cell : Cell) → cell_over dimensions modes view rows ≡ Some cell
     → AreInRange rows → length rows < 2 ^ 63 → NumbersFit cell
 cell_fits dimensions modes view [] cell is small few = absurd (cc is)
 cell_fits dimensions modes view (row ∷ rows) cell is small few =

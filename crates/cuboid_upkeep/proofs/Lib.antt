@@ -14,3 +14,5 @@ mod Leading
 mod Modes
 mod Taken
 mod AxisCodes
+mod Existing
+pub mod CallerLemmas

@@ -9,7 +9,7 @@ use Rattle.cuboid_upkeep.specs.Lawful.{CellsAreTheOne}
 use Rattle.cuboid_upkeep.proofs.Found.{found_key, own_key, same_key}
 use Rattle.cuboid_upkeep.proofs.Sorted.{found_in, key_number}
 
-tail_ascends : (cell : Cell) (cells : List Cell) → AreAscending (cell ∷ cells) → AreAscending cells
+pub tail_ascends : (cell : Cell) (cells : List Cell) → AreAscending (cell ∷ cells) → AreAscending cells
 tail_ascends cell cells up = λ i j d before within. up (suc i) (suc j) d (omega (arith, before)) (omega (arith, within))
 
 at_head : (cell : Cell) (cells : List Cell) → cell_at (key_number cell) (cell ∷ cells) ≡ Some cell
@@ -22,7 +22,7 @@ least_first cell cells found up (suc k, within, is) =
     let above : key_number cell < key_number (get_or cells k found) = up 0 (suc k) found (omega arith) within in
     omega (arith, above, ap key_number is)
 
-none_behind : (cell : Cell) (cells : List Cell) → AreAscending (cell ∷ cells) → cell_at (key_number cell) cells ≡ None
+pub none_behind : (cell : Cell) (cells : List Cell) → AreAscending (cell ∷ cells) → cell_at (key_number cell) cells ≡ None
 none_behind cell cells up =
     (elim (cell_at (key_number cell) cells) as (λ o. cell_at (key_number cell) cells ≡ o → o ≡ None) [
       | None ↦ λ e. refl
@@ -32,7 +32,7 @@ none_behind cell cells up =
           absurd (omega (arith, above, ap key_number there.2, found_key (key_number cell) cells found e)))
     ]) refl
 
-one_list : (cells others : List Cell) → AreAscending cells → AreAscending others → ((number : ℕ) → cell_at number cells ≡ cell_at number others) → cells ≡ others
+pub one_list : (cells others : List Cell) → AreAscending cells → AreAscending others → ((number : ℕ) → cell_at number cells ≡ cell_at number others) → cells ≡ others
 one_list [] [] up also same = refl
 one_list [] (other ∷ others) up also same = absurd (cc (same (key_number other), at_head other others))
 one_list (cell ∷ cells) [] up also same = absurd (cc (same (key_number cell), at_head cell cells))

@@ -1,5 +1,5 @@
 -- What the definitions mean. Each is proved as the contract of a function of its name.
-use Rattle.std.specs.Prelude.{◌≡◌, ℕ, Option, List, ◌++◌, length, ◌<◌, ◌^◌}
+use Rattle.std.specs.Prelude.{◌≡◌, ℕ, Option, List, ◌++◌, length, ◌<◌, ◌≤◌, ◌^◌, All}
 use Rattle.cube_model.specs.declared.query.Query.{Query}
 use Rattle.cube_model.specs.declared.rows.DimRows.{DimRows}
 use Rattle.cube_model.specs.declared.rows.LineOrder.{LineOrder}
@@ -7,6 +7,7 @@ use Rattle.cube_model.specs.Admission.{AreInRange}
 use Rattle.group_plan.specs.Numbers.{IsNumber}
 use Rattle.lattice.specs.Determined.{Serves}
 use Rattle.lattice.specs.declared.view.View.{View}
+use Rattle.cuboid_cells.specs.declared.cell.Cell.{Cell}
 use Rattle.cuboid_cells.specs.Cells.{PlainCells, number_of}
 use Rattle.cuboid_cells.specs.Merges.{IsMergeOf}
 use Rattle.cuboid_upkeep.specs.Grouping.{HasMembers, PassType, StandFor, key_of}
@@ -38,3 +39,14 @@ OneKeyOneGroup dimensions = (modes : List (List ℕ)) (view : View) (query : Que
     → Serves view query → HasMembers dimensions modes view row → HasMembers dimensions modes view other
     → number_of (key_of dimensions modes view row) ≡ number_of (key_of dimensions modes view other)
     → IsNumber dimensions query row number → IsNumber dimensions query other number
+
+-- fact rows that have their members have cells
+abbrev pub RowsHaveCells : Type 0
+RowsHaveCells = (dimensions : DimRows) (modes : List (List ℕ)) (view : View) (rows : List LineOrder) → All (HasMembers dimensions modes view) rows
+    → (cells : List Cell) × StandFor dimensions modes rows (record { view = view; cells = cells })
+
+-- cells of some of the fact rows are no more than those of all
+abbrev pub MoreRowsHaveNoFewerCells : Type 0
+MoreRowsHaveNoFewerCells = (dimensions : DimRows) (modes : List (List ℕ)) (view : View) (before rows behind : List LineOrder) (one other : List Cell)
+    → StandFor dimensions modes rows (record { view = view; cells = one })
+    → StandFor dimensions modes (before ++ (rows ++ behind)) (record { view = view; cells = other }) → length one ≤ length other

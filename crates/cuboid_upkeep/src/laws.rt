@@ -1,5 +1,5 @@
 //! Laws of the definitions: each function proves the statement that its contract names, and does nothing.
-ghost use Rattle.cuboid_upkeep.specs.Lawful.{CellsAreTheOne, MergesStandForBoth, ModesAreAddedBehind, OneKeyOneGroup, RowsInRangeFit};
+ghost use Rattle.cuboid_upkeep.specs.Lawful.{CellsAreTheOne, MergesStandForBoth, ModesAreAddedBehind, MoreRowsHaveNoFewerCells, OneKeyOneGroup, RowsHaveCells, RowsInRangeFit};
 
 use cube_model::{Axis, valid_rows_keep_the_rules};
 use dimensions::Dims;
@@ -31,3 +31,13 @@ pub fn one_key_one_group(dims: &Dims)
     valid_rows_keep_the_rules();
     dims.row_count(Axis::Customer);
 }
+
+/// Fact rows that have their members have cells.
+pub fn rows_have_cells()
+    ensures { RowsHaveCells }
+{}
+
+/// The cells of some fact rows are no more than those of these and others.
+pub fn more_rows_have_no_fewer_cells()
+    ensures { MoreRowsHaveNoFewerCells }
+{}

@@ -2,7 +2,7 @@
 use crate::bytes::{get, put};
 use crate::fake_file::Torn;
 use cube_model::Fault;
-use file_device::{FileDisk, Host, Unread};
+use file_device::{Existing, FileDisk, Host, OpenError, Unread};
 use sector_device::Sectors;
 use std::fs::{File, OpenOptions};
 use std::test::Fail;
@@ -18,7 +18,7 @@ fn fresh(rt: &HostRuntime, folder: &str) -> io::Result<()> {
 
 // A file of so many sectors, each filled with its number modulo 200 and one more.
 fn filled(rt: &HostRuntime, path: &str, sectors: u32) -> Result<(), Fail> {
-    let mut disk = Disk::make(rt, path, sectors)?;
+    let mut disk = Disk::make(rt, path, sectors, Existing::Any)?.disk;
     for i in 0..sectors {
         put(&mut disk, i, (i % 200) as u8 + 1)?;
     }
@@ -56,7 +56,7 @@ fn makes_and_opens_again(rt: HostRuntime) -> Result<(), Fail> {
 
 // What a device takes of a file that was made before, and of one that is empty: its sectors, and what the first gives.
 fn taken(rt: &HostRuntime, path: &str, sectors: u32) -> Result<(u32, Option<u8>), Fail> {
-    let mut disk = Disk::make(rt, path, sectors)?;
+    let mut disk = Disk::make(rt, path, sectors, Existing::Any)?.disk;
     Ok((disk.count(), get(&mut disk, 0)?))
 }
 
@@ -76,8 +76,13 @@ fn makes_a_file_of_zeros(rt: HostRuntime) -> Result<(), Fail> {
     Ok(())
 }
 
-fn sectors_or_fault(disk: Result<Disk, Fault>) -> Result<u32, Fault> {
+fn sectors_or_fault(disk: Result<Disk, OpenError>) -> Result<u32, Fault> {
     Ok(disk?.count())
+}
+
+// What `make` says of a file that may hold anything.
+fn made(rt: &HostRuntime, path: &str, sectors: u32) -> Result<u32, Fault> {
+    Ok(Disk::make(rt, path, sectors, Existing::Any)?.disk.count())
 }
 
 // What `open` and `make` with 64 sectors say of a file of so many bytes.
@@ -88,7 +93,7 @@ fn of_length(
 ) -> Result<(Result<u32, Fault>, Result<u32, Fault>), Fail> {
     fs::File::create(rt, path)?.set_len(length)?;
     let opened = sectors_or_fault(Disk::open(rt, path));
-    Ok((opened, sectors_or_fault(Disk::make(rt, path, 64))))
+    Ok((opened, made(rt, path, 64)))
 }
 
 const LENGTHS: [(u64, Result<u32, Fault>, Result<u32, Fault>); 6] = [
@@ -117,8 +122,8 @@ fn refuses_other_lengths(rt: HostRuntime) -> Result<(), Fail> {
 fn refuses_what_cannot_be_opened(rt: HostRuntime) -> Result<(), Fail> {
     fresh(&rt, "absent")?;
     let absent = sectors_or_fault(Disk::open(&rt, "absent/disk"));
-    let nowhere = sectors_or_fault(Disk::make(&rt, "absent/none/disk", 64));
-    let few = sectors_or_fault(Disk::make(&rt, "absent/disk", 63));
+    let nowhere = made(&rt, "absent/none/disk", 64);
+    let few = made(&rt, "absent/disk", 63);
     assert_eq!(rt;
         [absent, nowhere, few],
         [

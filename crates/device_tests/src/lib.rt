@@ -16,6 +16,8 @@ mod fuse;
 #[cfg(test)]
 mod length;
 #[cfg(test)]
+mod locks;
+#[cfg(test)]
 mod memory;
 #[cfg(test)]
 mod runs;

@@ -1,6 +1,6 @@
 -- Writes that are still to be made, in front of the record of a file.
 use Rattle.std.proofs.lemmas.Bool.{ne_eqb, eq-eqb}
-use Rattle.std.proofs.Common.{Bool, true, false, if◌then◌else◌, ◌≡◌, ◌≢◌, ◌⊎◌, ℕ, zero, suc, ◌+◌, ◌-◌, ◌<◌, ◌≤◌, ◌==◌, List, [], ◌∷◌, ◌++◌, length, take, get_or, refl, add-one, sym, ◌∙◌, ap, subst, ⊎_elim, inl, inr, Result, Ok, Err, MatchResult, OnOk, OnErr, is_ok, is_err, true≢false, arith}
+use Rattle.std.proofs.Common.{Bool, true, false, if◌then◌else◌, ◌≡◌, ◌⊎◌, ℕ, zero, suc, ◌+◌, ◌-◌, ◌<◌, ◌==◌, List, [], ◌∷◌, ◌++◌, length, take, get_or, refl, add-one, sym, ◌∙◌, ap, subst, ⊎_elim, inl, inr, Result, Ok, Err, MatchResult, OnOk, OnErr, is_ok, is_err, true≢false, arith}
 use Rattle.sector_device.specs.Device.{Image, DeviceState, Elapses, IsImage, Stays, Writes, Syncs, IsSettled}
 use Rattle.file_device.specs.History.{reads_after, MayHold, LeftWithin, IsHonest, file_state}
 use Rattle.file_device.specs.Runs.{with_writes}

@@ -1,5 +1,5 @@
 -- Neighbouring sectors that were read at once change nothing, and are what reads give.
-use Rattle.std.proofs.Common.{Bool, true, false, if◌then◌else◌, Result, Ok, Err, MatchResult, ◌≡◌, ℕ, zero, suc, ◌+◌, ◌<◌, List, [], ◌∷◌, length, take, get_or, refl, add-one, sym, ◌∙◌, ap, subst, ⊎_elim, inl, inr, arith}
+use Rattle.std.proofs.Common.{Result, Ok, Err, MatchResult, ◌≡◌, ℕ, zero, suc, ◌+◌, ◌<◌, List, [], ◌∷◌, length, take, get_or, refl, add-one, sym, ◌∙◌, ap, subst, ⊎_elim, inl, inr, arith}
 use Rattle.sector_device.specs.Device.{Image, DeviceState, IsImage, Stays}
 use Rattle.file_device.specs.History.{reads_after, IsHonest, file_state}
 use Rattle.file_device.specs.Runs.{with_reads, AreReads}

@@ -1,5 +1,5 @@
 // A device over an open file.
-ghost use Rattle.std.specs.Prelude.{◌≡◌, ◌+◌, ◌<◌, ◌-◌, ◌^◌, length, false, min, is_ok, IsTrue, IsErr, OnOk, OnErr};
+ghost use Rattle.std.specs.Prelude.{◌≡◌, ◌+◌, ◌<◌, ◌-◌, ◌^◌, length, true, false, min, is_ok, IsTrue, IsErr, OnOk, OnErr};
 ghost use Rattle.file_device.specs.Runs.{IsNext};
 ghost use Rattle.sector_device.specs.Device.{IsSettled, Stays, Writes, Syncs, CountsFailure};
 
@@ -21,6 +21,8 @@ use std::io;
 /// A sector that is written is kept in memory as long as those that follow are written behind it, up to 512 of them, and
 /// they are written in one call: before any other sector is written or read, and before a sync. Where that call
 /// fails, it is the later write, read or sync that fails. Where there is no memory, a sector is written at once.
+///
+/// A device that was opened to read fails each write, and each call after one.
 #[derive(Drop)]
 pub struct FileDisk<F: RawFile, S: Start> {
     direct: Direct<F, S>,
@@ -28,10 +30,11 @@ pub struct FileDisk<F: RawFile, S: Start> {
     count: u32,
     failures: u64,
     is_broken: bool,
+    is_read_only: bool,
 }
 
 impl<F: RawFile, S: Start> FileDisk<F, S> {
-    ghost use Rattle.file_device.specs.FileDisk.{file_of, count_of, failures_of, has_broken, IsUnseen, TakesSector, Settles};
+    ghost use Rattle.file_device.specs.FileDisk.{file_of, count_of, failures_of, has_broken, is_read_only, IsUnseen, TakesSector, Settles};
 
     /// A device over an open file of so many sectors.
     pub fn over(alloc: Global, file: F, count: u32) -> FileDisk<F, S>
@@ -39,6 +42,7 @@ impl<F: RawFile, S: Start> FileDisk<F, S> {
         ensures count { count_of result ≡ count }
         ensures failures { failures_of result ≡ 0 }
         ensures whole { has_broken result ≡ false }
+        ensures writable { is_read_only result ≡ false }
     {
         FileDisk {
             direct: Direct::new(alloc, file),
@@ -46,6 +50,21 @@ impl<F: RawFile, S: Start> FileDisk<F, S> {
             count,
             failures: 0,
             is_broken: false,
+            is_read_only: false,
+        }
+    }
+
+    /// Such a device that is read alone: a write fails, and makes no call of the file.
+    pub fn over_to_read(alloc: Global, file: F, count: u32) -> FileDisk<F, S>
+        ensures file { file_of result ≡ file }
+        ensures count { count_of result ≡ count }
+        ensures failures { failures_of result ≡ 0 }
+        ensures whole { has_broken result ≡ false }
+        ensures read_only { is_read_only result ≡ true }
+    {
+        FileDisk {
+            is_read_only: true,
+            ..FileDisk::over(alloc, file, count)
         }
     }
 
@@ -125,7 +144,7 @@ fn refused(failures: &mut u64) -> DeviceError
 }
 
 impl<F: RawFile, S: Start> Sectors for FileDisk<F, S> {
-    ghost use Rattle.file_device.specs.FileDisk.{calls_of, failures_of, has_broken, state_of, KeepsWord, Breaks};
+    ghost use Rattle.file_device.specs.FileDisk.{calls_of, failures_of, has_broken, is_read_only, state_of, KeepsWord, Breaks};
     ghost use Rattle.file_device.specs.Laws.{read_may_stay, whole, counts_now, only_now};
 
     ghost state = { λ f. state_of F.RawFile S.Start f };
@@ -162,6 +181,7 @@ impl<F: RawFile, S: Start> Sectors for FileDisk<F, S> {
 
         ensures refuses { IsTrue (has_broken self.old) → IsErr result }
         ensures broken { has_broken self.new ≡ has_broken self.old }
+        ensures read_only { is_read_only self.new ≡ is_read_only self.old }
     {
         if self.is_broken {
             return Err(refused(&mut self.failures));
@@ -182,8 +202,11 @@ impl<F: RawFile, S: Start> Sectors for FileDisk<F, S> {
         ensures writes { KeepsWord F.RawFile S.Start self.new → Writes i from.now (state_of F.RawFile S.Start self.old) (state_of F.RawFile S.Start self.new) }
 
         ensures breaks { Breaks result self.old self.new }
+        ensures read_only { is_read_only self.new ≡ is_read_only self.old }
+        ensures no_call { IsTrue (is_read_only self.old) → IsErr result × (calls_of F.RawFile S.Start self.new ≡ calls_of F.RawFile S.Start self.old) }
     {
-        if self.is_broken {
+        if self.is_broken || self.is_read_only {
+            self.is_broken = true;
             return Err(refused(&mut self.failures));
         }
         let outcome = self.take(i, from);
@@ -200,6 +223,7 @@ impl<F: RawFile, S: Start> Sectors for FileDisk<F, S> {
         ensures unchanged { OnErr result (KeepsWord F.RawFile S.Start self.new → Stays (state_of F.RawFile S.Start self.old) (state_of F.RawFile S.Start self.new)) }
 
         ensures breaks { Breaks result self.old self.new }
+        ensures read_only { is_read_only self.new ≡ is_read_only self.old }
     {
         if self.is_broken {
             return Err(refused(&mut self.failures));

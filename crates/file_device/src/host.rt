@@ -1,11 +1,15 @@
 // Each method makes one call of the system, and then notes it with its answer.
 ghost use Rattle.std.specs.Prelude.{◌≡◌, ◌∷◌, [], Some, IfErr, MatchResult, is_ok};
+ghost use Rattle.cube_model.specs.declared.fault.Fault.{Fault};
+ghost use Rattle.file_device.specs.OpenError.{fault_of};
 ghost use Rattle.file_device.specs.declared.event.Event.{Event};
 
 use crate::calls::Calls;
 use crate::event::Event;
+use crate::lock::{LockFile, LockKind};
+use crate::open_error::OpenError;
 use crate::raw::RawFile;
-use std::fs::OpenFile;
+use std::fs::{Metadata, OpenFile, TryLockError};
 use std::io;
 use std::os::unix::fs::FileExt;
 
@@ -36,6 +40,11 @@ impl<F: FileExt + OpenFile + Drop> Host<F> {
         self.failure
     }
 
+    // What the system knows of the file besides its contents.
+    pub(crate) fn metadata(&self) -> io::Result<Metadata> {
+        self.file.metadata()
+    }
+
     /// How many bytes the file has. A call that fails is not recorded.
     pub fn length(&mut self) -> io::Result<u64>
         ensures { MatchResult result (λ n. events_of self.new ≡ Event.Measured n ∷ events_of self.old) (λ _. events_of self.new ≡ events_of self.old) }
@@ -52,6 +61,25 @@ impl<F: FileExt + OpenFile + Drop> Host<F> {
         let answer = self.file.set_len(length);
         self.calls = self.calls.then(&Event::Lengthened(length, answer.is_ok()));
         answer
+    }
+}
+
+impl<F: FileExt + OpenFile + LockFile + Drop> Host<F> {
+    ghost use Rattle.file_device.specs.Host.{events_of};
+
+    /// Takes a lock on the file, without waiting, until it is closed. `Locked` where another program holds one that
+    /// excludes it, `System` where the system refuses the call. A lock that was not taken is not recorded.
+    pub fn lock(&mut self, kind: LockKind) -> Result<(), OpenError>
+        ensures { MatchResult result (λ _. events_of self.new ≡ Event.Locked kind ∷ events_of self.old)
+            (λ e. (events_of self.new ≡ events_of self.old) × (fault_of e ≡ Fault.Device)) }
+    {
+        match self.file.take_lock(kind) {
+            Ok(()) => {}
+            Err(TryLockError::WouldBlock) => return Err(OpenError::Locked),
+            Err(TryLockError::Error(error)) => return Err(OpenError::System(error)),
+        }
+        self.calls = self.calls.then(&Event::Locked(kind));
+        Ok(())
     }
 }
 

@@ -19,7 +19,7 @@ static CASES: [(Table, &str, &str); 21] = [
     (
         Table::Part,
         "1|n|MFGR#1|MFGR#12|MFGR#1210|red|t|7|box|\r\n\n",
-        "fault 9 FieldCount line 2\npart.tbl line 2: a part line has 9 fields, and this one 1",
+        "fault 9 FieldCount line 2\npart.tbl line 2: the line is empty",
     ),
     (
         Table::Customer,

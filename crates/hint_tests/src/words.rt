@@ -193,7 +193,7 @@ static CONDITIONS: [(QueryWords<'static>, &str); 11] = [
             conditions: &["quantity:5"],
             ..COUNT
         },
-        "quantity:5: a range has two ends, with a bar between them",
+        "quantity:5: a range has two ends, with a bar between them; a bar has to be quoted for the shell, 'quantity:5|HIGH'",
     ),
     (
         QueryWords {

@@ -1,5 +1,5 @@
 -- What the layers above the store need of contents and of what images show.
-use Rattle.std.proofs.Common.{◌≡◌, ◌≢◌, ℕ, ◌+◌, ◌%◌, ◌≤◌, ◌==◌, if◌then◌else◌, cond, ltb, eqb, length, Some, None, List, [], ◌∷◌, refl, sym, ◌∙◌, ap, subst, arith}
+use Rattle.std.proofs.Common.{◌≡◌, ◌≢◌, ℕ, ◌+◌, ◌%◌, ◌<◌, ◌≤◌, ◌==◌, if◌then◌else◌, cond, ltb, eqb, length, Some, None, List, [], ◌∷◌, refl, sym, ◌∙◌, ap, subst, arith}
 use Rattle.std.proofs.lemmas.Bool.Decides.{nat_tests}
 use Rattle.std.proofs.lemmas.Bool.{cond_both}
 use Rattle.std.proofs.lemmas.List.Elements.{All-nil, All-cons}
@@ -17,7 +17,8 @@ use Rattle.object_store.specs.Places.{bytes_at, objects_at}
 use Rattle.object_store.specs.Shows.{Shows}
 use Rattle.object_store.specs.Disk.{Disk, AllShow, IsShown}
 use Rattle.object_store.specs.Reading.{IsNewest}
-use Rattle.object_store.proofs.Lists.{AllPairs-nil}
+use Rattle.std.specs.List.{AllPairs}
+use Rattle.object_store.proofs.Lists.{AllPairs-drop_each, AllPairs-nil, ascending-put_each}
 use Rattle.object_store.proofs.Looking.{newest_shows}
 use Rattle.object_store.proofs.Committing.{content_is, generation_is, layout_is, objects_is, root_is}
 
@@ -136,3 +137,14 @@ one_put id bytes least most = record {
   each = All-cons IsObject (id, bytes) [] (record { least = least; most = most }) (All-nil IsObject);
   distinct = AllPairs-cons (λ (a : ℕ × List ℕ) (b : ℕ × List ℕ). a.0 ≢ b.0) (id, bytes) [] (All-nil (λ (b : ℕ × List ℕ). id ≢ b.0)) (AllPairs-nil (λ (a : ℕ × List ℕ) (b : ℕ × List ℕ). a.0 ≢ b.0));
 }
+
+-- no id is there twice, also after a commit
+pub once_after : (puts : List (ℕ × List ℕ)) (drops root : List ℕ) (layout : ℕ) (c : Content) → AllPairs (λ (a : ℕ × List ℕ) (b : ℕ × List ℕ). a.0 < b.0) c.objects
+    → AllPairs (λ (a : ℕ × List ℕ) (b : ℕ × List ℕ). a.0 < b.0) (committed puts drops root layout c).objects
+once_after puts drops root layout c up =
+    subst (λ (l : List (ℕ × List ℕ)). AllPairs (λ (a : ℕ × List ℕ) (b : ℕ × List ℕ). a.0 < b.0) l) (sym (objects_is puts drops root layout c))
+    (ascending-put_each (λ o. o.0) puts (drop_all drops c.objects) (AllPairs-drop_each (λ (a : ℕ × List ℕ) (b : ℕ × List ℕ). a.0 < b.0) (λ o. o.0) drops c.objects up))
+
+pub once_created : (puts : List (ℕ × List ℕ)) (root : List ℕ) (layout : ℕ) → AllPairs (λ (a : ℕ × List ℕ) (b : ℕ × List ℕ). a.0 < b.0) (created puts root layout).objects
+unfolding created
+once_created puts root layout = ascending-put_each (λ o. o.0) puts [] (AllPairs-nil (λ (a : ℕ × List ℕ) (b : ℕ × List ℕ). a.0 < b.0))

@@ -26,7 +26,7 @@ fn with_bytes(mut old: [u8; 512], at: usize, bytes: &[u8]) -> [u8; 512] {
 }
 
 /// Writes other bytes into a sector.
-fn make(disk: &mut MemDisk, change: Change) -> Result<(), Fault> {
+pub(crate) fn make(disk: &mut MemDisk, change: Change) -> Result<(), Fault> {
     let (place, at, bytes) = change;
     let new = with_bytes(sector(disk, place)?, at, bytes);
     if place < disk.count() && disk.write(place, &new).is_ok() {

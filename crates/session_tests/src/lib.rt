@@ -1,8 +1,11 @@
-//! Tests of a warehouse's session: each refusal, stops at each device call, the bytes on the device, hostile images.
+//! Tests of a warehouse's session: each refusal, stops at each device call, the bytes on the device, hostile
+//! images, and stored cuboids with their upkeep and audits.
 #![tactic(auto)]
 
 #[cfg(test)]
 mod answers;
+#[cfg(test)]
+mod audits;
 #[cfg(test)]
 mod batches;
 #[cfg(test)]
@@ -14,6 +17,8 @@ mod calls;
 #[cfg(test)]
 mod changes;
 #[cfg(test)]
+mod choices;
+#[cfg(test)]
 mod example;
 #[cfg(test)]
 mod failures;
@@ -24,14 +29,30 @@ mod full;
 #[cfg(test)]
 mod hostile;
 #[cfg(test)]
+mod many_runs;
+#[cfg(test)]
 mod memory;
 #[cfg(test)]
+mod most_cells;
+#[cfg(test)]
+mod plain;
+#[cfg(test)]
 mod queries;
+#[cfg(test)]
+mod random;
 #[cfg(test)]
 mod runs;
 #[cfg(test)]
 mod sample;
 #[cfg(test)]
+mod script;
+#[cfg(test)]
 mod stops;
 #[cfg(test)]
+mod stored;
+#[cfg(test)]
 mod turning;
+#[cfg(test)]
+mod upkeep_memory;
+#[cfg(test)]
+mod upkeep_stops;

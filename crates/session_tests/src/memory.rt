@@ -18,7 +18,7 @@ fn made(alloc: Global) -> Result<Session<MemDisk>, Fault> {
 }
 
 /// What stands on a disk, at the first or the second try.
-fn found_on(alloc: Global, disk: MemDisk) -> Result<Session<MemDisk>, Fault> {
+pub(crate) fn found_on(alloc: Global, disk: MemDisk) -> Result<Session<MemDisk>, Fault> {
     match open(alloc, disk) {
         Ok(session) => Ok(session),
         Err((_, disk)) => opened(alloc, disk),

@@ -68,24 +68,6 @@ fn command(alloc: Global, told: &Told) -> Result<Command, Fault> {
     }
 }
 
-/// A reply that can be compared and printed.
-#[derive(Debug, PartialEq, Drop)]
-enum Heard {
-    Done,
-    Answer(Answer),
-    Numbers(Status),
-    Refused(Fault),
-}
-
-fn as_heard(reply: Reply) -> Heard {
-    match reply {
-        Reply::Done => Heard::Done,
-        Reply::Answer(answer) => Heard::Answer(answer),
-        Reply::Numbers(numbers) => Heard::Numbers(numbers),
-        Reply::Refused(fault) => Heard::Refused(fault),
-    }
-}
-
 /// The commands of the run.
 fn commands(alloc: Global) -> Result<Vec<Command>, Fault> {
     let mut commands = Vec::new(alloc);
@@ -95,32 +77,23 @@ fn commands(alloc: Global) -> Result<Vec<Command>, Fault> {
     Ok(commands)
 }
 
-fn all_heard(alloc: Global, replies: Vec<Reply>) -> Result<Vec<Heard>, Fault> {
-    let mut heard = Vec::new(alloc);
-    for reply in replies {
-        heard.push(as_heard(reply))?;
-    }
-    Ok(heard)
-}
-
 /// What a session replies to the commands of the run.
-fn replies(alloc: Global, session: &mut Session<Fuse<MemDisk>>) -> Result<Vec<Heard>, Fault> {
+fn replies(alloc: Global, session: &mut Session<Fuse<MemDisk>>) -> Result<Vec<Reply>, Fault> {
     let commands = commands(alloc)?;
-    let replies = run(alloc, session, commands.as_slice())?;
-    all_heard(alloc, replies)
+    run(alloc, session, commands.as_slice())
 }
 
-fn reply(alloc: Global, said: &Said) -> Result<Heard, Fault> {
+fn reply(alloc: Global, said: &Said) -> Result<Reply, Fault> {
     match said {
-        Said::Done => Ok(Heard::Done),
-        Said::Answer(lines, batches) => Ok(Heard::Answer(answer(alloc, lines, *batches)?)),
-        Said::Status(batches, rows) => Ok(Heard::Numbers(status(*batches, *rows))),
-        Said::Refused(fault) => Ok(Heard::Refused(*fault)),
+        Said::Done => Ok(Reply::Done),
+        Said::Answer(lines, batches) => Ok(Reply::Answer(answer(alloc, lines, *batches)?)),
+        Said::Status(batches, rows) => Ok(Reply::Numbers(status(*batches, *rows))),
+        Said::Refused(fault) => Ok(Reply::Refused(*fault)),
     }
 }
 
 /// The replies that are wanted.
-fn wanted(alloc: Global) -> Result<Vec<Heard>, Fault> {
+fn wanted(alloc: Global) -> Result<Vec<Reply>, Fault> {
     let mut replies = Vec::new(alloc);
     for (_, said) in &RUN {
         replies.push(reply(alloc, said)?)?;
@@ -129,7 +102,7 @@ fn wanted(alloc: Global) -> Result<Vec<Heard>, Fault> {
 }
 
 /// What a warehouse of one batch of the three sample rows replies.
-fn replies_over_one(alloc: Global) -> Result<Vec<Heard>, Fault> {
+fn replies_over_one(alloc: Global) -> Result<Vec<Reply>, Fault> {
     let disk = loaded(alloc, 1)?.close();
     let mut session = opened(alloc, Fuse::new(disk, 0, false, false))?;
     replies(alloc, &mut session)
@@ -141,16 +114,16 @@ fn the_replies_are_as_worked_by_hand(rt: HostRuntime) {
 }
 
 /// As many refusals as there are commands in the run.
-fn all_failed(alloc: Global) -> Result<Vec<Heard>, Fault> {
+fn all_failed(alloc: Global) -> Result<Vec<Reply>, Fault> {
     let mut replies = Vec::new(alloc);
     for _ in &RUN {
-        replies.push(Heard::Refused(Fault::Failed))?;
+        replies.push(Reply::Refused(Fault::Failed))?;
     }
     Ok(replies)
 }
 
 /// What a session that met a failure replies.
-fn replies_after_a_failure(alloc: Global) -> Result<Vec<Heard>, Fault> {
+fn replies_after_a_failure(alloc: Global) -> Result<Vec<Reply>, Fault> {
     let mut session = unsynced(alloc, false)?;
     replies(alloc, &mut session)
 }

@@ -1,41 +1,48 @@
 -- How an evaluation ends.
-use Rattle.std.proofs.Common.{◌≡◌, ℕ, ◌⊎◌, inl, inr, List, Option, Some, None, Result, Ok, Err, refl, ap, ◌∙◌}
+use Rattle.std.proofs.Common.{◌≡◌, ℕ, inl, inr, List, Option, Some, None, Result, Ok, Err, refl, ap}
 use Rattle.std.specs.Io.KnownBytes.{Keeps}
 use Rattle.batch_loader.specs.Outcomes.{and_then}
 use Rattle.cube_model.specs.declared.fault.Fault.{Fault}
 use Rattle.cube_model.specs.declared.query.Query.{Query}
 use Rattle.cube_model.specs.declared.answer.Answer.{Answer}
-use Rattle.cube_model.specs.declared.fault.Fault.TheVariants.{Memory, Input}
-use Rattle.ssb_eval.specs.Evaluation.{Gives, Reports, Texts, answer_from, answer_of, dimensions_of, eval_of}
+use Rattle.cube_model.specs.declared.rows.DimRows.{DimRows}
+use Rattle.ssb_eval.specs.Evaluation.{Gives, Reports, Texts, answer_of, dimensions_of, eval_of}
+use Rattle.ssb_eval.proofs.Tables.{gives-on, gives-stop}
 use Rattle.ssb_reports.specs.Report.{report_of}
 use Rattle.ssb_reports.specs.Writing.{Writes}
+
+-- the report over dimensions
+abbrev report_over : Query → Texts → DimRows → Result (List ℕ) Fault
+report_over query texts dimensions = and_then (answer_of query dimensions texts.lineorder) (λ found. Ok (report_of query found))
 
 keeps_same : (known : Option (List ℕ)) → Keeps known known
 keeps_same None = tt
 keeps_same (Some bytes) = refl
 
 -- it was refused before anything was written
-pub reports-stop : (known : Option (List ℕ)) (outcome : Result (List ℕ) Fault) (fault : Fault) (result : Result Unit Fault) → (y : Fault) × (result ≡ Err y) × (y ≡ fault) → (fault ≡ Memory) ⊎ ((fault ≡ Input) ⊎ (outcome ≡ Err fault)) → Reports known known outcome result
+pub reports-stop : {A : Type 0} (known : Option (List ℕ)) (outcome : Result (List ℕ) Fault) (fault : Fault) (result : Result A Fault) → (y : Fault) × (result ≡ Err y) × (y ≡ fault) → Gives outcome (Err fault) → Reports known known outcome result
 reports-stop known outcome fault result stop why = rw (stop.1, stop.2) (inr (keeps_same known, why))
 
--- the bytes of the report were found, and handed to the writer
-pub reports-written : (old new : Option (List ℕ)) (outcome : Result (List ℕ) Fault) (bytes : List ℕ) (result : Result Unit Fault) → outcome ≡ Ok bytes → Writes old new result bytes → Reports old new outcome result
-reports-written old new outcome bytes (Ok done) is writes = (bytes, is, writes)
-reports-written old new outcome bytes (Err fault) is writes = inl (writes.0, (bytes, is, writes.1))
+-- the bytes of the report were found, and the writer failed
+pub reports-unwritten : {A : Type 0} (old new : Option (List ℕ)) (outcome : Result (List ℕ) Fault) (bytes : List ℕ) (fault : Fault) (result : Result A Fault) → (y : Fault) × (result ≡ Err y) × (y ≡ fault) → outcome ≡ Ok bytes → Writes old new (Err fault) bytes → Reports old new outcome result
+reports-unwritten old new outcome bytes fault result stop is writes = rw (stop.1, stop.2) (inl (writes.0, (bytes, is, writes.1)))
 
--- one step after the other, in either grouping
-pub in_turn : {A B C : Type 0} (first : Result A Fault) (next : A → Result B Fault) (last : B → Result C Fault) → and_then first (λ x. and_then (next x) last) ≡ and_then (and_then first next) last
-in_turn (Ok x) next last = refl
-in_turn (Err fault) next last = refl
+-- the same refusal of another call
+pub reports-refused : {A : Type 0} (old new : Option (List ℕ)) (outcome : Result (List ℕ) Fault) (fault : Fault) (result : Result A Fault) → (y : Fault) × (result ≡ Err y) × (y ≡ fault) → Reports {A = A} old new outcome (Err fault) → Reports old new outcome result
+reports-refused old new outcome fault result stop reports = rw (stop.1, stop.2) reports
+
+-- the dimensions were refused
+pub eval-no_dims : (query : Query) (texts : Texts) (fault : Fault) → Gives (dimensions_of texts) (Err fault) → Gives (eval_of query texts) (Err fault)
+eval-no_dims query texts fault gives = gives-stop (dimensions_of texts) (report_over query texts) fault (Err fault) (fault, refl, refl) gives
+
+-- the facts were refused
+pub eval-no_answer : (query : Query) (texts : Texts) (dimensions : DimRows) (fault : Fault) → dimensions_of texts ≡ Ok dimensions → Gives (answer_of query dimensions texts.lineorder) (Err fault) → Gives (eval_of query texts) (Err fault)
+eval-no_answer query texts dimensions fault is gives =
+    gives-on (dimensions_of texts) (report_over query texts) dimensions (Err fault) is
+    (gives-stop (answer_of query dimensions texts.lineorder) (λ found. Ok (report_of query found)) fault (Err fault) (fault, refl, refl) gives)
 
 -- the report is that of the answer
-pub eval_is : (query : Query) (texts : Texts) (outcome : Result Answer Fault) → answer_from query texts ≡ outcome → eval_of query texts ≡ and_then outcome (λ found. Ok (report_of query found))
-eval_is query texts outcome is =
-    in_turn (dimensions_of texts) (λ dimensions. answer_of query dimensions texts.lineorder) (λ found. Ok (report_of query found))
-    ∙ ap (λ found. and_then found (λ answer. Ok (report_of query answer))) is
-
--- the texts were refused
-pub eval-stop : (query : Query) (texts : Texts) (fault : Fault) → Gives (answer_from query texts) (Err fault) → (fault ≡ Memory) ⊎ ((fault ≡ Input) ⊎ (eval_of query texts ≡ Err fault))
-eval-stop query texts fault (inl memory) = inl memory
-eval-stop query texts fault (inr (inl input)) = inr (inl input)
-eval-stop query texts fault (inr (inr is)) = inr (inr (eval_is query texts (Err fault) is))
+pub eval-is : (query : Query) (texts : Texts) (dimensions : DimRows) (answer : Answer) → dimensions_of texts ≡ Ok dimensions → answer_of query dimensions texts.lineorder ≡ Ok answer → eval_of query texts ≡ Ok (report_of query answer)
+eval-is query texts dimensions answer is found =
+    gives-on (dimensions_of texts) (report_over query texts) dimensions (Ok (report_of query answer)) is
+    (ap (λ one. and_then one (λ answer. Ok (report_of query answer))) found)

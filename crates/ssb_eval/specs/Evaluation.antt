@@ -65,10 +65,6 @@ FactsAreRows = (dimensions : DimRows) (text : List ℕ) (rows : List LineOrder) 
 abbrev pub answer_of : Query → DimRows → List ℕ → Result Answer Fault
 answer_of query dimensions text = and_then (facts_of dimensions text) (λ rows. Ok (answer query dimensions rows))
 
--- the answer over the texts of all tables
-abbrev pub answer_from : Query → Texts → Result Answer Fault
-answer_from query texts = and_then (dimensions_of texts) (λ dimensions. answer_of query dimensions texts.lineorder)
-
 -- the bytes of the report
 abbrev pub eval_of : Query → Texts → Result (List ℕ) Fault
 eval_of query texts =
@@ -103,7 +99,7 @@ pub record HaveTexts (customer supplier part date lineorder : Option (List ℕ))
 
 -- The end of an evaluation: the report was written. Or the writer failed, behind a beginning of the report. Or nothing
 -- was written: for want of memory, since a reader failed, or since that is the first refusal
-abbrev pub Reports : Option (List ℕ) → Option (List ℕ) → Result (List ℕ) Fault → Result Unit Fault → Type 0
+abbrev pub Reports : {A : Type 0} → Option (List ℕ) → Option (List ℕ) → Result (List ℕ) Fault → Result A Fault → Type 0
 Reports old new outcome (Ok done) = (bytes : List ℕ) × (outcome ≡ Ok bytes) × Appends old new bytes
 Reports old new outcome (Err fault) =
     ((fault ≡ Output) × ((bytes : List ℕ) × (outcome ≡ Ok bytes) × AppendsBeginning old new bytes))

@@ -1,12 +1,13 @@
 //! A query over the texts of the five tables.
-ghost use Rattle.std.specs.Prelude.{◌≡◌, Err};
+ghost use Rattle.std.specs.Prelude.{◌≡◌, Ok, Err, IfOk};
 ghost use Rattle.std.specs.Io.KnownBytes.{Keeps};
 ghost use Rattle.cube_model.specs.Proper.{IsProper};
-ghost use Rattle.ssb_eval.specs.Evaluation.{Gives, HaveTexts, Reports, Texts, answer_from, eval_of};
+ghost use Rattle.ssb_eval.specs.Evaluation.{HaveTexts, Reports, Texts, dimensions_of, eval_of};
 
 use crate::dimension_tables::read_dimensions;
 use crate::facts::answer_facts;
-use cube_model::{Answer, Fault, Query};
+use cube_model::{Fault, Query};
+use dimensions::Dims;
 use ssb_reports::write_report;
 use std::alloc::Global;
 use std::io::{Read, Write};
@@ -41,13 +42,19 @@ pub fn eval_texts<
     // Any other query is refused before a text is read.
     ensures improper { (IsProper query.now → ⊥) → (result ≡ Err Fault.BadQuery) × Keeps (W.contents out.old) (W.contents out.new) }
 {
-    query.check()?;
-    let answer = answer_over(alloc, customer, supplier, part, date, lineorder, query)?;
-    write_report(query, &answer, out)
+    eval_keeping_dims(alloc, customer, supplier, part, date, lineorder, query, out)?;
+    Ok(())
 }
 
-// The answer to a proper query over the rows that the texts of the five tables spell.
-fn answer_over<C: Read + Drop, S: Read + Drop, P: Read + Drop, D: Read + Drop, L: Read + Drop>(
+/// Writes the report as `eval_texts` does, and returns the dimensions that the texts of customer, supplier, part and date spell.
+pub fn eval_keeping_dims<
+    C: Read + Drop,
+    S: Read + Drop,
+    P: Read + Drop,
+    D: Read + Drop,
+    L: Read + Drop,
+    W: Write,
+>(
     alloc: Global,
     customer: C,
     supplier: S,
@@ -55,11 +62,24 @@ fn answer_over<C: Read + Drop, S: Read + Drop, P: Read + Drop, D: Read + Drop, L
     date: D,
     lineorder: L,
     query: &Query,
-) -> Result<Answer, Fault>
-    requires proper { IsProper query.now }
-    ensures { (texts : Texts) → HaveTexts (C.remaining customer) (S.remaining supplier) (P.remaining part) (D.remaining date) (L.remaining lineorder) texts
-        → Gives (answer_from query.now texts) result }
+    out: &mut W,
+) -> Result<Dims, Fault>
+    // Of a proper query the outcome is that of the texts.
+    ensures proper { IsProper query.now → (texts : Texts)
+        → HaveTexts (C.remaining customer) (S.remaining supplier) (P.remaining part) (D.remaining date) (L.remaining lineorder) texts
+        → Reports (W.contents out.old) (W.contents out.new) (eval_of query.now texts) result }
+
+    // The dimensions are those of the texts.
+    ensures dims { (texts : Texts)
+        → HaveTexts (C.remaining customer) (S.remaining supplier) (P.remaining part) (D.remaining date) (L.remaining lineorder) texts
+        → IfOk result (λ dims. dimensions_of texts ≡ Ok dims) }
+
+    // Any other query is refused before a text is read.
+    ensures improper { (IsProper query.now → ⊥) → (result ≡ Err Fault.BadQuery) × Keeps (W.contents out.old) (W.contents out.new) }
 {
+    query.check()?;
     let dims = read_dimensions(alloc, customer, supplier, part, date)?;
-    answer_facts(alloc, &dims, query, lineorder)
+    let answer = answer_facts(alloc, &dims, query, lineorder)?;
+    write_report(query, &answer, out)?;
+    Ok(dims)
 }

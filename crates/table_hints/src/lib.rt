@@ -1,6 +1,7 @@
 //! What stands behind a refusal of the five tables: which file, which line of it, and which text or key.
 #![tactic(auto)]
 
+mod beginnings;
 mod columns;
 mod dimension_lines;
 mod facts;

@@ -67,6 +67,7 @@ fn next_line<R: Read>(
     }
 }
 
-fn without_return(line: &[u8]) -> &[u8] {
+/// A line without the carriage return at its end, if it has one.
+pub fn without_return(line: &[u8]) -> &[u8] {
     line.strip_suffix(b"\r").unwrap_or(line)
 }

@@ -1,7 +1,8 @@
 //! A line that spells no row.
+use crate::beginnings::beginning_hint;
 use crate::columns::Column;
 use crate::files::{Table, TableFiles};
-use crate::lines::{field, field_count, line_of, number};
+use crate::lines::{field, field_count, line_of, number, without_return};
 use crate::quoted::Quoted;
 use cube_model::limits::{LONGEST_LINE, LONGEST_TEXT};
 use cube_model::{Fault, Place};
@@ -86,6 +87,9 @@ fn count_said(
     line: &[u8],
     at: u64,
 ) -> Result<Option<String>, Fault> {
+    if without_return(line).trim_ascii().is_empty() {
+        return blank_said(alloc, path, line, at);
+    }
     let count = field_count(line);
     let wanted = table.columns().len();
     let name = table.name();
@@ -93,6 +97,16 @@ fn count_said(
         "{path} line {at}: a {name} line has {wanted} fields, and this one {count}{}",
         first_hint(line, at)
     )?;
+    Ok(Some(said))
+}
+
+fn blank_said(alloc: Global, path: &str, line: &[u8], at: u64) -> Result<Option<String>, Fault> {
+    let what = if without_return(line).is_empty() {
+        "empty"
+    } else {
+        "blank"
+    };
+    let said = format!(in alloc; "{path} line {at}: the line is {what}")?;
     Ok(Some(said))
 }
 
@@ -133,25 +147,7 @@ fn length_said(
     Ok(Some(said))
 }
 
-// What the beginning of a file tells of it.
+// What the first line of a file says of the file. A later line says nothing of it.
 fn first_hint(line: &[u8], at: u64) -> &'static str {
-    if at != 1 {
-        return "";
-    }
-    if line.starts_with(b"\x1f\x8b") {
-        return "; the file is compressed";
-    }
-    if line.starts_with(b"\xef\xbb\xbf") {
-        return "; the file begins with a byte order mark";
-    }
-    match line.first() {
-        Some(byte) => {
-            if byte.is_ascii_alphabetic() {
-                "; a line of column names has to go"
-            } else {
-                ""
-            }
-        }
-        None => "",
-    }
+    if at == 1 { beginning_hint(line) } else { "" }
 }

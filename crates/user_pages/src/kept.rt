@@ -3,7 +3,7 @@ use std::alloc::{Allocator, Global};
 use std::cell::RefCell;
 use std::fmt::Display;
 use std::fs::{Metadata, OpenOptions};
-use std::io::{self, ErrorKind, Write};
+use std::io::{self, ErrorKind, Lines, Write};
 use std::rt::{Clock, Files};
 use std::time::Duration;
 
@@ -81,6 +81,22 @@ impl<R: Clock> Clock for Kept<'_, R> {
 
     fn since_1970(&self) -> io::Result<Duration> {
         self.rt.since_1970()
+    }
+}
+
+impl<R: Input> Input for Kept<'_, R> {
+    type Reader = R::Reader;
+
+    fn read_line<A: Allocator + Clone>(&self, buf: &mut String<A>) -> io::Result<usize> {
+        self.rt.read_line(buf)
+    }
+
+    fn lines<A: Allocator>(&self, alloc: A) -> Lines<R::Reader, A> {
+        self.rt.lines(alloc)
+    }
+
+    fn reader(&self) -> R::Reader {
+        self.rt.reader()
     }
 }
 

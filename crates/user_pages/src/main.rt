@@ -1,45 +1,89 @@
-//! Runs the commands of the tour as they are printed on its page, and says where one prints other than the page.
+//! Runs the commands of each page of its folder as they are printed there, and says where one prints other than the page. After a
+//! page the files that it made are removed.
 #![tactic(auto)]
 
 mod kept;
+mod making;
 mod page;
 mod quoting;
 mod shell;
 
+use command_line::LockFile;
 use page::{Step, steps};
 use shell::Shell;
+use std::alloc::Global;
 use std::os::unix::fs::FileExt;
 use std::process::ExitCode;
 use std::rt::{Clock, Files};
 use std::{fs, io};
 
-/// The page, in the folder where the program runs. The tables that it names stand beside it.
-const PAGE: &str = "TOUR.md";
-
 fn main(rt: HostRuntime) -> io::Result<ExitCode> {
-    let text = fs::read_to_string(&rt, PAGE)?;
-    let steps = steps(rt.alloc(), text.as_str())?;
-    let others = count_others(&rt, steps.as_slice())?;
-    tell(&rt, steps.len(), others)
-}
-
-// Prints how many commands there are, and how many of them print other than the page, and gives the status to end with.
-fn tell<R: Print>(rt: &R, commands: usize, others: u64) -> io::Result<ExitCode> {
-    println!(rt; "{commands} commands, {others} that print other than {PAGE}")?;
-    Ok(if others == 0 {
+    let files = files(&rt)?;
+    let mut all_alike = true;
+    for name in files.as_slice() {
+        if name.ends_with(".md") {
+            all_alike &= is_alike(&rt, name.as_str())?;
+            remove_others(&rt, files.as_slice())?;
+        }
+    }
+    Ok(if all_alike {
         ExitCode::SUCCESS
     } else {
         ExitCode::FAILURE
     })
 }
 
+// The names of the files in the folder, in order: the pages, and the tables that they name.
+fn files(rt: &HostRuntime) -> io::Result<Vec<String>> {
+    let alloc = rt.alloc();
+    let mut names = Vec::new(alloc);
+    for entry in fs::read_dir(rt, ".")? {
+        let entry = entry?;
+        push_name(alloc, &mut names, entry.file_name())?;
+    }
+    names.sort()?;
+    Ok(names)
+}
+
+fn push_name(alloc: Global, names: &mut Vec<String>, name: &str) -> io::Result<()> {
+    names.push(String::from_str(alloc, name)?)?;
+    Ok(())
+}
+
+// Removes the files that are not among some names: those that a page made, so that the next one finds the folder as it was.
+fn remove_others(rt: &HostRuntime, names: &[String]) -> io::Result<()> {
+    let found = files(rt)?;
+    for name in found.as_slice() {
+        if !names.contains(name) {
+            fs::remove_file(rt, name.as_str())?;
+        }
+    }
+    Ok(())
+}
+
+// Runs the commands of a page, and prints how many there are and how many of them print other than the page. It says whether there are
+// some, and each prints what the page says.
+fn is_alike<R: Files + AllocGlobal + Print + Clock + Input>(rt: &R, page: &str) -> io::Result<bool>
+where
+    R::File: FileExt + LockFile,
+{
+    let text = fs::read_to_string(rt, page)?;
+    let steps = steps(rt.alloc(), text.as_str())?;
+    let others = count_others(rt, steps.as_slice())?;
+    println!(rt;
+        "{page}: {} commands, {others} that print other than the page",
+        steps.len()
+    )?;
+    Ok(others == 0 && !steps.is_empty())
+}
+
 // Runs commands in one shell, and says how many print other than their page.
-fn count_others<R: Files + AllocGlobal + Print + Clock>(
+fn count_others<R: Files + AllocGlobal + Print + Clock + Input>(
     rt: &R,
     steps: &[Step<'_>],
 ) -> io::Result<u64>
 where
-    R::File: FileExt,
+    R::File: FileExt + LockFile,
 {
     let mut shell = Shell::new();
     let mut others = 0u64;
@@ -52,13 +96,13 @@ where
 }
 
 // Whether a command prints what its page says. Where not, it prints both.
-fn is_as_printed<R: Files + AllocGlobal + Print + Clock>(
+fn is_as_printed<R: Files + AllocGlobal + Print + Clock + Input>(
     rt: &R,
     shell: &mut Shell,
     step: &Step<'_>,
 ) -> io::Result<bool>
 where
-    R::File: FileExt,
+    R::File: FileExt + LockFile,
 {
     let found = shell.run(rt, step.command)?;
     let is_same = found.as_slice() == step.printed.as_bytes();

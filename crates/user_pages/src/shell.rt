@@ -1,8 +1,10 @@
 //! The commands that a page gives to its reader's shell.
 use crate::kept::Kept;
+use crate::making::{first_line, numbered, replacement, unescaped};
 use crate::quoting::words;
-use command_line::{Screens, run};
-use std::alloc::Global;
+use command_line::{LockFile, Screens, run};
+use std::fs::OpenOptions;
+use std::io::Write;
 use std::os::unix::fs::FileExt;
 use std::rt::{Clock, Files};
 use std::{fs, io};
@@ -31,35 +33,55 @@ impl Shell {
 
     /// What a command prints, on either stream.
     ///
-    /// It knows `ssbcube`, `alias ssb='..'`, `ssb`, `cat` with one file and `echo $?`. A copy of the tables is not made: they stand
-    /// in the folder already.
-    pub fn run<R: Files + AllocGlobal + Clock>(
+    /// It knows `ssbcube`, `alias ssb='..'`, `ssb`, `cat` with one file, `echo $?`, and two commands that write a file, or with `>>`
+    /// the end of one: `printf 'TEXT' > FILE` and `seq A B | sed 's/.*/TEXT/' > FILE`. Of a command with ` 2>&1 | head -1` after it the first
+    /// line is kept. The tables are not copied: they are in the folder already.
+    pub fn run<R: Files + AllocGlobal + Clock + Input>(
         &mut self,
         rt: &R,
         command: &str,
     ) -> io::Result<Vec<u8>>
     where
-        R::File: FileExt,
+        R::File: FileExt + LockFile,
     {
         let alloc = rt.alloc();
         if let Some(alias) = command.strip_prefix("alias ssb=") {
             self.alias = Some(String::from_str(alloc, alias.trim_matches('\''))?);
             return Ok(Vec::new(alloc));
         }
-        if let (Some(rest), Some(alias)) = (command.strip_prefix("ssb "), &self.alias) {
-            let whole = format!(in alloc; "{alias} {rest}")?;
-            return self.run_words(rt, whole.as_str());
+        if let Some(command) = command.strip_suffix(" 2>&1 | head -1") {
+            let printed = self.run_command(rt, command)?;
+            return Ok(first_line(alloc, printed.as_slice())?);
         }
-        self.run_words(rt, command)
+        self.run_command(rt, command)
     }
 
-    fn run_words<R: Files + AllocGlobal + Clock>(
+    // Runs a command that is no alias, with what `ssb` stands for in its place.
+    fn run_command<R: Files + AllocGlobal + Clock + Input>(
         &mut self,
         rt: &R,
         command: &str,
     ) -> io::Result<Vec<u8>>
     where
-        R::File: FileExt,
+        R::File: FileExt + LockFile,
+    {
+        let alloc = rt.alloc();
+        match (after_ssb(command), &self.alias) {
+            (Some(rest), Some(alias)) => {
+                let whole = format!(in alloc; "{alias}{rest}")?;
+                self.run_words(rt, whole.as_str())
+            }
+            _ => self.run_words(rt, command),
+        }
+    }
+
+    fn run_words<R: Files + AllocGlobal + Clock + Input>(
+        &mut self,
+        rt: &R,
+        command: &str,
+    ) -> io::Result<Vec<u8>>
+    where
+        R::File: FileExt + LockFile,
     {
         let words = words(rt.alloc(), command)?;
         let kept = Kept::new(rt);
@@ -68,14 +90,22 @@ impl Shell {
     }
 }
 
+// What a command has after the word `ssb`, if that is its first.
+fn after_ssb(command: &str) -> Option<&str> {
+    match command.strip_prefix("ssb") {
+        Some(rest) if rest.is_empty() || rest.starts_with(' ') => Some(rest),
+        _ => None,
+    }
+}
+
 // Does what words say behind a command that ended with a status, and gives the status that they end with.
-fn status_of<R: Files + AllocGlobal + Print + Eprint + Clock>(
+fn status_of<R: Files + AllocGlobal + Print + Eprint + Clock + Input>(
     rt: &R,
     words: &[String],
     last: u8,
 ) -> io::Result<u8>
 where
-    R::File: FileExt,
+    R::File: FileExt + LockFile,
 {
     let Some(name) = words.first() else {
         return Ok(last);
@@ -85,6 +115,8 @@ where
         "cp" => Ok(0),
         "echo" => say(rt, last),
         "cat" => show(rt, words),
+        "printf" => print_to_file(rt, words),
+        "seq" => number_to_file(rt, words),
         name => unknown(rt, name),
     }
 }
@@ -107,4 +139,43 @@ fn show<R: Files + AllocGlobal + Print>(rt: &R, words: &[String]) -> io::Result<
         print!(rt; "{text}")?;
     }
     Ok(0)
+}
+
+// Writes the text of the second word to the file that the fourth names, as the third says.
+fn print_to_file<R: Files + AllocGlobal + Print>(rt: &R, words: &[String]) -> io::Result<u8> {
+    let [_, text, how, path] = words else {
+        return unknown(rt, "printf");
+    };
+    let bytes = unescaped(rt.alloc(), text.as_str())?;
+    write_file(rt, how.as_str(), path.as_str(), bytes.as_slice())
+}
+
+// Writes a line for each number to a file. The words are those of `seq A B | sed 's/.*/TEXT/' > FILE`.
+fn number_to_file<R: Files + AllocGlobal + Print>(rt: &R, words: &[String]) -> io::Result<u8> {
+    let [_, first, last, _, _, script, how, path] = words else {
+        return unknown(rt, "seq");
+    };
+    let (Ok(first), Ok(last)) = (first.parse::<u32>(), last.parse::<u32>()) else {
+        return unknown(rt, "seq");
+    };
+    let Some(line) = replacement(script.as_str()) else {
+        return unknown(rt, "sed");
+    };
+    let bytes = numbered(rt.alloc(), first, last, line)?;
+    write_file(rt, how.as_str(), path.as_str(), bytes.as_slice())
+}
+
+// Puts bytes in the place of what a file has, or with `>>` after it.
+fn write_file<R: Files + Print>(rt: &R, how: &str, path: &str, bytes: &[u8]) -> io::Result<u8> {
+    match how {
+        ">" => fs::write(rt, path, bytes)?,
+        ">>" => append(rt, path, bytes)?,
+        how => return unknown(rt, how),
+    }
+    Ok(0)
+}
+
+fn append<R: Files>(rt: &R, path: &str, bytes: &[u8]) -> io::Result<()> {
+    let mut file = OpenOptions::new().append(true).open(rt, path)?;
+    file.write_all(bytes)
 }

@@ -19,7 +19,7 @@ use Rattle.batch_admission.proofs.CallerLemmas.{found-earlier}
 use Rattle.warehouse_root.specs.declared.layout.Layout.TheVariants.{First}
 use Rattle.warehouse_root.specs.declared.totals.StoredTotals.{StoredTotals}
 use Rattle.warehouse_root.specs.Root.{PlainRoot, with_batch}
-use Rattle.warehouse_objects.specs.Stands.{root_of, stored}
+use Rattle.warehouse_objects.specs.Stands.{root_of, said_of, stored}
 use Rattle.warehouse_objects.specs.Warehouse.{Warehouse, loaded}
 use Rattle.warehouse.specs.Growing.{IsGrown, totals_in}
 use Rattle.warehouse.specs.Prepared.{Admitted, Prepares}
@@ -84,12 +84,12 @@ root-more : (w : Warehouse) (rows : List LineOrder) (root after : PlainRoot) (co
 root-more w rows root after count totals is many sums made =
     let counts : map length w.batches ++ count ∷ [] ≡ map length (w.batches ++ rows ∷ []) = ap (λ n. map length w.batches ++ n ∷ []) many ∙ sym (map-append length w.batches (rows ∷ [])) in
     made ∙ ap (with_batch count totals) (sym is) ∙ (λ i. record {
-      layout = First;
+      layout = w.layout;
       batches = counts i;
       target = w.target;
       additions = w.additions;
       totals = sums i;
-      cuboids = [];
+      cuboids = map said_of w.cuboids;
     })
 
 pub prepares-with : (w : Warehouse) (number : ℕ) (rows : List LineOrder) (root : PlainRoot) (count : ℕ) (totals : StoredTotals) (result : Result Prepared Fault) → root_of w ≡ root → count ≡ length rows

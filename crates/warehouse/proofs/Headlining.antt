@@ -10,26 +10,18 @@ use Rattle.object_store.specs.Shows.{Shows}
 use Rattle.object_store.specs.Frames.{shows_same}
 use Rattle.object_store.specs.Disk.{ShowsSome}
 use Rattle.object_store.specs.Moments.{begins}
-use Rattle.warehouse_objects.specs.Warehouse.{Warehouse, loaded}
+use Rattle.warehouse_objects.specs.Warehouse.{Warehouse, loaded, with_views}
 use Rattle.warehouse_objects.specs.Stands.{Stands}
 use Rattle.warehouse_objects.proofs.CallerLemmas.{next_number}
 use Rattle.warehouse.specs.declared.command.Command.{Command}
-use Rattle.warehouse.specs.declared.command.Command.TheVariants.{Submit, Query, Status}
+use Rattle.warehouse.specs.declared.command.Command.TheVariants.{Submit, Query, Status, Choose, Upkeep, Audit}
 use Rattle.warehouse.specs.declared.command.Reply.{Reply}
-use Rattle.warehouse.specs.declared.command.Reply.TheVariants.{Done, Answer, Numbers, Refused}
 use Rattle.warehouse.specs.Found.{MayBeFound, MayStand}
 use Rattle.warehouse.specs.Running.{During, FoundIn, acknowledged}
 use Rattle.warehouse.specs.Session.{device_of, disk_of}
 use Rattle.warehouse.specs.Headline.{acknowledged_all, submitted, IsRestarted, StoppedRunIsFound}
-use Rattle.warehouse.proofs.Whole.{whole}
-
-same_rows : (w : Warehouse) (command : Command) (reply : Reply) → (acknowledged w command reply).rows ≡ w.rows
-same_rows w (Submit number batch) Done = refl
-same_rows w (Submit number batch) (Answer found) = refl
-same_rows w (Submit number batch) (Numbers numbers) = refl
-same_rows w (Submit number batch) (Refused fault) = refl
-same_rows w (Query as_of query) reply = refl
-same_rows w Status reply = refl
+use Rattle.warehouse.specs.Choosing.{views_of}
+use Rattle.warehouse.proofs.Whole.{same_facts, whole}
 
 as_it_is : (w : Warehouse) (last : Option (List LineOrder)) → MayBeFound w.rows w.batches last w
 as_it_is w last = record { of_rows = refl; of_batches = inl refl }
@@ -54,12 +46,18 @@ in_command w (Submit number batch) c during =
     )) during
 in_command w (Query as_of query) c stands = (w, as_it_is w None, stands)
 in_command w Status c stands = (w, as_it_is w None, stands)
+in_command w (Choose k) c during =
+    ⊎_elim {C = MayStand w.rows w.batches None c}
+    (λ stands. (w, as_it_is w None, stands))
+    (λ chosen. (with_views w (views_of chosen.0), record { of_rows = refl; of_batches = inl refl }, chosen.2)) during
+in_command w Upkeep c during = (during.0, record { of_rows = during.1.rows; of_batches = inl during.1.batches }, during.2)
+in_command w Audit c stands = (w, as_it_is w None, stands)
 
 -- stopped after some commands, in the next
 record IsStopped (w : Warehouse) (commands : List Command) (replies : List Reply) (c : Content) : Type 0 where
   done : ℕ
   within : done ≤ length commands
-  found : MayStand w.rows (acknowledged_all w (take done commands) (take done replies)).batches (submitted (slice_get commands done)) c
+  found : MayStand w.rows (acknowledged_all w.batches (take done commands) (take done replies)) (submitted (slice_get commands done)) c
 
 stopped : (w : Warehouse) (commands : List Command) (replies : List Reply) (c : Content) → FoundIn w commands replies c → IsStopped w commands replies c
 stopped w [] replies c stands = record { done = zero; within = omega arith; found = (w, as_it_is w None, stands) }
@@ -67,15 +65,18 @@ stopped w (command ∷ commands) [] c none = absurd none
 stopped w (command ∷ commands) (reply ∷ replies) c found =
     ⊎_elim {C = IsStopped w (command ∷ commands) (reply ∷ replies) c}
     (λ here. record { done = zero; within = omega arith; found = in_command w command c here })
-    (λ later. let rest = stopped (acknowledged w command reply) commands replies c later in record {
+    (λ later.
+    let rest = stopped later.0 commands replies c later.2 in
+    let facts = same_facts w command reply later.0 later.1 in
+    let last = submitted (slice_get commands rest.done) in record {
       done = suc rest.done;
       within = omega (arith, rest.within);
-      found = subst (λ (rows : DimRows). MayStand rows (acknowledged_all (acknowledged w command reply) (take rest.done commands) (take rest.done replies)).batches (submitted (slice_get commands rest.done)) c)
-          (same_rows w command reply) rest.found;
+      found = subst (λ (rows : DimRows). MayStand rows (acknowledged_all (acknowledged w.batches command reply) (take rest.done commands) (take rest.done replies)) last c) facts.0
+          (subst (λ (batches : List (List LineOrder)). MayStand later.0.rows (acknowledged_all batches (take rest.done commands) (take rest.done replies)) last c) facts.1 rest.found);
     }) found
 
 -- where an image shows a content, the restarted device shows it
-restarted_shows : {D : Type 0} (g : Ghosts D) (size : ℕ) (image : Image) (device : D) (c : Content) → IsRestarted g size image device → Shows size image c
+pub restarted_shows : {D : Type 0} (g : Ghosts D) (size : ℕ) (image : Image) (device : D) (c : Content) → IsRestarted g size image device → Shows size image c
     → (other : Image) → IsImage (g.state device) other → Shows (g.state device).size other c
 restarted_shows g size image device c restarted shows other is =
     subst (λ (n : ℕ). Shows n other c) (sym restarted.same_size)

@@ -1,3 +1,5 @@
+mod LaterStops
+mod Restarting
 pub mod Refusing
 pub mod Preparing
 pub mod GrownBatches
@@ -5,6 +7,9 @@ pub mod Standing
 pub mod Submitting
 pub mod Making
 pub mod Finding
+pub mod Cuboids
+mod Pairing
+mod Choices
 pub mod Outcomes
 pub mod Performing
 pub mod Whole

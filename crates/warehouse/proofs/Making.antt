@@ -23,7 +23,7 @@ use Rattle.warehouse_objects.specs.Warehouse.{AreStorable, fresh}
 use Rattle.warehouse_objects.specs.Stands.{Stands, dimension_of, root_of}
 use Rattle.warehouse_objects.specs.Lawful.{dimension_puts}
 use Rattle.warehouse.specs.Creating.{MakesStore, RefusesToMake}
-use Rattle.warehouse.specs.Loaded.{IsLoaded}
+use Rattle.warehouse_objects.specs.Loaded.{IsLoaded}
 use Rattle.warehouse_objects.proofs.CallerLemmas.{stands_created}
 
 -- the four that are put

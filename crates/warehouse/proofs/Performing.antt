@@ -1,78 +1,119 @@
 -- One command of a run, and one more.
-use Rattle.std.proofs.Common.{◌≡◌, ◌⊎◌, ⊎_elim, inl, inr, ℕ, true, List, [], ◌∷◌, ◌++◌, refl, sym, subst}
+use Rattle.std.proofs.Common.{◌≡◌, ◌⊎◌, ⊎_elim, inl, inr, ℕ, Bool, true, List, [], ◌∷◌, ◌++◌, refl, sym, ap, subst}
 use Rattle.sector_device.specs.declared.device.Sectors.{Ghosts}
 use Rattle.cube_model.specs.declared.answer.Answer as answers
 use Rattle.cube_model.specs.declared.fault.Fault.{Fault}
-use Rattle.cube_model.specs.declared.fault.Fault.TheVariants.{Device}
+use Rattle.cube_model.specs.declared.fault.Fault.TheVariants.{Device, Memory}
 use Rattle.cube_model.specs.declared.query.Query as queries
 use Rattle.cube_model.specs.declared.rows.LineOrder.{LineOrder}
 use Rattle.cube_model.specs.Admission.{IsAdmissible}
 use Rattle.cube_model.specs.Answers.{answer_as_of}
 use Rattle.object_store.specs.Disk.{Leaves}
-use Rattle.warehouse_objects.specs.Warehouse.{Warehouse, loaded}
+use Rattle.warehouse_objects.specs.Warehouse.{Warehouse, loaded, with_views}
 use Rattle.warehouse_objects.specs.Stands.{Stands}
+use Rattle.cuboid_commits.specs.Keeping.{IsKeptUp}
+use Rattle.cuboid_commits.specs.Upkeep.{AreWhole}
+use Rattle.warehouse.specs.declared.chosen.Chosen.{Chosen}
 use Rattle.warehouse.specs.declared.command.Command.{Command}
-use Rattle.warehouse.specs.declared.command.Command.TheVariants.{Submit, Query, Status}
+use Rattle.warehouse.specs.declared.command.Command.TheVariants.{Submit, Query, Status, Choose, Upkeep, Audit}
 use Rattle.warehouse.specs.declared.command.Reply.{Reply}
-use Rattle.warehouse.specs.declared.command.Reply.TheVariants.{Done, Answer, Numbers, Refused}
+use Rattle.warehouse.specs.declared.command.Reply.TheVariants.{Done, Answer, Numbers, Audited, Refused}
+use Rattle.warehouse.specs.declared.command.Reply.TheVariants as replies
 use Rattle.warehouse.specs.declared.session.Session.{Session}
 use Rattle.warehouse.specs.declared.status.Status as statuses
-use Rattle.warehouse.specs.Session.{IsAt, content_of, disk_of, has_failed, SubmitRefuses, IsAsked, QueryRefuses}
+use Rattle.warehouse.specs.Choosing.{ChooseRefuses, IsChoice, views_of}
+use Rattle.warehouse.specs.Session.{IsAt, content_of, disk_of, has_failed, CommitsOnce, KeepsContent, SubmitRefuses, IsAsked, QueryRefuses}
 use Rattle.warehouse.specs.Status.{IsStatus}
-use Rattle.warehouse.specs.Running.{Phase, at, broken, Holds, Ran, RanAll}
+use Rattle.warehouse.specs.Running.{Phase, at, broken, Does, During, Holds, Ran, RanAll, Refuses, Replies}
+use Rattle.warehouse.specs.Upkeep.{UpkeepRefuses}
 use Rattle.warehouse.proofs.Refusing.{device_or}
 
--- a command was done, and what holds then
-abbrev pub Does : {D : Type 0} (g : Ghosts D) → Session D g → Warehouse → Command → Reply → Session D g → Type 0
-Does g old w command reply new = (after : Phase) × Ran g old (at w) command reply new after × Holds g new after
-
 module _ {D : Type 0} (g : Ghosts D) (w : Warehouse) (old new : Session D g) where
+  -- a refusal of a command that leaves the warehouse as it is
+  refused_at : (command : Command) (cause : Fault → Type 0) (fault : Fault)
+      → ((reply : Reply) (after : Phase) → Refuses cause w reply after → Replies g old w command reply new after)
+      → (fault ≡ Device → has_failed new ≡ true) → ((fault ≡ Device → ⊥) → cause fault × IsAt g new w)
+      → Leaves (disk_of g old) (disk_of g new) (During w command) → Does g old w command (Refused fault) new
+  refused_at command cause fault so failed causes leaves =
+      ⊎_elim {C = Does g old w command (Refused fault) new}
+      (λ e. (broken, (so (Refused fault) broken (fault, refl, inl (e, refl)), leaves, failed e), failed e))
+      (λ no. (at w, (so (Refused fault) (at w) (fault, refl, inr ((causes no).0, refl)), leaves, (causes no).1), (causes no).1))
+      (device_or fault)
+
   abbrev SubmitLeaves : ℕ → List LineOrder → Type 0
   SubmitLeaves number batch = Leaves (disk_of g old) (disk_of g new) (λ c. Stands c w ⊎ (IsAdmissible w.rows w.batches number batch × Stands c (loaded w batch)))
 
-  pub submit_done : (number : ℕ) (batch rows : List LineOrder) (command : Command) → command ≡ Submit number batch → rows ≡ batch
-      → IsAdmissible w.rows w.batches number rows → IsAt g new (loaded w rows) → SubmitLeaves number rows → Does g old w command Done new
-  submit_done number batch rows command is same admissible now leaves =
-      subst (λ (x : Command). Does g old w x Done new) (sym is) (
-        at (loaded w batch),
-        (
-          (subst (λ (b : List LineOrder). IsAdmissible w.rows w.batches number b) same admissible, refl),
-          subst (SubmitLeaves number) same leaves,
-        ),
-        subst (λ (b : List LineOrder). IsAt g new (loaded w b)) same now,
-      )
+  pub submit_done : (number : ℕ) (batch rows : List LineOrder) → rows ≡ batch
+      → IsAdmissible w.rows w.batches number rows → CommitsOnce g old new → IsAt g new (loaded w rows) → SubmitLeaves number rows → Does g old w (Submit number batch) Done new
+  submit_done number batch rows same admissible once now leaves = (
+    at (loaded w batch),
+    (
+      inl (refl, (subst (λ (b : List LineOrder). IsAdmissible w.rows w.batches number b) same admissible, once), refl),
+      subst (SubmitLeaves number) same leaves,
+      subst (λ (b : List LineOrder). IsAt g new (loaded w b)) same now,
+    ),
+    subst (λ (b : List LineOrder). IsAt g new (loaded w b)) same now,
+  )
 
-  pub submit_refused : (number : ℕ) (batch rows : List LineOrder) (fault : Fault) (command : Command) → command ≡ Submit number batch → rows ≡ batch
-      → (fault ≡ Device → has_failed new ≡ true) → ((fault ≡ Device → ⊥) → SubmitRefuses g old w number rows fault × IsAt g new w)
-      → SubmitLeaves number rows → Does g old w command (Refused fault) new
-  submit_refused number batch rows fault command is same failed causes leaves =
-      let moments = subst (SubmitLeaves number) same leaves in
-      subst (λ (x : Command). Does g old w x (Refused fault) new) (sym is)
-      (⊎_elim {C = Does g old w (Submit number batch) (Refused fault) new}
-      (λ e. (broken, (inl (e, refl), moments), failed e))
-      (λ no. (at w, (inr (subst (λ (b : List LineOrder). SubmitRefuses g old w number b fault) same (causes no).0, refl), moments), (causes no).1))
-      (device_or fault))
+  pub submit_refused : (number : ℕ) (batch rows : List LineOrder) (fault : Fault) → rows ≡ batch
+      → (fault ≡ Device → has_failed new ≡ true) → ((fault ≡ Device → ⊥) → (SubmitRefuses g old w number rows fault × KeepsContent g old new) × IsAt g new w)
+      → SubmitLeaves number rows → Does g old w (Submit number batch) (Refused fault) new
+  submit_refused number batch rows fault same failed causes leaves =
+      subst (λ (b : List LineOrder). Does g old w (Submit number b) (Refused fault) new) same
+      (refused_at (Submit number rows) (λ f. SubmitRefuses g old w number rows f × KeepsContent g old new) fault (λ reply after r. inr r) failed causes leaves)
 
-  pub query_done : (as_of : ℕ) (query : queries.Query) (found : answers.Answer) (command : Command) → command ≡ Query as_of query
-      → IsAsked w as_of query × (found ≡ answer_as_of query as_of w.rows w.batches) → IsAt g new w
-      → Leaves (disk_of g old) (disk_of g new) (λ c. Stands c w) → Does g old w command (Answer found) new
-  query_done as_of query found command is right now leaves =
-      subst (λ (x : Command). Does g old w x (Answer found) new) (sym is) (at w, ((right.0, right.1, refl), leaves), now)
+  pub query_done : (as_of : ℕ) (query : queries.Query) (found : answers.Answer)
+      → IsAsked w as_of query × (found ≡ answer_as_of query as_of w.rows w.batches) → KeepsContent g old new → IsAt g new w
+      → Leaves (disk_of g old) (disk_of g new) (λ c. Stands c w) → Does g old w (Query as_of query) (Answer found) new
+  query_done as_of query found right keeps now leaves =
+      (at w, (inl (ap (λ (a : answers.Answer). Answer a) right.1, (right.0, keeps), refl), leaves, now), now)
 
-  pub query_refused : (as_of : ℕ) (query : queries.Query) (fault : Fault) (command : Command) → command ≡ Query as_of query
-      → (fault ≡ Device → has_failed new ≡ true) → ((fault ≡ Device → ⊥) → QueryRefuses w as_of query fault × IsAt g new w)
-      → Leaves (disk_of g old) (disk_of g new) (λ c. Stands c w) → Does g old w command (Refused fault) new
-  query_refused as_of query fault command is failed causes leaves =
-      subst (λ (x : Command). Does g old w x (Refused fault) new) (sym is)
-      (⊎_elim {C = Does g old w (Query as_of query) (Refused fault) new}
-      (λ e. (broken, (inl (e, refl), leaves), failed e))
-      (λ no. (at w, (inr ((causes no).0, refl), leaves), (causes no).1))
-      (device_or fault))
+  pub query_refused : (as_of : ℕ) (query : queries.Query) (fault : Fault)
+      → (fault ≡ Device → has_failed new ≡ true) → ((fault ≡ Device → ⊥) → (QueryRefuses w as_of query fault × KeepsContent g old new) × IsAt g new w)
+      → Leaves (disk_of g old) (disk_of g new) (λ c. Stands c w) → Does g old w (Query as_of query) (Refused fault) new
+  query_refused as_of query fault failed causes leaves =
+      refused_at (Query as_of query) (λ f. QueryRefuses w as_of query f × KeepsContent g old new) fault (λ reply after r. inr r) failed causes leaves
 
-  pub status_done : (numbers : statuses.Status) (command : Command) → command ≡ Status → IsStatus w (content_of g old).generation numbers → IsAt g new w
-      → Leaves (disk_of g old) (disk_of g new) (λ c. Stands c w) → Does g old w command (Numbers numbers) new
-  status_done numbers command is right now leaves =
-      subst (λ (x : Command). Does g old w x (Numbers numbers) new) (sym is) (at w, ((right, refl), leaves), now)
+  pub status_done : (numbers : statuses.Status) → IsStatus w (content_of g old).generation numbers → KeepsContent g old new → IsAt g new w
+      → Leaves (disk_of g old) (disk_of g new) (λ c. Stands c w) → Does g old w Status (Numbers numbers) new
+  status_done numbers right keeps now leaves = (at w, ((numbers, (refl, (right, keeps), refl)), leaves, now), now)
+
+  abbrev ChooseLeaves : ℕ → Type 0
+  ChooseLeaves k = Leaves (disk_of g old) (disk_of g new) (λ c. Stands c w ⊎ ((chosen : List Chosen) × IsChoice w k chosen × Stands c (with_views w (views_of chosen))))
+
+  pub choose_done : (k : ℕ) (chosen : List Chosen) → IsChoice w k chosen → CommitsOnce g old new → IsAt g new (with_views w (views_of chosen)) → ChooseLeaves k
+      → Does g old w (Choose k) (replies.Chosen chosen) new
+  choose_done k chosen right once now leaves = (at (with_views w (views_of chosen)), (inl (chosen, (refl, (right, once), refl)), leaves, now), now)
+
+  pub choose_refused : (k : ℕ) (fault : Fault)
+      → (fault ≡ Device → has_failed new ≡ true) → ((fault ≡ Device → ⊥) → (ChooseRefuses g old w k fault × KeepsContent g old new) × IsAt g new w)
+      → ChooseLeaves k → Does g old w (Choose k) (Refused fault) new
+  choose_refused k fault failed causes leaves =
+      refused_at (Choose k) (λ f. ChooseRefuses g old w k f × KeepsContent g old new) fault (λ reply after r. inr r) failed causes leaves
+
+  abbrev UpkeepLeaves : Type 0
+  UpkeepLeaves = Leaves (disk_of g old) (disk_of g new) (λ c. (v : Warehouse) × IsKeptUp w v × Stands c v)
+
+  pub upkeep_done : (v : Warehouse) → IsKeptUp w v → AreWhole v → IsAt g new v → UpkeepLeaves → Does g old w Upkeep Done new
+  upkeep_done v kept whole now leaves = (at v, ((v, kept, inl (refl, whole, refl)), leaves, now), now)
+
+  pub upkeep_refused : (fault : Fault) → (fault ≡ Device → has_failed new ≡ true)
+      → ((fault ≡ Device → ⊥) → (v : Warehouse) × IsKeptUp w v × IsAt g new v × UpkeepRefuses g new v fault) → IsKeptUp w w
+      → UpkeepLeaves → Does g old w Upkeep (Refused fault) new
+  upkeep_refused fault failed causes same leaves =
+      ⊎_elim {C = Does g old w Upkeep (Refused fault) new}
+      (λ e. (broken, ((w, same, inr (fault, refl, inl (e, refl))), leaves, failed e), failed e))
+      (λ no. let then_is = causes no in (at then_is.0, ((then_is.0, then_is.1, inr (fault, refl, inr (then_is.3, refl))), leaves, then_is.2), then_is.2))
+      (device_or fault)
+
+  pub audit_done : (said : Bool) → said ≡ true → KeepsContent g old new → IsAt g new w → Leaves (disk_of g old) (disk_of g new) (λ c. Stands c w) → Does g old w Audit (Audited said) new
+  audit_done said is keeps now leaves = (at w, (inl (ap (λ (b : Bool). Audited b) is, keeps, refl), leaves, now), now)
+
+  pub audit_refused : (fault : Fault)
+      → (fault ≡ Device → has_failed new ≡ true) → ((fault ≡ Device → ⊥) → ((fault ≡ Memory) × KeepsContent g old new) × IsAt g new w)
+      → Leaves (disk_of g old) (disk_of g new) (λ c. Stands c w) → Does g old w Audit (Refused fault) new
+  audit_refused fault failed causes leaves =
+      refused_at Audit (λ f. (f ≡ Memory) × KeepsContent g old new) fault (λ reply after r. inr r) failed causes leaves
 
 -- one command after others
 pub ran_more : {D : Type 0} (g : Ghosts D) (old mid new : Session D g) (before between after : Phase) (command : Command) (reply : Reply) (commands : List Command) (replies : List Reply)

@@ -21,7 +21,7 @@ use Rattle.warehouse_root.specs.Root.{PlainRoot}
 use Rattle.warehouse_objects.specs.Warehouse.{Warehouse, loaded}
 use Rattle.warehouse_objects.specs.Stands.{Stands, root_of}
 use Rattle.warehouse_objects.specs.Lawful.{batch_put}
-use Rattle.warehouse.specs.Loaded.{IsLoaded}
+use Rattle.warehouse_objects.specs.Loaded.{IsLoaded}
 use Rattle.warehouse_objects.proofs.CallerLemmas.{stands_loaded}
 
 -- the one put
@@ -64,7 +64,8 @@ module _ (c : Content) (puts : List (ℕ × List ℕ)) (bytes : List ℕ) (layou
       subst (λ (p : List (ℕ × List ℕ)). Stands (committed p [] bytes layout c) (loaded w batch)) (sym puts_are)
       (subst (λ (b : List ℕ). Stands (committed (batch_put number batch) [] b layout c) (loaded w batch)) (sym (bytes_are ∙ ap roots.root_of after_is))
       (subst (λ (l : ℕ). Stands (committed (batch_put number batch) [] (roots.root_of (root_of (loaded w batch))) l c) (loaded w batch)) (sym layout_is)
-      (stands_loaded c w number batch stands admissible fits)))
+      (subst (λ (l : ℕ). Stands (committed (batch_put number batch) [] (roots.root_of (root_of (loaded w batch))) l c) (loaded w batch)) (ap number_of stands.first)
+      (stands_loaded c w number batch stands admissible fits))))
 
   -- at each moment it stands for the warehouse before or after
   pub submit_leaves : (w : Warehouse) (old new : Disk) → (old.keeps_word → Stands c w) → (old.keeps_word → IsAdmissible w.rows w.batches number batch × (after ≡ root_of (loaded w batch))) → FitColumns batch

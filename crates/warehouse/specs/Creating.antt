@@ -14,7 +14,7 @@ use Rattle.warehouse_root.specs.Root.{PlainRoot, first_root, root_of}
 use Rattle.warehouse_objects.specs.Lawful.{dimension_puts}
 use Rattle.warehouse_objects.specs.Warehouse.{fresh}
 use Rattle.warehouse_objects.specs.Stands.{Stands}
-use Rattle.warehouse.specs.Loaded.{IsLoaded}
+use Rattle.warehouse_objects.specs.Loaded.{IsLoaded}
 
 -- the store stands for the warehouse of no batch, and its root is that one
 pub record MakesStore {D : Type 0} (g : Ghosts D) (device : D) (rows : DimRows) (root : PlainRoot) (store : Store D g) : Type 0 where

@@ -1,10 +1,12 @@
 -- What an opening may find.
-use Rattle.std.specs.Prelude.{◌≡◌, ◌⊎◌, ◌+◌, Option, Some, List, [], ◌∷◌, ◌++◌, length}
+use Rattle.std.specs.Prelude.{◌≡◌, ◌⊎◌, ◌≤◌, ◌+◌, Option, Some, List, [], ◌∷◌, ◌++◌, length}
 use Rattle.cube_model.specs.declared.rows.DimRows.{DimRows}
 use Rattle.cube_model.specs.declared.rows.LineOrder.{LineOrder}
 use Rattle.cube_model.specs.Admission.{IsAdmissible}
 use Rattle.object_store.specs.Content.{Content}
+use Rattle.object_store.specs.Disk.{Disk, IsShown}
 use Rattle.warehouse_objects.specs.Warehouse.{Warehouse}
+use Rattle.cuboid_commits.specs.Keeping.{IsKeptUp}
 use Rattle.warehouse_objects.specs.Stands.{Stands}
 
 -- a batch behind others was being submitted, and is admissible there
@@ -22,3 +24,16 @@ pub record MayBeFound (rows : DimRows) (batches : List (List LineOrder)) (last :
 -- a content stands for batches that may be found
 abbrev pub MayStand : DimRows → List (List LineOrder) → Option (List LineOrder) → Content → Type 0
 MayStand rows batches last c = (w : Warehouse) × MayBeFound rows batches last w × Stands c w
+
+-- the views and the target are those of what an image of then shows, and no mark is below
+pub record IsSince (start : Disk) (w : Warehouse) : Type 0 where
+  pub content : Content
+  pub shown : IsShown start content
+  pub first : Warehouse
+  pub stands : Stands content first
+  pub kept : IsKeptUp first w
+  pub target : w.target ≡ first.target
+
+-- what an opening may leave, at any moment of it
+abbrev pub MayStandSince : Disk → DimRows → List (List LineOrder) → Option (List LineOrder) → Content → Type 0
+MayStandSince start rows batches last c = (w : Warehouse) × MayBeFound rows batches last w × IsSince start w × Stands c w

@@ -1,51 +1,93 @@
--- The headline. However a run of commands is stopped, what the device may then hold stands for the batches that were
--- acknowledged by then, or for these and the one whose submit was running; and on the restarted device it is one list.
-use Rattle.std.specs.Prelude.{◌≡◌, ◌≤◌, ℕ, Option, Some, None, List, [], ◌∷◌, length, take, slice_get}
+-- The headline. However a run of commands is stopped, what the device may then hold is a warehouse of the batches that were
+-- acknowledged by then, or of these and the one whose submit was running; and on the restarted device it is one list.
+use Rattle.std.specs.Prelude.{◌≡◌, ◌⊎◌, ◌≤◌, ◌<◌, ℕ, Option, Some, None, List, [], ◌∷◌, length, take, slice_get}
 use Rattle.sector_device.specs.declared.device.Sectors.{Ghosts}
 use Rattle.sector_device.specs.Device.{Image, IsImage}
+use Rattle.cube_model.specs.declared.rows.DimRows.{DimRows}
 use Rattle.cube_model.specs.declared.rows.LineOrder.{LineOrder}
-use Rattle.object_store.specs.Disk.{disk, AllShow}
-use Rattle.warehouse_objects.specs.Warehouse.{Warehouse}
+use Rattle.object_store.specs.Content.{Content}
+use Rattle.object_store.specs.Disk.{disk, AllShow, Each, IsBlank, Leaves, LeavesOrNone}
+use Rattle.object_store.specs.Shows.{Shows}
+use Rattle.warehouse_objects.specs.Warehouse.{Warehouse, fresh}
+use Rattle.warehouse_objects.specs.Stands.{Stands}
 use Rattle.warehouse.specs.declared.command.Command.{Command}
 use Rattle.warehouse.specs.declared.command.Command.TheVariants as asks
 use Rattle.warehouse.specs.declared.command.Reply.{Reply}
 use Rattle.warehouse.specs.declared.session.Session.{Session}
-use Rattle.warehouse.specs.Found.{MayBeFound, MayStand}
+use Rattle.warehouse.specs.Found.{MayBeFound, MayStand, MayStandSince}
 use Rattle.warehouse.specs.Running.{Phase, at, RanAll, acknowledged}
 use Rattle.warehouse.specs.Session.{IsAt, device_of, disk_of}
 
--- the warehouse that is acknowledged after commands with these replies
-abbrev pub acknowledged_all : Warehouse → List Command → List Reply → Warehouse
-acknowledged_all w [] replies = w
-acknowledged_all w (command ∷ commands) [] = w
-acknowledged_all w (command ∷ commands) (reply ∷ replies) = acknowledged_all (acknowledged w command reply) commands replies
+-- the batches that are acknowledged after commands with these replies
+abbrev pub acknowledged_all : List (List LineOrder) → List Command → List Reply → List (List LineOrder)
+acknowledged_all batches [] replies = batches
+acknowledged_all batches (command ∷ commands) [] = batches
+acknowledged_all batches (command ∷ commands) (reply ∷ replies) = acknowledged_all (acknowledged batches command reply) commands replies
 
 -- the batch that a command submits
 abbrev pub submitted : Option Command → Option (List LineOrder)
-submitted None = None
 submitted (Some (asks.Submit number batch)) = Some batch
-submitted (Some (asks.Query as_of query)) = None
-submitted (Some asks.Status) = None
+submitted _ = None
 
--- a device that was restarted where a stop left an image: it has that image alone
+-- a device that was restarted where a crash left an image: it has that image alone
 pub record IsRestarted {D : Type 0} (g : Ghosts D) (size : ℕ) (image : Image) (device : D) : Type 0 where
   pub same_size : (g.state device).size ≡ size
   pub one : (other : Image) → IsImage (g.state device) other → (i : ℕ) → other i ≡ image i
 
--- What is found behind a run that was stopped after some of its commands, in the next one: a prefix of the batches that
--- were submitted, with every acknowledged one. The restarted device stands for it, whatever is left there.
+-- What is found after a run that was stopped after some of its commands, in the next one: a prefix of the batches that were
+-- submitted, with every acknowledged one. The restarted device has it, whatever is left there.
 pub record IsFoundAfter {D : Type 0} (g : Ghosts D) (w : Warehouse) (commands : List Command) (replies : List Reply) (device : D) : Type 0 where
   pub done : ℕ
   pub within : done ≤ length commands
   pub found : Warehouse
-  pub may : MayBeFound w.rows (acknowledged_all w (take done commands) (take done replies)).batches (submitted (slice_get commands done)) found
+  pub may : MayBeFound w.rows (acknowledged_all w.batches (take done commands) (take done replies)) (submitted (slice_get commands done)) found
   -- so the contract of opening holds of this one list
   pub stands : AllShow (disk g device) (MayStand found.rows found.batches None)
 
--- Whatever a stop at any moment of a run leaves, the restarted device stands for what may be found.
+-- Whatever a crash at any moment of a run leaves, the restarted device has what may be found.
 abbrev pub StoppedRunIsFound : {D : Type 0} → Ghosts D → Type 0
 StoppedRunIsFound {D} g = (old new : Session D g) (w : Warehouse) (commands : List Command) (replies : List Reply) (after : Phase)
     → IsAt g old w → RanAll g old (at w) commands replies new after → (disk_of g new).keeps_word
     → (image : Image) → (g.state (device_of new)).left_since (g.state (device_of old)).moment image
     → (device : D) → IsRestarted g (g.state (device_of old)).size image device
     → IsFoundAfter g w commands replies device
+
+-- The same after any of the commands: a crash later than some of them leaves all batches that these acknowledged. So no batch is
+-- lost that was acknowledged before the crash.
+abbrev pub LaterStopIsFound : {D : Type 0} → Ghosts D → Type 0
+LaterStopIsFound {D} g = (old mid new : Session D g) (w v : Warehouse) (earlier later : List Command) (told left : List Reply) (after : Phase)
+    → IsAt g old w → RanAll g old (at w) earlier told mid (at v) → RanAll g mid (at v) later left new after → (disk_of g new).keeps_word
+    → (image : Image) → (g.state (device_of new)).left_since (g.state (device_of mid)).moment image
+    → (device : D) → IsRestarted g (g.state (device_of mid)).size image device
+    → (v.rows ≡ w.rows) × (v.batches ≡ acknowledged_all w.batches earlier told) × IsFoundAfter g v later left device
+
+-- A device that was restarted with an image shows what that image shows, and nothing else. So what any call says of what a crash
+-- leaves holds of the restarted device.
+abbrev pub RestartedShows : {D : Type 0} → Ghosts D → Type 0
+RestartedShows {D} g = (size : ℕ) (image : Image) (device : D) (c : Content) → IsRestarted g size image device → Shows size image c
+    → AllShow (disk g device) (λ found. found ≡ c)
+
+-- Opening that is stopped anywhere, and run again: by the clauses of `open` on what a crash leaves, the restarted device has the same
+-- batches still, and so the next opening finds them.
+abbrev pub StoppedOpenIsFound : {D : Type 0} → Ghosts D → Type 0
+StoppedOpenIsFound {D} g = (start end : D) (rows : DimRows) (batches : List (List LineOrder))
+    → Leaves (disk g start) (disk g end) (MayStandSince (disk g start) rows batches None) → g.keeps_word end
+    → (image : Image) → (g.state end).left_since (g.state start).moment image
+    → (device : D) → IsRestarted g (g.state start).size image device
+    → AllShow (disk g device) (MayStand rows batches None)
+
+-- A creation that is stopped anywhere: by the clauses of `create` on what a crash leaves, the restarted device has no valid superblock
+-- still, or is the warehouse of no batch.
+abbrev pub StoppedCreateIsFound : {D : Type 0} → Ghosts D → Type 0
+StoppedCreateIsFound {D} g = (start end : D) (rows : DimRows)
+    → LeavesOrNone (disk g start) (disk g end) (λ c. Stands c (fresh rows)) → g.keeps_word end
+    → (image : Image) → (g.state end).left_since (g.state start).moment image
+    → (device : D) → IsRestarted g (g.state start).size image device
+    → Each (disk g device) IsBlank ⊎ AllShow (disk g device) (λ c. Stands c (fresh rows))
+
+-- Acknowledged batches are there: a device with fewer batches than a warehouse is never what is found after a run that began there.
+abbrev pub FewerIsNotFound : {D : Type 0} → Ghosts D → Type 0
+FewerIsNotFound {D} g = (w fewer : Warehouse) (commands : List Command) (replies : List Reply) (device : D) (image : Image)
+    → g.keeps_word device → IsImage (g.state device) image
+    → IsFoundAfter g w commands replies device → AllShow (disk g device) (λ c. Stands c fewer)
+    → length fewer.batches < length w.batches → ⊥

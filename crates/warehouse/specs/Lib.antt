@@ -8,5 +8,7 @@ pub mod Submitting
 pub mod Status
 pub mod Beginning
 pub mod Creating
+pub mod Choosing
+pub mod Upkeep
 pub mod Running
 pub mod Headline

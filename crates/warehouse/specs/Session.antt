@@ -49,6 +49,14 @@ pub record Breaks {D : Type 0} (g : Ghosts D) (old new : Session D g) : Type 0 w
   pub failed : has_failed new ≡ true
   pub failures : (disk_of g new).failures ≡ min ((disk_of g old).failures + 1) (2 ^ 64 - 1)
 
+-- what the store holds is as it was
+abbrev pub KeepsContent : {D : Type 0} (g : Ghosts D) → Session D g → Session D g → Type 0
+KeepsContent g old new = (disk_of g new).keeps_word → content_of g new ≡ content_of g old
+
+-- one commit was made
+abbrev pub CommitsOnce : {D : Type 0} (g : Ghosts D) → Session D g → Session D g → Type 0
+CommitsOnce g old new = (disk_of g new).keeps_word → (content_of g new).generation ≡ (content_of g old).generation + 1
+
 -- Why a submit is refused where the device has not failed: the first cause of the model, or one of its commit. The commit
 -- puts the segment of the batch, and the root with it.
 abbrev pub SubmitRefuses : {D : Type 0} (g : Ghosts D) → Session D g → Warehouse → ℕ → List LineOrder → Fault → Type 0

@@ -10,7 +10,7 @@ ghost use Rattle.object_store.specs.Disk.{Leaves};
 ghost use Rattle.warehouse.specs.Growing.{IsGrown, totals_in};
 ghost use Rattle.warehouse.specs.Prepared.{Admitted, IsPrepared, MayFollow, Prepares};
 ghost use Rattle.warehouse.specs.Refusing.{is_of_device};
-ghost use Rattle.warehouse.specs.Session.{Breaks, IsAt, SubmitRefuses, content_of, device_of, disk_of, has_failed};
+ghost use Rattle.warehouse.specs.Session.{Breaks, CommitsOnce, IsAt, KeepsContent, SubmitRefuses, content_of, device_of, disk_of, has_failed};
 ghost use Rattle.warehouse.specs.Submitting.{WithOrWithout};
 ghost use Rattle.warehouse_objects.specs.Stands.{Stands, root_of};
 ghost use Rattle.warehouse_objects.specs.Warehouse.{Warehouse, loaded};
@@ -132,10 +132,15 @@ impl<D: Sectors> Session<D> {
         ensures refused { IfErr result (λ fault. fault ≢ Device → (w : Warehouse) → IsAt D.Sectors self.old w →
             IsAt D.Sectors self.new w × Leaves (disk_of D.Sectors self.old) (disk_of D.Sectors self.new) (λ c. Stands c w)) }
 
+        // One commit was made, or none.
+        ensures once { OnOk result (CommitsOnce D.Sectors self.old self.new) }
+        ensures kept { IfErr result (λ fault. fault ≢ Device → KeepsContent D.Sectors self.old self.new) }
+
         // When each error comes.
         ensures causes { IfErr result (λ fault. fault ≢ Device → (w : Warehouse) (rows : List LineOrder) → IsAt D.Sectors self.old w
             → Grows self.old rows batch.now → D.keeps_word (device_of self.new) → SubmitRefuses D.Sectors self.old w number rows fault) }
         ensures failed { IsErrOf result Failed ↔ (has_failed self.old ≡ true) }
+        ensures unmoved { IsErrOf result Failed → self.new ≡ self.old }
         ensures device { IsErrOf result Device → Breaks D.Sectors self.old self.new }
         ensures word { D.keeps_word (device_of self.new) → D.keeps_word (device_of self.old) }
     {

@@ -2,6 +2,8 @@
 #![tactic(auto)]
 
 mod beginning;
+mod choosing;
+mod chosen;
 mod command;
 mod creation;
 mod growing;
@@ -13,7 +15,9 @@ mod running;
 mod session;
 mod status;
 mod submit;
+mod upkeep;
 
+pub use chosen::Chosen;
 pub use command::{Command, Reply};
 pub use creation::create;
 pub use growing::GrowingBatch;

@@ -1,10 +1,10 @@
 //! Opening what stands on a device.
-ghost use Rattle.std.specs.Prelude.{◌≡◌, ◌⊎◌, ◌+◌, ◌-◌, ◌^◌, min, true, false, List, Option, IfOk, IfErr, IsErrOf, OnOk};
+ghost use Rattle.std.specs.Prelude.{◌≡◌, ◌≢◌, ◌⊎◌, ◌+◌, ◌-◌, ◌^◌, min, true, false, List, Option, IfOk, IfErr, IsErrOf, OnOk};
 ghost use Rattle.cube_model.specs.declared.fault.Fault.TheVariants.{BadLayout, Device, Memory, NotFormatted};
 ghost use Rattle.cube_model.specs.declared.rows.DimRows.{DimRows};
 ghost use Rattle.cube_model.specs.declared.rows.LineOrder.{LineOrder};
-ghost use Rattle.object_store.specs.Disk.{disk, AllShow, Leaves};
-ghost use Rattle.object_store.specs.Found.{is_of_layout};
+ghost use Rattle.object_store.specs.Disk.{disk, AllShow, Each, IsBlank, Leaves};
+ghost use Rattle.object_store.specs.Found.{Explains, is_of_layout};
 ghost use Rattle.object_store.specs.Shows.{HasNone};
 ghost use Rattle.object_store.specs.Store as stores;
 ghost use Rattle.warehouse_root.specs.declared.layout.Layout.TheVariants.{First};
@@ -12,8 +12,8 @@ ghost use Rattle.warehouse_root.specs.Layouts.{number_of};
 ghost use Rattle.warehouse_root.specs.Root.{IsRootOf};
 ghost use Rattle.warehouse_objects.specs.Warehouse.{Warehouse};
 ghost use Rattle.warehouse_objects.specs.Stands.{Stands};
-ghost use Rattle.warehouse.specs.Found.{MayBeFound, MayStand};
-ghost use Rattle.warehouse.specs.Loaded.{IsLoaded};
+ghost use Rattle.warehouse.specs.Found.{IsSince, MayBeFound, MayStand, MayStandSince};
+ghost use Rattle.warehouse_objects.specs.Loaded.{IsLoaded};
 ghost use Rattle.warehouse.specs.Session.{content_of, device_of, disk_of, has_failed, IsAt};
 
 use crate::session::Session;
@@ -31,20 +31,22 @@ use warehouse_root::Root;
 pub fn open<D: Sectors>(alloc: Global, device: D) -> Result<Session<D>, (Fault, D)>
     // Where every image at the start stands for batches that may be found, each at any moment stands for such.
     ensures leaves { IfOk result (λ session. (rows : DimRows) (batches : List (List LineOrder)) (last : Option (List LineOrder)) →
-        AllShow (disk D.Sectors device) (MayStand rows batches last) → Leaves (disk D.Sectors device) (disk_of D.Sectors session) (MayStand rows batches last)) }
+        AllShow (disk D.Sectors device) (MayStand rows batches last) → Leaves (disk D.Sectors device) (disk_of D.Sectors session) (MayStandSince (disk D.Sectors device) rows batches last)) }
     ensures leaves_err { IfErr result (λ e. (rows : DimRows) (batches : List (List LineOrder)) (last : Option (List LineOrder)) →
-        AllShow (disk D.Sectors device) (MayStand rows batches last) → Leaves (disk D.Sectors device) (disk D.Sectors e.1) (MayStand rows batches last)) }
+        AllShow (disk D.Sectors device) (MayStand rows batches last) → Leaves (disk D.Sectors device) (disk D.Sectors e.1) (MayStandSince (disk D.Sectors device) rows batches last)) }
 
     // Then it is at one of them, and every image stands for that one.
     ensures ok { IfOk result (λ session. (rows : DimRows) (batches : List (List LineOrder)) (last : Option (List LineOrder)) →
         AllShow (disk D.Sectors device) (MayStand rows batches last) → D.keeps_word (device_of session)
-        → (w : Warehouse) × MayBeFound rows batches last w × IsAt D.Sectors session w) }
+        → (w : Warehouse) × MayBeFound rows batches last w × IsSince (disk D.Sectors device) w × IsAt D.Sectors session w) }
 
     // Where every image at the start stands for a warehouse, it never finds none: it refuses for memory or the device.
     ensures never { IfErr result (λ e. (rows : DimRows) (batches : List (List LineOrder)) (last : Option (List LineOrder)) →
         AllShow (disk D.Sectors device) (MayStand rows batches last) → D.keeps_word e.1 → (e.0 ≡ Memory) ⊎ (e.0 ≡ Device)) }
     ensures device { IfErr result (λ e. e.0 ≡ Device → D.failed e.1 ≡ min (D.failed device + 1) (2 ^ 64 - 1)) }
     ensures unformatted { IfErr result (λ e. e.0 ≡ NotFormatted → D.keeps_word e.1 → HasNone (D.state device).reads) }
+    ensures explained { IfErr result (λ e. e.0 ≢ BadLayout → D.keeps_word e.1 → Explains e.0 (D.state device).size (D.state device).reads) }
+    ensures blank { IfErr result (λ e. e.0 ≡ BadLayout → D.keeps_word e.1 → Each (disk D.Sectors device) IsBlank → HasNone (D.state device).reads → ⊥) }
     ensures causes { IfErr result (λ e. (e.0 ≡ Memory) ⊎ ((e.0 ≡ Device) ⊎ (is_of_layout e.0 ≡ true))) }
 {
     let store = match Store::open(alloc, device) {

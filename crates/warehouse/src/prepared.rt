@@ -7,10 +7,11 @@ ghost use Rattle.warehouse_root.specs.Root.{AreProperTotals, IsProper};
 ghost use Rattle.object_store.specs.Commit.{ArePuts};
 ghost use Rattle.object_store.specs.Content.{Content};
 ghost use Rattle.warehouse_objects.specs.Lawful.{dimension_puts};
-ghost use Rattle.warehouse_objects.specs.Stands.{Stands, root_of, stored};
+ghost use Rattle.warehouse_objects.specs.Stands.{IsLaidOut, Stands, root_of, stored};
 ghost use Rattle.warehouse_objects.specs.Warehouse.{Warehouse, AreStorable};
 ghost use Rattle.warehouse.specs.Growing.{totals_in};
-ghost use Rattle.warehouse.specs.Loaded.{Agrees, IsLoaded};
+ghost use Rattle.warehouse_objects.specs.Loaded.{IsLoaded};
+ghost use Rattle.warehouse.specs.Loaded.{Agrees};
 ghost use Rattle.warehouse.specs.Refusing.{is_of_device};
 
 use batch_admission::{Admission, Totals};
@@ -167,6 +168,7 @@ pub(crate) fn kept_is_what_stands(dims: &Dims, root: &Root)
     ensures puts { ArePuts (dimension_puts dims.now) }
     ensures root { IsProper root.now }
     ensures agrees { (c : Content) (w : Warehouse) → IsLoaded c dims.now root.now → Stands c w → Agrees w dims.now root.now }
+    ensures laid { (c : Content) (w : Warehouse) → IsLoaded c dims.now root.now → IsLaidOut c w → Agrees w dims.now root.now }
 {
     rows_are_one();
     objects_are_storable();

@@ -9,7 +9,7 @@ ghost use Rattle.object_store.specs.Disk.{Leaves};
 ghost use Rattle.object_store.specs.Store as stores;
 ghost use Rattle.warehouse_objects.specs.Warehouse.{Warehouse};
 ghost use Rattle.warehouse_objects.specs.Stands.{Stands, root_of};
-ghost use Rattle.warehouse.specs.Session.{has_failed, device_of, disk_of, IsAt, Breaks, IsAsked, QueryRefuses};
+ghost use Rattle.warehouse.specs.Session.{has_failed, device_of, disk_of, IsAt, Breaks, KeepsContent, IsAsked, QueryRefuses};
 
 use crate::prepared::kept_is_what_stands;
 use crate::session::Session;
@@ -33,6 +33,10 @@ impl<D: Sectors> Session<D> {
             → Leaves (disk_of D.Sectors self.old) (disk_of D.Sectors self.new) (λ c. Stands c w) }
         ensures stays { (IsErrOf result Device → ⊥) → (w : Warehouse) → IsAt D.Sectors self.old w → IsAt D.Sectors self.new w }
 
+        // Nothing was put on the device, and after a failure nothing is done.
+        ensures reads { (IsErrOf result Device → ⊥) → KeepsContent D.Sectors self.old self.new }
+        ensures unmoved { IsErrOf result Failed → self.new ≡ self.old }
+
         // The answer is the definition's.
         ensures answer { IfOk result (λ found. (w : Warehouse) → IsAt D.Sectors self.old w → D.keeps_word (device_of self.new)
             → IsAsked w as_of query.now × (found ≡ answer_as_of query.now as_of w.rows w.batches)) }
@@ -47,7 +51,7 @@ impl<D: Sectors> Session<D> {
         ensures device { IsErrOf result Device → Breaks D.Sectors self.old self.new }
         ensures word { D.keeps_word (device_of self.new) → D.keeps_word (device_of self.old) }
     {
-        if self.store.is_broken() {
+        if self.is_broken() {
             return Err(Fault::Failed);
         }
         kept_is_what_stands(&self.dims, &self.root);

@@ -4,11 +4,12 @@ ghost use Rattle.cube_model.specs.declared.fault.Fault.TheVariants.{Memory};
 ghost use Rattle.object_store.specs.Disk.{Leaves};
 ghost use Rattle.warehouse_objects.specs.Warehouse.{Warehouse};
 ghost use Rattle.warehouse.specs.Session.{has_failed, device_of, disk_of, IsAt};
-ghost use Rattle.warehouse.specs.Running.{Phase, at, broken, Holds, Ran, RanAll, FoundIn};
+ghost use Rattle.warehouse.specs.declared.command.Command.TheVariants as asks;
+ghost use Rattle.warehouse.specs.Running.{Phase, at, broken, Does, Holds, Ran, RanAll, FoundIn};
 
 use crate::command::{Command, Reply};
 use crate::session::Session;
-use cube_model::Fault;
+use cube_model::{Fault, Items, LineOrder, Query};
 use sector_device::Sectors;
 use std::alloc::Global;
 
@@ -22,10 +23,14 @@ pub fn run<D: Sectors>(
     ensures ran { IfOk result (λ replies. (w : Warehouse) → IsAt D.Sectors session.old w → D.keeps_word (device_of session.new) →
         (after : Phase) × RanAll D.Sectors session.old (at w) commands.now replies.items session.new after × Holds D.Sectors session.new after) }
 
-    // At any moment a stop leaves what the acknowledged commands made, or what one more may have made.
+    // At each moment a crash leaves what the commands before had made, or what one more may have made.
     ensures found { IfOk result (λ replies. (w : Warehouse) → IsAt D.Sectors session.old w → D.keeps_word (device_of session.new) →
         Leaves (disk_of D.Sectors session.old) (disk_of D.Sectors session.new) (FoundIn w commands.now replies.items)) }
     ensures memory { IfErr result (λ fault. (fault ≡ Memory) × (session.new ≡ session.old)) }
+
+    // On a session that had failed nothing is done, and each command is refused.
+    ensures failed { IfOk result (λ replies. has_failed session.old ≡ true
+        → RanAll D.Sectors session.old broken commands.now replies.items session.new broken) }
 {
     let _broken = session.is_broken();
     let mut replies = match Vec::with_capacity(alloc, commands.len()) {
@@ -42,25 +47,90 @@ pub fn run<D: Sectors>(
 // Does one command.
 fn perform<D: Sectors>(alloc: Global, session: &mut Session<D>, command: &Command) -> Reply
     ensures word { D.keeps_word (device_of session.new) → D.keeps_word (device_of session.old) }
-    ensures ran { (w : Warehouse) → IsAt D.Sectors session.old w → D.keeps_word (device_of session.new) →
-        (after : Phase) × Ran D.Sectors session.old (at w) command.now result session.new after × Holds D.Sectors session.new after }
+    ensures ran { (w : Warehouse) → IsAt D.Sectors session.old w → D.keeps_word (device_of session.new) → Does D.Sectors session.old w command.now result session.new }
     ensures broken { has_failed session.old ≡ true → Ran D.Sectors session.old broken command.now result session.new broken }
 {
     if session.is_broken() {
         return Reply::Refused(Fault::Failed);
     }
     match command {
-        Command::Submit(number, rows) => match session.submit(alloc, *number, rows.as_slice()) {
-            Ok(()) => Reply::Done,
-            Err(fault) => Reply::Refused(fault),
-        },
-        Command::Query(as_of, query) => match session.query(alloc, *as_of, query) {
-            Ok(answer) => Reply::Answer(answer),
-            Err(fault) => Reply::Refused(fault),
-        },
-        Command::Status => match session.status() {
-            Ok(numbers) => Reply::Numbers(numbers),
-            Err(fault) => Reply::Refused(fault),
-        },
+        Command::Submit(number, rows) => submit(alloc, session, *number, rows),
+        Command::Query(as_of, query) => answer(alloc, session, *as_of, query),
+        Command::Status => status(session),
+        Command::Choose(k) => choose(alloc, session, *k),
+        Command::Upkeep => keep_up(alloc, session),
+        Command::Audit => audit(alloc, session),
+    }
+}
+
+// Adds a batch.
+fn submit<D: Sectors>(
+    alloc: Global,
+    session: &mut Session<D>,
+    number: u32,
+    rows: &Items<LineOrder>,
+) -> Reply
+    ensures word { D.keeps_word (device_of session.new) → D.keeps_word (device_of session.old) }
+    ensures ran { (w : Warehouse) → IsAt D.Sectors session.old w → D.keeps_word (device_of session.new) → Does D.Sectors session.old w (asks.Submit number rows.now) result session.new }
+{
+    match session.submit(alloc, number, rows.as_slice()) {
+        Ok(()) => Reply::Done,
+        Err(fault) => Reply::Refused(fault),
+    }
+}
+
+// Answers a query over the first batches.
+fn answer<D: Sectors>(alloc: Global, session: &mut Session<D>, as_of: u32, query: &Query) -> Reply
+    ensures word { D.keeps_word (device_of session.new) → D.keeps_word (device_of session.old) }
+    ensures ran { (w : Warehouse) → IsAt D.Sectors session.old w → D.keeps_word (device_of session.new) → Does D.Sectors session.old w (asks.Query as_of query.now) result session.new }
+{
+    match session.query(alloc, as_of, query) {
+        Ok(found) => Reply::Answer(found),
+        Err(fault) => Reply::Refused(fault),
+    }
+}
+
+// Says the numbers of the warehouse.
+fn status<D: Sectors>(session: &mut Session<D>) -> Reply
+    ensures word { D.keeps_word (device_of session.new) → D.keeps_word (device_of session.old) }
+    ensures ran { (w : Warehouse) → IsAt D.Sectors session.old w → D.keeps_word (device_of session.new) → Does D.Sectors session.old w asks.Status result session.new }
+{
+    let _broken = session.is_broken();
+    match session.status() {
+        Ok(numbers) => Reply::Numbers(numbers),
+        Err(fault) => Reply::Refused(fault),
+    }
+}
+
+// Stores the cuboids of a choice.
+fn choose<D: Sectors>(alloc: Global, session: &mut Session<D>, k: u8) -> Reply
+    ensures word { D.keeps_word (device_of session.new) → D.keeps_word (device_of session.old) }
+    ensures ran { (w : Warehouse) → IsAt D.Sectors session.old w → D.keeps_word (device_of session.new) → Does D.Sectors session.old w (asks.Choose k) result session.new }
+{
+    match session.choose(alloc, k) {
+        Ok(chosen) => Reply::Chosen(Items::from_vec(chosen)),
+        Err(fault) => Reply::Refused(fault),
+    }
+}
+
+// Brings each stored cuboid to all batches.
+fn keep_up<D: Sectors>(alloc: Global, session: &mut Session<D>) -> Reply
+    ensures word { D.keeps_word (device_of session.new) → D.keeps_word (device_of session.old) }
+    ensures ran { (w : Warehouse) → IsAt D.Sectors session.old w → D.keeps_word (device_of session.new) → Does D.Sectors session.old w asks.Upkeep result session.new }
+{
+    match session.upkeep(alloc) {
+        Ok(()) => Reply::Done,
+        Err(fault) => Reply::Refused(fault),
+    }
+}
+
+// Says whether each stored cuboid is what it is to be.
+fn audit<D: Sectors>(alloc: Global, session: &mut Session<D>) -> Reply
+    ensures word { D.keeps_word (device_of session.new) → D.keeps_word (device_of session.old) }
+    ensures ran { (w : Warehouse) → IsAt D.Sectors session.old w → D.keeps_word (device_of session.new) → Does D.Sectors session.old w asks.Audit result session.new }
+{
+    match session.audit(alloc) {
+        Ok(yes) => Reply::Audited(yes),
+        Err(fault) => Reply::Refused(fault),
     }
 }

@@ -5,7 +5,7 @@ ghost use Rattle.object_store.specs.Disk.{Leaves};
 ghost use Rattle.object_store.specs.Store as stores;
 ghost use Rattle.warehouse_objects.specs.Warehouse.{Warehouse};
 ghost use Rattle.warehouse_objects.specs.Stands.{Stands};
-ghost use Rattle.warehouse.specs.Loaded.{IsLoaded};
+ghost use Rattle.warehouse_objects.specs.Loaded.{IsLoaded};
 
 use dimensions::Dims;
 use object_store::Store;

@@ -1,5 +1,6 @@
 //! What a session says of its warehouse.
-ghost use Rattle.std.specs.Prelude.{◌≡◌, ◌≤◌, ◌↔◌, true, length, IfOk, IfErr, IsErrOf};
+ghost use Rattle.std.specs.Prelude.{◌≡◌, ◌<◌, ◌≤◌, ◌↔◌, ℕ, None, true, length, slice_get, slice_index_or, IfOk, IfErr, IsErrOf};
+ghost use Rattle.warehouse_root.specs.Limits.{most_cuboids};
 ghost use Rattle.std.specs.List.{sum_by};
 ghost use Rattle.cube_model.specs.declared.fault.Fault.TheVariants.{Failed};
 ghost use Rattle.cube_model.specs.Limits.{most_batches};
@@ -48,13 +49,13 @@ impl<D: Sectors> Session<D> {
             rows: row_total(batches),
             target: self.root.target(),
             generation: self.store.generation(),
-            cuboids: [None; MOST_CUBOIDS], // no warehouse stores one yet
+            cuboids: in_places(self.root.cuboids()),
         })
     }
 }
 
 // How many rows batches have together.
-fn row_total(batches: &[u32]) -> u64
+pub(crate) fn row_total(batches: &[u32]) -> u64
     requires few { length batches.now ≤ most_batches }
     ensures { result ≡ sum_by (λ rows. rows) batches.now }
 {
@@ -63,4 +64,16 @@ fn row_total(batches: &[u32]) -> u64
         total += u64::from(*rows);
     }
     total
+}
+
+// Cuboids in as many places as there can be. Those behind the last one are empty.
+fn in_places(cuboids: &[StoredCuboid]) -> [Option<StoredCuboid>; MOST_CUBOIDS]
+    requires few { length cuboids.now ≤ most_cuboids }
+    ensures { (place : ℕ) → place < most_cuboids → slice_index_or result place None ≡ slice_get cuboids.now place }
+{
+    let mut places = [None; MOST_CUBOIDS];
+    for place in 0..cuboids.len() {
+        places[place] = Some(cuboids[place]);
+    }
+    places
 }

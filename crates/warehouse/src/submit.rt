@@ -9,7 +9,7 @@ ghost use Rattle.warehouse_objects.specs.Warehouse.{Warehouse, loaded};
 ghost use Rattle.warehouse_objects.specs.Stands.{Stands};
 ghost use Rattle.warehouse.specs.Loaded.{Agrees};
 ghost use Rattle.warehouse.specs.Prepared.{IsPrepared, Prepares};
-ghost use Rattle.warehouse.specs.Session.{has_failed, content_of, device_of, disk_of, IsAt, Breaks, SubmitRefuses};
+ghost use Rattle.warehouse.specs.Session.{has_failed, content_of, device_of, disk_of, IsAt, Breaks, CommitsOnce, KeepsContent, SubmitRefuses};
 ghost use Rattle.warehouse.specs.Submitting.{IsReady, WithOrWithout};
 
 use crate::prepared::{Prepared, kept_is_what_stands};
@@ -37,10 +37,15 @@ impl<D: Sectors> Session<D> {
         ensures refused { IfErr result (λ fault. fault ≢ Device → (w : Warehouse) → IsAt D.Sectors self.old w →
             IsAt D.Sectors self.new w × Leaves (disk_of D.Sectors self.old) (disk_of D.Sectors self.new) (λ c. Stands c w)) }
 
+        // One commit was made, or none.
+        ensures once { OnOk result (CommitsOnce D.Sectors self.old self.new) }
+        ensures kept { IfErr result (λ fault. fault ≢ Device → KeepsContent D.Sectors self.old self.new) }
+
         // When each error comes.
         ensures causes { IfErr result (λ fault. fault ≢ Device → (w : Warehouse) → IsAt D.Sectors self.old w → D.keeps_word (device_of self.new)
             → SubmitRefuses D.Sectors self.old w number rows.now fault) }
         ensures failed { IsErrOf result Failed ↔ (has_failed self.old ≡ true) }
+        ensures unmoved { IsErrOf result Failed → self.new ≡ self.old }
         ensures device { IsErrOf result Device → Breaks D.Sectors self.old self.new }
         ensures word { D.keeps_word (device_of self.new) → D.keeps_word (device_of self.old) }
     {
@@ -67,6 +72,8 @@ impl<D: Sectors> Session<D> {
             → IsAt D.Sectors self.new (loaded w rows) × (D.keeps_word (device_of self.new) → IsAdmissible w.rows w.batches number rows)) }
         ensures refused { IfErr result (λ fault. fault ≢ Device → (w : Warehouse) (rows : List LineOrder) → IsReady D.Sectors self.old w number rows prepared
             → IsAt D.Sectors self.new w × Leaves (disk_of D.Sectors self.old) (disk_of D.Sectors self.new) (λ c. Stands c w)) }
+        ensures once { OnOk result (CommitsOnce D.Sectors self.old self.new) }
+        ensures kept { IfErr result (λ fault. fault ≢ Device → KeepsContent D.Sectors self.old self.new) }
         ensures causes { IfErr result (λ fault. fault ≢ Device → (w : Warehouse) (rows : List LineOrder) → IsReady D.Sectors self.old w number rows prepared
             → D.keeps_word (device_of self.new) → SubmitRefuses D.Sectors self.old w number rows fault) }
         ensures failed { IsErrOf result Failed → ⊥ }

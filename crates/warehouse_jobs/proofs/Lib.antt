@@ -6,3 +6,5 @@ pub mod Stepping
 pub mod Reported
 pub mod Performed
 pub mod Added
+mod Cuboids
+mod Written

@@ -6,17 +6,15 @@ use Rattle.cube_model.specs.declared.fault.Fault.{Fault}
 use Rattle.cube_model.specs.declared.query.Query.{Query}
 use Rattle.warehouse_objects.specs.Warehouse.{Warehouse}
 use Rattle.warehouse.specs.declared.session.Session.{Session}
-use Rattle.warehouse_jobs.specs.declared.job.Job.{Job}
-use Rattle.warehouse_jobs.specs.declared.job.Job.TheVariants.{Load, Report, Status}
-use Rattle.warehouse_jobs.specs.Jobs.{Performs}
+use Rattle.warehouse_jobs.specs.Cuboids.{Chooses, KeepsUp}
 use Rattle.warehouse_jobs.specs.Loading.{Loads}
 use Rattle.warehouse_jobs.specs.Reporting.{Reports, Tells}
 
-abbrev Says : Result Unit Fault → Result Bool Fault → Type 0
+abbrev pub Says : Result Unit Fault → Result Bool Fault → Type 0
 Says done result = MatchResult done (λ _. result ≡ Ok true) (λ fault. result ≡ Err fault)
 
 module _ {D : Type 0} (g : Ghosts D) (w : Warehouse) (old new : Session D g) (before after : Option (List ℕ)) where
-  yes-loads : (first size : ℕ) (text : List ℕ) (done : Result Unit Fault) (result : Result Bool Fault) → Says done result → Loads g w first size text old new before after done → Loads g w first size text old new before after result
+  pub yes-loads : (first size : ℕ) (text : List ℕ) (done : Result Unit Fault) (result : Result Bool Fault) → Says done result → Loads g w first size text old new before after done → Loads g w first size text old new before after result
   yes-loads first size text (Ok wrote) result is loads = rw is (record {
     done = loads.done;
     next = loads.next;
@@ -44,15 +42,18 @@ module _ {D : Type 0} (g : Ghosts D) (w : Warehouse) (old new : Session D g) (be
     leaves = loads.leaves;
   })
 
-  yes-reports : (as_of : Option ℕ) (query : Query) (done : Result Unit Fault) (result : Result Bool Fault) → Says done result → Reports g w as_of query old new before after done → Reports g w as_of query old new before after result
+  pub yes-reports : (as_of : Option ℕ) (query : Query) (done : Result Unit Fault) (result : Result Bool Fault) → Says done result → Reports g w as_of query old new before after done → Reports g w as_of query old new before after result
   yes-reports as_of query (Ok wrote) result is reports = rw is (record { ends = reports.ends; leaves = reports.leaves })
   yes-reports as_of query (Err fault) result is reports = rw is (record { ends = reports.ends; leaves = reports.leaves })
 
-  yes-tells : (done : Result Unit Fault) (result : Result Bool Fault) → Says done result → Tells g w old new before after done → Tells g w old new before after result
+  pub yes-tells : (done : Result Unit Fault) (result : Result Bool Fault) → Says done result → Tells g w old new before after done → Tells g w old new before after result
   yes-tells (Ok wrote) result is tells = rw is tells
   yes-tells (Err fault) result is tells = rw is tells
 
-  pub yes-performs : (text : List ℕ) (job : Job) (done : Result Unit Fault) (result : Result Bool Fault) → Says done result → Performs g w text job old new before after done → Performs g w text job old new before after result
-  yes-performs text (Load first rows) done result is performs = yes-loads first rows text done result is performs
-  yes-performs text (Report as_of query) done result is performs = yes-reports as_of query done result is performs
-  yes-performs text Status done result is performs = yes-tells done result is performs
+  pub yes-chooses : (k : ℕ) (done : Result Unit Fault) (result : Result Bool Fault) → Says done result → Chooses g w k old new before after done → Chooses g w k old new before after result
+  yes-chooses k (Ok wrote) result is chooses = rw is (record { ends = chooses.ends; leaves = chooses.leaves })
+  yes-chooses k (Err fault) result is chooses = rw is (record { ends = chooses.ends; leaves = chooses.leaves })
+
+  pub yes-keeps : (done : Result Unit Fault) (result : Result Bool Fault) → Says done result → KeepsUp g w old new before after done → KeepsUp g w old new before after result
+  yes-keeps (Ok wrote) result is keeps = rw is (record { ends = keeps.ends; leaves = keeps.leaves })
+  yes-keeps (Err fault) result is keeps = rw is (record { ends = keeps.ends; leaves = keeps.leaves })

@@ -1,6 +1,10 @@
 -- The lines that jobs write. Our own.
-use Rattle.std.specs.Prelude.{ℕ, List, ◌++◌, codes}
+use Rattle.std.specs.Prelude.{ℕ, Bool, true, false, List, [], ◌++◌, Option, Some, None, codes}
+use Rattle.std.specs.List.{flat_map}
 use Rattle.std.specs.Fmt.{decimal}
+use Rattle.lattice.specs.Names.{view_text}
+use Rattle.warehouse_root.specs.declared.cuboid.StoredCuboid.{StoredCuboid}
+use Rattle.warehouse.specs.declared.chosen.Chosen.{Chosen}
 use Rattle.warehouse.specs.declared.status.Status.{Status}
 use Rattle.warehouse_jobs.specs.declared.taken.Taken.{Taken}
 use Rattle.warehouse_jobs.specs.declared.taken.Taken.TheVariants.{Added, Skipped}
@@ -22,9 +26,36 @@ taken_text rows Skipped = codes " skipped\n"
 abbrev pub batch_line : ℕ → ℕ → Taken → List ℕ
 batch_line number rows taken = codes "batch " ++ (decimal number ++ taken_text rows taken)
 
--- the numbers of a warehouse
+-- what is said of a stored cuboid
+abbrev pub cuboid_line : StoredCuboid → List ℕ
+cuboid_line cuboid =
+    codes "cuboid " ++ (decimal cuboid.view ++ (codes " mark " ++ (decimal cuboid.mark
+    ++ (codes " runs " ++ (decimal cuboid.runs ++ (codes " cells " ++ (decimal cuboid.cells ++ codes "\n")))))))
+
+-- an empty place has no line
+abbrev pub place_text : Option StoredCuboid → List ℕ
+place_text None = []
+place_text (Some cuboid) = cuboid_line cuboid
+
+-- the numbers of a warehouse, and then a line for each stored cuboid
 abbrev pub status_text : Status → List ℕ
 status_text status =
     named_line (codes "batches ") status.batches
     ++ (named_line (codes "rows ") status.rows
-    ++ (named_line (codes "target ") status.target ++ named_line (codes "generation ") status.generation))
+    ++ (named_line (codes "target ") status.target
+    ++ (named_line (codes "generation ") status.generation ++ flat_map place_text status.cuboids)))
+
+-- a view that was chosen, such as: view 59 city|ALL|mfgr|ALL benefit 8
+abbrev pub chosen_line : Chosen → List ℕ
+chosen_line one = view_text false one.view ++ named_line (codes " benefit ") one.benefit
+
+-- and all of a choice, in the order of choice
+abbrev pub choice_text : List Chosen → List ℕ
+choice_text chosen = flat_map chosen_line chosen
+
+abbrev pub upkeep_text : List ℕ
+upkeep_text = codes "upkeep done\n"
+
+abbrev pub audit_text : Bool → List ℕ
+audit_text true = codes "audit yes\n"
+audit_text false = codes "audit no\n"

@@ -95,6 +95,12 @@ pub enum Job {
     /// Reports the answer to a query over the first batches, so many of them, or all that are there.
     Report { as_of: Option<u32>, query: Query },
     /// Tells how many batches and rows there are, to how many batches stored cuboids are to come, and how many commits
-    /// made what stands on the device.
+    /// made what the device holds.
     Status,
+    /// Stores the cuboids of the greedy list of so many views.
+    Choose(u8),
+    /// Brings each stored cuboid to all batches.
+    Upkeep,
+    /// Says whether each stored cuboid is the grouping of the batches up to its mark.
+    Audit,
 }

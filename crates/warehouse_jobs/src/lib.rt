@@ -1,7 +1,10 @@
-//! What is done to an open warehouse: a file is loaded, a query is reported, and the numbers are told.
+//! What is done to an open warehouse: a file is loaded, a query is reported, the numbers are written, and cuboids are chosen, kept
+//! up to date and audited.
 #![tactic(auto)]
 
+mod choosing;
 mod job;
+mod keeping;
 pub mod laws;
 mod loading;
 mod performing;

@@ -1,12 +1,17 @@
 //! A job on an open warehouse.
-ghost use Rattle.std.specs.Prelude.{◌≡◌, ℕ, true, List, Some, Ok, Err, IfOk, MatchResult};
-ghost use Rattle.std.specs.Io.KnownBytes.{Keeps};
+ghost use Rattle.std.specs.Prelude.{◌≡◌, ◌↔◌, ℕ, true, All, List, Some, Ok, Err, IfOk, IsTrue, MatchResult};
+ghost use Rattle.std.specs.Io.KnownBytes.{Appends, Keeps};
 ghost use Rattle.cube_model.specs.declared.fault.Fault.TheVariants.{Failed};
 ghost use Rattle.warehouse_objects.specs.Warehouse.{Warehouse};
 ghost use Rattle.warehouse.specs.Session.{has_failed, device_of, IsAt};
-ghost use Rattle.warehouse_jobs.specs.Jobs.{Performs};
+ghost use Rattle.stored_cuboids.specs.Merged.{IsSound};
+ghost use Rattle.warehouse.specs.Upkeep.{IsLaidAt};
+ghost use Rattle.warehouse_jobs.specs.Jobs.{MayAnswerNo, Performs};
+ghost use Rattle.warehouse_jobs.specs.Printed.{audit_text};
 
+use crate::choosing::choose;
 use crate::job::Job;
+use crate::keeping::{audit, keep_up};
 use crate::loading::load;
 use crate::reporting::report;
 use crate::telling::tell;
@@ -16,14 +21,16 @@ use std::alloc::Global;
 use std::io::{Read, Write};
 use warehouse::Session;
 
-/// Does a job, and says whether the answer is yes. That of a load, a report or a status is always yes.
+/// Does a job, and says whether the answer is yes. That of any job but an audit is always yes.
 ///
 /// A load reads fact rows from `lineorder`; no other job does. The first refusal ends it, and batches before it stay. For
 /// each batch it writes a line, `batch 1 rows 3` or `batch 1 skipped`, and flushes it, once the batch is on the device and
 /// not before; at the end `batches 1`, the number of batches in the warehouse. Lines are counted in the whole file. It
 /// keeps the rows of one batch in memory.
 ///
-/// A report is written as `ssb_reports` does. A status is a line each of `batches`, `rows`, `target` and `generation`.
+/// A report is written as `ssb_reports` does. A status is a line each of `batches`, `rows`, `target` and `generation`, and then
+/// one for each stored cuboid, `cuboid 59 mark 1 runs 1 cells 2`. A choice is a line for each view, in the order of choice,
+/// `view 59 city|ALL|mfgr|ALL benefit 8`. Upkeep writes `upkeep done`, an audit `audit yes` or `audit no`.
 pub fn perform<D: Sectors, R: Read + Drop, W: Write>(
     alloc: Global,
     session: &mut Session<D>,
@@ -34,7 +41,12 @@ pub fn perform<D: Sectors, R: Read + Drop, W: Write>(
     // What is written and which warehouse stands then, and at each moment until then.
     ensures performs { (w : Warehouse) (text : List ℕ) → IsAt D.Sectors session.old w → R.remaining lineorder ≡ Some text → D.keeps_word (device_of session.new)
         → Performs D.Sectors w text job session.old session.new (W.contents out.old) (W.contents out.new) result }
-    ensures yes { IfOk result (λ answer. answer ≡ true) }
+    ensures yes { (MayAnswerNo job → ⊥) → IfOk result (λ answer. answer ≡ true) }
+
+    // That of an audit is yes exactly where each stored cuboid is what it is to be, whatever its cells are.
+    ensures sound { MayAnswerNo job → IfOk result (λ answer. (w : Warehouse) → IsLaidAt D.Sectors session.old w → D.keeps_word (device_of session.new)
+        → IsTrue answer ↔ All (IsSound w) w.cuboids) }
+    ensures told { MayAnswerNo job → IfOk result (λ answer. Appends (W.contents out.old) (W.contents out.new) (audit_text answer)) }
 
     // Where the device failed in an earlier call, nothing is done.
     ensures failed { has_failed session.old ≡ true → (result ≡ Err Failed) × (session.new ≡ session.old) × Keeps (W.contents out.old) (W.contents out.new) }
@@ -43,7 +55,7 @@ pub fn perform<D: Sectors, R: Read + Drop, W: Write>(
     if session.is_broken() {
         return Err(Fault::Failed);
     }
-    yes(do_job(alloc, session, job, lineorder, out))
+    do_job(alloc, session, job, lineorder, out)
 }
 
 // Does a job.
@@ -53,15 +65,22 @@ fn do_job<D: Sectors, R: Read + Drop, W: Write>(
     job: Job,
     lineorder: R,
     out: &mut W,
-) -> Result<(), Fault>
+) -> Result<bool, Fault>
     ensures performs { (w : Warehouse) (text : List ℕ) → IsAt D.Sectors session.old w → R.remaining lineorder ≡ Some text → D.keeps_word (device_of session.new)
         → Performs D.Sectors w text job session.old session.new (W.contents out.old) (W.contents out.new) result }
+    ensures yes { (MayAnswerNo job → ⊥) → IfOk result (λ answer. answer ≡ true) }
+    ensures sound { MayAnswerNo job → IfOk result (λ answer. (w : Warehouse) → IsLaidAt D.Sectors session.old w → D.keeps_word (device_of session.new)
+        → IsTrue answer ↔ All (IsSound w) w.cuboids) }
+    ensures told { MayAnswerNo job → IfOk result (λ answer. Appends (W.contents out.old) (W.contents out.new) (audit_text answer)) }
     ensures word { D.keeps_word (device_of session.new) → D.keeps_word (device_of session.old) }
 {
     match job {
-        Job::Load { first, rows } => load(alloc, session, first, rows, lineorder, out),
-        Job::Report { as_of, query } => report(alloc, session, as_of, &query, out),
-        Job::Status => tell(session, out),
+        Job::Load { first, rows } => yes(load(alloc, session, first, rows, lineorder, out)),
+        Job::Report { as_of, query } => yes(report(alloc, session, as_of, &query, out)),
+        Job::Status => yes(tell(session, out)),
+        Job::Choose(k) => yes(choose(alloc, session, k, out)),
+        Job::Upkeep => yes(keep_up(alloc, session, out)),
+        Job::Audit => audit(alloc, session, out),
     }
 }
 

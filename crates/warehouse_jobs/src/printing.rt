@@ -1,13 +1,17 @@
 //! The lines of jobs.
-ghost use Rattle.std.specs.Prelude.{ℕ, List};
+ghost use Rattle.std.specs.Prelude.{ℕ, List, false};
+ghost use Rattle.std.specs.List.{flat_map};
+ghost use Rattle.lattice.specs.Names.{view_text};
 ghost use Rattle.ssb_reports.specs.Writing.{Writes};
-ghost use Rattle.warehouse_jobs.specs.Printed.{batch_line, count_line, named_line, status_text};
+ghost use Rattle.warehouse_jobs.specs.Printed.{audit_text, batch_line, choice_text, chosen_line, count_line, cuboid_line, named_line, place_text, status_text, upkeep_text};
 
 use crate::taken::Taken;
-use cube_model::Fault;
+use cube_model::{Axis, Fault};
+use itoa::Buffer;
+use lattice::View;
 use ssb_reports::{flush, write_bytes, write_number};
 use std::io::Write;
-use warehouse::Status;
+use warehouse::{Chosen, Status, StoredCuboid};
 
 /// Writes the line of a batch of so many rows, and flushes it.
 pub(crate) fn write_batch<W: Write>(
@@ -60,7 +64,128 @@ fn write_status_lines<W: Write>(out: &mut W, status: &Status) -> Result<(), Faul
     write_named(out, b"batches ", u64::from(status.batches))?;
     write_named(out, b"rows ", status.rows)?;
     write_named(out, b"target ", u64::from(status.target))?;
-    write_named(out, b"generation ", status.generation)
+    write_named(out, b"generation ", status.generation)?;
+    write_places(out, &status.cuboids)
+}
+
+// Writes a line for each stored cuboid.
+fn write_places<W: Write>(out: &mut W, places: &[Option<StoredCuboid>]) -> Result<(), Fault>
+    ensures { Writes (W.contents out.old) (W.contents out.new) result (flat_map place_text places.now) }
+{
+    for place in places {
+        write_place(out, place)?;
+    }
+    Ok(())
+}
+
+// Writes the line of a stored cuboid, where there is one.
+fn write_place<W: Write>(out: &mut W, place: &Option<StoredCuboid>) -> Result<(), Fault>
+    ensures { Writes (W.contents out.old) (W.contents out.new) result (place_text place.now) }
+{
+    match place {
+        Some(cuboid) => write_cuboid(out, cuboid),
+        None => Ok(()),
+    }
+}
+
+// Writes the line of a stored cuboid.
+fn write_cuboid<W: Write>(out: &mut W, cuboid: &StoredCuboid) -> Result<(), Fault>
+    ensures { Writes (W.contents out.old) (W.contents out.new) result (cuboid_line cuboid.now) }
+{
+    let (mut view, mut mark, mut runs) = (Buffer::new(), Buffer::new(), Buffer::new());
+    let mut cells = Buffer::new();
+    let parts: [&[u8]; 9] = [
+        b"cuboid ",
+        view.format(cuboid.view).as_bytes(),
+        b" mark ",
+        mark.format(cuboid.mark).as_bytes(),
+        b" runs ",
+        runs.format(cuboid.runs).as_bytes(),
+        b" cells ",
+        cells.format(cuboid.cells).as_bytes(),
+        b"\n",
+    ];
+    write_parts(out, &parts)
+}
+
+/// Writes the lines of a choice of views, in the order of choice, and flushes them.
+pub(crate) fn write_choice<W: Write>(out: &mut W, chosen: &[Chosen]) -> Result<(), Fault>
+    ensures { Writes (W.contents out.old) (W.contents out.new) result (choice_text chosen.now) }
+{
+    write_chosen_lines(out, chosen)?;
+    flush(out)
+}
+
+fn write_chosen_lines<W: Write>(out: &mut W, chosen: &[Chosen]) -> Result<(), Fault>
+    ensures { Writes (W.contents out.old) (W.contents out.new) result (choice_text chosen.now) }
+{
+    for one in chosen {
+        write_chosen(out, one)?;
+    }
+    Ok(())
+}
+
+// Writes the line of a view that was chosen.
+fn write_chosen<W: Write>(out: &mut W, one: &Chosen) -> Result<(), Fault>
+    ensures { Writes (W.contents out.old) (W.contents out.new) result (chosen_line one.now) }
+{
+    write_view(out, one.view)?;
+    write_named(out, b" benefit ", one.benefit)
+}
+
+// Writes a view of the lattice over the four axes.
+fn write_view<W: Write>(out: &mut W, view: View) -> Result<(), Fault>
+    ensures { Writes (W.contents out.old) (W.contents out.new) result (view_text false view) }
+{
+    let mut index = Buffer::new();
+    let parts: [&[u8]; 10] = [
+        b"view ",
+        index.format(view.index()).as_bytes(),
+        b" ",
+        view.customer.name(Axis::Customer).as_bytes(),
+        b"|",
+        view.supplier.name(Axis::Supplier).as_bytes(),
+        b"|",
+        view.part.name(Axis::Part).as_bytes(),
+        b"|",
+        view.date.name(Axis::Date).as_bytes(),
+    ];
+    write_parts(out, &parts)
+}
+
+/// Writes that upkeep is done, and flushes it.
+pub(crate) fn write_upkeep<W: Write>(out: &mut W) -> Result<(), Fault>
+    ensures { Writes (W.contents out.old) (W.contents out.new) result upkeep_text }
+{
+    write_bytes(out, b"upkeep done\n")?;
+    flush(out)
+}
+
+/// Writes what an audit answers, and flushes it.
+pub(crate) fn write_audit<W: Write>(out: &mut W, yes: bool) -> Result<(), Fault>
+    ensures { Writes (W.contents out.old) (W.contents out.new) result (audit_text yes) }
+{
+    write_audit_line(out, yes)?;
+    flush(out)
+}
+
+fn write_audit_line<W: Write>(out: &mut W, yes: bool) -> Result<(), Fault>
+    ensures { Writes (W.contents out.old) (W.contents out.new) result (audit_text yes) }
+{
+    match yes {
+        true => write_bytes(out, b"audit yes\n"),
+        false => write_bytes(out, b"audit no\n"),
+    }
+}
+
+// Writes parts one after another.
+fn write_parts<W: Write>(out: &mut W, parts: &[&[u8]]) -> Result<(), Fault>
+    ensures { Writes (W.contents out.old) (W.contents out.new) result (flat_map (λ part. part.now) parts.now) }
+{
+    for part in parts {
+        write_bytes(out, part)?;
+    }
+    Ok(())
 }
 
 // Writes a line of a name and a number.

@@ -1,5 +1,5 @@
 -- What batches in order are like.
-use Rattle.std.proofs.Common.{◌≡◌, ◌*◌, get_or, ◌<◌, ◌≤◌, ◌+◌, ◌==◌, ◌∙◌, zero, suc, sym, ap, refl, subst, arith, nat_le, nat_lt, if◌then◌else◌, ℕ, Bool, true, false, List, [], ◌∷◌, ◌++◌, map, length, take, slice_get, Option, Some, None, length-append}
+use Rattle.std.proofs.Common.{◌≡◌, ◌*◌, get_or, ◌<◌, ◌≤◌, ◌+◌, ◌==◌, ◌∙◌, zero, suc, sym, ap, refl, subst, arith, nat_le, nat_lt, if◌then◌else◌, ℕ, Bool, true, false, List, [], ◌∷◌, ◌++◌, map, length, take, slice_get, All, Option, Some, None, length-append}
 use Rattle.std.proofs.lemmas.Bool.Decides.{nat_tests}
 use Rattle.std.proofs.lemmas.List.{length-map, length-take-le, take-append-le, take_all}
 use Rattle.std.proofs.lemmas.List.Elements.{All-cons, All-map, All-nil}
@@ -20,11 +20,9 @@ use Rattle.batch_admission.proofs.CallerLemmas.{all_rows-last, in_range, known_b
 use Rattle.cube_query.specs.Limits.{AreFoldable}
 use Rattle.batch_admission.specs.Totals.{totals_of}
 use Rattle.cube_model.specs.declared.measure.Measure.TheVariants.{Discounted, ExtendedPrice, Profit, Quantity, Revenue, SupplyCost}
-use Rattle.object_store.proofs.Lists.{AllPairs-nil}
-use Rattle.warehouse_root.specs.declared.layout.Layout.TheVariants.{First}
-use Rattle.warehouse_root.specs.Limits.{most_additions}
-use Rattle.warehouse_root.specs.Root.{AreProperTotals, IsProper, IsProperCuboid}
-use Rattle.warehouse_objects.specs.Stands.{root_of, stored}
+use Rattle.warehouse_root.specs.Limits.{most_additions, most_cuboids}
+use Rattle.warehouse_root.specs.Root.{AreAscending, AreProperTotals, IsProper, IsProperCuboid}
+use Rattle.warehouse_objects.specs.Stands.{root_of, said_of, stored}
 use Rattle.warehouse_objects.specs.Warehouse.{AreInOrder, IsNext, Warehouse}
 
 -- ---- an admissible batch
@@ -181,8 +179,13 @@ totals_proper rows in_range = record {
 }
 
 -- the root of batches in order keeps the rules
-pub root_proper : (w : Warehouse) → AreInOrder w.rows w.batches → w.target ≤ length w.batches → w.additions ≤ most_additions → IsProper (root_of w)
-root_proper w order target additions =
+pub record AreProperCuboids (w : Warehouse) : Type 0 where
+  pub most : length (map said_of w.cuboids) ≤ most_cuboids
+  pub each : All (IsProperCuboid w.layout (length (map length w.batches))) (map said_of w.cuboids)
+  pub ascending : AreAscending (map said_of w.cuboids)
+
+pub root_proper : (w : Warehouse) → AreInOrder w.rows w.batches → w.target ≤ length w.batches → w.additions ≤ most_additions → AreProperCuboids w → IsProper (root_of w)
+root_proper w order target additions cuboids =
     let all : take (length w.batches) w.batches ≡ w.batches = take_all (length w.batches) w.batches (omega arith) in
     let many : length (map length w.batches) ≡ length w.batches = length-map w.batches length in record {
       most_batches = omega (arith, many, few_batches w.rows w.batches order);
@@ -190,7 +193,7 @@ root_proper w order target additions =
       target = omega (arith, many, target);
       additions = additions;
       totals = totals_proper (all_rows w.batches) (subst (λ (bs : List (List LineOrder)). AreInRange (all_rows bs)) all (foldable w.rows w.batches order (length w.batches) (omega arith)).in_range);
-      most_cuboids = omega arith;
-      each = All-nil (IsProperCuboid First (length (map length w.batches)));
-      ascending = AllPairs-nil (λ one other. one.view < other.view);
+      most_cuboids = cuboids.most;
+      each = cuboids.each;
+      ascending = cuboids.ascending;
     }

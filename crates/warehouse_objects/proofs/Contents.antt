@@ -1,10 +1,10 @@
 -- What contents stand for.
-use Rattle.std.proofs.Common.{◌≡◌, ◌≢◌, ◌≤◌, ◌+◌, ◌-◌, ◌==◌, ◌∙◌, suc, sym, ap, refl, subst, arith, nat_lt, if◌then◌else◌, ℕ, true, false, List, [], ◌∷◌, ◌++◌, map, length, slice_get, Option, Some, None, All, length-append}
+use Rattle.std.proofs.Common.{◌≡◌, ◌≢◌, ◌<◌, ◌≤◌, ◌+◌, ◌-◌, ◌==◌, ◌∙◌, suc, sym, ap, refl, subst, arith, drop, get_or, nat_lt, if◌then◌else◌, ℕ, true, false, List, [], ◌∷◌, ◌++◌, map, length, slice_get, Option, Some, None, All, length-append}
 use Rattle.std.specs.List.{AllPairs}
 use Rattle.std.specs.Option.{option_map}
 use Rattle.std.proofs.lemmas.Bool.Decides.{nat_tests}
-use Rattle.std.proofs.lemmas.List.{length-map, map-append}
-use Rattle.std.proofs.lemmas.List.Elements.{All-cons, All-nil}
+use Rattle.std.proofs.lemmas.List.{get_or-map, length-map, map-append, take-append-le}
+use Rattle.std.proofs.lemmas.List.Elements.{All-cons, All-head, All-nil, All-tail}
 use Rattle.std.proofs.lemmas.List.Kept.{AllPairs-cons}
 use Rattle.cube_model.specs.declared.attr.Axis.TheVariants.{Customer, Supplier, Part, Date}
 use Rattle.cube_model.specs.declared.rows.DimRows.{DimRows}
@@ -14,7 +14,7 @@ use Rattle.cube_model.specs.Admission.{IsAdmissible, all_rows}
 use Rattle.cube_model.specs.Lawful.{KeepAllRules, ValidRowsKeepTheRules}
 use Rattle.object_store.specs.Content.{Content}
 use Rattle.object_store.specs.Commit.{ArePuts, IsObject, committed, created}
-use Rattle.object_store.proofs.CallerLemmas.{bytes_after, bytes_created, few_after, few_created, layout_after, layout_created, one_put, root_after, root_created}
+use Rattle.object_store.proofs.CallerLemmas.{bytes_after, bytes_created, layout_after, layout_created, once_after, once_created, one_put, root_after, root_created}
 use Rattle.object_store.proofs.Lists.{AllPairs-nil}
 use Rattle.column_segment.specs.Segment.{FitColumns, IsBatch, segment_of}
 use Rattle.column_segment.proofs.CallerLemmas.{IsSegment-one}
@@ -24,51 +24,67 @@ use Rattle.warehouse_root.specs.declared.layout.Layout.TheVariants.{First}
 use Rattle.warehouse_root.specs.Layouts.{number_of}
 use Rattle.warehouse_root.specs.Objects.{segment_id}
 use Rattle.warehouse_root.specs.Root as roots
+use Rattle.warehouse_root.specs.Root.{IsProper, IsProperCuboid}
+use Rattle.warehouse_root.specs.declared.cuboid.StoredCuboid.{StoredCuboid}
 use Rattle.warehouse_root.proofs.CallerLemmas.{root_fits, root_of-one}
-use Rattle.warehouse_objects.specs.Warehouse.{AreInOrder, AreStorable, IsNext, Warehouse, fresh, loaded}
-use Rattle.warehouse_objects.specs.Stands.{HasRows, Stands, dimension_of, object_of, root_of, segment_behind, stored}
+use Rattle.cuboid_cells.specs.declared.span.Span.{Span}
+use Rattle.cuboid_cells.specs.Spelled.{IsSpan}
+use Rattle.cuboid_cells.specs.Steps.{cells_of}
+use Rattle.cuboid_upkeep.specs.Grouping.{StandFor}
+use Rattle.warehouse_objects.specs.Warehouse.{AreInOrder, AreStorable, Cuboid, IsNext, StoredRun, Warehouse, aimed, fresh, loaded, modes_of}
+use Rattle.warehouse_objects.specs.Stands.{Follow, HasRows, HoldsGroupings, IsLaid, Stands, dimension_of, object_of, root_of, rows_in, run_behind, said_of, segment_behind, stored}
 use Rattle.warehouse_objects.specs.Lawful.{batch_put, dimension_puts}
-use Rattle.warehouse_objects.proofs.Batches.{in_order_more, in_order_none, next_number, root_proper, segment_at, slice_get_snoc, some_one}
+use Rattle.warehouse_objects.proofs.Batches.{few_batches, in_order_more, in_order_none, next_number, root_proper, segment_at, slice_get_snoc, some_one}
 use Rattle.warehouse_objects.proofs.Lengths.{dimension_least, dimension_most, segment_least, segment_most}
 use Rattle.warehouse_objects.proofs.Rows.{same_rows}
 
 -- ---- objects, by their ids
 
-module _ (a b c d : List ℕ) (f : ℕ → List LineOrder → List ℕ) where
+module _ (a b c d : List ℕ) (f : ℕ → List LineOrder → List ℕ) (g : ℕ → Option (List ℕ)) where
   abbrev objects_in : List (List LineOrder) → ℕ → Option (List ℕ)
   objects_in batches id =
       if id == 1 then Some a
       else (if id == 2 then Some b
       else (if id == 3 then Some c
       else (if id == 4 then Some d
-      else (if nat_lt id 65537 then None else option_map (f (id - 65537 + 1)) (slice_get batches (id - 65537))))))
+      else (if nat_lt id 65537 then None
+      else (if nat_lt id 131072 then option_map (f (id - 65537 + 1)) (slice_get batches (id - 65537)) else g (id - 131072))))))
 
-  four_objects : (id : ℕ) → (if 4 == id then Some d else (if 3 == id then Some c else (if 2 == id then Some b else (if 1 == id then Some a else None)))) ≡ objects_in [] id
-  four_objects id = grind (arith, nat_tests)
-
-  one_more : (batches : List (List LineOrder)) (batch : List LineOrder) (number id : ℕ) → number ≡ length batches + 1
+  one_more : (batches : List (List LineOrder)) (batch : List LineOrder) (number id : ℕ) → number ≡ length batches + 1 → number ≤ 65535
       → (if 65536 + number == id then Some (f number batch) else objects_in batches id) ≡ objects_in (batches ++ batch ∷ []) id
-  one_more batches batch number id is =
+  one_more batches batch number id is few =
       (elim (65536 + number == id) as (λ t. (65536 + number == id) ≡ t → (if t then Some (f number batch) else objects_in batches id) ≡ objects_in (batches ++ batch ∷ []) id) [
         | true ↦ λ e.
             let at : id ≡ 65536 + number = grind (arith, nat_tests, e) in
             let before : id - 65537 ≡ length batches = omega (arith, at, is) in
             let here : id - 65537 + 1 ≡ number = omega (arith, at, is) in
             let snoc = slice_get_snoc batches batch (id - 65537) in
-            grind (arith, nat_tests, at, is, before, here, snoc)
+            grind (arith, nat_tests, at, is, before, here, snoc, few)
         | false ↦ λ e.
             let snoc = slice_get_snoc batches batch (id - 65537) in
-            grind (arith, nat_tests, e, is, snoc)
+            grind (arith, nat_tests, e, is, snoc, few)
       ]) refl
 
-  pub object_behind : (batches : List (List LineOrder)) (before : ℕ) → objects_in batches (65537 + before) ≡ option_map (f (before + 1)) (slice_get batches before)
-  object_behind batches before =
+  pub object_behind : (batches : List (List LineOrder)) (before : ℕ) → before < 65535 → objects_in batches (65537 + before) ≡ option_map (f (before + 1)) (slice_get batches before)
+  object_behind batches before low =
       let back : 65537 + before - 65537 ≡ before = omega arith in
-      grind (arith, nat_tests, back)
+      grind (arith, nat_tests, back, low)
+
+  -- objects before the runs, and the runs
+  pub objects_low : (h : ℕ → Option (List ℕ)) (batches : List (List LineOrder)) (id : ℕ) (t : Option (List ℕ)) → id < 131072 → objects_in batches id ≡ t
+      → (if id == 1 then Some a else (if id == 2 then Some b else (if id == 3 then Some c else (if id == 4 then Some d else (if nat_lt id 65537 then None else (if nat_lt id 131072 then option_map (f (id - 65537 + 1)) (slice_get batches (id - 65537)) else h (id - 131072))))))) ≡ t
+  objects_low h batches id t low is = grind (arith, nat_tests, low, is)
+
+  pub objects_high : (batches : List (List LineOrder)) (id : ℕ) → 131072 ≤ id → objects_in batches id ≡ g (id - 131072)
+  objects_high batches id high = grind (arith, nat_tests, high)
+
+four_objects : (a b c d : List ℕ) (f : ℕ → List LineOrder → List ℕ) (id : ℕ) → (if 4 == id then Some d else (if 3 == id then Some c else (if 2 == id then Some b else (if 1 == id then Some a else None)))) ≡ objects_in a b c d f (λ _. None) [] id
+four_objects a b c d f id = grind (arith, nat_tests)
 
 -- the object of a batch
-pub object_batch : (w : Warehouse) (before : ℕ) → object_of w (65537 + before) ≡ segment_behind before w.batches
-object_batch w before = object_behind (dimension_of w.rows Customer) (dimension_of w.rows Supplier) (dimension_of w.rows Part) (dimension_of w.rows Date) segment_of w.batches before
+pub object_batch : (w : Warehouse) (before : ℕ) → before < 65535 → object_of w (65537 + before) ≡ segment_behind before w.batches
+object_batch w before low =
+    object_behind (dimension_of w.rows Customer) (dimension_of w.rows Supplier) (dimension_of w.rows Part) (dimension_of w.rows Date) segment_of (λ place. run_behind place w.cuboids) w.batches before low
 
 -- ---- a content that was made
 
@@ -80,18 +96,51 @@ stands_created rows storable = record {
   objects = λ id.
       bytes_created (dimension_puts rows) first_bytes (number_of First) id
       ∙ four_objects (dimension_of rows Customer) (dimension_of rows Supplier) (dimension_of rows Part) (dimension_of rows Date) segment_of id;
-  few = few_created (dimension_puts rows) first_bytes (number_of First);
+  once = once_created (dimension_puts rows) first_bytes (number_of First);
   layout = layout_created (dimension_puts rows) first_bytes (number_of First);
+  first = refl;
   root = record {
     spelled = root_created (dimension_puts rows) first_bytes (number_of First);
-    proper = root_proper (fresh rows) (in_order_none rows) (omega arith) (omega arith);
+    proper = root_proper (fresh rows) (in_order_none rows) (omega arith) (omega arith) (record {
+      most = omega arith;
+      each = All-nil (IsProperCuboid First 0);
+      ascending = AllPairs-nil (λ (one : StoredCuboid) (other : StoredCuboid). one.view < other.view);
+    });
   };
   rows = storable;
   batches = in_order_none rows;
-  no_cuboid = refl;
+  cuboids = All-nil (HoldsGroupings (fresh rows));
 }
 
 -- ---- one batch more
+
+-- a run over the first batches is one over more
+run_in_more : (w : Warehouse) (batch : List LineOrder) (span : Span) → span.to ≤ length w.batches → rows_in (w.batches ++ batch ∷ []) span ≡ rows_in w.batches span
+run_in_more w batch span low = ap (λ (l : List (List LineOrder)). all_rows (drop span.from l)) (take-append-le span.to w.batches (batch ∷ []) low)
+
+-- the runs of a cuboid end at its mark
+ends_within : (from mark : ℕ) (runs : List StoredRun) → Follow from runs mark → All (λ run. IsSpan run.span) runs → (from ≤ mark) × All (λ run. run.span.to ≤ mark) runs
+ends_within from mark [] follow spans = (omega (arith, follow), All-nil (λ run. run.span.to ≤ mark))
+ends_within from mark (run ∷ runs) follow spans =
+    let rest = ends_within run.span.to mark runs follow.1 (All-tail (λ r. IsSpan r.span) run runs spans) in
+    let own = All-head (λ r. IsSpan r.span) run runs spans in
+    (omega (arith, rest.0, own.some, follow.0), All-cons (λ r. r.span.to ≤ mark) run runs rest.0 rest.1)
+
+-- a cuboid holds what it held where a batch is added
+groupings_more : (w : Warehouse) (batch : List LineOrder) (cuboid : Cuboid) → cuboid.mark ≤ length w.batches → HoldsGroupings w cuboid → HoldsGroupings (loaded w batch) cuboid
+groupings_more w batch cuboid low holds = record {
+  laid = record { follow = holds.laid.follow; spans = holds.laid.spans; proper = holds.laid.proper };
+  groupings = λ k d within.
+      let ends = (ends_within 0 cuboid.mark cuboid.runs holds.laid.follow holds.laid.spans).1 k d within in
+      subst (λ (l : List LineOrder). StandFor w.rows (modes_of w) l (cells_of cuboid.view (get_or cuboid.runs k d).cells)) (sym (run_in_more w batch (get_or cuboid.runs k d).span (omega (arith, ends, low)))) (holds.groupings k d within);
+}
+
+-- the marks of stored cuboids, by the root
+mark_within : (w : Warehouse) → IsProper (root_of w) → All (λ cuboid. cuboid.mark ≤ length w.batches) w.cuboids
+mark_within w proper = λ k d within.
+    let said = proper.each k (said_of d) (omega (arith, within, length-map w.cuboids said_of)) in
+    let same : get_or (map said_of w.cuboids) k (said_of d) ≡ said_of (get_or w.cuboids k d) = get_or-map said_of w.cuboids k d (said_of d) within in
+    omega (arith, said.mark, ap (λ (s : StoredCuboid). s.mark) same, length-map w.batches length)
 
 module _ (c : Content) (w : Warehouse) (number : ℕ) (batch : List LineOrder) (stands : Stands c w) (admissible : IsAdmissible w.rows w.batches number batch) (fits : FitColumns batch) where
   abbrev bytes : List ℕ
@@ -112,34 +161,79 @@ module _ (c : Content) (w : Warehouse) (number : ℕ) (batch : List LineOrder) (
   target : w.target ≤ length (w.batches ++ batch ∷ [])
   target = omega (arith, stands.root.proper.target, length-map w.batches length, many)
 
-  pub stands_loaded : Stands (committed (batch_put number batch) [] bytes (number_of First) c) (loaded w batch)
+  few : number ≤ 65535
+  few = omega (arith, is_next, many, few_batches w.rows (w.batches ++ batch ∷ []) in_order)
+
+  marks : All (λ cuboid. cuboid.mark ≤ length w.batches) w.cuboids
+  marks = mark_within w stands.root.proper
+
+  proper_more : (cuboid : StoredCuboid) → IsProperCuboid w.layout (length (map length w.batches)) cuboid → IsProperCuboid w.layout (length (map length (w.batches ++ batch ∷ []))) cuboid
+  proper_more cuboid is = record {
+    view = is.view;
+    mark = omega (arith, is.mark, length-map w.batches length, length-map (w.batches ++ batch ∷ []) length, many);
+    no_run = is.no_run;
+    most_runs = is.most_runs;
+    most_cells = is.most_cells;
+  }
+
+  pub stands_loaded : Stands (committed (batch_put number batch) [] bytes (number_of w.layout) c) (loaded w batch)
   stands_loaded = record {
     objects = λ id.
-        bytes_after (batch_put number batch) [] bytes (number_of First) c id
+        bytes_after (batch_put number batch) [] bytes (number_of w.layout) c id
         ∙ ap (λ (o : Option (List ℕ)). if 65536 + number == id then Some (segment_of number batch) else o) (stands.objects id)
-        ∙ one_more (dimension_of w.rows Customer) (dimension_of w.rows Supplier) (dimension_of w.rows Part) (dimension_of w.rows Date) segment_of w.batches batch number id is_next;
-    few = let more = few_after (batch_put number batch) [] bytes (number_of First) c in omega (arith, more, stands.few, many);
-    layout = layout_after (batch_put number batch) [] bytes (number_of First) c;
+        ∙ one_more (dimension_of w.rows Customer) (dimension_of w.rows Supplier) (dimension_of w.rows Part) (dimension_of w.rows Date) segment_of (λ place. run_behind place w.cuboids) w.batches batch number id is_next few;
+    once = once_after (batch_put number batch) [] bytes (number_of w.layout) c stands.once;
+    layout = layout_after (batch_put number batch) [] bytes (number_of w.layout) c;
+    first = stands.first;
     root = record {
-      spelled = root_after (batch_put number batch) [] bytes (number_of First) c;
-      proper = root_proper (loaded w batch) in_order target stands.root.proper.additions;
+      spelled = root_after (batch_put number batch) [] bytes (number_of w.layout) c;
+      proper = root_proper (loaded w batch) in_order target stands.root.proper.additions (record {
+        most = stands.root.proper.most_cuboids;
+        each = λ k d within. proper_more (get_or (map said_of w.cuboids) k d) (stands.root.proper.each k d within);
+        ascending = stands.root.proper.ascending;
+      });
     };
     rows = stands.rows;
     batches = in_order;
-    no_cuboid = stands.no_cuboid;
+    cuboids = λ k d within. groupings_more w batch (get_or w.cuboids k d) (marks k d within) (stands.cuboids k d within);
   }
+
+-- ---- a new target
+
+pub stands_aimed : (c : Content) (w : Warehouse) → Stands c w → Stands (committed [] [] (roots.root_of (root_of (aimed w))) (number_of w.layout) c) (aimed w)
+stands_aimed c w stands =
+    let bytes : List ℕ = roots.root_of (root_of (aimed w)) in record {
+      objects = λ id. bytes_after [] [] bytes (number_of w.layout) c id ∙ stands.objects id;
+      once = once_after [] [] bytes (number_of w.layout) c stands.once;
+      layout = layout_after [] [] bytes (number_of w.layout) c;
+      first = stands.first;
+      root = record {
+        spelled = root_after [] [] bytes (number_of w.layout) c;
+        proper = root_proper (aimed w) stands.batches (omega arith) stands.root.proper.additions (record {
+          most = stands.root.proper.most_cuboids;
+          each = stands.root.proper.each;
+          ascending = stands.root.proper.ascending;
+        });
+      };
+      rows = stands.rows;
+      batches = stands.batches;
+      cuboids = λ k d within. let holds = stands.cuboids k d within in record {
+        laid = record { follow = holds.laid.follow; spans = holds.laid.spans; proper = holds.laid.proper };
+        groupings = holds.groupings;
+      };
+    }
 
 -- the root with the batch is the root with its rows and its totals
 pub root_loaded : (w : Warehouse) (batch : List LineOrder) → root_of (loaded w batch) ≡ roots.with_batch (length batch) (stored (totals_of (all_rows (w.batches ++ batch ∷ [])))) (root_of w)
 root_loaded w batch =
     let lengths : map length (w.batches ++ batch ∷ []) ≡ map length w.batches ++ length batch ∷ [] = map-append length w.batches (batch ∷ []) in
     λ i. record {
-      layout = First;
+      layout = w.layout;
       batches = lengths i;
       target = w.target;
       additions = w.additions;
       totals = stored (totals_of (all_rows (w.batches ++ batch ∷ [])));
-      cuboids = [];
+      cuboids = map said_of w.cuboids;
     }
 
 -- ---- what may be handed to the store
@@ -200,31 +294,3 @@ batches_same [] [] many same = refl
 batches_same [] (y ∷ ys) many same = absurd (omega (arith, many))
 batches_same (x ∷ xs) [] many same = absurd (omega (arith, many))
 batches_same (x ∷ xs) (y ∷ ys) many same = λ i. same 0 x y refl refl i ∷ batches_same xs ys (omega (arith, many)) (λ k. same (suc k)) i
-
-module _ (law : ValidRowsKeepTheRules) (c : Content) (w v : Warehouse) (is : Stands c w) (also : Stands c v) where
-  same_root : root_of w ≡ root_of v
-  same_root = root_of-one (root_of w) (root_of v) (root_fits (root_of w) is.root.proper) (root_fits (root_of v) also.root.proper) refl (sym is.root.spelled ∙ also.root.spelled)
-
-  same_count : length w.batches ≡ length v.batches
-  same_count = sym (length-map w.batches length) ∙ ap (λ r. length r.batches) same_root ∙ length-map v.batches length
-
-  same_batch : (k : ℕ) (x y : List LineOrder) → slice_get w.batches k ≡ Some x → slice_get v.batches k ≡ Some y → x ≡ y
-  same_batch k x y at other =
-      let bytes : segment_of (k + 1) x ≡ segment_of (k + 1) y =
-      some_one _ _ (sym (ap (option_map (segment_of (k + 1))) at) ∙ sym (object_batch w k) ∙ sym (is.objects (65537 + k)) ∙ also.objects (65537 + k) ∙ object_batch v k ∙ ap (option_map (segment_of (k + 1))) other) in
-      let segment = segment_at v.rows v.batches also.batches k y other in
-      (IsSegment-one (segment_of (k + 1) x) (k + 1) (k + 1) x y (segment_at w.rows w.batches is.batches k x at)
-      (record { spelled = bytes; number_fits = segment.number_fits; batch = segment.batch; fits = segment.fits })).1
-
-  pub one_warehouse : w ≡ v
-  one_warehouse =
-      let rows : w.rows ≡ v.rows = rows_one law c w.rows v.rows is.rows also.rows (has_rows c w is) (has_rows c v also) in
-      let batches : w.batches ≡ v.batches = batches_same w.batches v.batches same_count same_batch in
-      let cuboids : w.cuboids ≡ v.cuboids = is.no_cuboid ∙ sym also.no_cuboid in
-      λ i. record {
-        rows = rows i;
-        batches = batches i;
-        target = ap (λ r. r.target) same_root i;
-        additions = ap (λ r. r.additions) same_root i;
-        cuboids = cuboids i;
-      }

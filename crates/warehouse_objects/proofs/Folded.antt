@@ -1,5 +1,5 @@
 -- Batches that are read and counted one after another.
-use Rattle.std.proofs.Common.{◌≡◌, ◌⊎◌, ⊎_elim, get_or, map, ◌+◌, ◌≤◌, suc, ℕ, List, ◌++◌, Option, Some, None, length, take, slice_get, Result, Ok, Err, IfErr, IfOk, IsErrOf, OnOk, refl, sym, ◌∙◌, ap, subst, arith}
+use Rattle.std.proofs.Common.{◌≡◌, ◌⊎◌, ⊎_elim, get_or, map, ◌+◌, ◌<◌, ◌≤◌, suc, ℕ, List, ◌++◌, Option, Some, None, length, take, slice_get, Result, Ok, Err, IfErr, IfOk, IsErrOf, OnOk, refl, sym, ◌∙◌, ap, subst, arith}
 use Rattle.std.specs.Option.{IfSome, IsSomeAnd, MatchOption, option_map}
 use Rattle.std.proofs.lemmas.Option.{get_or_from_slice_get, slice_get-map, slice_get_within}
 use Rattle.cube_model.specs.Admission.{all_rows}
@@ -22,43 +22,43 @@ use Rattle.warehouse_objects.proofs.Contents.{object_batch}
 -- ---- the batches of a warehouse
 
 module _ (c : Content) (w : Warehouse) (stands : Stands c w) where
-  pub batch_bytes : (before : ℕ) (batch : List LineOrder) → slice_get w.batches before ≡ Some batch → bytes_of c (65537 + before) ≡ Some (segment_of (before + 1) batch)
-  batch_bytes before batch is = stands.objects (65537 + before) ∙ object_batch w before ∙ ap (option_map (segment_of (before + 1))) is
+  pub batch_bytes : (before : ℕ) (batch : List LineOrder) → before < 65535 → slice_get w.batches before ≡ Some batch → bytes_of c (65537 + before) ≡ Some (segment_of (before + 1) batch)
+  batch_bytes before batch low is = stands.objects (65537 + before) ∙ object_batch w before low ∙ ap (option_map (segment_of (before + 1))) is
 
-  pub same_batch : (before : ℕ) (batch : List LineOrder) (bytes : List ℕ) (number : ℕ) (rows : List LineOrder) → slice_get w.batches before ≡ Some batch → bytes_of c (65537 + before) ≡ Some bytes
+  pub same_batch : (before : ℕ) (batch : List LineOrder) (bytes : List ℕ) (number : ℕ) (rows : List LineOrder) → before < 65535 → slice_get w.batches before ≡ Some batch → bytes_of c (65537 + before) ≡ Some bytes
       → IsSegment bytes number rows → (number ≡ before + 1) × (rows ≡ batch)
-  same_batch before batch bytes number rows is at segment =
+  same_batch before batch bytes number rows low is at segment =
       let own = segment_at w.rows w.batches stands.batches before batch is in
       IsSegment-one bytes number (before + 1) rows batch segment
-      (record { spelled = some_one _ _ (sym at ∙ batch_bytes before batch is); number_fits = own.number_fits; batch = own.batch; fits = own.fits })
+      (record { spelled = some_one _ _ (sym at ∙ batch_bytes before batch low is); number_fits = own.number_fits; batch = own.batch; fits = own.fits })
 
-  pub batch_found : (before : ℕ) (bytes : List ℕ) (number : ℕ) (rows : List LineOrder) → bytes_of c (65537 + before) ≡ Some bytes → IsSegment bytes number rows → slice_get w.batches before ≡ Some rows
-  batch_found before bytes number rows at segment = by (slice_get w.batches before) refl
+  pub batch_found : (before : ℕ) (bytes : List ℕ) (number : ℕ) (rows : List LineOrder) → before < 65535 → bytes_of c (65537 + before) ≡ Some bytes → IsSegment bytes number rows → slice_get w.batches before ≡ Some rows
+  batch_found before bytes number rows low at segment = by (slice_get w.batches before) refl
     where
       by : (o : Option (List LineOrder)) → slice_get w.batches before ≡ o → slice_get w.batches before ≡ Some rows
-      by None e = let none : None ≡ Some bytes = sym (stands.objects (65537 + before) ∙ object_batch w before ∙ ap (option_map (segment_of (before + 1))) e) ∙ at in absurd cc
-      by (Some x) e = e ∙ ap (λ (l : List LineOrder). Some l) (sym (same_batch before x bytes number rows e at segment).1)
+      by None e = let none : None ≡ Some bytes = sym (stands.objects (65537 + before) ∙ object_batch w before low ∙ ap (option_map (segment_of (before + 1))) e) ∙ at in absurd cc
+      by (Some x) e = e ∙ ap (λ (l : List LineOrder). Some l) (sym (same_batch before x bytes number rows low e at segment).1)
 
   -- the batch behind so many, at the id of its number
-  module _ (before number id : ℕ) (numbered : number ≡ before + 1) (placed : id ≡ 65536 + number) where
+  module _ (before number id : ℕ) (numbered : number ≡ before + 1) (placed : id ≡ 65536 + number) (low : before < 65535) where
     at_id : bytes_of c (65537 + before) ≡ bytes_of c id
     at_id = let same : 65537 + before ≡ id = omega (arith, numbered, placed) in ap (λ (n : ℕ). bytes_of c n) same
 
     pub found_at : (bytes : List ℕ) (rows : List LineOrder) → bytes_of c id ≡ Some bytes → IsSegment bytes number rows → slice_get w.batches before ≡ Some rows
-    found_at bytes rows at segment = batch_found before bytes number rows (at_id ∙ at) segment
+    found_at bytes rows at segment = batch_found before bytes number rows low (at_id ∙ at) segment
 
     module _ (batch : List LineOrder) (here : slice_get w.batches before ≡ Some batch) where
       pub same_at : (bytes : List ℕ) (rows : List LineOrder) → bytes_of c id ≡ Some bytes → IsSegment bytes number rows → rows ≡ batch
-      same_at bytes rows at segment = (same_batch before batch bytes number rows here (at_id ∙ at) segment).1
+      same_at bytes rows at segment = (same_batch before batch bytes number rows low here (at_id ∙ at) segment).1
 
       pub segment_there : (bytes : List ℕ) → bytes_of c id ≡ Some bytes → IsSegment bytes number batch
       segment_there bytes at =
           let own = segment_at w.rows w.batches stands.batches before batch here in
-          let bytes_are : bytes ≡ segment_of (before + 1) batch = some_one bytes (segment_of (before + 1) batch) (sym at ∙ sym at_id ∙ batch_bytes before batch here) in
+          let bytes_are : bytes ≡ segment_of (before + 1) batch = some_one bytes (segment_of (before + 1) batch) (sym at ∙ sym at_id ∙ batch_bytes before batch low here) in
           subst (λ (n : ℕ). IsSegment bytes n batch) (sym numbered) (record { spelled = bytes_are; number_fits = own.number_fits; batch = own.batch; fits = own.fits })
 
       pub never_missing : bytes_of c id ≡ None → ⊥
-      never_missing none = let both : None ≡ Some (segment_of (before + 1) batch) = sym none ∙ sym at_id ∙ batch_bytes before batch here in cc
+      never_missing none = let both : None ≡ Some (segment_of (before + 1) batch) = sym none ∙ sym at_id ∙ batch_bytes before batch low here in cc
 
     -- the batch there agrees with rows, if what was read of its bytes does
     pub batch_agrees : (columns : List FactColumn) (rows : List LineOrder)
@@ -68,7 +68,7 @@ module _ (c : Content) (w : Warehouse) (stands : Stands c w) where
       where
         none_there : (bytes : List ℕ) → bytes_of c id ≡ Some bytes → slice_get w.batches before ≡ None → ⊥
         none_there bytes at none =
-            let both : None ≡ Some bytes = sym (stands.objects (65537 + before) ∙ object_batch w before ∙ ap (option_map (segment_of (before + 1))) none) ∙ at_id ∙ at in cc
+            let both : None ≡ Some bytes = sym (stands.objects (65537 + before) ∙ object_batch w before low ∙ ap (option_map (segment_of (before + 1))) none) ∙ at_id ∙ at in cc
 
         by_batch : (bytes : List ℕ) → bytes_of c id ≡ Some bytes → ((other : ℕ) (others : List LineOrder) → IsSegment bytes other others → (other ≡ number) × AgreeOn columns rows others)
             → (o : Option (List LineOrder)) → slice_get w.batches before ≡ o → (batch : List LineOrder) × (slice_get w.batches before ≡ Some batch) × AgreeOn columns rows batch

@@ -1,6 +1,9 @@
 pub mod Asked
+pub mod OneWarehouse
+pub mod Kept
 pub mod Batches
 pub mod CallerLemmas
+pub mod Chosen
 pub mod Contents
 pub mod Dimensions
 pub mod Folded

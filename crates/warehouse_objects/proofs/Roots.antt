@@ -12,7 +12,7 @@ use Rattle.warehouse_objects.specs.Stands.{Stands, root_of}
 module _ (content : Content) (bytes : List ℕ) where
   -- the bytes are the root of the warehouse
   is_root : (w : Warehouse) → bytes ≡ content.root → Stands content w → IsRootOf First bytes (root_of w)
-  is_root w same stands = record { of_layout = refl; is_root = record { spelled = same ∙ stands.root.spelled; proper = stands.root.proper } }
+  is_root w same stands = record { of_layout = stands.first; is_root = record { spelled = same ∙ stands.root.spelled; proper = stands.root.proper } }
 
   pub root_found : (result : Result PlainRoot Fault) → bytes ≡ content.root → IfOk result (IsRootOf First bytes) → IfOk result (λ root. (w : Warehouse) → Stands content w → root ≡ root_of w)
   root_found (Ok root) same is = λ w stands. IsRootOf-one First bytes root (root_of w) is (is_root w same stands)

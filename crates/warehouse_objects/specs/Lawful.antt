@@ -1,5 +1,6 @@
 -- What the definitions mean. Each is proved as the contract of a function of its name.
-use Rattle.std.specs.Prelude.{◌≡◌, ℕ, List, [], ◌∷◌}
+use Rattle.std.specs.Prelude.{◌≡◌, ◌≤◌, ℕ, ◌-◌, Some, List, [], ◌∷◌, ◌++◌, length}
+use Rattle.std.specs.List.{range_with_len}
 use Rattle.cube_model.specs.declared.attr.Axis.TheVariants.{Customer, Supplier, Part, Date}
 use Rattle.cube_model.specs.declared.rows.DimRows.{DimRows}
 use Rattle.cube_model.specs.declared.rows.LineOrder.{LineOrder}
@@ -8,11 +9,14 @@ use Rattle.object_store.specs.Content.{Content}
 use Rattle.object_store.specs.Commit.{ArePuts, committed, created}
 use Rattle.column_segment.specs.Segment.{FitColumns, segment_of}
 use Rattle.warehouse_root.specs.declared.layout.Layout.TheVariants.{First}
+use Rattle.lattice.specs.declared.view.View.{View}
+use Rattle.lattice.specs.Views.{index_of}
+use Rattle.warehouse_root.specs.Limits.{most_cells, most_cuboids, most_runs}
 use Rattle.warehouse_root.specs.Layouts.{number_of}
-use Rattle.warehouse_root.specs.Objects.{segment_id}
+use Rattle.warehouse_root.specs.Objects.{run_id, segment_id}
 use Rattle.warehouse_root.specs.Root as roots
-use Rattle.warehouse_objects.specs.Warehouse.{Warehouse, AreStorable, fresh, loaded}
-use Rattle.warehouse_objects.specs.Stands.{HasRows, Stands, dimension_of, root_of}
+use Rattle.warehouse_objects.specs.Warehouse.{Warehouse, AreStorable, Cuboid, StoredRun, aimed, cells_in, cuboid_at, dropped_ids, fresh, kept, loaded, with_views}
+use Rattle.warehouse_objects.specs.Stands.{HasRows, HoldsGroupings, Stands, dimension_of, root_of, run_bytes}
 
 -- the four objects of dimensions, in the order in which a warehouse is made of them
 abbrev pub dimension_puts : DimRows → List (ℕ × List ℕ)
@@ -32,7 +36,46 @@ CreatingStands = (rows : DimRows) → AreStorable rows
 abbrev pub LoadingStands : Type 0
 LoadingStands = (c : Content) (w : Warehouse) (number : ℕ) (batch : List LineOrder)
     → Stands c w → IsAdmissible w.rows w.batches number batch → FitColumns batch
-    → Stands (committed (batch_put number batch) [] (roots.root_of (root_of (loaded w batch))) (number_of First) c) (loaded w batch)
+    → Stands (committed (batch_put number batch) [] (roots.root_of (root_of (loaded w batch))) (number_of w.layout) c) (loaded w batch)
+
+-- a commit of the root with another target makes a content whose cuboids are to hold all batches
+abbrev pub AimingStands : Type 0
+AimingStands = (c : Content) (w : Warehouse) → Stands c w
+    → Stands (committed [] [] (roots.root_of (root_of (aimed w))) (number_of w.layout) c) (aimed w)
+
+-- the object of a run of a cuboid
+abbrev pub run_put : Cuboid → ℕ → StoredRun → List (ℕ × List ℕ)
+run_put cuboid number run = (run_id (index_of cuboid.view) number, run_bytes cuboid run) ∷ []
+
+-- the objects of the runs behind the first
+abbrev pub later_runs : Cuboid → List ℕ
+later_runs cuboid = range_with_len (run_id (index_of cuboid.view) 1) (length cuboid.runs - 1)
+
+-- A cuboid of a warehouse may take the place of that of its view: it holds the groupings of its batches, within the limits.
+pub record MayReplace (w : Warehouse) (old new : Cuboid) : Type 0 where
+  pub stored : cuboid_at (index_of old.view) w.cuboids ≡ Some old
+  pub view : new.view ≡ old.view
+  pub holds : HoldsGroupings w new
+  pub some : 1 ≤ new.mark
+  pub within : new.mark ≤ length w.batches
+  pub few : length new.runs ≤ most_runs
+  pub cells : cells_in new.runs ≤ most_cells
+
+-- a commit of one run more, behind those of its cuboid, or in the place of all of them
+abbrev pub AppendingStands : Type 0
+AppendingStands = (c : Content) (w : Warehouse) (old new : Cuboid) (run : StoredRun) → Stands c w → MayReplace w old new
+    → new.runs ≡ old.runs ++ run ∷ []
+    → Stands (committed (run_put new (length old.runs) run) [] (roots.root_of (root_of (kept w new))) (number_of w.layout) c) (kept w new)
+
+abbrev pub MergingStands : Type 0
+MergingStands = (c : Content) (w : Warehouse) (old new : Cuboid) (run : StoredRun) → Stands c w → MayReplace w old new
+    → new.runs ≡ run ∷ []
+    → Stands (committed (run_put new 0 run) (later_runs old) (roots.root_of (root_of (kept w new))) (number_of w.layout) c) (kept w new)
+
+-- a commit of the root with the cuboids of some views, that drops the runs of the others
+abbrev pub ChoosingStands : Type 0
+ChoosingStands = (c : Content) (w : Warehouse) (views : List View) → Stands c w → length views ≤ most_cuboids
+    → Stands (committed [] (dropped_ids w views) (roots.root_of (root_of (with_views w views))) (number_of w.layout) c) (with_views w views)
 
 -- the objects of storable rows, and that of an admissible batch, are such as a store takes
 abbrev pub ObjectsAreStorable : Type 0

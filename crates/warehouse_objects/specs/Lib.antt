@@ -2,3 +2,4 @@ pub mod Counted
 pub mod Warehouse
 pub mod Stands
 pub mod Lawful
+pub mod Loaded

@@ -1,6 +1,6 @@
 -- What a warehouse is, apart from how it is stored. Our own.
-use Rattle.std.specs.Prelude.{◌≡◌, ℕ, ◌+◌, Some, List, [], ◌∷◌, ◌++◌, length, take, slice_get}
-use Rattle.std.specs.List.{AllByRecursion}
+use Rattle.std.specs.Prelude.{◌≡◌, ℕ, ◌+◌, ◌==◌, if◌then◌else◌, Bool, false, not, Option, None, Some, List, [], ◌∷◌, ◌++◌, length, map, take, slice_get}
+use Rattle.std.specs.List.{AllByRecursion, filter, find, flat_map, list_any, range_with_len, sum_by}
 use Rattle.cube_model.specs.declared.attr.Axis.{Axis}
 use Rattle.cube_model.specs.declared.rows.DimRows.{DimRows}
 use Rattle.cube_model.specs.declared.rows.LineOrder.{LineOrder}
@@ -10,16 +10,28 @@ use Rattle.column_segment.specs.Columns.{FitsColumn, number_columns}
 use Rattle.column_segment.specs.Segment.{FitColumns}
 use Rattle.dimensions.specs.Shown.{rows_on}
 use Rattle.dimension_objects.specs.Spelled.{HaveKeys}
+use Rattle.lattice.specs.declared.view.View.{View}
+use Rattle.lattice.specs.Views.{index_of, lattice}
+use Rattle.cuboid_cells.specs.declared.cell.Cell.{Cell}
+use Rattle.cuboid_cells.specs.declared.span.Span.{Span}
+use Rattle.warehouse_root.specs.declared.layout.Layout.{Layout}
+use Rattle.warehouse_root.specs.declared.layout.Layout.TheVariants.{First}
+use Rattle.warehouse_root.specs.Objects.{run_id}
 
--- a stored cuboid: the grouping of the first batches by its view, in runs that follow each other
+-- a run of cells of a stored cuboid, over some batches one behind the other
+pub record StoredRun : Type 0 where
+  pub span : Span
+  pub cells : List Cell
+
+-- a stored cuboid: cells of a view, in runs of which each goes on where the one before ends
 pub record Cuboid : Type 0 where
-  pub view : ℕ
+  pub view : View
   -- how many of the first batches its runs hold together
   pub mark : ℕ
-  -- behind how many of the first batches each run ends, the last one at the mark
-  pub ends : List ℕ
+  pub runs : List StoredRun
 
 pub record Warehouse : Type 0 where
+  pub layout : Layout
   -- the rows of the four dimensions
   pub rows : DimRows
   -- the rows of each batch, the first batch first
@@ -31,19 +43,58 @@ pub record Warehouse : Type 0 where
   -- by ascending view
   pub cuboids : List Cuboid
 
+-- the ship modes whose places are the fifth codes of cells: none in the first layout
+abbrev pub modes_of : Warehouse → List (List ℕ)
+modes_of w = []
+
+-- how many cells runs have together
+abbrev pub cells_in : List StoredRun → ℕ
+cells_in runs = sum_by (λ run. length run.cells) runs
+
 -- a warehouse of no batch
 abbrev pub fresh : DimRows → Warehouse
-fresh rows = record { rows = rows; batches = []; target = 0; additions = 0; cuboids = [] }
+fresh rows = record { layout = First; rows = rows; batches = []; target = 0; additions = 0; cuboids = [] }
 
 -- with one batch more
 abbrev pub loaded : Warehouse → List LineOrder → Warehouse
-loaded w batch = record {
-  rows = w.rows;
-  batches = w.batches ++ batch ∷ [];
-  target = w.target;
-  additions = w.additions;
-  cuboids = w.cuboids;
-}
+loaded w batch = record w { batches = w.batches ++ batch ∷ [] }
+
+-- each stored cuboid is to hold all batches
+abbrev pub aimed : Warehouse → Warehouse
+aimed w = record w { target = length w.batches }
+
+-- a cuboid in the place of that of its view
+abbrev pub put_cuboid : Cuboid → List Cuboid → List Cuboid
+put_cuboid cuboid cuboids = map (λ other. if index_of other.view == index_of cuboid.view then cuboid else other) cuboids
+
+abbrev pub kept : Warehouse → Cuboid → Warehouse
+kept w cuboid = record w { cuboids = put_cuboid cuboid w.cuboids }
+
+-- the stored cuboid of the view of a number
+abbrev pub cuboid_at : ℕ → List Cuboid → Option Cuboid
+cuboid_at number cuboids = find (λ cuboid. index_of cuboid.view == number) cuboids
+
+-- whether the view of a number is among some
+abbrev pub is_among : List View → ℕ → Bool
+is_among views number = list_any (λ view. index_of view == number) views
+
+-- the views without ship mode that are among some, each once, by their numbers
+unfoldable pub in_order : List View → List View
+in_order views = filter (λ view. is_among views (index_of view)) (lattice false)
+
+-- a stored cuboid of a view as it is, or one that holds no batch
+abbrev pub kept_of : View → Option Cuboid → Cuboid
+kept_of view None = record { view = view; mark = 0; runs = [] }
+kept_of view (Some cuboid) = cuboid
+
+-- with the cuboids of some views, and no others: one that is stored stays as it is, another one holds no batch
+abbrev pub with_views : Warehouse → List View → Warehouse
+with_views w views = record w { target = 0; cuboids = map (λ view. kept_of view (cuboid_at (index_of view) w.cuboids)) (in_order views) }
+
+-- the ids of the runs that go then: those of the stored cuboids of other views
+abbrev pub dropped_ids : Warehouse → List View → List ℕ
+dropped_ids w views =
+    flat_map (λ cuboid. range_with_len (run_id (index_of cuboid.view) 0) (length cuboid.runs)) (filter (λ cuboid. not (is_among views (index_of cuboid.view))) w.cuboids)
 
 -- dimension rows that can be stored: they are valid, their texts are short, and their keys fit four bytes
 pub record AreStorable (rows : DimRows) : Type 0 where

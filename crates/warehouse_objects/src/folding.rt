@@ -274,8 +274,13 @@ fn add_whole<D: Sectors>(
     Ok(segment)
 }
 
-// The batch that has these bytes. `BadLayout` where it has another number, or another count of rows.
-fn decoded_batch(alloc: Global, bytes: Vec<u8>, number: u32, count: u32) -> Result<Segment, Fault>
+/// The batch that has these bytes. `BadLayout` where it has another number, or another count of rows.
+pub fn decoded_batch(
+    alloc: Global,
+    bytes: Vec<u8>,
+    number: u32,
+    count: u32,
+) -> Result<Segment, Fault>
     ensures ok { IfOk result (λ segment. IsSegment bytes.items number segment.rows) }
     ensures refused { IfErr result (λ fault. (fault ≡ Memory) ⊎ ((fault ≡ BadLayout)
         × ((rows : List LineOrder) → length rows ≡ count → IsSegment bytes.items number rows → ⊥))) }

@@ -1,5 +1,5 @@
 //! Laws of the definitions: each function proves the statement that its contract names, and does nothing.
-ghost use Rattle.warehouse_objects.specs.Lawful.{ContentIsOneWarehouse, CreatingStands, LoadingStands, ObjectsAreStorable, RowsAreOne};
+ghost use Rattle.warehouse_objects.specs.Lawful.{AimingStands, AppendingStands, ChoosingStands, ContentIsOneWarehouse, CreatingStands, LoadingStands, MergingStands, ObjectsAreStorable, RowsAreOne};
 
 use cube_model::valid_rows_keep_the_rules;
 
@@ -33,3 +33,24 @@ pub fn content_is_one_warehouse()
 {
     valid_rows_keep_the_rules();
 }
+
+/// A commit of the root with the count of batches as its target makes a content whose cuboids are to hold all of them.
+pub fn aiming_stands()
+    ensures { AimingStands }
+{}
+
+/// A commit of one run more makes a content that stands for the warehouse with it.
+pub fn appending_stands()
+    ensures { AppendingStands }
+{}
+
+/// And so does a commit of one run in the place of all of its cuboid.
+pub fn merging_stands()
+    ensures { MergingStands }
+{}
+
+/// A commit of the root with the cuboids of some views, at most 16, that drops the runs of the others, makes a content that
+/// stands for the warehouse with these views.
+pub fn choosing_stands()
+    ensures { ChoosingStands }
+{}

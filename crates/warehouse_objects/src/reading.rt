@@ -104,7 +104,7 @@ fn read_two<D: Sectors>(
 }
 
 /// The bytes of an object. `BadLayout` where there is none of that id.
-pub(crate) fn read_object<D: Sectors>(
+pub fn read_object<D: Sectors>(
     alloc: Global,
     store: &mut Store<D>,
     id: u32,

@@ -3,3 +3,4 @@ mod Climbs
 mod Decoded
 mod Fields
 mod Numbers
+mod Placed

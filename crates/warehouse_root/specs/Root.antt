@@ -1,5 +1,5 @@
 -- What the root of a warehouse says, how it is spelled, and which rules it keeps. Our layout.
-use Rattle.std.specs.Prelude.{◌≡◌, ℕ, ◌<◌, ◌≤◌, ◌↔◌, List, [], ◌∷◌, ◌++◌, length, All}
+use Rattle.std.specs.Prelude.{◌≡◌, ℕ, ◌<◌, ◌≤◌, ◌==◌, ◌↔◌, if◌then◌else◌, List, [], ◌∷◌, ◌++◌, length, map, All}
 use Rattle.std.specs.List.{AllPairs, flat_map}
 use Rattle.cube_model.specs.Limits.{most_batch_rows, most_batches}
 use Rattle.wire.specs.Spelling.{spelling}
@@ -100,3 +100,18 @@ first_root layout = record {
 -- the root with one batch more, of so many rows, and the totals with its rows
 abbrev pub with_batch : ℕ → StoredTotals → PlainRoot → PlainRoot
 with_batch rows totals root = record root { batches = root.batches ++ rows ∷ []; totals = totals }
+
+-- the root with another target
+abbrev pub with_target : ℕ → PlainRoot → PlainRoot
+with_target target root = record root { target = target }
+
+-- a cuboid in the place of that of its view
+abbrev pub put_cuboid : StoredCuboid → List StoredCuboid → List StoredCuboid
+put_cuboid cuboid cuboids = map (λ other. if other.view == cuboid.view then cuboid else other) cuboids
+
+abbrev pub with_cuboid : StoredCuboid → PlainRoot → PlainRoot
+with_cuboid cuboid root = record root { cuboids = put_cuboid cuboid root.cuboids }
+
+-- the root with other cuboids, which are to hold no batch yet
+abbrev pub with_cuboids : List StoredCuboid → PlainRoot → PlainRoot
+with_cuboids cuboids root = record root { target = 0; cuboids = cuboids }

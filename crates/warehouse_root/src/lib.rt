@@ -14,6 +14,6 @@ mod totals;
 
 pub use cuboid::StoredCuboid;
 pub use layout::Layout;
-pub use objects::{run_id, segment_id};
+pub use objects::{push_run_ids, run_id, segment_id};
 pub use root::Root;
 pub use totals::StoredTotals;

@@ -70,7 +70,15 @@ pub(crate) fn push_runs(out: &mut Vec<u32>, cuboids: &[StoredCuboid]) -> Result<
     ensures memory { IfErr result (λ fault. fault ≡ Fault.Memory) }
 {
     for cuboid in cuboids {
-        push_numbers(out, run_id(cuboid.view, 0), u32::from(cuboid.runs))?;
+        push_run_ids(out, *cuboid)?;
     }
     Ok(())
+}
+
+/// Adds the ids of the runs of a cuboid.
+pub fn push_run_ids(out: &mut Vec<u32>, cuboid: StoredCuboid) -> Result<(), Fault>
+    ensures ok { OnOk result (out.new.items ≡ out.old.items ++ run_ids cuboid) }
+    ensures memory { IfErr result (λ fault. fault ≡ Fault.Memory) }
+{
+    push_numbers(out, run_id(cuboid.view, 0), u32::from(cuboid.runs))
 }

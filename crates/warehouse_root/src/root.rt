@@ -1,10 +1,11 @@
 //! The root of a warehouse.
-ghost use Rattle.std.specs.Prelude.{◌≡◌, ◌⊎◌, ◌↔◌, ◌≤◌, ◌<◌, List, [], ◌∷◌, ◌++◌, length, IfErr, IfOk, IsTrue, OnOk};
+ghost use Rattle.std.specs.Prelude.{◌≡◌, ◌⊎◌, ◌↔◌, ◌≤◌, ◌<◌, List, [], ◌∷◌, ◌++◌, length, All, IfErr, IfOk, IsTrue, OnOk};
 ghost use Rattle.std.specs.List.{Contains};
 ghost use Rattle.cube_model.specs.declared.fault.Fault.{Fault};
 ghost use Rattle.cube_model.specs.Limits.{most_batch_rows, most_batches};
+ghost use Rattle.warehouse_root.specs.Limits.{most_cuboids};
 ghost use Rattle.warehouse_root.specs.Objects.{object_ids};
-ghost use Rattle.warehouse_root.specs.Root.{AreProperTotals, IsProper, IsRoot, IsRootOf, PlainRoot, first_root, root_of, with_batch};
+ghost use Rattle.warehouse_root.specs.Root.{AreAscending, AreProperTotals, IsProper, IsProperCuboid, IsRoot, IsRootOf, PlainRoot, first_root, put_cuboid, root_of, with_batch, with_cuboid, with_cuboids, with_target};
 
 use crate::cuboid::StoredCuboid;
 use crate::decoding::keep_rules;
@@ -91,6 +92,61 @@ impl Root {
             target: self.target,
             additions: self.additions,
             totals,
+            cuboids,
+        })
+    }
+
+    /// The root with another target.
+    pub fn with_target(&self, alloc: Global, target: u32) -> Result<Root, Fault>
+        requires { target ≤ length self.now.batches }
+        ensures ok { IfOk result (λ root. root ≡ with_target target self.now) }
+        ensures memory { IfErr result (λ fault. fault ≡ Fault.Memory) }
+    {
+        let batches = Vec::from_slice(alloc, &self.batches)?;
+        let cuboids = Vec::from_slice(alloc, &self.cuboids)?;
+        Ok(Root {
+            layout: self.layout,
+            batches,
+            target,
+            additions: self.additions,
+            totals: self.totals,
+            cuboids,
+        })
+    }
+
+    /// The root with a cuboid in the place of that of its view. Where it has none of that view it stays as it is.
+    pub fn with_cuboid(&self, alloc: Global, cuboid: StoredCuboid) -> Result<Root, Fault>
+        requires { IsProperCuboid self.now.layout (length self.now.batches) cuboid }
+        ensures ok { IfOk result (λ root. root ≡ with_cuboid cuboid self.now) }
+        ensures memory { IfErr result (λ fault. fault ≡ Fault.Memory) }
+    {
+        let batches = Vec::from_slice(alloc, &self.batches)?;
+        let cuboids = with_one(alloc, &self.cuboids, cuboid)?;
+        Ok(Root {
+            layout: self.layout,
+            batches,
+            target: self.target,
+            additions: self.additions,
+            totals: self.totals,
+            cuboids,
+        })
+    }
+
+    /// The root with other cuboids, by ascending view, and the target 0.
+    pub fn with_cuboids(&self, alloc: Global, cuboids: Vec<StoredCuboid>) -> Result<Root, Fault>
+        requires few { length cuboids.items ≤ most_cuboids }
+        requires each { All (IsProperCuboid self.now.layout (length self.now.batches)) cuboids.items }
+        requires ascending { AreAscending cuboids.items }
+        ensures ok { IfOk result (λ root. root ≡ with_cuboids cuboids.items self.now) }
+        ensures memory { IfErr result (λ fault. fault ≡ Fault.Memory) }
+    {
+        let batches = Vec::from_slice(alloc, &self.batches)?;
+        Ok(Root {
+            layout: self.layout,
+            batches,
+            target: 0,
+            additions: self.additions,
+            totals: self.totals,
             cuboids,
         })
     }
@@ -224,4 +280,25 @@ fn with_rows(alloc: Global, batches: &[u32], rows: u32) -> Result<Vec<u32>, Faul
     more.extend_from_slice(batches)?;
     more.push(rows)?;
     Ok(more)
+}
+
+// Cuboids with one in the place of that of its view.
+fn with_one(
+    alloc: Global,
+    cuboids: &[StoredCuboid],
+    cuboid: StoredCuboid,
+) -> Result<Vec<StoredCuboid>, Fault>
+    ensures ok { IfOk result (λ put. put.items ≡ put_cuboid cuboid cuboids.now) }
+    ensures memory { IfErr result (λ fault. fault ≡ Fault.Memory) }
+{
+    let mut put = Vec::with_capacity(alloc, cuboids.len())?;
+    for other in cuboids {
+        let stored = if other.view == cuboid.view {
+            cuboid
+        } else {
+            *other
+        };
+        put.push(stored)?;
+    }
+    Ok(put)
 }

@@ -42,6 +42,9 @@ fn columns_hint(alloc: Global, by: Option<&str>) -> Result<Option<WordHint<'_>>,
     let Some(by) = by else {
         return Ok(None);
     };
+    if by.is_empty() {
+        return Ok(Some(WordHint::NoColumn));
+    }
     for word in by.split(',') {
         let found = unknown(alloc, word, Known::Attribute)?;
         if found.is_some() {
@@ -52,6 +55,9 @@ fn columns_hint(alloc: Global, by: Option<&str>) -> Result<Option<WordHint<'_>>,
 }
 
 fn aggregates_hint(alloc: Global, agg: &str) -> Result<Option<WordHint<'_>>, AllocError> {
+    if agg.is_empty() {
+        return Ok(Some(WordHint::NoAggregate));
+    }
     for word in agg.split(',') {
         let found = aggregate_hint(alloc, word)?;
         if found.is_some() {
@@ -84,12 +90,24 @@ fn taken_hint<'a>(
         return Ok(found);
     }
     if word.as_bytes().get(taken.len()) == Some(&b':') {
-        return unknown(alloc, rest, Known::Measure);
+        return measure_hint(alloc, word, rest);
     }
     match rest.strip_suffix(')') {
         None => Ok(Some(Slip::NotClosed.of(word))),
-        Some(measure) => unknown(alloc, measure, Known::Measure),
+        Some(measure) => measure_hint(alloc, word, measure),
     }
+}
+
+// What is wrong with the measure of an aggregate.
+fn measure_hint<'a>(
+    alloc: Global,
+    word: &'a str,
+    measure: &'a str,
+) -> Result<Option<WordHint<'a>>, AllocError> {
+    if measure.eq_ignore_ascii_case("discount") {
+        return Ok(Some(Slip::OnlyCondition.of(word)));
+    }
+    unknown(alloc, measure, Known::Measure)
 }
 
 // What is wrong with a word without a sign that is not count.
@@ -116,6 +134,9 @@ fn condition_hint(alloc: Global, word: &str) -> Result<Option<WordHint<'_>>, All
     let Some((name, members)) = word.split_once(|sign| sign == '=' || sign == ':') else {
         return Ok(Some(Slip::NoSign.of(word)));
     };
+    if name.contains(is_comparison) {
+        return Ok(Some(Slip::NoSign.of(word)));
+    }
     let found = unknown(alloc, name, Known::Ranged)?;
     if found.is_some() {
         return Ok(found);
@@ -131,6 +152,11 @@ fn condition_hint(alloc: Global, word: &str) -> Result<Option<WordHint<'_>>, All
     Ok(range_hint(word, members, is_counted))
 }
 
+// Whether a character is of a comparison in other languages, such as `d_year>=1993` and `d_year!=1993`.
+fn is_comparison(sign: char) -> bool {
+    sign == '<' || sign == '>' || sign == '!'
+}
+
 fn list_hint(members: &str) -> Option<WordHint<'_>> {
     let count = members.split('|').count();
     too_many(Counted::Texts, count, MOST_LISTED_TEXTS)
@@ -138,7 +164,7 @@ fn list_hint(members: &str) -> Option<WordHint<'_>> {
 
 fn range_hint<'a>(word: &'a str, members: &'a str, is_counted: bool) -> Option<WordHint<'a>> {
     let Some((low, high)) = members.split_once('|') else {
-        return Some(Slip::NotTwoEnds.of(word));
+        return Some(Slip::NoBar.of(word));
     };
     if high.contains('|') {
         return Some(Slip::NotTwoEnds.of(word));

@@ -6,11 +6,11 @@ use std::alloc::{AllocError, Global};
 use strsim::levenshtein;
 
 /// One of some names that is nearest to a word, unless none is near. It fails only for want of memory.
-pub fn nearest(
+pub fn nearest<'n>(
     alloc: Global,
     word: &str,
-    names: &[&'static str],
-) -> Result<Option<&'static str>, AllocError>
+    names: &[&'n str],
+) -> Result<Option<&'n str>, AllocError>
     ensures { IfOk result (λ found. MatchOption found
         (AreFar word.now (map (λ name. name.now) names.now))
         (λ name. IsNearest word.now (map (λ name. name.now) names.now) name.now)) }

@@ -29,8 +29,10 @@ pub enum Slip {
     NoSign,
     /// Something that takes a range is given texts.
     NoList,
-    /// A range has no two ends.
+    /// A range has more than two ends.
     NotTwoEnds,
+    /// A range has one end, as where the shell took a bar that was not quoted.
+    NoBar,
     /// An end of a range is no number of 0 to 255.
     NoNumber,
     /// An aggregate has no measure.
@@ -39,6 +41,8 @@ pub enum Slip {
     NotClosed,
     /// Something stands behind count.
     CountAlone,
+    /// An aggregate is of the discount, which is no measure.
+    OnlyCondition,
     /// A group column stands twice.
     Twice,
 }
@@ -57,6 +61,8 @@ pub enum WordHint<'a> {
     NothingAsked,
     /// A query of one's own has no aggregate.
     NoAggregate,
+    /// The list of group columns is empty.
+    NoColumn,
     /// Other words stand beside a query of the benchmark.
     NotAlone,
     /// A word is no known name. A known name may be near.
@@ -87,6 +93,7 @@ impl fmt::Display for WordHint<'_> {
             WordHint::NoAggregate => {
                 f.write_str("nothing is asked: give --agg G,G, such as --agg count,sum:revenue")
             }
+            WordHint::NoColumn => f.write_str("--by: no column is named"),
             WordHint::NotAlone => f.write_str(
                 "--query stands alone: no --set, --by, --agg or condition beside it",
             ),
@@ -103,18 +110,38 @@ impl fmt::Display for WordHint<'_> {
 
 // A word, and what is wrong with it.
 fn wrong<W: fmt::Write>(f: &mut fmt::Formatter<W>, word: &str, slip: Slip) -> fmt::Result {
+    write!(f, "{}: ", Shown(word))?;
     match slip {
-        Slip::NoSign => write!(
+        Slip::NoSign => f.write_str("a condition is ATTRIBUTE=TEXT|TEXT or ATTRIBUTE:LOW|HIGH"),
+        Slip::NoList => write!(f, "a range is wanted, {word}:LOW|HIGH"),
+        Slip::NotTwoEnds => f.write_str("a range has two ends, with a bar between them"),
+        Slip::NoBar => write!(
             f,
-            "{word}: a condition is ATTRIBUTE=TEXT|TEXT or ATTRIBUTE:LOW|HIGH"
+            "a range has two ends, with a bar between them; a bar has to be quoted for the shell, '{word}|HIGH'"
         ),
-        Slip::NoList => write!(f, "{word}: a range is wanted, {word}:LOW|HIGH"),
-        Slip::NotTwoEnds => write!(f, "{word}: a range has two ends, with a bar between them"),
-        Slip::NoNumber => write!(f, "{word}: no number of 0 to 255"),
-        Slip::NoMeasure => write!(f, "{word}: a measure is wanted, as in {word}:revenue"),
-        Slip::NotClosed => write!(f, "{word}: a closing bracket is wanted"),
-        Slip::CountAlone => write!(f, "{word}: count stands without a measure"),
-        Slip::Twice => write!(f, "{word}: a group column stands once"),
+        Slip::NoNumber => f.write_str("no number of 0 to 255"),
+        Slip::NoMeasure => write!(f, "a measure is wanted, as in {word}:revenue"),
+        Slip::NotClosed => f.write_str("a closing bracket is wanted"),
+        Slip::CountAlone => f.write_str("count stands without a measure"),
+        Slip::OnlyCondition => {
+            f.write_str("discount can only be a condition, 'discount:LOW|HIGH'")
+        }
+        Slip::Twice => f.write_str("a group column stands once"),
+    }
+}
+
+// A word as it is shown: between quotation marks where it is empty, has a blank or cannot be printed.
+#[derive(Clone, Copy)]
+struct Shown<'a>(&'a str);
+
+impl fmt::Display for Shown<'_> {
+    fn fmt<W: fmt::Write>(&self, f: &mut fmt::Formatter<W>) -> fmt::Result {
+        let Shown(word) = *self;
+        if word.is_empty() || word.contains(|sign: char| sign <= ' ') {
+            write!(f, "{word:?}")
+        } else {
+            f.write_str(word)
+        }
     }
 }
 
@@ -125,7 +152,7 @@ fn unknown<W: fmt::Write>(
     known: Known,
     near: Option<&str>,
 ) -> fmt::Result {
-    write!(f, "{word}: no such {};", known.title())?;
+    write!(f, "{}: no such {};", Shown(word), known.title())?;
     match near {
         Some(name) => write!(f, " {name}?"),
         None => all_names(f, known.names()),

@@ -4,6 +4,7 @@ use crate::known::Known;
 use crate::nearness::nearest;
 use crate::said::WordHint;
 use std::alloc::{AllocError, Global};
+use strsim::levenshtein;
 
 /// The words of a query: the number of a benchmark query, the name of a set, columns, aggregates and conditions.
 #[derive(Clone, Copy, Debug)]
@@ -56,14 +57,26 @@ pub fn unknown<'a>(
     word: &'a str,
     known: Known,
 ) -> Result<Option<WordHint<'a>>, AllocError> {
-    let names = known.names();
-    if names.iter().any(|name| *name == word) {
+    if known.names().iter().any(|name| *name == word) {
         return Ok(None);
     }
     let near = match known {
         // Each number is near to another, and says nothing.
         Known::Query => None,
-        _ => nearest(alloc, word, names)?,
+        _ => near_name(alloc, word, known)?,
     };
     Ok(Some(WordHint::Unknown { word, known, near }))
+}
+
+// The name that is nearest to a word, without regard to case.
+fn near_name(alloc: Global, word: &str, known: Known) -> Result<Option<&'static str>, AllocError> {
+    let word = word.to_ascii_lowercase(alloc)?;
+    let Some(name) = nearest(alloc, word.as_str(), known.names())? else {
+        return Ok(None);
+    };
+    // Names of aggregates are so short that most of a word may differ: median is not meant for min.
+    if known == Known::Aggregate && levenshtein(alloc, word.as_str(), name)? > 1 {
+        return Ok(None);
+    }
+    Ok(Some(name))
 }

@@ -2,7 +2,7 @@ use Rattle.std.proofs.Common.{◌≡◌, sym, subst}
 use Rattle.object_store.specs.Content.{Content}
 use Rattle.object_store.specs.Disk.{disk, Leaves}
 use Rattle.object_store.specs.Store as stores
-use Rattle.warehouse.specs.Loaded.{IsLoaded}
+use Rattle.warehouse_objects.specs.Loaded.{IsLoaded}
 use Rattle.warehouse.proofs.opening.load.Goals as goal
 
 pub invariant_of-result : goal.invariant_of-result

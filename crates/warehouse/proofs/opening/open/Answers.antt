@@ -1,10 +1,11 @@
-use Rattle.std.proofs.Common.{⊎_elim, inl, inr, subst}
+use Rattle.std.proofs.Common.{⊎_elim, inl, inr, sym, subst, arith, ◌%◌}
 use Rattle.cube_model.specs.declared.fault.Fault.{Fault}
 use Rattle.object_store.specs.Disk.{disk}
 use Rattle.object_store.specs.Found.{Explains}
+use Rattle.object_store.specs.Store as stores
 use Rattle.warehouse.specs.Found.{MayStand}
 use Rattle.warehouse.specs.Session.{disk_of}
-use Rattle.warehouse.proofs.Finding.{read_leaves, session_may, never_loaded, never_none}
+use Rattle.warehouse.proofs.Finding.{only_since, read_leaves, session_may, never_loaded, never_none}
 use Rattle.warehouse.proofs.opening.open.Goals as goal
 
 pub returns-in-Ok-load-clause-leaves : goal.returns-in-Ok-load-clause-leaves
@@ -38,3 +39,27 @@ pub returns-in-Err-clause-unformatted : goal.returns-in-Err-clause-unformatted
 returns-in-Err-clause-unformatted g c is k =
     let s = g.D.Sectors.state c.args.device in
     subst (λ (f : Fault). Explains f s.size s.reads) is (c.in-Err.ensures.explained k)
+
+pub returns-in-Err-clause-leaves_err : goal.returns-in-Err-clause-leaves_err
+returns-in-Err-clause-leaves_err g c rows batches last all =
+    only_since (disk g.D.Sectors c.args.device) (disk g.D.Sectors c.in-Err.e.1) rows batches last all c.in-Err.ensures.only_err
+
+pub returns-in-Err-load-clause-explained : goal.returns-in-Err-load-clause-explained
+returns-in-Err-load-clause-explained g c other k =
+    let s = g.D.Sectors.state c.args.device in
+    ⊎_elim (λ memory. subst (λ (f : Fault). Explains f s.size s.reads) (sym memory) tt)
+    (⊎_elim (λ failed. subst (λ (f : Fault). Explains f s.size s.reads) (sym failed) tt) (λ bad. absurd (other bad)))
+    c.in-Err-load.ensures.causes
+
+pub returns-in-Err-clause-blank : goal.returns-in-Err-clause-blank
+returns-in-Err-clause-blank g c is k blank none =
+    let s = g.D.Sectors.state c.args.device in
+    let newest = subst (λ (f : Fault). Explains f s.size s.reads) is (c.in-Err.ensures.explained k) in
+    none (newest.0.generation % 2) (omega arith) newest.0 newest.1.standing
+
+pub returns-in-Err-load-clause-blank : goal.returns-in-Err-load-clause-blank
+returns-in-Err-load-clause-blank g c is k blank none =
+    let word = c.in-Err-load.ensures.leaves_err.word k in
+    let shown = c.in-Ok.ensures.found word in
+    let content = stores.content_of g.D.Sectors c.in-Ok.store in
+    blank (c.in-Ok.ensures.only.word word) shown.image shown.is (content.generation % 2) (omega arith) shown.shows.0 shown.shows.2.standing

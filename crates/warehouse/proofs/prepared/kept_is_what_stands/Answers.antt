@@ -1,4 +1,3 @@
-use Rattle.std.proofs.Common.{refl}
 use Rattle.warehouse_root.specs.declared.layout.Layout.TheVariants.{First}
 use Rattle.warehouse_root.proofs.CallerLemmas.{IsRootOf-one}
 use Rattle.warehouse_objects.specs.Stands.{root_of}
@@ -11,6 +10,14 @@ pub returns-clause-agrees : goal.returns-clause-agrees
 returns-clause-agrees c content w is stands = record {
   rows_are = c.rows_are_one.ensures content w.rows c.args.dims.now stands.rows c.rows_are_storable.ensures
       (record { customers = stands.objects 1; suppliers = stands.objects 2; parts = stands.objects 3; dates = stands.objects 4 }) is.has_rows;
-  root_is = IsRootOf-one First content.root (root_of w) c.args.root.now (record { of_layout = refl; is_root = stands.root })
+  root_is = IsRootOf-one First content.root (root_of w) c.args.root.now (record { of_layout = stands.first; is_root = stands.root })
+      (record { of_layout = is.of_layout; is_root = record { spelled = is.root_bytes; proper = c.layout-layout.ensures.proper } });
+}
+
+pub returns-clause-laid : goal.returns-clause-laid
+returns-clause-laid c content w is stands = record {
+  rows_are = c.rows_are_one.ensures content w.rows c.args.dims.now stands.rows c.rows_are_storable.ensures
+      (record { customers = stands.objects 1; suppliers = stands.objects 2; parts = stands.objects 3; dates = stands.objects 4 }) is.has_rows;
+  root_is = IsRootOf-one First content.root (root_of w) c.args.root.now (record { of_layout = stands.first; is_root = stands.root })
       (record { of_layout = is.of_layout; is_root = record { spelled = is.root_bytes; proper = c.layout-layout.ensures.proper } });
 }

@@ -3,9 +3,10 @@ use Rattle.std.proofs.lemmas.List.{take_all}
 use Rattle.std.proofs.lemmas.Option.{slice_get_read}
 use Rattle.warehouse.specs.declared.command.Command.{Command}
 use Rattle.warehouse.specs.declared.command.Reply.{Reply}
-use Rattle.warehouse.specs.Running.{Phase, at, Holds, RanAll}
+use Rattle.warehouse.specs.Session.{has_failed}
+use Rattle.warehouse.specs.Running.{Phase, at, broken, Holds, RanAll}
 use Rattle.warehouse.proofs.Whole.{take_next, whole}
-use Rattle.warehouse.proofs.Performing.{runs_on}
+use Rattle.warehouse.proofs.Performing.{ran_more, runs_on}
 use Rattle.warehouse.proofs.running.run.Goals as goal
 
 pub loop-command-init : goal.loop-command-init
@@ -13,6 +14,7 @@ loop-command-init g c = record {
   count = c.in-Ok.ensures.len;
   room = c.in-Ok.ensures.capacity;
   ran = λ w holds k. (at w, subst (λ (replies : List Reply). RanAll g.D.Sectors c.args.session.now (at w) [] replies c.args.session.now (at w)) (sym c.in-Ok.ensures.items) (refl, refl), holds);
+  stuck = λ failed. (subst (λ (replies : List Reply). RanAll g.D.Sectors c.args.session.now broken [] replies c.args.session.now broken) (sym c.in-Ok.ensures.items) (refl, refl), failed);
 }
 
 pub loop-command-preserved : goal.loop-command-preserved
@@ -40,6 +42,14 @@ loop-command-preserved g c =
           (subst (λ (commands : List Command). (after : Phase) × RanAll g.D.Sectors first (at w) commands (c.loop-command.replies.items ++ reply ∷ []) new after × Holds g.D.Sectors new after) (sym front)
           (runs_on g.D.Sectors first mid new (at w) was.0 command reply (take c.loop-command.command-index c.args.commands.now) c.loop-command.replies.items was.2
           (λ v here. c.perform-reply.ensures.ran v here k) c.perform-reply.ensures.broken was.1));
+      stuck = λ failed.
+          let was = so_far.stuck failed in
+          let one = c.perform-reply.ensures.broken was.1 in (
+            subst (λ (replies : List Reply). RanAll g.D.Sectors first broken (take (c.loop-command.command-index + 1) c.args.commands.now) replies new broken) (sym items)
+                (subst (λ (commands : List Command). RanAll g.D.Sectors first broken commands (c.loop-command.replies.items ++ reply ∷ []) new broken) (sym front)
+                (ran_more g.D.Sectors first mid new broken broken broken command reply (take c.loop-command.command-index c.args.commands.now) c.loop-command.replies.items was.0 one)),
+            ap (λ x. has_failed x) one.1 ∙ was.1,
+          );
     }
 
 pub returns-clause-ran : goal.returns-clause-ran
@@ -52,3 +62,8 @@ returns-clause-found g c w holds k =
     let all = subst (λ (commands : List Command). (after : Phase) × RanAll g.D.Sectors c.args.session.now (at w) commands c.loop-command.replies.items c.loop-command.session after × Holds g.D.Sectors c.loop-command.session after)
     (take_all c.loop-command.command-index c.args.commands.now (omega (arith, c.loop-command-test.false))) (c.loop-command.invariant.ran w holds k) in
     whole g.D.Sectors c.args.session.now c.loop-command.session w all.0 c.args.commands.now c.loop-command.replies.items all.1 (c.is_broken-broken.ensures.leaves w holds)
+
+pub returns-clause-failed : goal.returns-clause-failed
+returns-clause-failed g c failed =
+    subst (λ (commands : List Command). RanAll g.D.Sectors c.args.session.now broken commands c.loop-command.replies.items c.loop-command.session broken)
+    (take_all c.loop-command.command-index c.args.commands.now (omega (arith, c.loop-command-test.false))) (c.loop-command.invariant.stuck failed).0

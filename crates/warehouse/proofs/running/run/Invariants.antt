@@ -1,7 +1,7 @@
-use Rattle.std.proofs.Common.{◌≡◌, ◌≤◌, length, take, vec_len, vec_capacity}
+use Rattle.std.proofs.Common.{◌≡◌, ◌≤◌, true, length, take, vec_len, vec_capacity}
 use Rattle.warehouse_objects.specs.Warehouse.{Warehouse}
-use Rattle.warehouse.specs.Session.{device_of, IsAt}
-use Rattle.warehouse.specs.Running.{Phase, at, Holds, RanAll}
+use Rattle.warehouse.specs.Session.{device_of, has_failed, IsAt}
+use Rattle.warehouse.specs.Running.{Phase, at, broken, Holds, RanAll}
 use Rattle.warehouse.proofs.running.run.Given as goal
 
 abbrev pub invariant-loop-command : goal.invariant-loop-command
@@ -10,4 +10,5 @@ invariant-loop-command g l = record {
   room : length l.commands ≤ vec_capacity l.replies;
   ran : (w : Warehouse) → IsAt g.D.Sectors l.initial.session w → g.D.Sectors.keeps_word (device_of l.session)
       → (after : Phase) × RanAll g.D.Sectors l.initial.session (at w) (take l.command-index l.commands) l.replies.items l.session after × Holds g.D.Sectors l.session after;
+  stuck : has_failed l.initial.session ≡ true → RanAll g.D.Sectors l.initial.session broken (take l.command-index l.commands) l.replies.items l.session broken × (has_failed l.session ≡ true);
 }

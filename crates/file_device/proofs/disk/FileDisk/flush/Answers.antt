@@ -9,6 +9,7 @@ returns-clause-unseen g c =
       count = refl;
       failures = refl;
       broken = refl;
+      read_only = refl;
       word = honest_written self.count S.reads S.may_hold c.write.result self.behind.first left.first self.behind.sectors.items left.sectors.items
           (history self.direct.file) (history c.write.new.direct.file) c.write.ensures;
       stays = stays_written self.count S.reads S.may_hold c.write.result self.behind.first left.first self.behind.sectors.items left.sectors.items

@@ -14,6 +14,7 @@ returns g c =
     record {
       count = c.flush.ensures.unseen.count;
       failures = c.flush.ensures.unseen.failures;
+      read_only = c.flush.ensures.unseen.read_only;
       word = λ honest. c.flush.ensures.unseen.word (honest_synced mid.count S.reads S.may_hold (is_ok c.sync.result) old _ is honest);
       settled = settled_more mid.count S.reads S.may_hold c.sync.result old _ is;
       syncs = syncs_then (state_of F S self) (state_of F S mid) _ (λ t image. counts_now S.reads S.may_hold (calls_of F S self) t image)

@@ -13,6 +13,7 @@ returns-then-put g c =
     record {
       count = c.make_way.ensures.unseen.count;
       failures = c.make_way.ensures.unseen.failures;
+      read_only = c.make_way.ensures.unseen.read_only;
       word = λ honest. c.make_way.ensures.unseen.word (honest_more mid.count S.reads S.may_hold i bytes true old _ is honest);
       written = reads_more mid.count S.reads S.may_hold i bytes old _ is;
       writes = writes_then i bytes (state_of F S self) (state_of F S mid) _ c.make_way.ensures.unseen.stays

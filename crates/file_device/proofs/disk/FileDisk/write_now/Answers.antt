@@ -14,6 +14,7 @@ returns g c =
     record {
       count = c.flush.ensures.unseen.count;
       failures = c.flush.ensures.unseen.failures;
+      read_only = c.flush.ensures.unseen.read_only;
       word = λ honest. c.flush.ensures.unseen.word (honest_more mid.count S.reads S.may_hold i bytes (is_ok c.write.result) old _ is honest);
       written = reads_if_written mid.count S.reads S.may_hold c.write.result i bytes old _ is;
       writes = writes_then i bytes (state_of F S self) (state_of F S mid) _ c.flush.ensures.unseen.stays

@@ -4,10 +4,11 @@ use Rattle.cube_model.specs.Admission.{IsAdmissible}
 use Rattle.object_store.specs.Content.{Content}
 use Rattle.object_store.specs.Commit.{ArePuts}
 use Rattle.object_store.specs.Store as stores
+use Rattle.object_store.proofs.CallerLemmas.{generation_after}
 use Rattle.warehouse_root.proofs.CallerLemmas.{root_is_short}
 use Rattle.warehouse_objects.specs.Warehouse.{loaded}
 use Rattle.warehouse_objects.specs.Stands.{Stands, root_of}
-use Rattle.warehouse.specs.Loaded.{IsLoaded}
+use Rattle.warehouse_objects.specs.Loaded.{IsLoaded}
 use Rattle.warehouse.specs.Session.{is_at}
 use Rattle.warehouse_objects.proofs.CallerLemmas.{batch_is_put}
 use Rattle.warehouse.proofs.Standing.{store_at, session_at, as_before_at, as_before_leaves}
@@ -119,3 +120,9 @@ returns-in-Err-clause-causes g c cause w rows ready k =
       submit_causes content puts c.as_slice-2.result.now c.number.result c.args.number rows p.root puts_are bytes_are c.number.ensures w (stores.room_of s.store) c.in-Err.fault (model (word k)).1
           (c.in-Err.ensures.refuses cause (λ e. let bad : true ≡ false = sym (c.in-Err.ensures.failed.0 (ap (λ f. Err f) e)) ∙ at.fine in absurd (cc))),
     )
+
+pub returns-in-Ok-clause-once : goal.returns-in-Ok-clause-once
+returns-in-Ok-clause-once g c k =
+    let puts : List (ℕ × List ℕ) = (c.segment_id.result, c.as_slice.result.now) ∷ [] in
+    ap (λ (x : Content). x.generation) (c.in-Ok.ensures.ok k)
+    ∙ generation_after puts [] c.as_slice-2.result.now c.number.result (stores.content_of g.D.Sectors c.args.self.now.store)

@@ -1,19 +1,22 @@
-use Rattle.std.proofs.Common.{◌≡◌, List, [], ℕ, zero, suc, Option, None, length, get_or, replicate, slice_get, sym, ◌∙◌, ap, subst}
-use Rattle.std.proofs.lemmas.List.{get_or-replicate, length-map}
+use Rattle.std.proofs.Common.{◌≡◌, List, [], ◌∷◌, ℕ, zero, suc, Option, None, length, map, slice_get, refl, sym, ◌∙◌, ap, subst}
+use Rattle.std.proofs.lemmas.List.{length-map}
 use Rattle.std.specs.List.{sum_by}
 use Rattle.cube_model.specs.declared.rows.LineOrder.{LineOrder}
 use Rattle.warehouse_root.specs.Root.{PlainRoot}
 use Rattle.warehouse_root.specs.declared.cuboid.StoredCuboid.{StoredCuboid}
+use Rattle.warehouse_objects.specs.Stands.{said_of}
 use Rattle.warehouse_objects.specs.Warehouse.{Cuboid}
 use Rattle.warehouse.specs.Status.{StandsAt}
 use Rattle.warehouse.specs.Session.{content_of}
 use Rattle.warehouse.proofs.Preparing.{rows_together}
 use Rattle.warehouse.proofs.session.Session.status.Goals as goal
 
--- no cuboid stands
-none_at : (place : ℕ) → StandsAt (slice_get [] place) None
-none_at zero = tt
-none_at (suc place) = tt
+-- what the root says of each
+said_at : (cuboids : List Cuboid) (place : ℕ) → StandsAt (slice_get cuboids place) (slice_get (map said_of cuboids) place)
+said_at [] zero = tt
+said_at [] (suc place) = tt
+said_at (cuboid ∷ cuboids) zero = record { view = refl; mark = refl; runs = refl; cells = refl }
+said_at (cuboid ∷ cuboids) (suc place) = said_at cuboids place
 
 pub returns-clause-ok : goal.returns-clause-ok
 returns-clause-ok g c w at k =
@@ -24,7 +27,7 @@ returns-clause-ok g c w at k =
       target = c.target.ensures ∙ ap (λ (root : PlainRoot). root.target) (sym agree.root_is);
       generation_is = c.generation.ensures;
       cuboids = λ place lt.
-          let empty : get_or (replicate 16 None) place None ≡ None = get_or-replicate 16 place None None lt in
-          subst (λ (said : Option StoredCuboid). StandsAt (slice_get w.cuboids place) said) (sym empty)
-          (subst (λ (cuboids : List Cuboid). StandsAt (slice_get cuboids place) None) (sym (at.stands k).no_cuboid) (none_at place));
+          subst (λ (said : Option StoredCuboid). StandsAt (slice_get w.cuboids place) said)
+          (sym (c.in_places.ensures place lt ∙ ap (λ (l : List StoredCuboid). slice_get l place) (c.cuboids.ensures ∙ ap (λ (root : PlainRoot). root.cuboids) (sym agree.root_is))))
+          (said_at w.cuboids place);
     }

@@ -1,0 +1,4 @@
+mod Spans
+mod Members
+mod Read
+mod Faults

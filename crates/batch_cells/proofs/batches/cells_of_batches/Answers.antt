@@ -1,0 +1,139 @@
+use Rattle.std.proofs.Common.{rules, ◌≡◌, ◌⊎◌, ◌<◌, ◌≤◌, ◌+◌, ℕ, List, [], ◌++◌, Err, length, get_or, sym, ◌∙◌, ap, subst, add-one, arith}
+use Rattle.std.proofs.lemmas.List.{length-map}
+use Rattle.std.proofs.lemmas.Result.{err_from_is_err_and}
+use Rattle.cube_model.specs.Admission.{all_rows}
+use Rattle.cube_model.specs.declared.fault.Fault.{Fault}
+use Rattle.cube_model.specs.declared.fault.Fault.TheVariants.{BadLayout, Device, Memory, TooManyCells}
+use Rattle.cube_model.specs.declared.rows.DimRows.{DimRows}
+use Rattle.cube_model.specs.declared.rows.LineOrder.{LineOrder}
+use Rattle.object_store.specs.Content.{Content}
+use Rattle.object_store.specs.Store.{IsStill}
+use Rattle.lattice.specs.declared.view.View.{View}
+use Rattle.lattice.specs.Views.{index_of}
+use Rattle.cuboid_cells.specs.Cells.{PlainCells}
+use Rattle.cuboid_upkeep.specs.Grouping.{StandFor}
+use Rattle.cuboid_upkeep.specs.Steps.{AreUnfit, HaveTooMany, IsAddFault}
+use Rattle.warehouse_objects.specs.Stands.{IsLaidOut}
+use Rattle.warehouse_objects.proofs.Batches.{get_within}
+use Rattle.warehouse_objects.proofs.Folded.{err_fault}
+use Rattle.warehouse_objects.proofs.OneMoreRead.{breaks_then, reads_more, still_then}
+use Rattle.batch_cells.proofs.Faults.{too_many_of, unfit}
+use Rattle.batch_cells.proofs.Members.{many_then, never_bad, none_stand}
+use Rattle.batch_cells.proofs.Read.{count_here}
+use Rattle.batch_cells.proofs.Spans.{between, none_between, one_more}
+use Rattle.batch_cells.proofs.batches.cells_of_batches.Goals as goal
+
+pub loop-before-init : goal.loop-before-init
+loop-before-init g c =
+    let stand : StandFor c.args.dims.now [] [] c.empty-cells.result = none_stand c.args.dims.now c.args.view c.empty-cells.result c.empty-cells.ensures in record {
+      fine = c.requires.fine;
+      still = search rules;
+      leaves = c.is_broken-usable.ensures.leaves c.requires.fine;
+      view = ap (λ (cells : PlainCells). cells.view) c.empty-cells.ensures;
+      some = ([], stand);
+      own = λ k w laid. subst (λ (batches : List (List LineOrder)). StandFor c.args.dims.now [] (all_rows batches) c.empty-cells.result) (sym (none_between c.args.span.from w.batches)) stand;
+    }
+
+pub add_batch-requires-clause-some : goal.add_batch-requires-clause-some
+add_batch-requires-clause-some g c = c.loop-before.invariant.some
+
+pub loop-before-preserved : goal.loop-before-preserved
+loop-before-preserved g c =
+    let first = c.args.store.now in
+    let was = c.loop-before.store in
+    let now = c.add_batch.new.store in
+    let so_far = c.loop-before.invariant in
+    let still : IsStill g.D.Sectors c.loop-before.store c.add_batch.new.store = c.in_ok-add_batch.ensures.stays (λ is. cc) in
+    let next = c.in_ok-add_batch.ensures.ok in
+    let from : ℕ = c.args.span.from in
+    let before : ℕ = c.loop-before.before in record {
+      fine = still.failed ∙ so_far.fine;
+      still = still_then g.D.Sectors first was now so_far.still still;
+      leaves = reads_more g.D.Sectors first was now so_far.still so_far.leaves c.in_ok-add_batch.ensures.leaves;
+      view = c.in_ok-add_batch.ensures.view ∙ so_far.view;
+      some = (so_far.some.0 ++ next.some.0, next.some.1.stand so_far.some.0 so_far.some.1);
+      own = λ k w laid.
+          let here = next.own k w (subst (λ (x : Content). IsLaidOut x w) (sym (so_far.still.content (still.word k))) laid) in
+          let low : from ≤ before = omega arith in
+          let more : between w.batches from (before + 1) ≡ between w.batches from before ++ here.0 =
+          ap (λ (n : ℕ). between w.batches from n) (add-one before) ∙ one_more w.batches from before here.0 low here.1 in
+          subst (λ (rows : List LineOrder). StandFor c.args.dims.now [] rows c.add_batch.new.cells) (sym more) (here.2.stand (between w.batches from before) (so_far.own (still.word k) w laid));
+    }
+
+pub returns-in_err-add_batch-clause-large : goal.returns-in_err-add_batch-clause-large
+returns-in_err-add_batch-clause-large g c =
+    let p = err_from_is_err_and c.from_residual.result c.from_residual.ensures.1 in
+    rw (p.1, p.2) (λ is k w laid rooted same no_modes.
+    let so_far = c.loop-before.invariant in
+    let before : ℕ = c.loop-before.before in
+    let from : ℕ = c.args.span.from in
+    let to : ℕ = c.args.span.to in
+    let view : View = c.args.view in
+    let fault : Fault = c.in_err-add_batch.field-0.0 in
+    let large : fault ≡ TooManyCells (index_of view) = err_fault c.in_err-add_batch.field-0.0 (TooManyCells (index_of view)) is in
+    let word = c.in_err-add_batch.ensures.leaves.word k in
+    let there = subst (λ (x : Content). IsLaidOut x w) (sym (so_far.still.content word)) laid in
+    let lengths : length c.args.root.now.batches ≡ length w.batches = ap (λ r. length r.batches) rooted ∙ length-map w.batches length in
+    let within : to ≤ length w.batches = omega (arith, c.requires.few, lengths) in
+    let high : before < to = omega (arith, c.loop-before-test.true) in
+    let low : from ≤ before = omega arith in
+    let got = get_within w.batches before (omega (arith, high, within)) in
+    let many = ap (λ (l : List ℕ). get_or l before 0) (c.batches-batches.ensures ∙ ap (λ r. r.batches) rooted) ∙ count_here w.batches before got.0 got.1 in
+    let why = c.in_err-add_batch.ensures.refused (λ device. let no_fault : Device ≡ TooManyCells (index_of view) = sym device ∙ large in cc) k w there got.0 got.1 many (between w.batches from before) (so_far.own word w laid) in
+    let why_here : IsAddFault c.args.dims.now [] view (between w.batches from before ++ got.0) fault =
+    subst (λ (v : View). IsAddFault c.args.dims.now [] v (between w.batches from before ++ got.0) fault) so_far.view why in
+    many_then w.rows w.batches laid.batches view no_modes from to within c.rows_have_cells.ensures c.more_rows_have_no_fewer_cells.ensures before got.0 high low got.1
+    (subst (λ (rows : DimRows). HaveTooMany rows [] view (between w.batches from before ++ got.0)) same
+    (too_many_of c.args.dims.now view (between w.batches from before ++ got.0) fault why_here large)))
+
+pub returns-in_err-add_batch-clause-refused : goal.returns-in_err-add_batch-clause-refused
+returns-in_err-add_batch-clause-refused g c =
+    let p = err_from_is_err_and c.from_residual.result c.from_residual.ensures.1 in
+    rw (p.1, p.2) (λ is k w laid rooted same no_modes.
+    let so_far = c.loop-before.invariant in
+    let before : ℕ = c.loop-before.before in
+    let from : ℕ = c.args.span.from in
+    let view : View = c.args.view in
+    let fault : Fault = c.in_err-add_batch.field-0.0 in
+    let bad : fault ≡ BadLayout = err_fault c.in_err-add_batch.field-0.0 BadLayout is in
+    let word = c.in_err-add_batch.ensures.leaves.word k in
+    let there = subst (λ (x : Content). IsLaidOut x w) (sym (so_far.still.content word)) laid in
+    let lengths : length c.args.root.now.batches ≡ length w.batches = ap (λ r. length r.batches) rooted ∙ length-map w.batches length in
+    let lt : before < length w.batches = omega (arith, c.loop-before-test.true, c.requires.few, lengths) in
+    let low : from ≤ before = omega arith in
+    let got = get_within w.batches before lt in
+    let many = ap (λ (l : List ℕ). get_or l before 0) (c.batches-batches.ensures ∙ ap (λ r. r.batches) rooted) ∙ count_here w.batches before got.0 got.1 in
+    let why = c.in_err-add_batch.ensures.refused (λ device. let no_fault : Device ≡ BadLayout = sym device ∙ bad in cc) k w there got.0 got.1 many (between w.batches from before) (so_far.own word w laid) in
+    let none : AreUnfit c.args.dims.now [] view (between w.batches from before ++ got.0) = subst (λ (v : View). AreUnfit c.args.dims.now [] v (between w.batches from before ++ got.0)) so_far.view
+    (unfit c.args.dims.now c.loop-before.cells.view (between w.batches from before ++ got.0) fault why bad) in
+    never_bad w.rows w.batches laid.batches view no_modes from (before + 1) (omega (arith, lt)) c.rows_in_range_fit.ensures before got.0 (sym (add-one before)) low got.1
+    (subst (λ (rows : DimRows). AreUnfit rows [] view (between w.batches from before ++ got.0)) same none))
+
+pub returns-in_err-add_batch-clause-leaves : goal.returns-in_err-add_batch-clause-leaves
+returns-in_err-add_batch-clause-leaves g c =
+    let so_far = c.loop-before.invariant in
+    reads_more g.D.Sectors c.args.store.now c.loop-before.store c.add_batch.new.store so_far.still so_far.leaves c.in_err-add_batch.ensures.leaves
+
+pub returns-in_err-add_batch-clause-stays : goal.returns-in_err-add_batch-clause-stays
+returns-in_err-add_batch-clause-stays g c =
+    let p = err_from_is_err_and c.from_residual.result c.from_residual.ensures.1 in
+    rw (p.1, p.2) (λ other. still_then g.D.Sectors c.args.store.now c.loop-before.store c.add_batch.new.store c.loop-before.invariant.still
+    (c.in_err-add_batch.ensures.stays (λ is. other (ap (λ (f : Fault). Err f) (err_fault c.in_err-add_batch.field-0.0 Device is)))))
+
+pub returns-in_err-add_batch-clause-device : goal.returns-in_err-add_batch-clause-device
+returns-in_err-add_batch-clause-device g c =
+    let p = err_from_is_err_and c.from_residual.result c.from_residual.ensures.1 in
+    rw (p.1, p.2) (λ is. breaks_then g.D.Sectors c.args.store.now c.loop-before.store c.add_batch.new.store c.loop-before.invariant.still c.requires.fine
+    (c.in_err-add_batch.ensures.device (ap (λ (f : Fault). Err f) (err_fault c.in_err-add_batch.field-0.0 Device is))))
+
+pub returns-in_err-add_batch-clause-causes : goal.returns-in_err-add_batch-clause-causes
+returns-in_err-add_batch-clause-causes g c =
+    let p = err_from_is_err_and c.from_residual.result c.from_residual.ensures.1 in
+    rw (p.1, p.2) (subst (λ (v : View). (c.in_err-add_batch.field-0.0 ≡ Memory) ⊎ ((c.in_err-add_batch.field-0.0 ≡ Device) ⊎ ((c.in_err-add_batch.field-0.0 ≡ BadLayout) ⊎ (c.in_err-add_batch.field-0.0 ≡ TooManyCells (index_of v)))))
+    c.loop-before.invariant.view c.in_err-add_batch.ensures.causes)
+
+pub returns-clause-ok : goal.returns-clause-ok
+returns-clause-ok g c k w laid same =
+    let ends : c.loop-before.before ≡ c.args.span.to = omega (arith, c.loop-before-test.false, c.loop-before.auto.before-end, c.requires.order) in
+    subst (λ (rows : DimRows). StandFor rows [] (between w.batches c.args.span.from c.args.span.to) c.loop-before.cells) same
+    (subst (λ (n : ℕ). StandFor c.args.dims.now [] (between w.batches c.args.span.from n) c.loop-before.cells) ends (c.loop-before.invariant.own k w laid))

@@ -1,0 +1,31 @@
+-- Grouping a batch of a store into cells. Our own.
+use Rattle.std.specs.Prelude.{◌≡◌, ℕ, List, [], ◌++◌, Some, slice_get}
+use Rattle.cube_model.specs.declared.fault.Fault.{Fault}
+use Rattle.cube_model.specs.declared.rows.DimRows.{DimRows}
+use Rattle.cube_model.specs.declared.rows.LineOrder.{LineOrder}
+use Rattle.object_store.specs.Content.{Content}
+use Rattle.cuboid_cells.specs.Cells.{PlainCells}
+use Rattle.cuboid_upkeep.specs.Grouping.{StandFor}
+use Rattle.cuboid_upkeep.specs.Steps.{IsAddFault}
+use Rattle.warehouse_objects.specs.Stands.{IsLaidOut}
+use Rattle.warehouse_objects.specs.Warehouse.{Warehouse}
+
+-- cells stand for some fact rows
+abbrev pub StandForSome : DimRows → PlainCells → Type 0
+StandForSome dimensions cells = (rows : List LineOrder) × StandFor dimensions [] rows cells
+
+-- Fact rows were grouped into cells: whatever rows these stood for, they stand for them and for these after them.
+pub record GroupsMore (dimensions : DimRows) (old : PlainCells) (rows : List LineOrder) (new : PlainCells) : Type 0 where
+  pub stand : (so_far : List LineOrder) → StandFor dimensions [] so_far old → StandFor dimensions [] (so_far ++ rows) new
+
+-- Fact rows were grouped into cells. Where the device keeps its word and the content is that of a warehouse, whatever the
+-- cells of its cuboids are, they are those of the batch after so many others.
+pub record GroupsBatch (dimensions : DimRows) (old new : PlainCells) (before : ℕ) (keeps : Type 0) (content : Content) : Type 0 where
+  pub some : (rows : List LineOrder) × GroupsMore dimensions old rows new
+  pub own : keeps → (w : Warehouse) → IsLaidOut content w
+      → (batch : List LineOrder) × (slice_get w.batches before ≡ Some batch) × GroupsMore dimensions old batch new
+
+-- why fact rows are not grouped into cells, whatever rows these stand for
+abbrev pub IsAddFaultOf : DimRows → PlainCells → List LineOrder → Fault → Type 0
+IsAddFaultOf dimensions old rows fault = (so_far : List LineOrder) → StandFor dimensions [] so_far old
+    → IsAddFault dimensions [] old.view (so_far ++ rows) fault

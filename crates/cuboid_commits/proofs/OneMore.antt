@@ -1,0 +1,132 @@
+-- A cuboid is brought on: what was read, and the commit after it.
+use Rattle.std.proofs.Common.{◌≡◌, ◌⊎◌, ⊎_elim, ◌≤◌, ℕ, Some, Err, IsErrOf, [], ◌∷◌, slice_get, sym, ◌∙◌, ap, subst, arith}
+use Rattle.sector_device.specs.declared.device.Sectors.{Ghosts}
+use Rattle.cube_model.specs.declared.fault.Fault.{Fault}
+use Rattle.cube_model.specs.declared.fault.Fault.TheVariants.{BadLayout, Device, Failed, Memory, TooManyCells}
+use Rattle.cube_model.specs.FaultNumbers.{number_of}
+use Rattle.cube_model.specs.declared.rows.DimRows.{DimRows}
+use Rattle.lattice.specs.declared.view.View.{View}
+use Rattle.lattice.specs.Views.{index_of}
+use Rattle.object_store.specs.Content.{Content}
+use Rattle.object_store.specs.Disk.{Leaves}
+use Rattle.object_store.specs.Moments.{leaves_then, leaves_weaker}
+use Rattle.object_store.specs.Room.{Room}
+use Rattle.object_store.specs.Store.{IsAsBefore, IsStill, Refuses, content_of, device_of, disk_of, room_of}
+use Rattle.object_store.specs.declared.store.Store.{Store}
+use Rattle.warehouse_root.specs.declared.cuboid.StoredCuboid.{StoredCuboid}
+use Rattle.warehouse_root.specs.Root.{PlainRoot, with_cuboid}
+use Rattle.warehouse_objects.specs.Warehouse.{Cuboid, Warehouse}
+use Rattle.warehouse_objects.specs.Stands.{Stands}
+use Rattle.warehouse_objects.proofs.Folded.{err_fault}
+use Rattle.cuboid_commits.specs.Keeping.{IsCaughtUp, IsReached, IsTooLarge, StoreAt}
+use Rattle.cuboid_commits.specs.Nexts.{HasStored, IsBroughtBy, IsNext, RefusesNext}
+use Rattle.cuboid_commits.specs.declared.keeping.Next.{Next}
+use Rattle.cuboid_commits.proofs.Brought.{brought_by, far_enough, put_there, said_there, view_there}
+use Rattle.cuboid_commits.proofs.Places.{changed, changed_caught, stored_there}
+use Rattle.cuboid_commits.proofs.Reading.{at_still}
+use Rattle.cuboid_commits.proofs.Turns.{same}
+
+-- what a read leaves
+pub read_leaves : {D : Type 0} (g : Ghosts D) (a b : Store D g) (root : PlainRoot) (w : Warehouse) → StoreAt g a root w → Leaves (disk_of g a) (disk_of g b) (λ c. c ≡ content_of g a)
+    → Leaves (disk_of g a) (disk_of g b) (λ c. (v : Warehouse) × IsCaughtUp w v × Stands c v)
+read_leaves g a b root w is =
+    leaves_weaker (λ (c : Content). c ≡ content_of g a) (λ (c : Content). (v : Warehouse) × IsCaughtUp w v × Stands c v) (disk_of g a) (disk_of g b)
+    (λ k c e. (w, same w, subst (λ (x : Content). Stands x w) (sym e) (is.stands k)))
+
+-- the store refused it
+pub refuses_next : {D : Type 0} (g : Ghosts D) (a b : Store D g) (w v : Warehouse) (next : Next) (fault : Fault) → IsAsBefore g a b → IsBroughtBy w next v
+    → Refuses (content_of g a) (room_of a) ((next.id, next.bytes.items) ∷ []) next.drops.items next.root_bytes.items fault → RefusesNext g b w fault
+refuses_next g a b w v next fault same by refuses = record {
+  old = by.old;
+  new = by.new;
+  run = by.run;
+  next = next;
+  brings = by.brings;
+  refuses =
+      subst (λ (x : Content). Refuses x (room_of b) ((next.id, next.bytes.items) ∷ []) next.drops.items next.root_bytes.items fault) (sym same.content)
+      (subst (λ (r : Room). Refuses (content_of g a) r ((next.id, next.bytes.items) ∷ []) next.drops.items next.root_bytes.items fault) (sym same.room) refuses);
+}
+
+-- ---- refusals
+
+pub not_device : {X : Type 0} (fault : Fault) (number : ℕ) → fault ≡ TooManyCells number → IsErrOf {T = X} (Err fault) Device → ⊥
+not_device fault number many is = let none : TooManyCells number ≡ Device = sym many ∙ err_fault fault Device is in cc
+
+pub bad_not_device : {X : Type 0} (fault : Fault) → fault ≡ BadLayout → IsErrOf {T = X} (Err fault) Device → ⊥
+bad_not_device fault bad is = let none : BadLayout ≡ Device = sym bad ∙ err_fault fault Device is in cc
+
+pub none_left : (fault : Fault) (number : ℕ) → (fault ≡ Memory → ⊥) → (fault ≡ Device → ⊥) → (fault ≡ BadLayout → ⊥) → (fault ≡ TooManyCells number → ⊥)
+    → (fault ≡ Memory) ⊎ ((fault ≡ Device) ⊎ ((fault ≡ BadLayout) ⊎ (fault ≡ TooManyCells number))) → ⊥
+none_left fault number memory device bad many cause = ⊎_elim {C = ⊥} memory (⊎_elim {C = ⊥} device (⊎_elim {C = ⊥} bad many)) cause
+
+-- why there is no next run
+abbrev pub IsNoNext : ℕ → Fault → Type 0
+IsNoNext number fault = (fault ≡ Memory) ⊎ ((fault ≡ Device) ⊎ ((fault ≡ BadLayout) ⊎ (fault ≡ TooManyCells number)))
+
+pub many_by_number : (fault : Fault) (number : ℕ) → number_of fault ≡ 26 → IsNoNext number fault → fault ≡ TooManyCells number
+many_by_number fault number is cause =
+    ⊎_elim {C = fault ≡ TooManyCells number}
+    (λ (memory : fault ≡ Memory). absurd (omega (arith, is, ap number_of memory)))
+    (⊎_elim {C = fault ≡ TooManyCells number}
+    (λ (device : fault ≡ Device). absurd (omega (arith, is, ap number_of device)))
+    (⊎_elim {C = fault ≡ TooManyCells number}
+    (λ (bad : fault ≡ BadLayout). absurd (omega (arith, is, ap number_of bad)))
+    (λ many. many))) cause
+
+pub never_failed : {X : Type 0} (fault : Fault) (number : ℕ) → IsNoNext number fault → IsErrOf {T = X} (Err fault) Failed → ⊥
+never_failed fault number cause is =
+    let failed = ap number_of (err_fault fault Failed is) in
+    ⊎_elim {C = ⊥}
+    (λ (memory : fault ≡ Memory). absurd (omega (arith, failed, ap number_of memory)))
+    (⊎_elim {C = ⊥}
+    (λ (device : fault ≡ Device). absurd (omega (arith, failed, ap number_of device)))
+    (⊎_elim {C = ⊥}
+    (λ (bad : fault ≡ BadLayout). absurd (omega (arith, failed, ap number_of bad)))
+    (λ (many : fault ≡ TooManyCells number). absurd (omega (arith, failed, ap number_of many))))) cause
+
+module _ {D : Type 0} (g : Ghosts D) (a b : Store D g) (still : IsStill g a b) (dims : DimRows) (root : PlainRoot) (said : StoredCuboid) (place : ℕ) (there : slice_get root.cuboids place ≡ Some said) where
+  -- the cuboid in the warehouse
+  pub stored_at : (w : Warehouse) → StoreAt g a root w → g.keeps_word (device_of b) → (old : Cuboid) × (slice_get w.cuboids place ≡ Some old) × HasStored root said w old
+  stored_at w is k = stored_there (content_of g a) w root said place (is.stands (still.word k)) (is.root_is (still.word k)) there
+
+  -- the view was found too large
+  pub passed_over : (view : View) → index_of view ≡ said.view
+      → ((w : Warehouse) (stored : Cuboid) → Stands (content_of g a) w → HasStored root said w stored → dims ≡ w.rows → IsTooLarge w view)
+      → (v : Warehouse) → StoreAt g b root v → g.keeps_word (device_of b) → dims ≡ v.rows → (cuboid : Cuboid) → slice_get v.cuboids place ≡ Some cuboid → IsReached (Some view) v cuboid
+  passed_over view number large v is k rows cuboid at_place =
+      let stands = subst (λ (x : Content). Stands x v) (still.content k) (is.stands k) in
+      let found = stored_there (content_of g a) v root said place stands (is.root_is k) there in
+      (view_there said cuboid view (said_there v root said place cuboid (is.root_is k) there at_place) number, large v found.0 stands found.2 rows)
+
+  module _ (next : Next) (is : IsNext (λ w. g.keeps_word (device_of b) × Stands (content_of g a) w × (dims ≡ w.rows)) root said root.target next) where
+    abbrev pub brought : Warehouse → Warehouse
+    brought w = changed is.change said.view w
+
+    pub by_next : (w : Warehouse) → StoreAt g a root w → (g.keeps_word (device_of a) → dims ≡ w.rows) → g.keeps_word (device_of b) → IsBroughtBy w next (brought w)
+    by_next w at_a rows k =
+        let stands = at_a.stands (still.word k) in
+        let found = stored_at w at_a k in
+        brought_by (λ x. g.keeps_word (device_of b) × Stands (content_of g a) x × (dims ≡ x.rows)) root said root.target next is (content_of g a) w found.0 stands found.2 (k, stands, rows (still.word k))
+
+    pub caught : (w : Warehouse) → IsCaughtUp w (brought w)
+    caught w = changed_caught is.change said.view w is.goes_on
+
+    module _ (c : Store D g) where
+      pub bring_leaves : (w : Warehouse) → StoreAt g a root w → (g.keeps_word (device_of a) → dims ≡ w.rows) → Leaves (disk_of g a) (disk_of g b) (λ x. x ≡ content_of g a)
+          → ((w v : Warehouse) → StoreAt g b root w → (g.keeps_word (device_of b) → IsBroughtBy w next v) → Leaves (disk_of g b) (disk_of g c) (λ x. Stands x w ⊎ Stands x v))
+          → Leaves (disk_of g a) (disk_of g c) (λ x. (v : Warehouse) × IsCaughtUp w v × Stands x v)
+      bring_leaves w at_a rows read put =
+          leaves_then (λ (x : Content). (v : Warehouse) × IsCaughtUp w v × Stands x v) (disk_of g a) (disk_of g b) (disk_of g c) (read_leaves g a b root w at_a read)
+          (leaves_weaker (λ (x : Content). Stands x w ⊎ Stands x (brought w)) (λ (x : Content). (v : Warehouse) × IsCaughtUp w v × Stands x v) (disk_of g b) (disk_of g c)
+          (λ k x. ⊎_elim (λ before. (w, same w, before)) (λ after. (brought w, caught w, after)))
+          (put w (brought w) (at_still g a b still root w at_a) (by_next w at_a rows)))
+
+      pub bring_stays : (after : PlainRoot) (w : Warehouse) → StoreAt g a root w → (g.keeps_word (device_of a) → dims ≡ w.rows)
+          → ((w v : Warehouse) → StoreAt g b root w → (g.keeps_word (device_of b) → IsBroughtBy w next v) → StoreAt g c after v)
+          → (v : Warehouse) × IsCaughtUp w v × StoreAt g c after v
+      bring_stays after w at_a rows put = (brought w, caught w, put w (brought w) (at_still g a b still root w at_a) (by_next w at_a rows))
+
+      pub bring_reached : (after : PlainRoot) → after ≡ next.root → (v : Warehouse) → StoreAt g c after v → g.keeps_word (device_of c) → (cuboid : Cuboid) → slice_get v.cuboids place ≡ Some cuboid → v.target ≤ cuboid.mark
+      bring_reached after after_is v at_c k cuboid at_place =
+          let root_is = at_c.root_is k ∙ after_is ∙ is.root_is in
+          far_enough v (with_cuboid is.after root) is.after place cuboid root_is (put_there root said is.after place there is.view) at_place (omega (arith, is.mark_is))

@@ -1,0 +1,4 @@
+pub mod Keeping
+pub mod Nexts
+pub mod Replacing
+pub mod Upkeep

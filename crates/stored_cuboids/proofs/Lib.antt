@@ -1,0 +1,5 @@
+pub mod Auditing
+pub mod Merging
+pub mod SameCells
+pub mod Standing
+pub mod StoredRuns

@@ -1,0 +1,19 @@
+use Rattle.std.proofs.Common.{ap}
+use Rattle.warehouse_root.specs.declared.cuboid.StoredCuboid.{StoredCuboid}
+use Rattle.object_store.specs.Store.{content_of}
+use Rattle.warehouse_objects.proofs.CallerLemmas.{laid_of}
+use Rattle.stored_cuboids.proofs.Auditing.{ok_so}
+use Rattle.stored_cuboids.proofs.StoredRuns.{grouping_there, sound_at}
+use Rattle.stored_cuboids.proofs.runs.merged_runs.Goals as goal
+
+pub returns-clause-grouping : goal.returns-clause-grouping
+returns-clause-grouping g c =
+    ok_so _ _ c.merge_all.result (λ cells merge k w stored stands found said.
+    let content = content_of g.D.Sectors c.args.store.now in
+    grouping_there c.merges_stand_for_both.ensures content w c.args.cuboid.view c.args.cuboid.mark stored cells stands found (ap (λ (s : StoredCuboid). s.mark) said)
+    (merge k w stored (laid_of content w stands) found said)) c.merge_all.ensures.ok
+
+pub returns-clause-refused : goal.returns-clause-refused
+returns-clause-refused g c = λ is k w stored stands found said.
+    let content = content_of g.D.Sectors c.args.store.now in
+    c.merge_all.ensures.unsound is k w stored (laid_of content w stands) found said (sound_at w c.args.cuboid.view stored found (c.kept_cuboids_are_sound.ensures content w stands))

@@ -1,0 +1,40 @@
+-- What one run adds to the merge of those before it. Our own.
+use Rattle.std.specs.Prelude.{◌≡◌, ℕ, ◌+◌, [], length, take}
+use Rattle.std.specs.Option.{IsSomeAnd}
+use Rattle.object_store.specs.Content.{Content, bytes_of}
+use Rattle.lattice.specs.declared.view.View.{View}
+use Rattle.cuboid_cells.specs.declared.span.Span.{Span}
+use Rattle.cuboid_cells.specs.Cells.{AreProper, PlainCells}
+use Rattle.cuboid_cells.specs.Merges.{IsMergeOf}
+use Rattle.cuboid_cells.specs.Spelled.{IsRun}
+use Rattle.cuboid_cells.specs.Steps.{cells_of}
+use Rattle.warehouse_objects.specs.Warehouse.{Cuboid, cells_in}
+use Rattle.warehouse_objects.specs.Stands.{Follow}
+use Rattle.stored_cuboids.specs.declared.runs.Progress.{Progress}
+use Rattle.stored_cuboids.specs.Merged.{AreMergedWith}
+
+-- an object of a content is a run
+abbrev pub HasRun : Content → ℕ → Span → PlainCells → Type 0
+HasRun content id span cells = IsSomeAnd (bytes_of content id) (λ bytes. IsRun bytes span cells)
+
+-- a run is of a view, begins where the runs so far end, and has no more cells than are left
+pub record GoesOn (view : View) (at : Progress) (span : Span) (cells : PlainCells) (next : Progress) : Type 0 where
+  pub same : cells.view ≡ view
+  pub from : span.from ≡ at.end
+  pub to : next.end ≡ span.to
+  pub left : next.left + length cells.cells ≡ at.left
+
+-- a run of a content is merged into the cells of those before it
+pub record TakesRun (content : Content) (id : ℕ) (old : PlainCells) (at : Progress) (new : PlainCells) (next : Progress) : Type 0 where
+  pub span : Span
+  pub cells : PlainCells
+  pub there : HasRun content id span cells
+  pub goes_on : GoesOn old.view at span cells next
+  pub merge : IsMergeOf old cells new
+  pub proper : AreProper new
+
+-- so many runs of a cuboid are merged
+pub record AreMerged (cuboid : Cuboid) (count : ℕ) (cells : PlainCells) (at : Progress) : Type 0 where
+  pub merge : AreMergedWith (cells_of cuboid.view []) (take count cuboid.runs) cells
+  pub follow : Follow 0 (take count cuboid.runs) at.end
+  pub left : at.left + cells_in (take count cuboid.runs) ≡ cells_in cuboid.runs

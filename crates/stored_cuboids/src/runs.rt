@@ -1,0 +1,189 @@
+//! Reading the runs of a stored cuboid.
+ghost use Rattle.std.specs.Prelude.{◌≡◌, ◌⊎◌, Some, false, take, IfErr, IfNone, IfOk, IfSome, IsErrOf, OnOk};
+ghost use Rattle.cube_model.specs.declared.fault.Fault.TheVariants.{BadLayout, Device, Memory};
+ghost use Rattle.cube_model.specs.Admission.{all_rows};
+ghost use Rattle.object_store.specs.Disk.{Leaves};
+ghost use Rattle.object_store.specs.Store.{Breaks, IsStill, content_of, device_of, disk_of, has_failed};
+ghost use Rattle.lattice.specs.Views.{index_of};
+ghost use Rattle.cuboid_cells.specs.Merges.{IsMergeOf};
+ghost use Rattle.cuboid_cells.specs.Cells.{AreProper, PlainCells};
+ghost use Rattle.cuboid_cells.specs.declared.span.Span.{Span};
+ghost use Rattle.cuboid_upkeep.specs.Grouping.{StandFor};
+ghost use Rattle.warehouse_objects.specs.Warehouse.{Cuboid, Warehouse, cuboid_at, modes_of};
+ghost use Rattle.warehouse_objects.specs.Stands.{IsLaidOut, Stands, said_of};
+ghost use Rattle.stored_cuboids.specs.Merged.{HasMerge, IsSound};
+ghost use Rattle.stored_cuboids.specs.Steps.{GoesOn, HasRun, TakesRun};
+ghost use Rattle.stored_cuboids.specs.declared.runs.Progress.{Progress};
+
+use crate::laws::kept_cuboids_are_sound;
+use cube_model::Fault;
+use cuboid_cells::{Cells, Span, decode_from};
+use cuboid_upkeep::merges_stand_for_both;
+use lattice::View;
+use object_store::Store;
+use sector_device::Sectors;
+use std::alloc::Global;
+use warehouse_root::{StoredCuboid, run_id};
+
+// How far the runs of a cuboid are merged.
+#[derive(Clone, Copy)]
+struct Progress {
+    // The last batch of the runs so far.
+    end: u32,
+    // How many cells the other runs are to have.
+    left: u32,
+}
+
+/// The cells of a stored cuboid: its runs, merged one after another. One run is in memory at a time, and the cells.
+///
+/// `BadLayout` where a run is missing or is none of this view, where the runs do not follow each other from the first batch to
+/// the mark or have another count of cells than the root says, and where a number of the merge would exceed its type or the merge
+/// the cells that a cuboid can have. It can also run out of memory, or fail because the device does.
+pub fn merged_runs<D: Sectors>(
+    alloc: Global,
+    store: &mut Store<D>,
+    cuboid: StoredCuboid,
+) -> Result<Cells, Fault>
+    requires fine { has_failed store.old ≡ false }
+    ensures ok { IfOk result (λ cells. D.keeps_word (device_of store.new) → (w : Warehouse) (stored : Cuboid) → IsLaidOut (content_of D.Sectors store.old) w
+        → cuboid_at cuboid.view w.cuboids ≡ Some stored → said_of stored ≡ cuboid → HasMerge stored cells) }
+    ensures view { IfOk result (λ cells. index_of cells.view ≡ cuboid.view) }
+
+    // Then they are the grouping of the batches up to the mark.
+    ensures grouping { IfOk result (λ cells. D.keeps_word (device_of store.new) → (w : Warehouse) (stored : Cuboid) → Stands (content_of D.Sectors store.old) w
+        → cuboid_at cuboid.view w.cuboids ≡ Some stored → said_of stored ≡ cuboid → StandFor w.rows (modes_of w) (all_rows (take cuboid.mark w.batches)) cells) }
+    ensures unsound { IsErrOf result BadLayout → D.keeps_word (device_of store.new) → (w : Warehouse) (stored : Cuboid) → IsLaidOut (content_of D.Sectors store.old) w
+        → cuboid_at cuboid.view w.cuboids ≡ Some stored → said_of stored ≡ cuboid → IsSound w stored → ⊥ }
+    ensures refused { IsErrOf result BadLayout → D.keeps_word (device_of store.new) → (w : Warehouse) (stored : Cuboid) → Stands (content_of D.Sectors store.old) w
+        → cuboid_at cuboid.view w.cuboids ≡ Some stored → said_of stored ≡ cuboid → ⊥ }
+
+    // The content stays, at each moment.
+    ensures leaves { Leaves (disk_of D.Sectors store.old) (disk_of D.Sectors store.new) (λ c. c ≡ content_of D.Sectors store.old) }
+    ensures stays { (IsErrOf result Device → ⊥) → IsStill D.Sectors store.old store.new }
+    ensures device { IsErrOf result Device → Breaks D.Sectors store.old store.new }
+    ensures causes { IfErr result (λ fault. (fault ≡ Memory) ⊎ ((fault ≡ Device) ⊎ (fault ≡ BadLayout))) }
+{
+    merges_stand_for_both();
+    kept_cuboids_are_sound();
+    let _usable = store.is_broken();
+    let Some(view) = View::new(cuboid.view) else {
+        return Err(Fault::BadLayout);
+    };
+    merge_all(alloc, store, cuboid, view)
+}
+
+// The cells of a stored cuboid, whose view this is.
+fn merge_all<D: Sectors>(
+    alloc: Global,
+    store: &mut Store<D>,
+    cuboid: StoredCuboid,
+    view: View,
+) -> Result<Cells, Fault>
+    requires fine { has_failed store.old ≡ false }
+    requires view { index_of view ≡ cuboid.view }
+    ensures ok { IfOk result (λ cells. D.keeps_word (device_of store.new) → (w : Warehouse) (stored : Cuboid) → IsLaidOut (content_of D.Sectors store.old) w
+        → cuboid_at cuboid.view w.cuboids ≡ Some stored → said_of stored ≡ cuboid → HasMerge stored cells) }
+    ensures view { IfOk result (λ cells. cells.view ≡ view) }
+    ensures unsound { IsErrOf result BadLayout → D.keeps_word (device_of store.new) → (w : Warehouse) (stored : Cuboid) → IsLaidOut (content_of D.Sectors store.old) w
+        → cuboid_at cuboid.view w.cuboids ≡ Some stored → said_of stored ≡ cuboid → IsSound w stored → ⊥ }
+    ensures leaves { Leaves (disk_of D.Sectors store.old) (disk_of D.Sectors store.new) (λ c. c ≡ content_of D.Sectors store.old) }
+    ensures stays { (IsErrOf result Device → ⊥) → IsStill D.Sectors store.old store.new }
+    ensures device { IsErrOf result Device → Breaks D.Sectors store.old store.new }
+    ensures causes { IfErr result (λ fault. (fault ≡ Memory) ⊎ ((fault ≡ Device) ⊎ (fault ≡ BadLayout))) }
+{
+    let _usable = store.is_broken();
+    let mut cells = Cells::empty(alloc, view);
+    let mut at = Progress {
+        end: 0,
+        left: cuboid.cells,
+    };
+    for run in 0..cuboid.runs {
+        at = merge_run(alloc, store, &mut cells, at, run_id(cuboid.view, run))?;
+    }
+    if at.end != cuboid.mark || at.left != 0 {
+        return Err(Fault::BadLayout);
+    }
+    Ok(cells)
+}
+
+// Merges the run that an object has into the cells of those before it.
+fn merge_run<D: Sectors>(
+    alloc: Global,
+    store: &mut Store<D>,
+    cells: &mut Cells,
+    at: Progress,
+    id: u32,
+) -> Result<Progress, Fault>
+    requires fine { has_failed store.old ≡ false }
+    ensures ok { IfOk result (λ next. D.keeps_word (device_of store.new) → TakesRun (content_of D.Sectors store.old) id cells.old at cells.new next) }
+    ensures view { cells.new.view ≡ cells.old.view }
+    ensures refused { IsErrOf result BadLayout → D.keeps_word (device_of store.new) → (new : PlainCells) (next : Progress)
+        → TakesRun (content_of D.Sectors store.old) id cells.old at new next → ⊥ }
+    ensures leaves { Leaves (disk_of D.Sectors store.old) (disk_of D.Sectors store.new) (λ c. c ≡ content_of D.Sectors store.old) }
+    ensures stays { (IsErrOf result Device → ⊥) → IsStill D.Sectors store.old store.new }
+    ensures device { IsErrOf result Device → Breaks D.Sectors store.old store.new }
+    ensures causes { IfErr result (λ fault. (fault ≡ Memory) ⊎ ((fault ≡ Device) ⊎ (fault ≡ BadLayout))) }
+{
+    let (span, read) = read_run(alloc, store, id)?;
+    let Some(next) = go_on(cells.view(), at, span, &read) else {
+        return Err(Fault::BadLayout);
+    };
+    merge_in(alloc, cells, &read)?;
+    Ok(next)
+}
+
+// The run that an object has: its batches, and its cells.
+fn read_run<D: Sectors>(
+    alloc: Global,
+    store: &mut Store<D>,
+    id: u32,
+) -> Result<(Span, Cells), Fault>
+    requires fine { has_failed store.old ≡ false }
+    ensures ok { IfOk result (λ run. D.keeps_word (device_of store.new) → HasRun (content_of D.Sectors store.old) id run.0 run.1) }
+    ensures refused { IsErrOf result BadLayout → D.keeps_word (device_of store.new) → (span : Span) (cells : PlainCells)
+        → HasRun (content_of D.Sectors store.old) id span cells → ⊥ }
+    ensures leaves { Leaves (disk_of D.Sectors store.old) (disk_of D.Sectors store.new) (λ c. c ≡ content_of D.Sectors store.old) }
+    ensures stays { (IsErrOf result Device → ⊥) → IsStill D.Sectors store.old store.new }
+    ensures device { IsErrOf result Device → Breaks D.Sectors store.old store.new }
+    ensures causes { IfErr result (λ fault. (fault ≡ Memory) ⊎ ((fault ≡ Device) ⊎ (fault ≡ BadLayout))) }
+{
+    decode_from(alloc, store, id)
+}
+
+// How far the runs are merged with one more. Nothing where it is none of this view, does not begin where the others end, or
+// has more cells than are left.
+fn go_on(view: View, at: Progress, span: Span, cells: &Cells) -> Option<Progress>
+    ensures some { IfSome result (GoesOn view at span cells.now) }
+    ensures none { IfNone result ((next : Progress) → GoesOn view at span cells.now next → ⊥) }
+{
+    let count = cells.as_slice().len();
+    let (own, number) = (cells.view().index(), view.index());
+    if own != number || span.from != at.end || count > at.left as usize {
+        return None;
+    }
+    Some(Progress {
+        end: span.to,
+        left: at.left - count as u32,
+    })
+}
+
+// Merges cells into others of their view. `BadLayout` where a number would exceed its type, or the cells would be too many.
+fn merge_in(alloc: Global, cells: &mut Cells, read: &Cells) -> Result<(), Fault>
+    requires view { read.now.view ≡ cells.old.view }
+    ensures ok { OnOk result (IsMergeOf cells.old read.now cells.new) }
+    ensures proper { OnOk result (AreProper cells.new) }
+    ensures view { cells.new.view ≡ cells.old.view }
+    ensures refused { IfErr result (λ fault. (fault ≡ Memory) ⊎ ((fault ≡ BadLayout)
+        × ((new : PlainCells) → IsMergeOf cells.old read.now new → AreProper new → ⊥))) }
+{
+    let _views = (cells.view(), read.view());
+    match cells.merge(alloc, read) {
+        Ok(()) => {
+            let _view = cells.view();
+            Ok(())
+        }
+        Err(Fault::BadLayout) => Err(Fault::BadLayout),
+        Err(Fault::TooManyCells { .. }) => Err(Fault::BadLayout),
+        Err(_) => Err(Fault::Memory),
+    }
+}

@@ -1,0 +1,2 @@
+//! Tests of a batch as columns: masks, sums and checks.
+mod kernels;

@@ -1,0 +1,128 @@
+//! Batches that are read from a source.
+
+use crate::segments::batches::{SPELLED, spelled};
+use crate::segments::decoding::pushed;
+use crate::segments::lengths::rows_of;
+use column_segment::{Segment, decode_from};
+use cube_model::{Fault, LineOrder};
+use sample_star::{FACTS, line_orders};
+use std::alloc::Global;
+use std::test::Fail;
+use wire::{SliceSource, Source};
+
+// Bytes that stand at every id, if there are any, of which so many parts can be read before a read is refused.
+#[derive(Debug, Drop)]
+pub(crate) struct Refusing<'a> {
+    pub(crate) bytes: Option<&'a [u8]>,
+    pub(crate) left: usize,
+}
+
+impl<'a> Source for Refusing<'a> {
+    ghost use Rattle.std.specs.Prelude.{length, option_map};
+
+    ghost totals = { λ s id. option_map (λ bytes. length bytes.now) s.bytes };
+
+    ghost texts = { λ s id. option_map (λ bytes. bytes.now) s.bytes };
+
+    ghost keeps_word = { λ s. Unit {0} };
+
+    ghost always_keeps = { Unit {0} };
+
+    ghost reads = { λ old new. Unit {0} };
+
+    ghost fails = { λ fault old new. Unit {0} };
+
+    fn total(&self, id: u32) -> Option<u64> {
+        let _ = id;
+        match self.bytes {
+            None => None,
+            Some(bytes) => Some(bytes.len() as u64),
+        }
+    }
+
+    fn read_part(&mut self, id: u32, at: u64, to: &mut [u8]) -> Result<(), Fault> {
+        let _ = id;
+        let Some(bytes) = self.bytes else {
+            return Err(Fault::Failed);
+        };
+        if self.left == 0 {
+            return Err(Fault::Device);
+        }
+        self.left -= 1;
+        let at = at as usize;
+        let Some(end) = at.checked_add(to.len()) else {
+            return Err(Fault::Failed);
+        };
+        let Some(part) = bytes.get(at..end) else {
+            return Err(Fault::Failed);
+        };
+        to.copy_from_slice(part);
+        Ok(())
+    }
+
+    ghost none_read = { λ source. tt };
+
+    ghost reads_on = { λ old mid new first second. tt };
+
+    ghost fails_later = { λ fault old mid new first second. tt };
+}
+
+// The number and the rows of a batch.
+fn number_and_rows(alloc: Global, segment: &Segment) -> Result<(u32, Vec<LineOrder>), Fault> {
+    let rows = pushed(alloc, segment, 0, 65_536)?;
+    Ok((segment.number(), rows))
+}
+
+// The same of the batch that a source has.
+fn found<S: Source>(alloc: Global, source: &mut S) -> Result<(u32, Vec<LineOrder>), Fault> {
+    let segment = decode_from(alloc, source, 9)?;
+    number_and_rows(alloc, &segment)
+}
+
+#[test]
+fn reads_the_sample_from_a_source(rt: HostRuntime) -> Result<(), Fail> {
+    let rows = line_orders(rt.alloc(), &FACTS)?;
+    let (number, read) = found(rt.alloc(), &mut SliceSource::new(&SPELLED))?;
+    assert!(rt; number == 1 && read.as_slice() == rows.as_slice());
+    Ok(())
+}
+
+// Why a source has no batch, if it has none.
+fn refusal<S: Source>(alloc: Global, source: &mut S) -> Option<Fault> {
+    match found(alloc, source) {
+        Ok(_) => None,
+        Err(fault) => Some(fault),
+    }
+}
+
+// The same of bytes, of which so many parts can be read.
+fn refusal_after(alloc: Global, bytes: &[u8], left: usize) -> Option<Fault> {
+    refusal(
+        alloc,
+        &mut Refusing {
+            bytes: Some(bytes),
+            left,
+        },
+    )
+}
+
+// The bytes of so many rows.
+fn bytes_of(alloc: Global, count: u64) -> Result<Vec<u8>, Fault> {
+    let rows = rows_of(alloc, count)?;
+    spelled(alloc, 1, &rows)
+}
+
+// 65 rows of 71 bytes and 32 bytes beside them are ten reads of 512 bytes.
+#[test]
+fn each_read_is_refused_in_turn(rt: HostRuntime) -> Result<(), Fail> {
+    let bytes = bytes_of(rt.alloc(), 65)?;
+    for left in 0..11 {
+        let wanted = if left < 10 { Some(Fault::Device) } else { None };
+        assert_eq!(rt;
+            refusal_after(rt.alloc(), &bytes, left),
+            wanted,
+            "{left} reads"
+        );
+    }
+    Ok(())
+}

@@ -1,0 +1,82 @@
+//! Masks of a batch, and sums of what they select.
+
+use crate::segments::batches::{SPELLED, row_with, spelled};
+use crate::segments::decoding::segment_of;
+use column_segment::{Segment, decode};
+use cube_model::{Amount, Fault, LineOrder, Measure};
+use std::alloc::Global;
+
+// The sum of a measure over the rows that ranges of quantities and of discounts select.
+fn sum_of(
+    alloc: Global,
+    segment: &Segment,
+    measure: Measure,
+    quantity: (u8, u8),
+    discount: (u8, u8),
+) -> Result<i128, Fault> {
+    let mask = segment.mask(alloc, quantity, discount)?;
+    Ok(segment.selected_sum(measure, &mask))
+}
+
+// A measure, the greatest quantity and discount, and the sum over the sample's rows up to these.
+static SUMS: [(Measure, u8, u8, i128); 10] = [
+    (Measure::Discounted, 24, 3, 8000),
+    (Measure::Revenue, 24, 3, 2920),
+    (Measure::Quantity, 24, 3, 41),
+    (Measure::ExtendedPrice, 24, 3, 3000),
+    (Measure::SupplyCost, 24, 3, 2600),
+    (Measure::Profit, 24, 3, 320),
+    (Measure::Profit, 255, 255, 715),
+    (Measure::Discounted, 255, 255, 8500),
+    (Measure::Profit, 255, 1, 395),
+    (Measure::Revenue, 16, 255, 0),
+];
+
+// The first measure of the table that has another sum, and its greatest quantity and discount.
+fn first_wrong(alloc: Global, segment: &Segment) -> Result<Option<(Measure, u8, u8)>, Fault> {
+    for (measure, quantity, discount, sum) in SUMS {
+        if sum_of(alloc, segment, measure, (0, quantity), (1, discount))? != sum {
+            return Ok(Some((measure, quantity, discount)));
+        }
+    }
+    Ok(None)
+}
+
+// The same of the sample.
+fn first_wrong_of_sample(alloc: Global) -> Result<Option<(Measure, u8, u8)>, Fault> {
+    let segment = segment_of(alloc, &SPELLED)?;
+    first_wrong(alloc, &segment)
+}
+
+#[test]
+fn adds_up_the_sample(rt: HostRuntime) {
+    assert_eq!(rt; first_wrong_of_sample(rt.alloc()), Ok(None));
+}
+
+// As many rows as a batch may have, each with the greatest revenue.
+fn dear_rows(alloc: Global) -> Result<Vec<LineOrder>, Fault> {
+    let mut rows = Vec::with_capacity(alloc, 65536)?;
+    for _ in 0..65536 {
+        let mut row = row_with(alloc, b"")?;
+        row.revenue = Amount::new(9223372036854775807);
+        rows.push(row)?;
+    }
+    Ok(rows)
+}
+
+// A batch of them.
+fn dear_segment(alloc: Global) -> Result<Segment, Fault> {
+    let rows = dear_rows(alloc)?;
+    decode(alloc, spelled(alloc, 1, &rows)?)
+}
+
+// The sum of all their revenues.
+fn dear_sum(alloc: Global) -> Result<i128, Fault> {
+    let segment = dear_segment(alloc)?;
+    sum_of(alloc, &segment, Measure::Revenue, (0, 255), (0, 255))
+}
+
+#[test]
+fn adds_up_the_greatest_revenues(rt: HostRuntime) {
+    assert_eq!(rt; dear_sum(rt.alloc()), Ok(604462909807314587287552));
+}

@@ -1,0 +1,5 @@
+use Rattle.warehouse.proofs.Restarting.{fewer_not_found}
+use Rattle.warehouse.proofs.laws.fewer_is_not_found.Goals as goal
+
+pub returns : goal.returns
+returns g c = fewer_not_found g.D.Sectors c.content_is_one_warehouse.ensures

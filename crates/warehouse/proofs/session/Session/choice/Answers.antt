@@ -1,0 +1,35 @@
+use Rattle.std.proofs.Common.{◌≡◌, ◌≤◌, ◌*◌, ℕ, All, List, length, sym, ◌∙◌, ap, subst, arith}
+use Rattle.std.specs.List.{sum_by}
+use Rattle.cube_model.specs.declared.rows.DimRows.{DimRows}
+use Rattle.cube_model.specs.Admission.{all_rows}
+use Rattle.lattice.specs.declared.counts.Counts.{Counts}
+use Rattle.lattice.specs.declared.view.View.{View}
+use Rattle.view_choice.specs.Choice.{IsGreedy, Lattice, benefits}
+use Rattle.view_choice.specs.Cuboids.{cuboids}
+use Rattle.warehouse_root.specs.Root.{PlainRoot}
+use Rattle.warehouse.specs.Choosing.{choices, counts_of, views_of}
+use Rattle.warehouse.specs.Session.{content_of}
+use Rattle.warehouse.proofs.Choices.{rows_at_most}
+use Rattle.warehouse.proofs.Preparing.{rows_together}
+use Rattle.warehouse.proofs.session.Session.choice.Goals as goal
+
+pub of-requires : goal.of-requires
+of-requires g c =
+    let proper = c.kept_is_what_stands.ensures.root in
+    let total : c.row_total-rows.result ≡ sum_by (λ rows. rows) c.args.self.now.root.batches = c.row_total-rows.ensures ∙ ap (λ (l : List ℕ). sum_by (λ rows. rows) l) c.batches.ensures in
+    record { rows = omega (arith, total, rows_at_most c.args.self.now.root.batches proper.rows, proper.most_batches) }
+
+pub returns-in-Ok-clause-ok : goal.returns-in-Ok-clause-ok
+returns-in-Ok-clause-ok g c w at k =
+    let s = c.args.self.now in
+    let choice = c.in-Ok.choice in
+    let agree = c.kept_is_what_stands.ensures.agrees (content_of g.D.Sectors s) w (s.loaded at.fine k) (at.stands k) in
+    let rows : c.row_total-rows.result ≡ length (all_rows w.batches)
+    = c.row_total-rows.ensures ∙ ap (λ (l : List ℕ). sum_by (λ rows. rows) l) (c.batches.ensures ∙ ap (λ (root : PlainRoot). root.batches) (sym agree.root_is)) ∙ rows_together w.batches in
+    let counts : c.counts_of.result ≡ counts_of w.rows = c.counts_of.ensures ∙ ap (λ (r : DimRows). counts_of r) (sym agree.rows_are) in
+    let same : cuboids c.row_total-rows.result c.counts_of.result ≡ choices w
+    = ap (λ (n : ℕ). cuboids n c.counts_of.result) rows ∙ ap (λ (m : Counts). cuboids (length (all_rows w.batches)) m) counts in record {
+      greedy = subst (λ (l : Lattice View). IsGreedy l c.args.k (views_of choice.chosen.items)) same
+          (subst (λ (v : List View). IsGreedy (cuboids c.row_total-rows.result c.counts_of.result) c.args.k v) c.in-Ok.ensures.views c.in-Ok.ensures.greedy);
+      benefits_are = c.in-Ok.ensures.benefits ∙ ap (λ (l : Lattice View). benefits l choice.views.items) same ∙ ap (λ (v : List View). benefits (choices w) v) c.in-Ok.ensures.views;
+    }

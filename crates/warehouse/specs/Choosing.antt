@@ -1,0 +1,64 @@
+-- What cuboids are chosen from, and the choice (Harinarayan, Rajaraman and Ullman 1996).
+use Rattle.std.specs.Prelude.{◌≡◌, ◌⊎◌, ◌<◌, ℕ, None, List, [], length, map}
+use Rattle.sector_device.specs.declared.device.Sectors.{Ghosts}
+use Rattle.cube_model.specs.declared.attr.Attr.{Attr}
+use Rattle.cube_model.specs.declared.attr.Attr.TheVariants.{CustomerCity, CustomerNation, CustomerRegion, SupplierCity, SupplierNation, SupplierRegion, PartBrand1, PartCategory, PartMfgr, DateKey, DateYearmonthnum, DateYear}
+use Rattle.cube_model.specs.declared.fault.Fault.{Fault}
+use Rattle.cube_model.specs.declared.fault.Fault.TheVariants.{BadQuery, Memory}
+use Rattle.cube_model.specs.declared.rows.DimRows.{DimRows}
+use Rattle.cube_model.specs.Admission.{all_rows}
+use Rattle.cube_model.specs.Places.{attr_members}
+use Rattle.lattice.specs.declared.counts.Counts.{Counts}
+use Rattle.lattice.specs.declared.counts.LevelCounts.{LevelCounts}
+use Rattle.lattice.specs.declared.view.View.{View}
+use Rattle.view_choice.specs.Choice.{IsGreedy, Lattice, benefits}
+use Rattle.view_choice.specs.Cuboids.{cuboids}
+use Rattle.object_store.specs.Store as stores
+use Rattle.warehouse_root.specs.Limits.{most_cuboids}
+use Rattle.warehouse_root.specs.Root as roots
+use Rattle.warehouse_objects.specs.Warehouse.{Warehouse, dropped_ids, with_views}
+use Rattle.warehouse_objects.specs.Stands.{root_of}
+use Rattle.warehouse.specs.declared.chosen.Chosen.{Chosen}
+use Rattle.warehouse.specs.declared.session.Session.{Session}
+use Rattle.warehouse.specs.Session.{content_of, room_of}
+
+-- how many members the levels of an axis have
+abbrev pub members_on : DimRows → Attr → Attr → Attr → LevelCounts
+members_on rows lowest middle highest = record {
+  lowest = length (attr_members rows lowest);
+  middle = length (attr_members rows middle);
+  highest = length (attr_members rows highest);
+}
+
+-- how many members the levels of the four axes have
+abbrev pub counts_of : DimRows → Counts
+counts_of rows = record {
+  customer = members_on rows CustomerCity CustomerNation CustomerRegion;
+  supplier = members_on rows SupplierCity SupplierNation SupplierRegion;
+  part = members_on rows PartBrand1 PartCategory PartMfgr;
+  date = members_on rows DateKey DateYearmonthnum DateYear;
+  ship_modes = None;
+}
+
+-- the views of a warehouse, with what a choice among them looks at: its fact rows, and the members of its levels
+abbrev pub choices : Warehouse → Lattice View
+choices w = cuboids (length (all_rows w.batches)) (counts_of w.rows)
+
+abbrev pub views_of : List Chosen → List View
+views_of chosen = map (λ one. one.view) chosen
+
+-- the greedy list for k over the fact rows and the members of a warehouse, each view with its benefit under those before it
+pub record IsChoice (w : Warehouse) (k : ℕ) (chosen : List Chosen) : Type 0 where
+  pub greedy : IsGreedy (choices w) k (views_of chosen)
+  pub benefits_are : map (λ one. one.benefit) chosen ≡ benefits (choices w) (views_of chosen)
+
+-- why the commit of a choice of views is refused where the device has not failed
+abbrev pub ViewsRefuse : {D : Type 0} (g : Ghosts D) → Session D g → Warehouse → List View → Fault → Type 0
+ViewsRefuse g session w views fault =
+    stores.Refuses (content_of g session) (room_of session) [] (dropped_ids w views) (roots.root_of (root_of (with_views w views))) fault
+
+-- Why a choice is refused where the device has not failed: too many views are asked for, or there is no memory, or its commit is refused.
+abbrev pub ChooseRefuses : {D : Type 0} (g : Ghosts D) → Session D g → Warehouse → ℕ → Fault → Type 0
+ChooseRefuses g session w k fault =
+    ((fault ≡ BadQuery) × (most_cuboids < k))
+    ⊎ ((fault ≡ Memory) ⊎ ((chosen : List Chosen) × IsChoice w k chosen × ViewsRefuse g session w (views_of chosen) fault))

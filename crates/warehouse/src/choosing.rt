@@ -1,0 +1,214 @@
+//! Which cuboids a warehouse stores.
+ghost use Rattle.std.specs.Prelude.{◌≡◌, ◌≢◌, ◌⊎◌, ◌↔◌, ◌<◌, ◌≤◌, All, Err, List, true, false, length, map, IfErr, IfOk, IsErrOf, OnOk};
+ghost use Rattle.cube_model.specs.declared.fault.Fault.TheVariants.{BadQuery, Device, Failed, Memory};
+ghost use Rattle.lattice.specs.Views.{index_of};
+ghost use Rattle.view_choice.specs.Choice.{IsGreedy, benefits};
+ghost use Rattle.view_choice.specs.Cuboids.{cuboids, most_fact_rows};
+ghost use Rattle.object_store.specs.Disk.{Leaves};
+ghost use Rattle.warehouse_root.specs.Limits.{most_cuboids};
+ghost use Rattle.warehouse_objects.specs.Warehouse.{Warehouse, with_views};
+ghost use Rattle.warehouse_objects.specs.Stands.{Stands};
+ghost use Rattle.warehouse.specs.Choosing.{ChooseRefuses, IsChoice, ViewsRefuse, counts_of, members_on, views_of};
+ghost use Rattle.warehouse.specs.declared.chosen.Chosen.{Chosen};
+ghost use Rattle.warehouse.specs.Session.{Breaks, CommitsOnce, IsAt, KeepsContent, device_of, disk_of, has_failed};
+
+use crate::chosen::Chosen;
+use crate::prepared::kept_is_what_stands;
+use crate::session::Session;
+use crate::status::row_total;
+use cube_model::{Attr, Fault};
+use dimensions::Dims;
+use lattice::{Counts, LevelCounts, View};
+use sector_device::Sectors;
+use std::alloc::Global;
+use view_choice::{benefits, greedy};
+use warehouse_root::limits::MOST_CUBOIDS;
+
+impl<D: Sectors> Session<D> {
+    /// Stores the cuboids of some views, and no others, in one commit. A stored cuboid of one of them stays as it is, another
+    /// one holds no batch yet, and the target becomes 0. It always commits. At most 16 views, without ship mode.
+    ///
+    /// It can fail for want of memory or room, at the last generation, and because the device does.
+    pub fn set_views(&mut self, alloc: Global, views: &[View]) -> Result<(), Fault>
+        requires few { length views.now ≤ most_cuboids }
+        requires known { All (λ view. index_of view < 256) views.now }
+
+        // A crash leaves the cuboids as they were, or these.
+        ensures leaves { (w : Warehouse) → IsAt D.Sectors self.old w → Leaves (disk_of D.Sectors self.old) (disk_of D.Sectors self.new)
+            (λ c. Stands c w ⊎ Stands c (with_views w views.now)) }
+        ensures ok { OnOk result ((w : Warehouse) → IsAt D.Sectors self.old w → IsAt D.Sectors self.new (with_views w views.now) × CommitsOnce D.Sectors self.old self.new) }
+
+        // After a refusal, unless the device failed, all is as it was, at each moment.
+        ensures refused { IfErr result (λ fault. fault ≢ Device → (w : Warehouse) → IsAt D.Sectors self.old w →
+            IsAt D.Sectors self.new w × KeepsContent D.Sectors self.old self.new × Leaves (disk_of D.Sectors self.old) (disk_of D.Sectors self.new) (λ c. Stands c w)) }
+
+        // When each error comes.
+        ensures causes { IfErr result (λ fault. fault ≢ Device → (w : Warehouse) → IsAt D.Sectors self.old w → D.keeps_word (device_of self.new)
+            → ViewsRefuse D.Sectors self.old w views.now fault) }
+        ensures failed { IsErrOf result Failed ↔ (has_failed self.old ≡ true) }
+        ensures unmoved { IsErrOf result Failed → self.new ≡ self.old }
+        ensures device { IsErrOf result Device → Breaks D.Sectors self.old self.new }
+        ensures word { D.keeps_word (device_of self.new) → D.keeps_word (device_of self.old) }
+    {
+        self.store_views(alloc, views)
+    }
+
+    /// Stores the cuboids of the greedy list of k views over the fact rows and the members of now, as `set_views` does, and
+    /// answers the list with the benefit of each view. At most 16 views.
+    ///
+    /// `BadQuery` exactly where more are asked for. It can also fail for want of memory or room, at the last generation, and
+    /// because the device does.
+    pub fn choose(&mut self, alloc: Global, k: u8) -> Result<Vec<Chosen>, Fault>
+        // A crash leaves the cuboids as they were, or those of the choice.
+        ensures leaves { (w : Warehouse) → IsAt D.Sectors self.old w → Leaves (disk_of D.Sectors self.old) (disk_of D.Sectors self.new)
+            (λ c. Stands c w ⊎ ((chosen : List Chosen) × IsChoice w k chosen × Stands c (with_views w (views_of chosen)))) }
+        ensures ok { IfOk result (λ chosen. (w : Warehouse) → IsAt D.Sectors self.old w → IsAt D.Sectors self.new (with_views w (views_of chosen.items))
+            × CommitsOnce D.Sectors self.old self.new × (D.keeps_word (device_of self.new) → IsChoice w k chosen.items)) }
+
+        // After a refusal, unless the device failed, all is as it was, at each moment.
+        ensures refused { IfErr result (λ fault. fault ≢ Device → (w : Warehouse) → IsAt D.Sectors self.old w →
+            IsAt D.Sectors self.new w × KeepsContent D.Sectors self.old self.new × Leaves (disk_of D.Sectors self.old) (disk_of D.Sectors self.new) (λ c. Stands c w)) }
+
+        // When each error comes.
+        ensures causes { IfErr result (λ fault. fault ≢ Device → (w : Warehouse) → IsAt D.Sectors self.old w → D.keeps_word (device_of self.new)
+            → ChooseRefuses D.Sectors self.old w k fault) }
+        ensures many { has_failed self.old ≡ false → most_cuboids < k → result ≡ Err BadQuery }
+        ensures failed { IsErrOf result Failed ↔ (has_failed self.old ≡ true) }
+        ensures unmoved { IsErrOf result Failed → self.new ≡ self.old }
+        ensures device { IsErrOf result Device → Breaks D.Sectors self.old self.new }
+        ensures word { D.keeps_word (device_of self.new) → D.keeps_word (device_of self.old) }
+    {
+        let chosen = match self.choice(alloc, k) {
+            Ok(chosen) => chosen,
+            Err(fault) => return Err(fault),
+        };
+        match self.store_views(alloc, chosen.views.as_slice()) {
+            Ok(()) => Ok(chosen.chosen),
+            Err(fault) => Err(fault),
+        }
+    }
+
+    // Stores the cuboids of those of some views that do not group by ship mode, and no others.
+    fn store_views(&mut self, alloc: Global, views: &[View]) -> Result<(), Fault>
+        requires few { length views.now ≤ most_cuboids }
+        ensures leaves { (w : Warehouse) → IsAt D.Sectors self.old w → Leaves (disk_of D.Sectors self.old) (disk_of D.Sectors self.new)
+            (λ c. Stands c w ⊎ Stands c (with_views w views.now)) }
+        ensures ok { OnOk result ((w : Warehouse) → IsAt D.Sectors self.old w → IsAt D.Sectors self.new (with_views w views.now) × CommitsOnce D.Sectors self.old self.new) }
+        ensures refused { IfErr result (λ fault. fault ≢ Device → (w : Warehouse) → IsAt D.Sectors self.old w →
+            IsAt D.Sectors self.new w × KeepsContent D.Sectors self.old self.new × Leaves (disk_of D.Sectors self.old) (disk_of D.Sectors self.new) (λ c. Stands c w)) }
+        ensures causes { IfErr result (λ fault. fault ≢ Device → (w : Warehouse) → IsAt D.Sectors self.old w → D.keeps_word (device_of self.new)
+            → ViewsRefuse D.Sectors self.old w views.now fault) }
+        ensures failed { IsErrOf result Failed ↔ (has_failed self.old ≡ true) }
+        ensures unmoved { IsErrOf result Failed → self.new ≡ self.old }
+        ensures device { IsErrOf result Device → Breaks D.Sectors self.old self.new }
+        ensures word { D.keeps_word (device_of self.new) → D.keeps_word (device_of self.old) }
+    {
+        if self.is_broken() {
+            return Err(Fault::Failed);
+        }
+        kept_is_what_stands(&self.dims, &self.root);
+        match cuboid_commits::set_views(alloc, &mut self.store, &mut self.root, views) {
+            Ok(()) => Ok(()),
+            Err(fault) => Err(fault),
+        }
+    }
+
+    // The greedy list of k views over the fact rows and the members of now. No device call is made.
+    fn choice(&self, alloc: Global, k: u8) -> Result<Choice, Fault>
+        ensures ok { IfOk result (λ choice. (w : Warehouse) → IsAt D.Sectors self.now w → D.keeps_word (device_of self.now) → IsChoice w k choice.chosen.items) }
+        ensures views { IfOk result (λ choice. choice.views.items ≡ views_of choice.chosen.items) }
+        ensures few { IfOk result (λ choice. length choice.views.items ≤ most_cuboids) }
+        ensures fine { IfOk result (λ _. has_failed self.now ≡ false) }
+        ensures many { has_failed self.now ≡ false → most_cuboids < k → result ≡ Err BadQuery }
+        ensures failed { IsErrOf result Failed ↔ (has_failed self.now ≡ true) }
+        ensures causes { IfErr result (λ fault. (fault ≡ Failed) ⊎ (((fault ≡ BadQuery) × (most_cuboids < k)) ⊎ (fault ≡ Memory))) }
+        ensures leaves { (w : Warehouse) → IsAt D.Sectors self.now w → Leaves (disk_of D.Sectors self.now) (disk_of D.Sectors self.now) (λ c. Stands c w) }
+    {
+        if self.is_broken() {
+            return Err(Fault::Failed);
+        }
+        if usize::from(k) > MOST_CUBOIDS {
+            return Err(Fault::BadQuery);
+        }
+        kept_is_what_stands(&self.dims, &self.root);
+        let rows = row_total(self.root.batches());
+        match Choice::of(alloc, rows, &counts_of(&self.dims), k) {
+            Ok(choice) => Ok(choice),
+            Err(fault) => Err(fault),
+        }
+    }
+}
+
+// A greedy list, and its views alone.
+#[derive(Drop)]
+struct Choice {
+    views: Vec<View>,
+    chosen: Vec<Chosen>,
+}
+
+impl Choice {
+    // That over so many fact rows and members.
+    fn of(alloc: Global, rows: u64, counts: &Counts, k: u8) -> Result<Choice, Fault>
+        requires rows { rows ≤ most_fact_rows }
+        ensures greedy { IfOk result (λ choice. IsGreedy (cuboids rows counts.now) k choice.views.items) }
+        ensures benefits { IfOk result (λ choice. map (λ one. one.benefit) choice.chosen.items ≡ benefits (cuboids rows counts.now) choice.views.items) }
+        ensures views { IfOk result (λ choice. choice.views.items ≡ views_of choice.chosen.items) }
+        ensures memory { IfErr result (λ fault. fault ≡ Memory) }
+    {
+        let views = greedy(alloc, rows, counts, k)?;
+        let benefits = benefits(alloc, rows, counts, views.as_slice())?;
+        let chosen = paired(alloc, views.as_slice(), benefits.as_slice())?;
+        Ok(Choice { views, chosen })
+    }
+}
+
+// Views with their benefits.
+fn paired(alloc: Global, views: &[View], benefits: &[u64]) -> Result<Vec<Chosen>, Fault>
+    requires same { length benefits.now ≡ length views.now }
+    ensures views { IfOk result (λ chosen. views_of chosen.items ≡ views.now) }
+    ensures benefits { IfOk result (λ chosen. map (λ one. one.benefit) chosen.items ≡ benefits.now) }
+    ensures memory { IfErr result (λ fault. fault ≡ Memory) }
+{
+    let mut chosen = Vec::with_capacity(alloc, views.len())?;
+    for place in 0..views.len() {
+        chosen.push(Chosen {
+            view: views[place],
+            benefit: benefits[place],
+        })?;
+    }
+    Ok(chosen)
+}
+
+// How many members the levels of the axes have.
+fn counts_of(dims: &Dims) -> Counts
+    ensures { result ≡ counts_of dims.now }
+{
+    Counts {
+        customer: members_on(
+            dims,
+            Attr::CustomerCity,
+            Attr::CustomerNation,
+            Attr::CustomerRegion,
+        ),
+        supplier: members_on(
+            dims,
+            Attr::SupplierCity,
+            Attr::SupplierNation,
+            Attr::SupplierRegion,
+        ),
+        part: members_on(dims, Attr::PartBrand1, Attr::PartCategory, Attr::PartMfgr),
+        date: members_on(dims, Attr::DateKey, Attr::DateYearmonthnum, Attr::DateYear),
+        ship_modes: None,
+    }
+}
+
+// How many members three levels of an axis have.
+fn members_on(dims: &Dims, lowest: Attr, middle: Attr, highest: Attr) -> LevelCounts
+    ensures { result ≡ members_on dims.now lowest middle highest }
+{
+    LevelCounts {
+        lowest: dims.members(lowest) as u32,
+        middle: dims.members(middle) as u32,
+        highest: dims.members(highest) as u32,
+    }
+}

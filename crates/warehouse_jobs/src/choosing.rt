@@ -1,0 +1,27 @@
+//! Choosing which cuboids are stored.
+ghost use Rattle.std.specs.Prelude.{◌≡◌};
+ghost use Rattle.warehouse_objects.specs.Warehouse.{Warehouse};
+ghost use Rattle.warehouse.specs.Session.{device_of, IsAt};
+ghost use Rattle.warehouse_jobs.specs.Cuboids.{Chooses};
+
+use crate::printing::write_choice;
+use cube_model::Fault;
+use sector_device::Sectors;
+use std::alloc::Global;
+use std::io::Write;
+use warehouse::Session;
+
+/// Stores the cuboids of the greedy list of k views, and writes a line for each, in the order of choice.
+pub(crate) fn choose<D: Sectors, W: Write>(
+    alloc: Global,
+    session: &mut Session<D>,
+    k: u8,
+    out: &mut W,
+) -> Result<(), Fault>
+    ensures chooses { (w : Warehouse) → IsAt D.Sectors session.old w → D.keeps_word (device_of session.new)
+        → Chooses D.Sectors w k session.old session.new (W.contents out.old) (W.contents out.new) result }
+    ensures word { D.keeps_word (device_of session.new) → D.keeps_word (device_of session.old) }
+{
+    let chosen = session.choose(alloc, k)?;
+    write_choice(out, chosen.as_slice())
+}
