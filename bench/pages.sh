@@ -2,7 +2,7 @@
 # Runs the commands of README.md and of each page of the tour's folder, each page in an empty folder, in order, and
 # compares what each prints. At the top of the repository, once crates/ssbcube/out/ssbcube is built: sh bench/pages.sh
 #
-# A command stands behind '$ ', and what it prints in the lines behind it.
+# A command follows '$ ', and the lines after it are what it prints.
 set -u
 cd "$(dirname "$0")/.." || exit 1
 top=$PWD
