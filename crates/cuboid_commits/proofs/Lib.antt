@@ -1,3 +1,4 @@
+pub mod CallerLemmas
 mod OneMore
 mod Brought
 mod Made

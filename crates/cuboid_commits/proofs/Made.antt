@@ -211,6 +211,7 @@ module _ (root : PlainRoot) (said : StoredCuboid) (cells : PlainCells) (span : S
     root_is = made.root_is;
     change = appending span cells.cells;
     goes_on = appending_goes_on span cells.cells;
+    reaches = λ cuboid less. omega (arith, less);
     brings = λ w old has stand. (
       run_over span cells.cells,
       append_brings w root said old has cells span next after id drops made view above within after_view after_mark after_runs after_cells id_is drops_are from few few_cells stand,
@@ -229,6 +230,7 @@ module _ (root : PlainRoot) (said : StoredCuboid) (cells : PlainCells) (span : S
     root_is = made.root_is;
     change = replacing span cells.cells;
     goes_on = replacing_goes_on span cells.cells;
+    reaches = λ cuboid less. omega (arith, less);
     brings = λ w old has stand. (
       run_over span cells.cells,
       replace_brings w root said old has cells span next after id drops made view above within after_view after_mark after_runs after_cells id_is drops_are from stand,
@@ -248,5 +250,6 @@ next_weaker Holds Less root said mark next so is = record {
   root_is = is.root_is;
   change = is.change;
   goes_on = is.goes_on;
+  reaches = is.reaches;
   brings = λ w old has less. is.brings w old has (so w old has less);
 }

@@ -1,5 +1,5 @@
 -- A cuboid is brought on: what was read, and the commit after it.
-use Rattle.std.proofs.Common.{◌≡◌, ◌⊎◌, ⊎_elim, ◌≤◌, ℕ, Some, Err, IsErrOf, [], ◌∷◌, slice_get, sym, ◌∙◌, ap, subst, arith}
+use Rattle.std.proofs.Common.{◌≡◌, ◌≢◌, ◌⊎◌, ⊎_elim, inl, inr, ◌≤◌, ◌<◌, ℕ, Some, Err, IsErrOf, List, [], ◌∷◌, slice_get, refl, sym, ◌∙◌, ap, subst, arith}
 use Rattle.sector_device.specs.declared.device.Sectors.{Ghosts}
 use Rattle.cube_model.specs.declared.fault.Fault.{Fault}
 use Rattle.cube_model.specs.declared.fault.Fault.TheVariants.{BadLayout, Device, Failed, Memory, TooManyCells}
@@ -19,7 +19,7 @@ use Rattle.warehouse_objects.specs.Warehouse.{Cuboid, Warehouse}
 use Rattle.warehouse_objects.specs.Stands.{Stands}
 use Rattle.warehouse_objects.proofs.Folded.{err_fault}
 use Rattle.cuboid_commits.specs.Keeping.{IsCaughtUp, IsReached, IsTooLarge, StoreAt}
-use Rattle.cuboid_commits.specs.Nexts.{HasStored, IsBroughtBy, IsNext, RefusesNext}
+use Rattle.cuboid_commits.specs.Nexts.{EndsBringing, HasStored, IsBroughtBy, IsNext, RefusesNext}
 use Rattle.cuboid_commits.specs.declared.keeping.Next.{Next}
 use Rattle.cuboid_commits.proofs.Brought.{brought_by, far_enough, put_there, said_there, view_there}
 use Rattle.cuboid_commits.proofs.Places.{changed, changed_caught, stored_there}
@@ -32,20 +32,6 @@ pub read_leaves : {D : Type 0} (g : Ghosts D) (a b : Store D g) (root : PlainRoo
 read_leaves g a b root w is =
     leaves_weaker (λ (c : Content). c ≡ content_of g a) (λ (c : Content). (v : Warehouse) × IsCaughtUp w v × Stands c v) (disk_of g a) (disk_of g b)
     (λ k c e. (w, same w, subst (λ (x : Content). Stands x w) (sym e) (is.stands k)))
-
--- the store refused it
-pub refuses_next : {D : Type 0} (g : Ghosts D) (a b : Store D g) (w v : Warehouse) (next : Next) (fault : Fault) → IsAsBefore g a b → IsBroughtBy w next v
-    → Refuses (content_of g a) (room_of a) ((next.id, next.bytes.items) ∷ []) next.drops.items next.root_bytes.items fault → RefusesNext g b w fault
-refuses_next g a b w v next fault same by refuses = record {
-  old = by.old;
-  new = by.new;
-  run = by.run;
-  next = next;
-  brings = by.brings;
-  refuses =
-      subst (λ (x : Content). Refuses x (room_of b) ((next.id, next.bytes.items) ∷ []) next.drops.items next.root_bytes.items fault) (sym same.content)
-      (subst (λ (r : Room). Refuses (content_of g a) r ((next.id, next.bytes.items) ∷ []) next.drops.items next.root_bytes.items fault) (sym same.room) refuses);
-}
 
 -- ---- refusals
 
@@ -84,6 +70,28 @@ never_failed fault number cause is =
     (λ (bad : fault ≡ BadLayout). absurd (omega (arith, failed, ap number_of bad)))
     (λ (many : fault ≡ TooManyCells number). absurd (omega (arith, failed, ap number_of many))))) cause
 
+device_or : (fault : Fault) → (fault ≡ Device) ⊎ (fault ≡ Device → ⊥)
+device_or Device = inl refl
+device_or fault = inr (λ e. cc)
+
+-- a commit that was refused ends it
+pub ends_refused : (c : Content) (room : Room) (puts : List (ℕ × List ℕ)) (drops root : List ℕ) (fault : Fault) → (fault ≢ Device → (fault ≡ BadLayout) ⊎ Refuses c room puts drops root fault) → EndsBringing fault
+ends_refused c room puts drops root fault causes =
+    ⊎_elim {C = EndsBringing fault}
+    (λ device. inr (inl device))
+    (λ other. ⊎_elim {C = EndsBringing fault}
+    (λ bad. inr (inr (inl bad)))
+    (⊎_elim {C = EndsBringing fault} (λ memory. inl memory) (⊎_elim {C = EndsBringing fault} (λ worn. inr (inr (inr (inr worn.0)))) (λ full. inr (inr (inr (inl full.0))))))
+    (causes other))
+    (device_or fault)
+
+-- so does what was not read
+pub ends_unread : (fault : Fault) (number : ℕ) → (fault ≡ TooManyCells number → ⊥) → IsNoNext number fault → EndsBringing fault
+ends_unread fault number many =
+    ⊎_elim {C = EndsBringing fault} (λ memory. inl memory)
+    (⊎_elim {C = EndsBringing fault} (λ device. inr (inl device))
+    (⊎_elim {C = EndsBringing fault} (λ bad. inr (inr (inl bad))) (λ is. absurd (many is))))
+
 module _ {D : Type 0} (g : Ghosts D) (a b : Store D g) (still : IsStill g a b) (dims : DimRows) (root : PlainRoot) (said : StoredCuboid) (place : ℕ) (there : slice_get root.cuboids place ≡ Some said) where
   -- the cuboid in the warehouse
   pub stored_at : (w : Warehouse) → StoreAt g a root w → g.keeps_word (device_of b) → (old : Cuboid) × (slice_get w.cuboids place ≡ Some old) × HasStored root said w old
@@ -110,6 +118,30 @@ module _ {D : Type 0} (g : Ghosts D) (a b : Store D g) (still : IsStill g a b) (
 
     pub caught : (w : Warehouse) → IsCaughtUp w (brought w)
     caught w = changed_caught is.change said.view w is.goes_on
+
+    -- the store refused it
+    pub refused_next : (c : Store D g) (w : Warehouse) (fault : Fault) → StoreAt g a root w → (g.keeps_word (device_of a) → dims ≡ w.rows) → g.keeps_word (device_of b) → said.mark < root.target → IsAsBefore g b c
+        → Refuses (content_of g b) (room_of b) ((next.id, next.bytes.items) ∷ []) next.drops.items next.root_bytes.items fault
+        → (refused : RefusesNext g c w fault) × (slice_get w.cuboids place ≡ Some refused.old)
+    refused_next c w fault at_a rows k less as_before refuses =
+        let found = stored_at w at_a k in
+        let by = is.brings w found.0 found.2 (k, at_a.stands (still.word k), rows (still.word k)) in
+        let mark : found.0.mark ≡ said.mark = ap (λ (s : StoredCuboid). s.mark) found.2.said_is in
+        let target : w.target ≡ root.target = ap (λ (r : PlainRoot). r.target) (at_a.root_is (still.word k)) in (
+          record {
+            old = found.0;
+            new = is.change found.0;
+            run = by.0;
+            next = next;
+            less = omega (arith, mark, target, less);
+            target = is.reaches found.0 (omega (arith, mark, less)) ∙ sym target;
+            brings = by.1;
+            refuses =
+                subst (λ (x : Content). Refuses x (room_of c) ((next.id, next.bytes.items) ∷ []) next.drops.items next.root_bytes.items fault) (sym as_before.content)
+                (subst (λ (r : Room). Refuses (content_of g b) r ((next.id, next.bytes.items) ∷ []) next.drops.items next.root_bytes.items fault) (sym as_before.room) refuses);
+          },
+          found.1,
+        )
 
     module _ (c : Store D g) where
       pub bring_leaves : (w : Warehouse) → StoreAt g a root w → (g.keeps_word (device_of a) → dims ≡ w.rows) → Leaves (disk_of g a) (disk_of g b) (λ x. x ≡ content_of g a)

@@ -1,5 +1,5 @@
 -- A commit of another root, and what the content stands for then.
-use Rattle.std.proofs.Common.{◌≡◌, ◌≢◌, ◌⊎◌, ⊎_elim, inl, inr, ℕ, ◌+◌, ◌*◌, ◌<◌, ◌≤◌, ◌==◌, if◌then◌else◌, Bool, true, false, cond, not, Option, None, List, [], ◌∷◌, ◌++◌, length, map, All, refl, sym, ◌∙◌, ap, subst, arith, append-nil}
+use Rattle.std.proofs.Common.{◌≡◌, ◌⊎◌, ⊎_elim, inl, inr, ℕ, ◌+◌, ◌<◌, ◌≤◌, ◌==◌, if◌then◌else◌, Bool, true, false, cond, not, Option, None, List, [], ◌∷◌, ◌++◌, length, All, refl, sym, ◌∙◌, ap, subst, arith, append-nil}
 use Rattle.std.specs.List.{filter, flat_map, range_with_len}
 use Rattle.std.proofs.lemmas.Bool.Decides.{nat_tests}
 use Rattle.std.proofs.lemmas.List.{length-map}
@@ -15,7 +15,6 @@ use Rattle.object_store.specs.Content.{Content, bytes_of}
 use Rattle.object_store.specs.Commit.{IsFew, committed, without}
 use Rattle.object_store.specs.Disk.{Disk, Leaves, disk}
 use Rattle.object_store.specs.Moments.{leaves_weaker}
-use Rattle.object_store.specs.Room.{Room}
 use Rattle.object_store.specs.Store as stores
 use Rattle.object_store.specs.Store.{IsAsBefore, IsOneOf, Refuses}
 use Rattle.object_store.specs.declared.store.Store.{Store}

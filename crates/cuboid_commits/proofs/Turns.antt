@@ -1,7 +1,7 @@
 -- Cuboids that are brought on one after another.
-use Rattle.std.proofs.Common.{◌≡◌, ◌⊎◌, ⊎_elim, inl, inr, ℕ, ◌+◌, ◌≤◌, ◌<◌, zero, suc, Option, Some, None, List, [], ◌∷◌, length, get_or, take, slice_get, map, refl, sym, ◌∙◌, ap, subst, arith}
+use Rattle.std.proofs.Common.{◌≡◌, ◌⊎◌, ⊎_elim, inl, inr, ℕ, ◌+◌, ◌≤◌, ◌<◌, zero, suc, Option, Some, None, List, [], ◌∷◌, length, get_or, take, slice_get, map, All, refl, sym, ◌∙◌, ap, subst, arith}
 use Rattle.std.specs.Option.{option_or}
-use Rattle.std.proofs.lemmas.Bool.{cases_eq}
+use Rattle.std.proofs.lemmas.Bool.{cases_eq, cases_lt}
 use Rattle.std.proofs.lemmas.Option.{slice_get-get_or}
 use Rattle.cube_model.specs.Admission.{all_rows}
 use Rattle.cube_model.specs.declared.rows.DimRows.{DimRows}
@@ -15,7 +15,7 @@ use Rattle.cuboid_upkeep.specs.Steps.{HaveTooMany}
 use Rattle.warehouse_root.specs.Root.{AreAscending}
 use Rattle.warehouse_objects.specs.Warehouse.{Cuboid, Warehouse, cuboid_at}
 use Rattle.warehouse_objects.specs.Stands.{Stands, said_of}
-use Rattle.cuboid_commits.specs.Keeping.{AreKeptOn, IsCaughtUp, IsDone, IsReached, IsTooLarge}
+use Rattle.cuboid_commits.specs.Keeping.{AreKeptOn, IsCaughtUp, IsDone, IsKeptUp, IsReached, IsReachedOrLarge, IsTooLarge}
 use Rattle.cuboid_commits.proofs.Places.{not_below, own_view}
 
 on_same : (cuboids : List Cuboid) → AreKeptOn cuboids cuboids
@@ -30,20 +30,24 @@ on_then (x ∷ a) [] c first second = absurd first
 on_then (x ∷ a) (y ∷ b) [] first second = absurd second
 on_then (x ∷ a) (y ∷ b) (z ∷ c) first second = (second.0 ∙ first.0, omega (arith, first.1, second.1), on_then a b c first.2 second.2)
 
+-- nothing was brought on
+pub kept_same : (w : Warehouse) → IsKeptUp w w
+kept_same w = record { layout = refl; rows = refl; batches = refl; additions = refl; cuboids = on_same w.cuboids }
+
+pub kept_then : (a b c : Warehouse) → IsKeptUp a b → IsKeptUp b c → IsKeptUp a c
+kept_then a b c first second = record {
+  layout = second.layout ∙ first.layout;
+  rows = second.rows ∙ first.rows;
+  batches = second.batches ∙ first.batches;
+  additions = second.additions ∙ first.additions;
+  cuboids = on_then a.cuboids b.cuboids c.cuboids first.cuboids second.cuboids;
+}
+
 pub same : (w : Warehouse) → IsCaughtUp w w
-same w = record { kept = record { layout = refl; rows = refl; batches = refl; additions = refl; cuboids = on_same w.cuboids }; target = refl }
+same w = record { kept = kept_same w; target = refl }
 
 pub then_more : (a b c : Warehouse) → IsCaughtUp a b → IsCaughtUp b c → IsCaughtUp a c
-then_more a b c first second = record {
-  kept = record {
-    layout = second.kept.layout ∙ first.kept.layout;
-    rows = second.kept.rows ∙ first.kept.rows;
-    batches = second.kept.batches ∙ first.kept.batches;
-    additions = second.kept.additions ∙ first.kept.additions;
-    cuboids = on_then a.cuboids b.cuboids c.cuboids first.kept.cuboids second.kept.cuboids;
-  };
-  target = second.target ∙ first.target;
-}
+then_more a b c first second = record { kept = kept_then a b c first.kept second.kept; target = second.target ∙ first.target }
 
 -- the cuboid at a place before
 pub was_there : (olds news : List Cuboid) (place : ℕ) (new : Cuboid) → AreKeptOn olds news → slice_get news place ≡ Some new
@@ -149,6 +153,20 @@ one_more w count (Some view) passed here here_is before reached = record {
     by_passed None far other same k le = inl (subst (λ (c : Cuboid). w.target ≤ c.mark) (sym same) far)
     by_passed (Some one) many other same k le = inr (subst (λ (v : View). IsTooLarge w v) (sym (ap (λ (c : Cuboid). c.view) same ∙ many.0)) many.1, le)
 
+-- each of a lower view than the next one
+pub lower_reached : (w : Warehouse) (count : ℕ) (first : Option View) (here : Cuboid) → AreAscending (map said_of w.cuboids) → slice_get w.cuboids count ≡ Some here → AreReached count first w
+    → All (λ other. index_of other.view < index_of here.view → IsReachedOrLarge w other) w.cuboids
+lower_reached w count first here up here_is reached = λ k d within lower.
+    let is = slice_get-get_or w.cuboids k d within in
+    ⊎_elim {C = IsReachedOrLarge w (get_or w.cuboids k d)}
+    (λ before. by_first first reached k (get_or w.cuboids k d) before is)
+    (λ later. absurd (omega (arith, lower, not_below w.cuboids count k here (get_or w.cuboids k d) up here_is is later)))
+    (cases_lt k count)
+  where
+    by_first : (f : Option View) → AreReached count f w → (k : ℕ) (other : Cuboid) → k < count → slice_get w.cuboids k ≡ Some other → IsReachedOrLarge w other
+    by_first None reached k other less is = inl (reached k other less is)
+    by_first (Some view) reached k other less is = ⊎_elim {C = IsReachedOrLarge w other} (λ far. inl far) (λ many. inr many.0) (reached.others k other less is)
+
 -- all of them
 pub all_done : (w : Warehouse) (count : ℕ) (first : Option View) → AreAscending (map said_of w.cuboids) → length w.cuboids ≤ count → AreReached count first w → IsDone w first
 all_done w count None up all reached = λ k d within. reached k (get_or w.cuboids k d) (omega (arith, within, all)) (slice_get-get_or w.cuboids k d within)
@@ -163,6 +181,11 @@ all_done w count (Some view) up all reached = record {
       (λ many. inr (many.0, subst (λ (v : View). index_of v ≤ index_of (get_or w.cuboids k d).view) reached.view_is (not_below w.cuboids reached.place k reached.cuboid (get_or w.cuboids k d) up reached.there is many.1)))
       (reached.others k (get_or w.cuboids k d) (omega (arith, within, all)) is);
 }
+
+-- each of them holds as many batches as it is to, or is too large
+pub done_or_large : (w : Warehouse) (passed : Option View) → IsDone w passed → All (IsReachedOrLarge w) w.cuboids
+done_or_large w None done = λ k d within. inl (done k d within)
+done_or_large w (Some view) done = λ k d within. ⊎_elim {C = IsReachedOrLarge w (get_or w.cuboids k d)} (λ far. inl far) (λ many. inr many.0) (done.others k d within)
 
 pub leaves_first : (w : Warehouse) (old new : Disk) → Leaves old new (λ c. Stands c w) → Leaves old new (λ c. (v : Warehouse) × IsCaughtUp w v × Stands c v)
 leaves_first w old new = leaves_weaker (λ (c : Content). Stands c w) (λ (c : Content). (v : Warehouse) × IsCaughtUp w v × Stands c v) old new (λ k c stands. (w, same w, stands))

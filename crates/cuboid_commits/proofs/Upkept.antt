@@ -1,5 +1,5 @@
 -- Upkeep: the target first, and then the cuboids.
-use Rattle.std.proofs.Common.{◌≡◌, ◌⊎◌, ⊎_elim, inl, inr, ◌≤◌, ℕ, Some, None, Option, List, length, map, All, refl, sym, ◌∙◌, ap, subst, arith}
+use Rattle.std.proofs.Common.{◌≡◌, ◌⊎◌, ⊎_elim, inl, inr, ◌≤◌, ℕ, Some, None, Option, List, length, All, refl, sym, ◌∙◌, ap, subst, arith}
 use Rattle.std.proofs.lemmas.List.{length-map}
 use Rattle.cube_model.specs.declared.fault.Fault.{Fault}
 use Rattle.cube_model.specs.declared.fault.Fault.TheVariants.{Memory}
@@ -11,20 +11,17 @@ use Rattle.object_store.specs.Moments.{leaves_then, leaves_weaker}
 use Rattle.object_store.proofs.Lists.{All-unmap}
 use Rattle.warehouse_root.specs.Root.{IsProperCuboid, PlainRoot}
 use Rattle.warehouse_objects.specs.Stands.{Stands, root_of, said_of}
-use Rattle.warehouse_objects.specs.Warehouse.{Cuboid, Warehouse, aimed}
+use Rattle.warehouse_objects.specs.Warehouse.{Warehouse, aimed}
 use Rattle.cuboid_commits.specs.Keeping.{IsCaughtUp, IsDone, IsKeptUp}
 use Rattle.cuboid_commits.specs.Upkeep.{AreWhole, AreWholeBut}
-use Rattle.cuboid_commits.proofs.Turns.{same}
+use Rattle.cuboid_commits.proofs.Turns.{kept_same}
 
 pub memory_or : (fault : Fault) → (fault ≡ Memory) ⊎ (fault ≡ Memory → ⊥)
 memory_or Memory = inl refl
 memory_or fault = inr (λ e. cc)
 
-pub kept_same : (w : Warehouse) → IsKeptUp w w
-kept_same w = (same w).kept
-
 pub kept_aimed : (w : Warehouse) → IsKeptUp w (aimed w)
-kept_aimed w = record { layout = refl; rows = refl; batches = refl; additions = refl; cuboids = (same w).kept.cuboids }
+kept_aimed w = record { layout = refl; rows = refl; batches = refl; additions = refl; cuboids = (kept_same w).cuboids }
 
 -- the target is none of what is kept
 pub from_aimed : (w v : Warehouse) → IsCaughtUp (aimed w) v → IsKeptUp w v

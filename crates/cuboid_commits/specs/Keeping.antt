@@ -41,6 +41,10 @@ pub record IsCaughtUp (old new : Warehouse) : Type 0 where
 abbrev pub IsTooLarge : Warehouse → View → Type 0
 IsTooLarge w view = HaveTooMany w.rows (modes_of w) view (all_rows (take w.target w.batches))
 
+-- a cuboid holds as many batches as it is to, or its view is too large
+abbrev pub IsReachedOrLarge : Warehouse → Cuboid → Type 0
+IsReachedOrLarge w cuboid = (w.target ≤ cuboid.mark) ⊎ IsTooLarge w cuboid.view
+
 -- a cuboid holds as many batches as it is to, unless it was passed over because its view is too large
 abbrev pub IsReached : Option View → Warehouse → Cuboid → Type 0
 IsReached None w cuboid = w.target ≤ cuboid.mark

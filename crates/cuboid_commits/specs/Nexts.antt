@@ -1,7 +1,8 @@
 -- The next run of a stored cuboid, and what its commit puts. Our own.
-use Rattle.std.specs.Prelude.{◌≡◌, ◌⊎◌, ℕ, ◌≤◌, Some, List, [], ◌∷◌, ◌++◌, length, All}
+use Rattle.std.specs.Prelude.{◌≡◌, ◌⊎◌, ℕ, ◌≤◌, ◌<◌, Some, List, [], ◌∷◌, ◌++◌, length, All}
 use Rattle.sector_device.specs.declared.device.Sectors.{Ghosts}
 use Rattle.cube_model.specs.declared.fault.Fault.{Fault}
+use Rattle.cube_model.specs.declared.fault.Fault.TheVariants.{BadLayout, Device, Full, Memory, Worn}
 use Rattle.lattice.specs.Views.{index_of}
 use Rattle.cuboid_cells.specs.declared.span.Span.{Span}
 use Rattle.cuboid_cells.specs.Cells.{PlainCells}
@@ -15,6 +16,7 @@ use Rattle.warehouse_root.specs.Root.{IsRoot, PlainRoot, with_cuboid}
 use Rattle.warehouse_objects.specs.Lawful.{MayReplace, later_runs}
 use Rattle.warehouse_objects.specs.Stands.{HoldsGroupings, root_of, run_bytes, said_of}
 use Rattle.warehouse_objects.specs.Warehouse.{Cuboid, StoredRun, Warehouse, cuboid_at, kept}
+use Rattle.cuboid_commits.specs.Keeping.{IsReachedOrLarge}
 use Rattle.cuboid_commits.specs.declared.keeping.Next.{Next}
 
 -- a run is put after the others
@@ -73,16 +75,28 @@ pub record IsNext (Holds : Warehouse → Type 0) (root : PlainRoot) (said : Stor
   pub root_is : next.root ≡ with_cuboid after root
   pub change : Cuboid → Cuboid
   pub goes_on : GoesOn change
+  pub reaches : (cuboid : Cuboid) → cuboid.mark ≤ mark → (change cuboid).mark ≡ mark
   pub brings : (w : Warehouse) (old : Cuboid) → HasStored root said w old → Holds w → (run : StoredRun) × BringsOn w old (change old) run next
 
--- the store refuses the commit that brings a cuboid on
+-- Why bringing cuboids on ends: no memory, the device fails, a content of no warehouse, no room, or the last generation.
+abbrev pub EndsBringing : Fault → Type 0
+EndsBringing fault = (fault ≡ Memory) ⊎ ((fault ≡ Device) ⊎ ((fault ≡ BadLayout) ⊎ ((fault ≡ Full) ⊎ (fault ≡ Worn))))
+
+-- the store refuses the commit that brings a cuboid on to the target
 pub record RefusesNext {D : Type 0} (g : Ghosts D) (store : Store D g) (w : Warehouse) (fault : Fault) : Type 0 where
   pub old : Cuboid
   pub new : Cuboid
   pub run : StoredRun
   pub next : Next
+  pub less : old.mark < w.target
+  pub target : new.mark ≡ w.target
   pub brings : BringsOn w old new run next
   pub refuses : stores.Refuses (stores.content_of g store) (stores.room_of store) ((next.id, next.bytes.items) ∷ []) next.drops.items next.root_bytes.items fault
+
+-- That cuboid is the least that is to be brought on: each one of a lower view holds as many batches as it is to, or is too large.
+pub record RefusesLeast {D : Type 0} (g : Ghosts D) (store : Store D g) (w : Warehouse) (fault : Fault) : Type 0 where
+  pub next : RefusesNext g store w fault
+  pub lower : All (λ other. index_of other.view < index_of next.old.view → IsReachedOrLarge w other) w.cuboids
 
 -- a warehouse becomes another one by a cuboid that is brought on
 pub record IsBroughtBy (w : Warehouse) (next : Next) (v : Warehouse) : Type 0 where

@@ -1,5 +1,5 @@
 -- Bringing all stored cuboids to all batches.
-use Rattle.std.specs.Prelude.{◌≡◌, ◌⊎◌, ℕ, List, [], Option, Some, None, All, length}
+use Rattle.std.specs.Prelude.{◌≡◌, ◌⊎◌, [], Option, Some, None, All, length}
 use Rattle.sector_device.specs.declared.device.Sectors.{Ghosts}
 use Rattle.cube_model.specs.declared.fault.Fault.{Fault}
 use Rattle.cube_model.specs.declared.fault.Fault.TheVariants.{Memory}
@@ -10,7 +10,7 @@ use Rattle.warehouse_root.specs.Root as roots
 use Rattle.warehouse_objects.specs.Stands.{root_of}
 use Rattle.warehouse_objects.specs.Warehouse.{Warehouse, aimed}
 use Rattle.cuboid_commits.specs.Keeping.{IsDone}
-use Rattle.cuboid_commits.specs.Nexts.{RefusesNext}
+use Rattle.cuboid_commits.specs.Nexts.{RefusesLeast}
 
 -- each stored cuboid holds all batches
 abbrev pub AreWhole : Warehouse → Type 0
@@ -28,4 +28,4 @@ abbrev pub KeepUpRefuses : {D : Type 0} (g : Ghosts D) → Store D g → Warehou
 KeepUpRefuses g store w fault =
     (fault ≡ Memory)
     ⊎ (stores.Refuses (stores.content_of g store) (stores.room_of store) [] [] (roots.root_of (root_of (aimed w))) fault
-    ⊎ RefusesNext g store w fault)
+    ⊎ RefusesLeast g store w fault)

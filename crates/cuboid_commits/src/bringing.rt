@@ -13,7 +13,7 @@ ghost use Rattle.warehouse_objects.specs.Loaded.{IsLoaded};
 ghost use Rattle.warehouse_objects.specs.Stands.{Stands};
 ghost use Rattle.warehouse_objects.specs.Warehouse.{Cuboid, Warehouse};
 ghost use Rattle.cuboid_commits.specs.Keeping.{IsCaughtUp, IsReached, StoreAt};
-ghost use Rattle.cuboid_commits.specs.Nexts.{IsBroughtBy, RefusesNext, first_run};
+ghost use Rattle.cuboid_commits.specs.Nexts.{EndsBringing, IsBroughtBy, RefusesNext, first_run};
 
 use crate::keeping::{Next, keep_one};
 use crate::nexts::next_of;
@@ -48,10 +48,11 @@ pub(crate) fn bring_on<D: Sectors>(
     ensures failures { OnOk result ((disk_of D.Sectors store.new).failures ≡ (disk_of D.Sectors store.old).failures) }
     ensures reason { IfErr result (λ fault. fault ≢ Device → fault ≢ Memory → D.keeps_word (device_of store.new) → (w : Warehouse)
         → StoreAt D.Sectors store.old root.old w → (D.keeps_word (device_of store.old) → dims.now ≡ w.rows)
-        → RefusesNext D.Sectors store.new w fault) }
+        → (next : RefusesNext D.Sectors store.new w fault) × (slice_get w.cuboids place ≡ Some next.old)) }
     ensures refused { IfErr result (λ fault. fault ≢ Device → (w : Warehouse) → StoreAt D.Sectors store.old root.old w → StoreAt D.Sectors store.new root.new w) }
     ensures readable { IsErrOf result BadLayout → D.keeps_word (device_of store.new) → (w : Warehouse) → StoreAt D.Sectors store.old root.old w
         → (D.keeps_word (device_of store.old) → dims.now ≡ w.rows) → ⊥ }
+    ensures causes { IfErr result EndsBringing }
     ensures failed { IsErrOf result Failed → ⊥ }
     ensures device { IsErrOf result Device → Breaks D.Sectors store.old store.new }
     ensures loaded { has_failed store.new ≡ false → D.keeps_word (device_of store.new) → (rows : DimRows)

@@ -8,7 +8,7 @@ ghost use Rattle.warehouse_objects.specs.Loaded.{IsLoaded};
 ghost use Rattle.warehouse_objects.specs.Stands.{Stands};
 ghost use Rattle.warehouse_objects.specs.Warehouse.{Warehouse};
 ghost use Rattle.cuboid_commits.specs.Keeping.{IsCaughtUp, IsDone, StoreAt};
-ghost use Rattle.cuboid_commits.specs.Nexts.{RefusesNext};
+ghost use Rattle.cuboid_commits.specs.Nexts.{EndsBringing, RefusesLeast};
 
 use crate::bringing::bring_on;
 use cube_model::Fault;
@@ -40,13 +40,14 @@ pub fn catch_up<D: Sectors>(
     ensures ok { IfOk result (λ passed. (w : Warehouse) → StoreAt D.Sectors store.old root.old w → (D.keeps_word (device_of store.old) → dims.now ≡ w.rows)
         → (v : Warehouse) × IsCaughtUp w v × StoreAt D.Sectors store.new root.new v × (D.keeps_word (device_of store.new) → IsDone v passed)) }
 
-    // The store refused the commit of the next run.
+    // The store refused the commit that brings the least of the others on.
     ensures reason { IfErr result (λ fault. fault ≢ Device → fault ≢ Memory → (w : Warehouse) → StoreAt D.Sectors store.old root.old w
         → (D.keeps_word (device_of store.old) → dims.now ≡ w.rows)
         → (v : Warehouse) × IsCaughtUp w v × StoreAt D.Sectors store.new root.new v
-        × (D.keeps_word (device_of store.new) → RefusesNext D.Sectors store.new v fault)) }
+        × (D.keeps_word (device_of store.new) → RefusesLeast D.Sectors store.new v fault)) }
     ensures readable { IsErrOf result BadLayout → D.keeps_word (device_of store.new) → (w : Warehouse) → StoreAt D.Sectors store.old root.old w
         → (D.keeps_word (device_of store.old) → dims.now ≡ w.rows) → ⊥ }
+    ensures causes { IfErr result EndsBringing }
     ensures failed { IsErrOf result Failed → ⊥ }
     ensures device { IsErrOf result Device → (has_failed store.new ≡ true) × ((disk_of D.Sectors store.new).failures ≡ min ((disk_of D.Sectors store.old).failures + 1) (2 ^ 64 - 1)) }
 

@@ -1,4 +1,4 @@
-use Rattle.std.proofs.Common.{ℕ, [], length, refl, sym, ap, ◌∙◌, subst, arith}
+use Rattle.std.proofs.Common.{[], refl, sym, ap, ◌∙◌, subst}
 use Rattle.object_store.specs.Content.{Content}
 use Rattle.object_store.specs.Store as stores
 use Rattle.warehouse_root.specs.Root.{PlainRoot}

@@ -1,15 +1,15 @@
-use Rattle.std.proofs.Common.{◌≡◌, ⊎_elim, Err, sym, ap, subst, arith}
+use Rattle.std.proofs.Common.{◌≡◌, ⊎_elim, Some, Err, [], ◌∷◌, slice_get, sym, ap, subst, arith}
 use Rattle.cube_model.specs.declared.fault.Fault.{Fault}
 use Rattle.cube_model.specs.declared.fault.Fault.TheVariants.{BadLayout, Device, Failed}
 use Rattle.cube_model.specs.FaultNumbers.{number_of}
 use Rattle.lattice.specs.Views.{index_of}
-use Rattle.object_store.specs.Store.{IsStill}
+use Rattle.object_store.specs.Store.{IsStill, content_of, room_of}
 use Rattle.warehouse_root.specs.Root.{PlainRoot}
 use Rattle.cuboid_commits.specs.Keeping.{StoreAt}
 use Rattle.cuboid_commits.specs.Nexts.{RefusesNext}
 use Rattle.cuboid_commits.proofs.Brought.{far_enough}
 use Rattle.warehouse_objects.proofs.Folded.{err_fault}
-use Rattle.cuboid_commits.proofs.OneMore.{bad_not_device, bring_leaves, bring_reached, bring_stays, by_next, many_by_number, never_failed, none_left, not_device, passed_over, read_leaves, refuses_next, stored_at}
+use Rattle.cuboid_commits.proofs.OneMore.{bad_not_device, bring_leaves, bring_reached, bring_stays, ends_refused, ends_unread, many_by_number, never_failed, none_left, not_device, passed_over, read_leaves, refused_next, stored_at}
 use Rattle.cuboid_commits.proofs.Reading.{at_before, at_still}
 use Rattle.cuboid_commits.proofs.Turns.{same}
 use Rattle.cuboid_commits.proofs.bringing.bring_on.Goals as goal
@@ -59,12 +59,20 @@ returns-in-Err-put_next-clause-reason g c no_device no_memory k w at rows =
     let still : IsStill g.D.Sectors c.args.store.now c.next_of.new.store = c.in-Ok.ensures.stays (λ is. cc) in
     let next = c.in-Ok.next in
     let fault : Fault = c.in-Err-put_next.fault in
-    ⊎_elim {C = RefusesNext g.D.Sectors c.put_next.new.store w fault}
+    ⊎_elim {C = (refused : RefusesNext g.D.Sectors c.put_next.new.store w fault) × (slice_get w.cuboids c.args.place ≡ Some refused.old)}
     (λ (bad : fault ≡ BadLayout). absurd (c.in-Err-put_next.ensures.readable (ap (λ (f : Fault). Err f) bad) k w (at_still g.D.Sectors c.args.store.now c.next_of.new.store still c.args.root.now w at)))
-    (λ refuses. refuses_next g.D.Sectors c.next_of.new.store c.put_next.new.store w _ next fault (c.in-Err-put_next.ensures.refused no_device)
-    (by_next g.D.Sectors c.args.store.now c.next_of.new.store still c.args.dims.now c.args.root.now c.cuboid_at.result.0 c.args.place c.cuboid_at.ensures.at next c.in-Ok.ensures.ok w at rows (c.put_next.ensures.word k))
-    refuses)
+    (λ refuses. refused_next g.D.Sectors c.args.store.now c.next_of.new.store still c.args.dims.now c.args.root.now c.cuboid_at.result.0 c.args.place c.cuboid_at.ensures.at next c.in-Ok.ensures.ok
+    c.put_next.new.store w fault at rows (c.put_next.ensures.word k) (omega (arith, c.target.ensures, c.if-target-cuboid.false)) (c.in-Err-put_next.ensures.refused no_device) refuses)
     (c.in-Err-put_next.ensures.causes no_device)
+
+pub returns-in-Err-put_next-clause-causes : goal.returns-in-Err-put_next-clause-causes
+returns-in-Err-put_next-clause-causes g c =
+    let next = c.in-Ok.next in
+    ends_refused (content_of g.D.Sectors c.next_of.new.store) (room_of c.next_of.new.store) ((next.id, next.bytes.items) ∷ []) next.drops.items next.root_bytes.items c.in-Err-put_next.fault c.in-Err-put_next.ensures.causes
+
+pub returns-in-Err-2-clause-causes : goal.returns-in-Err-2-clause-causes
+returns-in-Err-2-clause-causes g c =
+    ends_unread c.in-Err.fault (index_of c.cuboid_at.result.1) (λ many. let large = c.is_too_large.ensures.1 (ap number_of many) in cc (large, c.if-is_too_large.false)) c.in-Err.ensures.causes
 
 pub returns-in-Err-clause-leaves : goal.returns-in-Err-clause-leaves
 returns-in-Err-clause-leaves g c w at rows = read_leaves g.D.Sectors c.args.store.now c.next_of.new.store c.args.root.now w at c.next_of.ensures.leaves

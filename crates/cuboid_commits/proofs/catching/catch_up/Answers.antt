@@ -8,7 +8,7 @@ use Rattle.warehouse_objects.specs.Warehouse.{Warehouse}
 use Rattle.warehouse_objects.specs.Stands as stands
 use Rattle.warehouse_objects.specs.Stands.{Stands, said_of}
 use Rattle.warehouse_objects.proofs.Batches.{get_within}
-use Rattle.cuboid_commits.proofs.Turns.{AreReached, all_done, leaves_first, leaves_more, none_yet, one_more, same, still_reached, then_more}
+use Rattle.cuboid_commits.proofs.Turns.{AreReached, all_done, leaves_first, leaves_more, lower_reached, none_yet, one_more, same, still_reached, then_more}
 use Rattle.cuboid_commits.proofs.catching.catch_up.Goals as goal
 
 pub loop-place-init : goal.loop-place-init
@@ -80,8 +80,17 @@ pub returns-in-Err-clause-reason : goal.returns-in-Err-clause-reason
 returns-in-Err-clause-reason g c no_device no_memory w at dims =
     let so_far = c.loop-place.invariant in
     let was = so_far.at w at dims in
-    let known : g.D.Sectors.keeps_word (stores.device_of c.loop-place.store) → c.args.dims.now ≡ was.0.rows = λ k. dims (so_far.word k) ∙ sym was.1.kept.rows in
-    (was.0, was.1, c.in-Err.ensures.refused no_device was.0 was.2, λ k. c.in-Err.ensures.reason no_device no_memory k was.0 was.2 known)
+    let known : g.D.Sectors.keeps_word (stores.device_of c.loop-place.store) → c.args.dims.now ≡ was.0.rows = λ k. dims (so_far.word k) ∙ sym was.1.kept.rows in (
+      was.0,
+      was.1,
+      c.in-Err.ensures.refused no_device was.0 was.2,
+      λ k.
+          let refused = c.in-Err.ensures.reason no_device no_memory k was.0 was.2 known in
+          let before = c.bring_on.ensures.word k in record {
+            next = refused.0;
+            lower = lower_reached was.0 c.loop-place.place c.loop-place.first refused.0.old (was.2.stands before).root.proper.ascending refused.1 (was.3 before);
+          },
+    )
 
 pub returns-in-Err-clause-readable : goal.returns-in-Err-clause-readable
 returns-in-Err-clause-readable g c is k w at dims =

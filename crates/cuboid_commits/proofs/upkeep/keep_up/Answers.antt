@@ -1,4 +1,4 @@
-use Rattle.std.proofs.Common.{◌≡◌, ⊎_elim, inl, inr, Err, ℕ, List, [], length, All, sym, ◌∙◌, ap, subst}
+use Rattle.std.proofs.Common.{◌≡◌, ⊎_elim, inl, inr, Err, ℕ, List, [], length, All, sym, ap, subst}
 use Rattle.object_store.specs.Content.{Content}
 use Rattle.object_store.specs.Room.{Room}
 use Rattle.object_store.specs.Store as stores
@@ -7,7 +7,8 @@ use Rattle.warehouse_root.specs.Root as roots
 use Rattle.warehouse_root.specs.declared.cuboid.StoredCuboid.{StoredCuboid}
 use Rattle.warehouse_objects.specs.Stands.{root_of}
 use Rattle.warehouse_objects.specs.Warehouse.{aimed}
-use Rattle.cuboid_commits.proofs.Upkept.{all_whole, from_aimed, kept_same, leaves_aimed, leaves_both, leaves_same, memory_or, target_is, whole_by_root}
+use Rattle.cuboid_commits.proofs.Turns.{kept_same}
+use Rattle.cuboid_commits.proofs.Upkept.{all_whole, from_aimed, leaves_aimed, leaves_both, leaves_same, memory_or, target_is, whole_by_root}
 use Rattle.cuboid_commits.proofs.upkeep.keep_up.Goals as goal
 
 pub returns-then-are_whole-clause-leaves : goal.returns-then-are_whole-clause-leaves
