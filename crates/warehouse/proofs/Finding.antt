@@ -1,5 +1,5 @@
 -- An opening: the store's, and the reading of what the session keeps.
-use Rattle.std.proofs.Common.{◌≡◌, false, Option, List, [], ◌∷◌, refl, sym, subst, arith}
+use Rattle.std.proofs.Common.{◌≡◌, false, Option, List, refl, sym, subst}
 use Rattle.cube_model.specs.declared.rows.DimRows.{DimRows}
 use Rattle.cube_model.specs.declared.rows.LineOrder.{LineOrder}
 use Rattle.sector_device.specs.declared.device.Sectors.{Ghosts}
@@ -9,20 +9,12 @@ use Rattle.object_store.specs.Moments.{only_images, leaves_then, leaves_weaker}
 use Rattle.object_store.specs.Store as stores
 use Rattle.object_store.specs.declared.store.Store.{Store}
 use Rattle.object_store.proofs.CallerLemmas.{shown_has}
-use Rattle.warehouse_objects.specs.Warehouse.{Cuboid, Warehouse}
+use Rattle.warehouse_objects.specs.Warehouse.{Warehouse}
 use Rattle.warehouse_objects.specs.Stands.{Stands}
 use Rattle.warehouse.specs.declared.session.Session.{Session}
-use Rattle.cuboid_commits.specs.Keeping.{AreKeptOn, IsKeptUp}
+use Rattle.cuboid_commits.proofs.CallerLemmas.{kept_same}
 use Rattle.warehouse.specs.Found.{IsSince, MayBeFound, MayStand, MayStandSince}
 use Rattle.warehouse.specs.Session.{IsAt, is_at, disk_of, content_of, has_failed}
-
-kept_on : (cuboids : List Cuboid) → AreKeptOn cuboids cuboids
-kept_on [] = tt
-kept_on (cuboid ∷ cuboids) = (refl, omega arith, kept_on cuboids)
-
--- nothing was brought on
-pub kept_same : (w : Warehouse) → IsKeptUp w w
-kept_same w = record { layout = refl; rows = refl; batches = refl; additions = refl; cuboids = kept_on w.cuboids }
 
 -- what is shown then is since then
 pub since_then : (start : Disk) (c : Content) (w : Warehouse) → IsShown start c → Stands c w → IsSince start w

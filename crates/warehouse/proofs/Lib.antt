@@ -7,6 +7,7 @@ pub mod Standing
 pub mod Submitting
 pub mod Making
 pub mod Finding
+mod Caught
 pub mod Cuboids
 mod Pairing
 mod Choices

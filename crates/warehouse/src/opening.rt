@@ -3,7 +3,7 @@ ghost use Rattle.std.specs.Prelude.{◌≡◌, ◌≢◌, ◌⊎◌, ◌+◌, �
 ghost use Rattle.cube_model.specs.declared.fault.Fault.TheVariants.{BadLayout, Device, Memory, NotFormatted};
 ghost use Rattle.cube_model.specs.declared.rows.DimRows.{DimRows};
 ghost use Rattle.cube_model.specs.declared.rows.LineOrder.{LineOrder};
-ghost use Rattle.object_store.specs.Disk.{disk, AllShow, Each, IsBlank, Leaves};
+ghost use Rattle.object_store.specs.Disk.{disk, AllShow, Each, IsBlank, IsShown, Leaves};
 ghost use Rattle.object_store.specs.Found.{Explains, is_of_layout};
 ghost use Rattle.object_store.specs.Shows.{HasNone};
 ghost use Rattle.object_store.specs.Store as stores;
@@ -12,7 +12,7 @@ ghost use Rattle.warehouse_root.specs.Layouts.{number_of};
 ghost use Rattle.warehouse_root.specs.Root.{IsRootOf};
 ghost use Rattle.warehouse_objects.specs.Warehouse.{Warehouse};
 ghost use Rattle.warehouse_objects.specs.Stands.{Stands};
-ghost use Rattle.warehouse.specs.Found.{IsSince, MayBeFound, MayStand, MayStandSince};
+ghost use Rattle.warehouse.specs.Found.{IsFinished, IsSince, MayBeFound, MayStand, MayStandSince};
 ghost use Rattle.warehouse_objects.specs.Loaded.{IsLoaded};
 ghost use Rattle.warehouse.specs.Session.{content_of, device_of, disk_of, has_failed, IsAt};
 
@@ -25,10 +25,49 @@ use std::alloc::Global;
 use warehouse_objects::{has_its_objects, read_dims, read_root};
 use warehouse_root::Root;
 
-/// Finds the warehouse on a device, also one that was not restarted. A refusal hands the device back.
+/// Finds the warehouse on a device, also one that was not restarted, and finishes an upkeep that was cut off. A refusal hands the
+/// device back.
 ///
-/// It reads the root and the dimensions, and no batch.
+/// It reads the root and the dimensions. Then it brings each stored cuboid that holds fewer batches than the target to it, by
+/// ascending view and in one commit each; the target stays. A cuboid that would have more than 262,144 cells is passed over. Where
+/// there is no room for a commit, and at the last generation, the others are left as they are. Where memory is missing or the
+/// device fails, cuboids that were brought on stay so.
 pub fn open<D: Sectors>(alloc: Global, device: D) -> Result<Session<D>, (Fault, D)>
+    // Where every image at the start stands for batches that may be found, each at any moment stands for such.
+    ensures leaves { IfOk result (λ session. (rows : DimRows) (batches : List (List LineOrder)) (last : Option (List LineOrder)) →
+        AllShow (disk D.Sectors device) (MayStand rows batches last) → Leaves (disk D.Sectors device) (disk_of D.Sectors session) (MayStandSince (disk D.Sectors device) rows batches last)) }
+    ensures leaves_err { IfErr result (λ e. (rows : DimRows) (batches : List (List LineOrder)) (last : Option (List LineOrder)) →
+        AllShow (disk D.Sectors device) (MayStand rows batches last) → Leaves (disk D.Sectors device) (disk D.Sectors e.1) (MayStandSince (disk D.Sectors device) rows batches last)) }
+
+    // Then it is at one of them, and every image stands for that one. Its cuboids hold the batches up to the target.
+    ensures ok { IfOk result (λ session. (rows : DimRows) (batches : List (List LineOrder)) (last : Option (List LineOrder)) →
+        AllShow (disk D.Sectors device) (MayStand rows batches last) → D.keeps_word (device_of session)
+        → (w : Warehouse) × MayBeFound rows batches last w × IsSince (disk D.Sectors device) w × IsAt D.Sectors session w × IsFinished D.Sectors session w) }
+
+    // Where every image at the start stands for a warehouse, it never finds none: it refuses for memory or the device.
+    ensures never { IfErr result (λ e. (rows : DimRows) (batches : List (List LineOrder)) (last : Option (List LineOrder)) →
+        AllShow (disk D.Sectors device) (MayStand rows batches last) → D.keeps_word e.1 → (e.0 ≡ Memory) ⊎ (e.0 ≡ Device)) }
+    ensures device { IfErr result (λ e. e.0 ≡ Device → D.failed e.1 ≡ min (D.failed device + 1) (2 ^ 64 - 1)) }
+    ensures unformatted { IfErr result (λ e. e.0 ≡ NotFormatted → D.keeps_word e.1 → HasNone (D.state device).reads) }
+    ensures explained { IfErr result (λ e. e.0 ≢ BadLayout → D.keeps_word e.1 → Explains e.0 (D.state device).size (D.state device).reads) }
+    ensures blank { IfErr result (λ e. e.0 ≡ BadLayout → D.keeps_word e.1 → Each (disk D.Sectors device) IsBlank → HasNone (D.state device).reads → ⊥) }
+    ensures causes { IfErr result (λ e. (e.0 ≡ Memory) ⊎ ((e.0 ≡ Device) ⊎ (is_of_layout e.0 ≡ true))) }
+{
+    let mut session = match open_as_is(alloc, device) {
+        Ok(session) => session,
+        Err(e) => return Err(e),
+    };
+    match session.finish(alloc) {
+        Ok(()) => Ok(session),
+        Err(fault) => Err((fault, session.close())),
+    }
+}
+
+/// Finds the warehouse on a device, also one that was not restarted, and leaves it as it is, for a reader of a device that may not be
+/// written. A refusal hands the device back.
+///
+/// It reads the root and the dimensions, and no batch. It commits nothing: an upkeep that was cut off stays so.
+pub fn open_as_is<D: Sectors>(alloc: Global, device: D) -> Result<Session<D>, (Fault, D)>
     // Where every image at the start stands for batches that may be found, each at any moment stands for such.
     ensures leaves { IfOk result (λ session. (rows : DimRows) (batches : List (List LineOrder)) (last : Option (List LineOrder)) →
         AllShow (disk D.Sectors device) (MayStand rows batches last) → Leaves (disk D.Sectors device) (disk_of D.Sectors session) (MayStandSince (disk D.Sectors device) rows batches last)) }
@@ -39,6 +78,12 @@ pub fn open<D: Sectors>(alloc: Global, device: D) -> Result<Session<D>, (Fault, 
     ensures ok { IfOk result (λ session. (rows : DimRows) (batches : List (List LineOrder)) (last : Option (List LineOrder)) →
         AllShow (disk D.Sectors device) (MayStand rows batches last) → D.keeps_word (device_of session)
         → (w : Warehouse) × MayBeFound rows batches last w × IsSince (disk D.Sectors device) w × IsAt D.Sectors session w) }
+
+    // It holds what an image at the start showed.
+    ensures fine { IfOk result (λ session. has_failed session ≡ false) }
+    ensures shown { IfOk result (λ session. D.keeps_word (device_of session) → IsShown (disk D.Sectors device) (content_of D.Sectors session)) }
+    ensures word { IfOk result (λ session. D.keeps_word (device_of session) → D.keeps_word device) }
+    ensures failures { IfOk result (λ session. D.failed (device_of session) ≡ D.failed device) }
 
     // Where every image at the start stands for a warehouse, it never finds none: it refuses for memory or the device.
     ensures never { IfErr result (λ e. (rows : DimRows) (batches : List (List LineOrder)) (last : Option (List LineOrder)) →
@@ -64,6 +109,7 @@ fn load<D: Sectors>(alloc: Global, mut store: Store<D>) -> Result<Session<D>, (F
     requires fine { stores.has_failed store ≡ false }
     ensures fine { IfOk result (λ session. has_failed session ≡ false) }
     ensures content { IfOk result (λ session. (disk_of D.Sectors session).keeps_word → content_of D.Sectors session ≡ stores.content_of D.Sectors store) }
+    ensures failures { IfOk result (λ session. (disk_of D.Sectors session).failures ≡ (stores.disk_of D.Sectors store).failures) }
     ensures leaves { IfOk result (λ session. Leaves (stores.disk_of D.Sectors store) (disk_of D.Sectors session) (λ c. c ≡ stores.content_of D.Sectors store)) }
     ensures leaves_err { IfErr result (λ e. Leaves (stores.disk_of D.Sectors store) (disk D.Sectors e.1) (λ c. c ≡ stores.content_of D.Sectors store)) }
     ensures readable { IfErr result (λ e. e.0 ≡ BadLayout → D.keeps_word e.1 → (w : Warehouse) → Stands (stores.content_of D.Sectors store) w → ⊥) }

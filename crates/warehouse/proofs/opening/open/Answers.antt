@@ -1,65 +1,62 @@
-use Rattle.std.proofs.Common.{⊎_elim, inl, inr, sym, subst, arith, ◌%◌}
+use Rattle.std.proofs.Common.{⊎_elim, inl, inr, Err, ◌+◌, ◌-◌, ◌^◌, ◌%◌, ℕ, min, sym, ◌∙◌, ap, subst, arith}
 use Rattle.cube_model.specs.declared.fault.Fault.{Fault}
-use Rattle.object_store.specs.Disk.{disk}
-use Rattle.object_store.specs.Found.{Explains}
-use Rattle.object_store.specs.Store as stores
-use Rattle.warehouse.specs.Found.{MayStand}
-use Rattle.warehouse.specs.Session.{disk_of}
-use Rattle.warehouse.proofs.Finding.{only_since, read_leaves, session_may, never_loaded, never_none}
+use Rattle.object_store.specs.Disk.{disk, Leaves}
+use Rattle.object_store.specs.Found.{Explains, is_of_layout}
+use Rattle.warehouse.specs.Found.{MayStandSince}
+use Rattle.warehouse.specs.Session.{content_of, disk_of}
+use Rattle.warehouse.proofs.Caught.{finish_leaves, found_caught, since_caught}
 use Rattle.warehouse.proofs.opening.open.Goals as goal
 
-pub returns-in-Ok-load-clause-leaves : goal.returns-in-Ok-load-clause-leaves
-returns-in-Ok-load-clause-leaves g c rows batches last all =
-    read_leaves g.D.Sectors c.args.device c.in-Ok.store rows batches last all c.in-Ok.ensures.only c.in-Ok.ensures.found (disk_of g.D.Sectors c.in-Ok-load.session) c.in-Ok-load.ensures.leaves
+pub returns-in-Ok-finish-clause-leaves : goal.returns-in-Ok-finish-clause-leaves
+returns-in-Ok-finish-clause-leaves g c rows batches last all =
+    finish_leaves (disk g.D.Sectors c.args.device) rows batches last g.D.Sectors c.in-Ok.session (disk_of g.D.Sectors c.finish.new.self)
+    (c.in-Ok.ensures.ok rows batches last all) (c.in-Ok.ensures.leaves rows batches last all) c.finish.ensures.word c.finish.ensures.leaves
 
-pub returns-in-Err-load-clause-leaves_err : goal.returns-in-Err-load-clause-leaves_err
-returns-in-Err-load-clause-leaves_err g c rows batches last all =
-    read_leaves g.D.Sectors c.args.device c.in-Ok.store rows batches last all c.in-Ok.ensures.only c.in-Ok.ensures.found (disk g.D.Sectors c.in-Err-load.e.1) c.in-Err-load.ensures.leaves_err
+pub returns-in-Err-finish-clause-leaves_err : goal.returns-in-Err-finish-clause-leaves_err
+returns-in-Err-finish-clause-leaves_err g c rows batches last all =
+    let start = disk g.D.Sectors c.args.device in
+    subst (λ (d : g.row.D.Denot). Leaves start (disk g.D.Sectors d) (MayStandSince start rows batches last)) (sym c.close.ensures)
+    (finish_leaves start rows batches last g.D.Sectors c.in-Ok.session (disk_of g.D.Sectors c.finish.new.self)
+    (c.in-Ok.ensures.ok rows batches last all) (c.in-Ok.ensures.leaves rows batches last all) c.finish.ensures.word c.finish.ensures.leaves)
 
-pub returns-in-Ok-load-clause-ok : goal.returns-in-Ok-load-clause-ok
-returns-in-Ok-load-clause-ok g c rows batches last all k =
-    session_may g.D.Sectors c.args.device c.in-Ok.store rows batches last all c.in-Ok.ensures.only c.in-Ok.ensures.found c.in-Ok-load.session c.in-Ok-load.ensures.fine c.in-Ok-load.ensures.content c.in-Ok-load.ensures.leaves k
+pub returns-in-Ok-finish-clause-ok : goal.returns-in-Ok-finish-clause-ok
+returns-in-Ok-finish-clause-ok g c rows batches last all k =
+    let start = disk g.D.Sectors c.args.device in
+    let found = c.in-Ok.ensures.ok rows batches last all (c.finish.ensures.word k) in
+    let now = c.in-Ok-finish.ensures.ok found.0 found.3 in
+    (now.0, found_caught start rows batches last found.0 now.0 now.1 found.1, since_caught start rows batches last found.0 now.0 now.1 found.2, now.2, now.3 k)
 
-pub returns-in-Err-clause-never : goal.returns-in-Err-clause-never
-returns-in-Err-clause-never g c rows batches last all k =
+pub returns-in-Err-finish-clause-never : goal.returns-in-Err-finish-clause-never
+returns-in-Err-finish-clause-never g c rows batches last all k =
+    let word = subst (λ (d : g.row.D.Denot). g.D.Sectors.keeps_word d) c.close.ensures k in
+    let found = c.in-Ok.ensures.ok rows batches last all (c.finish.ensures.word word) in
     ⊎_elim (λ memory. inl memory)
-    (⊎_elim (λ device. inr device)
-    (λ layout. absurd (never_none (disk g.D.Sectors c.args.device) (MayStand rows batches last) all (c.in-Err.ensures.only_err.word k) (c.in-Err.ensures.nothing layout k))))
-    c.in-Err.ensures.causes
+    (⊎_elim (λ device. inr device) (λ bad. absurd (c.in-Err-finish.ensures.readable (ap (λ (f : Fault). Err f) bad) word found.0 found.3)))
+    c.in-Err-finish.ensures.causes
 
-pub returns-in-Err-load-clause-never : goal.returns-in-Err-load-clause-never
-returns-in-Err-load-clause-never g c rows batches last all k =
-    ⊎_elim (λ memory. inl memory)
-    (⊎_elim (λ device. inr device)
-    (λ bad. absurd (never_loaded g.D.Sectors c.args.device c.in-Ok.store rows batches last all c.in-Ok.ensures.only c.in-Ok.ensures.found (disk g.D.Sectors c.in-Err-load.e.1) c.in-Err-load.ensures.leaves_err k
-    (c.in-Err-load.ensures.readable bad k))))
-    c.in-Err-load.ensures.causes
+pub returns-in-Err-finish-clause-device : goal.returns-in-Err-finish-clause-device
+returns-in-Err-finish-clause-device g c is =
+    ap (λ (d : g.row.D.Denot). g.D.Sectors.failed d) c.close.ensures ∙ (c.in-Err-finish.ensures.device (ap (λ (f : Fault). Err f) is)).failures
+    ∙ ap (λ (n : ℕ). min (n + 1) (2 ^ 64 - 1)) c.in-Ok.ensures.failures
 
-pub returns-in-Err-clause-unformatted : goal.returns-in-Err-clause-unformatted
-returns-in-Err-clause-unformatted g c is k =
-    let s = g.D.Sectors.state c.args.device in
-    subst (λ (f : Fault). Explains f s.size s.reads) is (c.in-Err.ensures.explained k)
+pub returns-in-Err-finish-clause-unformatted : goal.returns-in-Err-finish-clause-unformatted
+returns-in-Err-finish-clause-unformatted g c is k =
+    absurd (⊎_elim (λ memory. cc) (⊎_elim (λ device. cc) (λ bad. cc)) c.in-Err-finish.ensures.causes)
 
-pub returns-in-Err-clause-leaves_err : goal.returns-in-Err-clause-leaves_err
-returns-in-Err-clause-leaves_err g c rows batches last all =
-    only_since (disk g.D.Sectors c.args.device) (disk g.D.Sectors c.in-Err.e.1) rows batches last all c.in-Err.ensures.only_err
-
-pub returns-in-Err-load-clause-explained : goal.returns-in-Err-load-clause-explained
-returns-in-Err-load-clause-explained g c other k =
+pub returns-in-Err-finish-clause-explained : goal.returns-in-Err-finish-clause-explained
+returns-in-Err-finish-clause-explained g c other k =
     let s = g.D.Sectors.state c.args.device in
     ⊎_elim (λ memory. subst (λ (f : Fault). Explains f s.size s.reads) (sym memory) tt)
     (⊎_elim (λ failed. subst (λ (f : Fault). Explains f s.size s.reads) (sym failed) tt) (λ bad. absurd (other bad)))
-    c.in-Err-load.ensures.causes
+    c.in-Err-finish.ensures.causes
 
-pub returns-in-Err-clause-blank : goal.returns-in-Err-clause-blank
-returns-in-Err-clause-blank g c is k blank none =
-    let s = g.D.Sectors.state c.args.device in
-    let newest = subst (λ (f : Fault). Explains f s.size s.reads) is (c.in-Err.ensures.explained k) in
-    none (newest.0.generation % 2) (omega arith) newest.0 newest.1.standing
+pub returns-in-Err-finish-clause-blank : goal.returns-in-Err-finish-clause-blank
+returns-in-Err-finish-clause-blank g c is k blank none =
+    let word = c.finish.ensures.word (subst (λ (d : g.row.D.Denot). g.D.Sectors.keeps_word d) c.close.ensures k) in
+    let shown = c.in-Ok.ensures.shown word in
+    let content = content_of g.D.Sectors c.in-Ok.session in
+    blank (c.in-Ok.ensures.word word) shown.image shown.is (content.generation % 2) (omega arith) shown.shows.0 shown.shows.2.standing
 
-pub returns-in-Err-load-clause-blank : goal.returns-in-Err-load-clause-blank
-returns-in-Err-load-clause-blank g c is k blank none =
-    let word = c.in-Err-load.ensures.leaves_err.word k in
-    let shown = c.in-Ok.ensures.found word in
-    let content = stores.content_of g.D.Sectors c.in-Ok.store in
-    blank (c.in-Ok.ensures.only.word word) shown.image shown.is (content.generation % 2) (omega arith) shown.shows.0 shown.shows.2.standing
+pub returns-in-Err-finish-clause-causes : goal.returns-in-Err-finish-clause-causes
+returns-in-Err-finish-clause-causes g c =
+    ⊎_elim (λ memory. inl memory) (⊎_elim (λ device. inr (inl device)) (λ bad. inr (inr (ap is_of_layout bad)))) c.in-Err-finish.ensures.causes

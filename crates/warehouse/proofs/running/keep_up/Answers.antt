@@ -1,5 +1,5 @@
-use Rattle.std.proofs.Common.{◌≡◌, true, false, Err, List, refl, sym, ◌∙◌, ap, subst}
-use Rattle.warehouse.proofs.Finding.{kept_same}
+use Rattle.std.proofs.Common.{Err, ap}
+use Rattle.cuboid_commits.proofs.CallerLemmas.{kept_same}
 use Rattle.warehouse.proofs.Performing.{upkeep_done, upkeep_refused}
 use Rattle.warehouse.proofs.running.keep_up.Goals as goal
 
