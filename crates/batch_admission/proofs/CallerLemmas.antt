@@ -13,7 +13,7 @@ use Rattle.cube_model.specs.Attributes.{customer_of, supplier_of, part_of, date_
 use Rattle.cube_model.specs.Causes.{first_cause, cause_if}
 use Rattle.cube_model.specs.Limits.{most_batch_rows, most_batches}
 use Rattle.cube_model.specs.Measures.{measure_of}
-use Rattle.batch_admission.specs.Found.{cause_of, found_in}
+use Rattle.batch_admission.specs.Found.{Found, cause_of, found_in}
 use Rattle.batch_admission.specs.Totals.{sum_limit, total_cause, totals_cause, totals_of, plus_rows}
 use Rattle.batch_admission.specs.declared.totals.Totals.{Totals}
 use Rattle.batch_admission.proofs.AcceptedLaws as laws
@@ -136,7 +136,7 @@ passes-found dimensions batches number rows e =
       pass = passes dimensions batches number rows e
 
 -- what is not found in some rows is not found in the first of them
-long_before : (number : ℕ) (earlier rows : List LineOrder) → long_text number (earlier ++ rows) ≡ None → long_text number earlier ≡ None
+pub long_before : (number : ℕ) (earlier rows : List LineOrder) → long_text number (earlier ++ rows) ≡ None → long_text number earlier ≡ None
 long_before number [] rows e = refl
 long_before number (row ∷ earlier) rows e =
     let parts = both (long_field number row) (long_text (number + 1) (earlier ++ rows) ∷ []) e in
@@ -174,3 +174,7 @@ found-earlier dimensions totals earlier rows e =
     let unknown = both (unknown_key dimensions 1 (earlier ++ rows)) (totals_cause (plus_rows totals (earlier ++ rows)) ∷ []) long.1 in
     none_of_three (long_text 1 earlier) (unknown_key dimensions 1 earlier) (totals_cause (plus_rows totals earlier))
     (long_before 1 earlier rows long.0) (unknown_before dimensions 1 earlier rows unknown.0) (totals_before totals earlier rows (only _ unknown.1))
+
+-- where there is no cause, no text is too long
+pub clean-texts : (found : Found) → cause_of found ≡ None → found.long_text ≡ None
+clean-texts found e = (both found.long_text (found.unknown_key ∷ totals_cause found.totals ∷ []) e).0

@@ -1,5 +1,5 @@
 //! What the rows of a batch are refused for.
-ghost use Rattle.std.specs.Prelude.{◌≡◌, ℕ, ◌+◌, ◌<◌, ◌≤◌, [], None, List, ◌++◌, length, IfOk};
+ghost use Rattle.std.specs.Prelude.{◌≡◌, ℕ, ◌+◌, ◌<◌, ◌≤◌, [], None, List, ◌++◌, is_some, length, IfOk};
 ghost use Rattle.std.specs.Result.{result_err};
 ghost use Rattle.cube_model.specs.declared.rows.DimRows.{DimRows};
 ghost use Rattle.cube_model.specs.declared.rows.LineOrder.{LineOrder};
@@ -73,6 +73,13 @@ impl Findings {
         ensures few { result ≤ most_batch_rows }
     {
         self.row_count
+    }
+
+    /// Whether a text of the rows is too long. That of a further row does not change a yes.
+    pub fn has_long_text(&self) -> bool
+        ensures { result ≡ is_some self.now.long_text }
+    {
+        self.long_text.is_some()
     }
 
     /// What is found with the next rows of the batch. Each is looked at once.

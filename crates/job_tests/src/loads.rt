@@ -1,7 +1,7 @@
 //! Loads one after the other, each with what it writes and what comes of it.
 use crate::given::{created, created_on, first_lines, loaded};
 use crate::loads::File::{Sample, Text};
-use cube_model::Fault;
+use cube_model::{Fault, Measure};
 use sample_star::TABLES;
 use sector_device::MemDisk;
 use std::alloc::Global;
@@ -36,10 +36,30 @@ const BAD_THIRD: &[u8] =
 const STRANGER: &[u8] =
     b"1|1|1|1|1|19930105|1-URGENT|0|17|1000|1000|2|980|600|0|19930201|AIR|\n2|1|7|2|2|19971202|5-LOW|0|24|2000|2000|3|1940|2000|0|19980101|RAIL|\n";
 
+/// The first two lines in turned order.
+const TURNED: &[u8] =
+    b"2|1|2|2|2|19971202|5-LOW|0|24|2000|2000|3|1940|2000|0|19980101|RAIL|\n1|1|1|1|1|19930105|1-URGENT|0|17|1000|1000|2|980|600|0|19930201|AIR|\n";
+
+/// The lines of the sample, and the third one once more.
+const FOUR: &[u8] =
+    b"1|1|1|1|1|19930105|1-URGENT|0|17|1000|1000|2|980|600|0|19930201|AIR|\n2|1|2|2|2|19971202|5-LOW|0|24|2000|2000|3|1940|2000|0|19980101|RAIL|\n3|1|1|2|1|19971202|5-LOW|0|25|500|500|1|495|100|0|19980101|AIR|\n3|1|1|2|1|19971202|5-LOW|0|25|500|500|1|495|100|0|19980101|AIR|\n";
+
+/// The third line; with another ship mode; and with an order priority of 256 characters.
+const THIRD: &[u8] = b"3|1|1|2|1|19971202|5-LOW|0|25|500|500|1|495|100|0|19980101|AIR|\n";
+
+const BY_SHIP: &[u8] = b"3|1|1|2|1|19971202|5-LOW|0|25|500|500|1|495|100|0|19980101|SHIP|\n";
+
+const LONG: &[u8] =
+    b"3|1|1|2|1|19971202|LLLLLLLLLLLLLLLLLLLLLLLLLLLLLLLLLLLLLLLLLLLLLLLLLLLLLLLLLLLLLLLLLLLLLLLLLLLLLLLLLLLLLLLLLLLLLLLLLLLLLLLLLLLLLLLLLLLLLLLLLLLLLLLLLLLLLLLLLLLLLLLLLLLLLLLLLLLLLLLLLLLLLLLLLLLLLLLLLLLLLLLLLLLLLLLLLLLLLLLLLLLLLLLLLLLLLLLLLLLLLLLLLLLLLLLLLLLLLLLLLLLLLLLLLLLLLLLL|0|25|500|500|1|495|100|0|19980101|AIR|\n";
+
+/// The first line with a revenue of 5 * 10 ^ 18.
+const DEAR: &[u8] =
+    b"1|1|1|1|1|19930105|1-URGENT|0|17|1000|1000|2|5000000000000000000|600|0|19930201|AIR|\n";
+
 const NO_QUANTITY: Fault = Fault::BadNumber { line: 3, field: 9 };
 
 /// Each list is done on a warehouse of its own.
-static LOADS: [&[Step]; 7] = [
+static LOADS: [&[Step]; 8] = [
     &[
         (1, 65_536, Sample, "batch 1 rows 3\nbatches 1\n", Ok(true)),
         (1, 65_536, Sample, "batch 1 skipped\nbatches 1\n", Ok(true)),
@@ -53,14 +73,40 @@ static LOADS: [&[Step]; 7] = [
             "batch 1 rows 1\nbatch 2 rows 1\nbatch 3 rows 1\nbatches 3\n",
             Ok(true),
         ),
+        // With other rows a batch than before, and with a first number that is too small.
+        (1, 2, Sample, "", Err(Fault::Repeated)),
+        (1, 4, Sample, "", Err(Fault::Repeated)),
+        (3, 1, Sample, "", Err(Fault::Repeated)),
         (
-            3,
+            4,
             2,
             Sample,
-            "batch 3 skipped\nbatch 4 rows 1\nbatches 4\n",
+            "batch 4 rows 2\nbatch 5 rows 1\nbatches 5\n",
             Ok(true),
         ),
-        (1, 4, Sample, "batch 1 skipped\nbatches 4\n", Ok(true)),
+        // Other rows, as many as before.
+        (1, 1, Text(TURNED), "", Err(Fault::Repeated)),
+        (4, 2, Text(TURNED), "", Err(Fault::Repeated)),
+        // The last batch had fewer rows than this one.
+        (4, 2, Text(FOUR), "batch 4 skipped\n", Err(Fault::Repeated)),
+        // It differs in one text, and in one that is too long to be stored.
+        (3, 1, Text(BY_SHIP), "", Err(Fault::Repeated)),
+        (3, 1, Text(LONG), "", Err(Fault::Repeated)),
+        (3, 1, Text(THIRD), "batch 3 skipped\nbatches 5\n", Ok(true)),
+    ],
+    &[
+        // The sum of the batch and of itself once more passes the limit.
+        (1, 1, Text(DEAR), "batch 1 rows 1\nbatches 1\n", Ok(true)),
+        (1, 1, Text(DEAR), "batch 1 skipped\nbatches 1\n", Ok(true)),
+        (
+            2,
+            1,
+            Text(DEAR),
+            "",
+            Err(Fault::SumRange {
+                measure: Measure::Revenue,
+            }),
+        ),
     ],
     &[
         (
@@ -109,13 +155,8 @@ static LOADS: [&[Step]; 7] = [
             "batch 1 rows 1\n",
             Err(Fault::UnknownCustomer { row: 1 }),
         ),
-        (
-            1,
-            2,
-            Text(STRANGER),
-            "batch 1 skipped\nbatches 1\n",
-            Ok(true),
-        ),
+        // It is another batch than the one that is there, whatever its customers are.
+        (1, 2, Text(STRANGER), "", Err(Fault::Repeated)),
         (
             2,
             2,
@@ -195,4 +236,25 @@ fn a_batch_may_end_with_a_piece(rt: HostRuntime) -> Result<(), Fail> {
     assert!(rt; out.as_slice() == b"batch 1 rows 2048\nbatches 1\n".as_slice());
     assert_eq!(rt; done, Ok(true));
     Ok(())
+}
+
+/// How many rows the batches of the numbers 0 to 3 have where the sample was loaded in batches of two rows.
+fn rows_of_batches(alloc: Global) -> Result<[Option<u32>; 4], Fault> {
+    let mut session = created(alloc)?;
+    let (_, done) = loaded(alloc, &mut session, 1, 2, TABLES.lineorder)?;
+    let _all = done?;
+    Ok([
+        session.batch_rows(0),
+        session.batch_rows(1),
+        session.batch_rows(2),
+        session.batch_rows(3),
+    ])
+}
+
+#[test]
+fn batches_have_their_rows(rt: HostRuntime) {
+    assert_eq!(rt;
+        rows_of_batches(rt.alloc()),
+        Ok([None, Some(2), Some(1), None])
+    );
 }

@@ -88,6 +88,35 @@ fn a_load_makes_no_call_but_those_of_its_batches(rt: HostRuntime) {
     assert_eq!(rt; told_before_a_failure(rt.alloc()), Ok((4, Ok(true))));
 }
 
+/// What a load that is given again tells and answers, on a device that fails from its call of a number on.
+fn told_again(alloc: Global, call: u64) -> Result<Told, Fault> {
+    let mut session = created(alloc)?;
+    let (_, done) = loaded(alloc, &mut session, 1, 1, TABLES.lineorder)?;
+    let _all = done?;
+    let calls = OPENING.saturating_add(call);
+    let mut again = opened(alloc, Fuse::new(session.close(), calls, true, false))?;
+    told(alloc, &mut again)
+}
+
+/// The same at each of the calls of such a load, which reads the sector of each batch, and behind them.
+fn each_told_again(alloc: Global) -> Result<[Told; 4], Fault> {
+    Ok([
+        told_again(alloc, 1)?,
+        told_again(alloc, 2)?,
+        told_again(alloc, 3)?,
+        told_again(alloc, 4)?,
+    ])
+}
+
+#[test]
+fn a_load_that_is_given_again_only_reads(rt: HostRuntime) {
+    let failed = Err(Fault::Device);
+    assert_eq!(rt;
+        each_told_again(rt.alloc()),
+        Ok([(0, failed), (1, failed), (2, failed), (4, Ok(true))])
+    );
+}
+
 /// What comes of a job that reads no file, and how many bytes it writes.
 type Answer = (Result<bool, Fault>, usize);
 

@@ -1,5 +1,5 @@
 -- A batch that grows.
-use Rattle.std.proofs.Common.{◌≡◌, ℕ, true, false, List, [], ◌∷◌, ◌++◌, All, map, length, Option, Some, None, is_some, refl, sym, ap, ◌∙◌, inr}
+use Rattle.std.proofs.Common.{◌≡◌, ◌≤◌, arith, ℕ, true, false, List, [], ◌∷◌, ◌++◌, All, map, length, Option, Some, None, is_some, refl, sym, ap, ◌∙◌, inr}
 use Rattle.std.specs.Prelude.{Result, Ok, Err, IfOk, IfErr}
 use Rattle.std.specs.List.{AllByRecursion}
 use Rattle.std.proofs.lemmas.List.{map-append}
@@ -8,17 +8,19 @@ use Rattle.cube_model.specs.declared.fault.Fault.{Fault}
 use Rattle.cube_model.specs.declared.fault.Fault.TheVariants.{Memory}
 use Rattle.cube_model.specs.declared.rows.DimRows.{DimRows}
 use Rattle.cube_model.specs.declared.rows.LineOrder.{LineOrder}
-use Rattle.cube_model.specs.Admission.{all_rows}
+use Rattle.cube_model.specs.Admission.{all_rows, long_text}
+use Rattle.cube_model.specs.Limits.{most_batch_rows}
 use Rattle.column_segment.specs.Columns.{Column, FitsColumn, number_columns}
 use Rattle.column_segment.specs.Encoding.{HaveRows}
-use Rattle.column_segment.specs.Segment.{FitColumns}
+use Rattle.column_segment.specs.Segment.{FitColumns, IsBatch}
 use Rattle.column_segment.specs.declared.encoding.BatchColumns.{BatchColumns}
-use Rattle.batch_admission.specs.Found.{Found, cause_of, found_in}
+use Rattle.batch_admission.specs.Found.{Found, found_in}
 use Rattle.batch_admission.specs.Totals.{totals_of}
-use Rattle.batch_admission.proofs.CallerLemmas.{found-earlier}
+use Rattle.batch_admission.proofs.CallerLemmas.{long_before}
 use Rattle.warehouse_root.specs.declared.layout.Layout.TheVariants.{First}
 use Rattle.warehouse_root.specs.declared.totals.StoredTotals.{StoredTotals}
 use Rattle.warehouse_root.specs.Root.{PlainRoot, with_batch}
+use Rattle.warehouse_objects.proofs.CallerLemmas.{batch_of}
 use Rattle.warehouse_objects.specs.Stands.{root_of, said_of, stored}
 use Rattle.warehouse_objects.specs.Warehouse.{Warehouse, loaded}
 use Rattle.warehouse.specs.Growing.{IsGrown, totals_in}
@@ -46,36 +48,51 @@ fits-both = both_fit number_columns
 
 -- ---- further rows
 
-no_cause : (cause : Option Fault) → is_some cause ≡ false → cause ≡ None
-no_cause None none = refl
-no_cause (Some fault) none = cc
+no_long : (long : Option Fault) → is_some long ≡ false → long ≡ None
+no_long None none = refl
+no_long (Some fault) none = cc
 
-some_cause : (cause : Option Fault) → is_some cause ≡ true → cause ≡ None → ⊥
-some_cause None some none = cc
-some_cause (Some fault) some none = cc
+some_long : (long : Option Fault) → is_some long ≡ true → long ≡ None → ⊥
+some_long None some none = cc
+some_long (Some fault) some none = cc
 
 module _ (dimensions : DimRows) (root : PlainRoot) (before rows : List LineOrder) (batch : GrowingBatch) (more : Found) (grown : IsGrown dimensions root before batch)
     (looked : more ≡ found_in dimensions (totals_in root) (before ++ rows)) where
-  -- where nothing was found in all of them, nothing was found in the first
-  pub had_columns : is_some (cause_of more) ≡ false → HaveRows before batch.columns
-  had_columns none = grown.columns (ap cause_of grown.found ∙ found-earlier dimensions (totals_in root) before rows (ap cause_of (sym looked) ∙ no_cause (cause_of more) none))
+  -- where no text of all of them is too long, none of the first is
+  pub had_columns : is_some more.long_text ≡ false → HaveRows before batch.columns
+  had_columns none =
+      grown.columns (ap (λ (f : Found). f.long_text) grown.found ∙ long_before 1 before rows (sym (ap (λ (f : Found). f.long_text) looked) ∙ no_long more.long_text none))
 
   -- and then these have columns too
-  pub grown-more : (columns : BatchColumns) → is_some (cause_of more) ≡ false → FitColumns rows → (HaveRows before batch.columns → HaveRows (before ++ rows) columns)
+  pub grown-more : (columns : BatchColumns) → is_some more.long_text ≡ false → FitColumns rows → (HaveRows before batch.columns → HaveRows (before ++ rows) columns)
       → IsGrown dimensions root (before ++ rows) (record { found = more; columns = columns })
   grown-more columns none fits push = record {
     found = looked;
     fits = fits-both before rows grown.fits fits;
-    columns = λ clean. push (had_columns none);
+    columns = λ short. push (had_columns none);
   }
 
-  -- where something was found, no columns are asked for
-  pub grown-refused : is_some (cause_of more) ≡ true → FitColumns rows → IsGrown dimensions root (before ++ rows) (record { found = more; columns = batch.columns })
-  grown-refused some fits = record {
+  -- where one is, no columns are asked for
+  pub grown-long : is_some more.long_text ≡ true → FitColumns rows → IsGrown dimensions root (before ++ rows) (record { found = more; columns = batch.columns })
+  grown-long some fits = record {
     found = looked;
     fits = fits-both before rows grown.fits fits;
-    columns = λ clean. absurd (some_cause (cause_of more) some clean);
+    columns = λ short. absurd (some_long more.long_text some short);
   }
+
+-- ---- its bytes
+
+module _ (dimensions : DimRows) (root : PlainRoot) (rows : List LineOrder) (batch : GrowingBatch) (grown : IsGrown dimensions root rows batch) (short : is_some batch.found.long_text ≡ false) where
+  pub grown-columns : HaveRows rows batch.columns
+  grown-columns = grown.columns (no_long batch.found.long_text short)
+
+  pub grown-batch : batch.found.row_count ≤ most_batch_rows → IsBatch rows
+  grown-batch few =
+      let many : batch.found.row_count ≡ length rows = ap (λ (f : Found). f.row_count) grown.found in
+      batch_of rows (omega (arith, few, many)) (sym (ap (λ (f : Found). f.long_text) grown.found) ∙ no_long batch.found.long_text short)
+
+pub grown-too_long : (dimensions : DimRows) (root : PlainRoot) (rows : List LineOrder) (batch : GrowingBatch) → IsGrown dimensions root rows batch → is_some batch.found.long_text ≡ true → long_text 1 rows ≡ None → ⊥
+grown-too_long dimensions root rows batch grown some none = some_long batch.found.long_text some (ap (λ (f : Found). f.long_text) grown.found ∙ none)
 
 -- ---- the root with the batch
 

@@ -10,6 +10,7 @@ pub mod Finding
 mod Caught
 pub mod Cuboids
 mod Pairing
+mod Compared
 mod Choices
 pub mod Outcomes
 pub mod Performing

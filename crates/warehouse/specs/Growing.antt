@@ -6,7 +6,7 @@ use Rattle.cube_model.specs.declared.rows.LineOrder.{LineOrder}
 use Rattle.cube_model.specs.Limits.{most_batch_rows}
 use Rattle.column_segment.specs.Encoding.{HaveRows}
 use Rattle.column_segment.specs.Segment.{FitColumns}
-use Rattle.batch_admission.specs.Found.{cause_of, found_in}
+use Rattle.batch_admission.specs.Found.{found_in}
 use Rattle.batch_admission.specs.declared.totals.Totals.{Totals}
 use Rattle.warehouse_root.specs.Root.{PlainRoot}
 use Rattle.warehouse.specs.declared.growing.GrowingBatch.{GrowingBatch}
@@ -24,11 +24,11 @@ totals_in root = record {
 }
 
 -- What was found in the rows that a batch has so far, behind the batches of a root, and the columns of these rows, unless
--- there is a cause to refuse them
+-- a text is too long
 pub record IsGrown (dimensions : DimRows) (root : PlainRoot) (rows : List LineOrder) (batch : GrowingBatch) : Type 0 where
   pub found : batch.found ≡ found_in dimensions (totals_in root) rows
   pub fits : FitColumns rows
-  pub columns : cause_of batch.found ≡ None → HaveRows rows batch.columns
+  pub columns : batch.found.long_text ≡ None → HaveRows rows batch.columns
 
 -- a batch has some rows so far, and so many more are not too many
 abbrev pub HasRoomFor : DimRows → PlainRoot → ℕ → GrowingBatch → Type 0

@@ -5,6 +5,7 @@ pub mod Found
 pub mod Prepared
 pub mod Growing
 pub mod Submitting
+pub mod Comparing
 pub mod Status
 pub mod Beginning
 pub mod Creating

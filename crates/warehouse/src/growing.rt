@@ -1,10 +1,11 @@
 //! A batch that grows by rows until it is submitted.
-ghost use Rattle.std.specs.Prelude.{◌≡◌, ◌≢◌, ◌≤◌, ◌<◌, ◌↔◌, ◌++◌, [], List, None, true, false, length, IfErr, IfOk, IsErrOf, IsOkUnless, OnOk};
+ghost use Rattle.std.specs.Prelude.{◌≡◌, ◌≢◌, ◌≤◌, ◌<◌, ◌↔◌, ◌++◌, [], List, None, true, false, length, IfErr, IfNone, IfOk, IfSome, IsErrOf, IsOkUnless, OnOk};
 ghost use Rattle.batch_admission.specs.Found.{cause_of, found_in};
 ghost use Rattle.cube_model.specs.declared.fault.Fault.TheVariants.{Device, Failed, Memory};
 ghost use Rattle.cube_model.specs.declared.rows.DimRows.{DimRows};
 ghost use Rattle.cube_model.specs.declared.rows.LineOrder.{LineOrder};
-ghost use Rattle.cube_model.specs.Admission.{IsAdmissible};
+ghost use Rattle.column_segment.specs.Segment.{IsBatch, segment_of};
+ghost use Rattle.cube_model.specs.Admission.{IsAdmissible, long_text};
 ghost use Rattle.cube_model.specs.Limits.{most_batch_rows};
 ghost use Rattle.object_store.specs.Disk.{Leaves};
 ghost use Rattle.warehouse.specs.Growing.{IsGrown, totals_in};
@@ -28,8 +29,8 @@ use std::alloc::Global;
 use warehouse_objects::numbers_fit;
 use warehouse_root::{Root, StoredTotals};
 
-/// A batch that grows by rows until it is submitted to the session that began it. Its rows are checked and written as
-/// columns as they come, and are not kept.
+/// A batch that grows by rows until it is submitted to the session that began it, or compared with one that is stored. Its
+/// rows are checked and written as columns as they come, and are not kept.
 #[derive(Drop)]
 pub struct GrowingBatch {
     pub(crate) found: Findings,
@@ -57,7 +58,7 @@ impl GrowingBatch {
         Ok(GrowingBatch { found, columns })
     }
 
-    // Looks at further rows, and adds them unless there is a cause to refuse the batch.
+    // Looks at further rows, and adds them unless a text is too long to be stored.
     fn push(&mut self, alloc: Global, dims: &Dims, rows: &[LineOrder]) -> Result<(), Fault>
         requires few { (root : PlainRoot) × HasRoomFor dims.now root (length rows.now) self.old }
         ensures ok { OnOk result ((root : PlainRoot) (before : List LineOrder) → IsGrown dims.now root before self.old
@@ -66,10 +67,26 @@ impl GrowingBatch {
     {
         numbers_fit(rows);
         self.found = self.found.more(dims, rows);
-        if self.found.cause().is_some() {
+        if self.found.has_long_text() {
             return Ok(());
         }
         self.columns.push(alloc, rows)
+    }
+
+    // The bytes of the batch of a number. Nothing where a text is too long to be stored.
+    pub(crate) fn segment(&self, alloc: Global, number: u32) -> Result<Option<Vec<u8>>, Fault>
+        requires grown { (dimensions : DimRows) × (root : PlainRoot) × (rows : List LineOrder) × IsGrown dimensions root rows self.now }
+        ensures spelled { IfOk result (λ found. (dimensions : DimRows) (root : PlainRoot) (rows : List LineOrder) → IsGrown dimensions root rows self.now
+            → IfSome found (λ bytes. (bytes.items ≡ segment_of number rows) × IsBatch rows)) }
+        ensures long { IfOk result (λ found. (dimensions : DimRows) (root : PlainRoot) (rows : List LineOrder) → IsGrown dimensions root rows self.now
+            → IfNone found (long_text 1 rows ≢ None)) }
+        ensures memory { IfErr result (λ fault. fault ≡ Memory) }
+    {
+        let _rows = self.found.row_count();
+        if self.found.has_long_text() {
+            return Ok(None);
+        }
+        Ok(Some(self.columns.encode(alloc, number)?))
     }
 
     // Makes the batch ready behind those of a root, or answers the first cause to refuse it, or `Memory`.

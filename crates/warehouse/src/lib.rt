@@ -5,6 +5,7 @@ mod beginning;
 mod choosing;
 mod chosen;
 mod command;
+mod comparing;
 mod creation;
 mod finishing;
 mod growing;

@@ -1,5 +1,6 @@
 -- What the batches of a load come to.
-use Rattle.std.proofs.Common.{◌≡◌, ⊎_elim, ℕ, zero, suc, ◌+◌, ◌-◌, ◌<◌, List, [], ◌∷◌, ◌++◌, length, take, drop, Option, None, Ok, refl, sym, ap, subst, ◌∙◌, arith, append_assoc, append-nil}
+use Rattle.std.proofs.Common.{true, ◌≡◌, ⊎_elim, ℕ, zero, suc, ◌+◌, ◌-◌, ◌<◌, ◌≤◌, List, [], ◌∷◌, ◌++◌, length, take, drop, slice_get, Option, None, Some, Ok, refl, sym, ap, subst, ◌∙◌, arith, append_assoc, append-nil, length-append, length-drop}
+use Rattle.std.proofs.Math.Seq.{take-append_seam}
 use Rattle.std.proofs.lemmas.Bool.{cases_lt}
 use Rattle.std.proofs.lemmas.List.{length_push, take_all}
 use Rattle.sector_device.specs.declared.device.Sectors.{Ghosts}
@@ -14,12 +15,15 @@ use Rattle.cube_model.specs.Answers.{answer}
 use Rattle.cube_model.specs.Limits.{most_batch_rows}
 use Rattle.object_store.specs.Content.{Content}
 use Rattle.ssb_eval.specs.Evaluation.{facts_behind, facts_of}
-use Rattle.warehouse_objects.specs.Warehouse.{Warehouse, fresh, loaded}
+use Rattle.warehouse_objects.specs.Warehouse.{AreInOrder, Warehouse, loaded}
 use Rattle.warehouse.specs.declared.session.Session.{Session}
+use Rattle.warehouse.specs.Comparing.{numbered}
 use Rattle.warehouse.specs.Session.{IsAt}
+use Rattle.warehouse.proofs.Preparing.{follows}
 use Rattle.warehouse_jobs.specs.Cutting.{AreCut}
-use Rattle.warehouse_jobs.specs.Lawful.{LoadAddsTheOthers, LoadedIsEvaluated}
-use Rattle.warehouse_jobs.specs.Loading.{InTurn, MayHold, with_batch, with_batches}
+use Rattle.warehouse_jobs.specs.Lawful.{LoadAddsTheOthers, LoadHoldsItsBatches, LoadedIsEvaluated}
+use Rattle.warehouse_jobs.specs.Loading.{InTurn, MayHold, TakesIn, taken_of, with_batch, with_batches}
+use Rattle.warehouse_jobs.specs.declared.taken.Taken.{Taken}
 use Rattle.warehouse_jobs.proofs.Turns.{with-added, with-skipped}
 
 -- batches that are not there are added
@@ -49,34 +53,98 @@ adds_the_others w first (rows ∷ batches) within =
     ∙ ap (λ n. w.batches ++ drop n (rows ∷ batches)) (sym one))
     (cases_lt (length w.batches) first)
 
+-- ---- each batch that was done is there
+
+get_left : {A : Type 0} (xs ys : List A) (place : ℕ) (x : A) → slice_get xs place ≡ Some x → slice_get (xs ++ ys) place ≡ Some x
+get_left [] ys place x is = absurd cc
+get_left (y ∷ xs) ys zero x is = is
+get_left (y ∷ xs) ys (suc place) x is = get_left xs ys place x is
+
+get_last : {A : Type 0} (xs : List A) (x : A) → slice_get (xs ++ x ∷ []) (length xs) ≡ Some x
+get_last [] x = refl
+get_last (y ∷ xs) x = get_last xs x
+
+numbered_left : {A : Type 0} (xs ys : List A) (number : ℕ) (x : A) → numbered xs number ≡ Some x → numbered (xs ++ ys) number ≡ Some x
+numbered_left xs ys zero x is = absurd cc
+numbered_left xs ys (suc before) x is = get_left xs ys before x is
+
+-- with further batches it is still there
+stays_there : (w : Warehouse) (first : ℕ) (batches : List (List LineOrder)) (number : ℕ) (rows : List LineOrder) → numbered w.batches number ≡ Some rows → numbered (with_batches w first batches).batches number ≡ Some rows
+stays_there w first [] number rows is = is
+stays_there w first (batch ∷ batches) number rows is =
+    stays_there (with_batch w first batch) (first + 1) batches number rows
+    (⊎_elim
+    (λ lt. subst (λ (v : Warehouse). numbered v.batches number ≡ Some rows) (sym (with-added w first batch lt)) (numbered_left w.batches (batch ∷ []) number rows is))
+    (λ le. subst (λ (v : Warehouse). numbered v.batches number ≡ Some rows) (sym (with-skipped w first batch le)) is)
+    (cases_lt (length w.batches) first))
+
+-- and it is there once it was done
+is_held : {D : Type 0} (g : Ghosts D) (w : Warehouse) (number : ℕ) (rows : List LineOrder) (old new : Session D g) (taken : Taken) → TakesIn g w number rows old new taken
+    → numbered (with_batch w number rows).batches number ≡ Some rows
+is_held g w number rows old new taken takes =
+    ⊎_elim
+    (λ lt.
+    let next : number ≡ suc (length w.batches) = omega (arith, (follows w.rows w.batches number rows (takes.follows lt)).next) in
+    subst (λ (v : Warehouse). numbered v.batches number ≡ Some rows) (sym (with-added w number rows lt)) (ap (numbered (w.batches ++ rows ∷ [])) next ∙ get_last w.batches rows))
+    (λ le. subst (λ (v : Warehouse). numbered v.batches number ≡ Some rows) (sym (with-skipped w number rows le)) (takes.same le))
+    (cases_lt (length w.batches) number)
+
+each_is_held : {D : Type 0} (g : Ghosts D) (May : ℕ → Content → Type 0) (last : Session D g) (count : ℕ) (old new : Session D g) (before after : Option (List ℕ)) (w : Warehouse) (number : ℕ) (batches : List (List LineOrder))
+    → InTurn g May last count old before w number batches new after
+    → (place : ℕ) (rows : List LineOrder) → slice_get batches place ≡ Some rows → numbered (with_batches w number batches).batches (number + place) ≡ Some rows
+each_is_held g May last count old new before after w number [] turns place rows is = absurd cc
+each_is_held g May last count old new before after w number (batch ∷ batches) turns zero rows is =
+    let same : batch ≡ rows = cc in
+    let here : number + 0 ≡ number = omega arith in
+    let held = is_held g w number batch old turns.0 (taken_of w number) turns.2 in
+    ap (numbered (with_batches w number (batch ∷ batches)).batches) here ∙ stays_there (with_batch w number batch) (number + 1) batches number batch held ∙ ap Some same
+each_is_held g May last count old new before after w number (batch ∷ batches) turns (suc place) rows is =
+    let later : number + suc place ≡ number + 1 + place = omega arith in
+    ap (numbered (with_batches w number (batch ∷ batches)).batches) later
+    ∙ each_is_held g May last (count + 1) turns.0 new turns.1 after (with_batch w number batch) (number + 1) batches turns.5 place rows is
+
+pub holds_its_batches : {D : Type 0} (g : Ghosts D) → LoadHoldsItsBatches g
+holds_its_batches g w first size text old new before after result loads =
+    each_is_held g (MayHold w first (parts_of size (lines_of text))) new 0 old loads.session before loads.told w first loads.done loads.in_turn
+
+-- ---- a whole text
+
 -- each batch is admissible behind those before it
 abbrev AreAdmitted : DimRows → List (List LineOrder) → List (List LineOrder) → Type 0
 AreAdmitted dimensions batches [] = Unit {0}
 AreAdmitted dimensions batches (rows ∷ others) = (refusal dimensions batches (length batches + 1) rows ≡ None) × AreAdmitted dimensions (batches ++ rows ∷ []) others
 
--- batches that are done from the next number on are admitted
-record AreNew (w : Warehouse) (number : ℕ) (batches : List (List LineOrder)) : Type 0 where
-  admitted : AreAdmitted w.rows w.batches batches
-  all : (with_batches w number batches).batches ≡ w.batches ++ batches
-  rows : (with_batches w number batches).rows ≡ w.rows
+get_middle : (batches : List (List LineOrder)) (rows : List LineOrder) (others : List (List LineOrder)) → slice_get (batches ++ rows ∷ others) (length batches) ≡ Some rows
+get_middle [] rows others = refl
+get_middle (batch ∷ batches) rows others = get_middle batches rows others
 
-are_new : {D : Type 0} (g : Ghosts D) (May : ℕ → Content → Type 0) (last : Session D g) (count : ℕ) (old new : Session D g) (before after : Option (List ℕ)) (w : Warehouse) (number : ℕ) (batches : List (List LineOrder))
-    → InTurn g May last count old before w number batches new after → number ≡ length w.batches + 1 → AreNew w number batches
-are_new g May last count old new before after w number [] turns next = record { admitted = tt; all = sym (append-nil w.batches); rows = refl }
-are_new g May last count old new before after w number (rows ∷ batches) turns next =
-    let lt : length w.batches < number = omega (arith, next) in
-    let added = with-added w number rows lt in
-    let one_more : length (w.batches ++ rows ∷ []) ≡ length w.batches + 1 = length_push w.batches rows in
-    let rest = are_new g May last (count + 1) turns.0 new turns.1 after (with_batch w number rows) (number + 1) batches turns.5
-    (subst (λ (v : Warehouse). number + 1 ≡ length v.batches + 1) (sym added) (omega (arith, next, one_more))) in
-    record {
-      admitted = (
-        ap (λ n. refusal w.rows w.batches n rows) (sym next) ∙ turns.2.follows lt,
-        subst (λ (v : Warehouse). AreAdmitted v.rows v.batches batches) added rest.admitted,
-      );
-      all = rest.all ∙ ap (λ (v : Warehouse). v.batches ++ batches) added ∙ append_assoc w.batches (rows ∷ []) batches;
-      rows = rest.rows ∙ ap (λ (v : Warehouse). v.rows) added;
-    }
+-- batches in order are admitted
+are_admitted : (dimensions : DimRows) (batches others : List (List LineOrder)) → AreInOrder dimensions (batches ++ others) → AreAdmitted dimensions batches others
+are_admitted dimensions batches [] order = tt
+are_admitted dimensions batches (rows ∷ others) order =
+    let next = (order (length batches) rows (get_middle batches rows others)).admissible in
+    let front : take (length batches) (batches ++ rows ∷ others) ≡ batches = take-append_seam batches (rows ∷ others) in (
+      subst (λ (bs : List (List LineOrder)). refusal dimensions bs (length bs + 1) rows ≡ None) front next,
+      are_admitted dimensions (batches ++ rows ∷ []) others (subst (AreInOrder dimensions) (sym (append_assoc batches (rows ∷ []) others)) order),
+    )
+
+-- lists that have the same at each place
+same_list : {A : Type 0} (xs ys : List A) → length xs ≡ length ys → ((place : ℕ) (y : A) → slice_get ys place ≡ Some y → slice_get xs place ≡ Some y) → xs ≡ ys
+same_list [] [] many same = refl
+same_list [] (y ∷ ys) many same = absurd (omega (arith, many))
+same_list (x ∷ xs) [] many same = absurd (omega (arith, many))
+same_list (x ∷ xs) (y ∷ ys) many same =
+    let first = same 0 y refl in
+    let head : x ≡ y = cc in
+    let tail : xs ≡ ys = same_list xs ys (omega (arith, many)) (λ place. same (suc place)) in
+    λ i. head i ∷ tail i
+
+-- the dimension rows stay
+same_rows : (w : Warehouse) (number : ℕ) (batches : List (List LineOrder)) → (with_batches w number batches).rows ≡ w.rows
+same_rows w number [] = refl
+same_rows w number (rows ∷ batches) =
+    same_rows (with_batch w number rows) (number + 1) batches
+    ∙ ⊎_elim (λ lt. ap (λ (v : Warehouse). v.rows) (with-added w number rows lt)) (λ le. ap (λ (v : Warehouse). v.rows) (with-skipped w number rows le)) (cases_lt (length w.batches) number)
 
 -- and are what an evaluation cuts
 facts_cut : (dimensions : DimRows) (batches : List (List LineOrder)) (number : ℕ) (parts : List (List (List ℕ))) (done : List (List LineOrder)) (next : ℕ)
@@ -91,18 +159,27 @@ facts_cut dimensions batches number (lines ∷ parts) (rows ∷ done) next cut a
     ∙ ap (λ l. Ok (all_rows l)) (append_assoc batches (rows ∷ []) done)
 
 pub is_evaluated : {D : Type 0} (g : Ghosts D) → LoadedIsEvaluated g
-is_evaluated {D} g rows text old new before after query loads =
+is_evaluated {D} g w text old new before after query loads no_more k =
     let done = loads.done in
-    let w = with_batches (fresh rows) 1 done in
-    let May = MayHold (fresh rows) 1 (parts_of most_batch_rows (lines_of text)) in
-    let news = are_new g May new 0 old loads.session before loads.told (fresh rows) 1 done loads.in_turn refl in
-    let cut : AreCut 1 (parts_of most_batch_rows (lines_of text)) done loads.next [] = subst (λ l. AreCut 1 (parts_of most_batch_rows (lines_of text)) done loads.next l) loads.ends.none loads.cut in
-    let facts : facts_of rows text ≡ Ok (all_rows done) = facts_cut rows [] 1 (parts_of most_batch_rows (lines_of text)) done loads.next cut news.admitted in
+    let v = with_batches w 1 done in
+    let parts = parts_of most_batch_rows (lines_of text) in
+    let at : IsAt g new v = subst (λ (s : Session D g). IsAt g s v) (sym loads.ends.same) loads.at in
+    let within : length w.batches + 1 - 1 ≡ length w.batches = omega arith in
+    let all : v.batches ≡ w.batches ++ drop (length w.batches) done = adds_the_others w 1 done (omega arith) ∙ ap (λ n. w.batches ++ drop n done) within in
+    let many : length v.batches ≡ length done = omega (arith, ap length all, length-append w.batches (drop (length w.batches) done), length-drop (length w.batches) done, no_more) in
+    let same : v.batches ≡ done =
+    same_list v.batches done many (λ place rows is.
+    let number : 1 + place ≡ suc place = omega arith in
+    ap (numbered v.batches) (sym number) ∙ holds_its_batches g w 1 most_batch_rows text old new before after (Ok true) loads place rows is) in
+    let rows : v.rows ≡ w.rows = same_rows w 1 done in
+    let order : AreInOrder w.rows done = subst (λ (bs : List (List LineOrder)). AreInOrder w.rows bs) same (subst (λ (r : DimRows). AreInOrder r v.batches) rows (at.stands k).batches) in
+    let cut : AreCut 1 parts done loads.next [] = subst (λ l. AreCut 1 parts done loads.next l) loads.ends.none loads.cut in
+    let facts : facts_of w.rows text ≡ Ok (all_rows done) = facts_cut w.rows [] 1 parts done loads.next cut (are_admitted w.rows [] done order) in
     let whole : take (length done) done ≡ done = take_all (length done) done (omega arith) in (
-      w,
-      subst (λ (s : Session D g). IsAt g s w) (sym loads.ends.same) loads.at,
-      ap (λ found. and_then found (λ r. Ok (answer query rows r))) facts
-          ∙ ap (λ l. Ok (answer query rows (all_rows l))) (sym whole)
-          ∙ ap (λ l. Ok (answer query rows (all_rows (take (length l) l)))) (sym news.all)
-          ∙ ap (λ r. Ok (answer query r (all_rows (take (length w.batches) w.batches)))) (sym news.rows),
+      v,
+      at,
+      ap (λ found. and_then found (λ r. Ok (answer query w.rows r))) facts
+          ∙ ap (λ l. Ok (answer query w.rows (all_rows l))) (sym whole)
+          ∙ ap (λ l. Ok (answer query w.rows (all_rows (take (length l) l)))) (sym same)
+          ∙ ap (λ r. Ok (answer query r (all_rows (take (length v.batches) v.batches)))) (sym rows),
     )

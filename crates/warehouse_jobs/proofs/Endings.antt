@@ -22,6 +22,7 @@ use Rattle.warehouse_objects.specs.Warehouse.{Warehouse, loaded}
 use Rattle.warehouse_objects.specs.Stands.{Stands}
 use Rattle.warehouse.specs.declared.session.Session.{Session}
 use Rattle.warehouse.specs.Session.{IsAt, disk_of}
+use Rattle.warehouse.proofs.Preparing.{follows}
 use Rattle.warehouse_jobs.specs.Cutting.{IsNextFault}
 use Rattle.warehouse_jobs.specs.Loading.{Ends, FailsInBatch, InTurn, Loads, MayHold, with_batch, with_batches}
 use Rattle.warehouse_jobs.specs.Printed.{count_line}
@@ -71,7 +72,10 @@ module _ {D : Type 0} (g : Ghosts D) (w : Warehouse) (first size : ℕ) (text : 
       let now = with_batches w first done in
       let number = first + length done in
       leaves_weaker (λ (c : Content). Stands c now ⊎ (IsAdmissible now.rows now.batches number rows × Stands c (loaded now rows))) (λ (c : Content). Stands c now ⊎ Stands c (with_batch now number rows)) (disk_of g mid) (disk_of g new)
-      (λ k c here. ⊎_elim (λ s. inl s) (λ s. inr (subst (λ (v : Warehouse). Stands c v) (sym (with-added now number rows refused.not_there)) s.1)) here) refused.leaves
+      (λ k c here. ⊎_elim (λ s. inl s)
+      (λ s.
+      let next : number ≡ length now.batches + 1 = (follows now.rows now.batches number rows s.0).next in
+      inr (subst (λ (v : Warehouse). Stands c v) (sym (with-added now number rows (omega (arith, next)))) s.1)) here) refused.leaves
   failed_leaves new after rows fault (inr (is, takes, written)) = takes.leaves
 
   -- the next batch was read, and did not end well

@@ -1,5 +1,5 @@
 -- Batches that are done one after the other, and one more.
-use Rattle.std.proofs.Common.{◌≡◌, ◌⊎◌, ⊎_elim, inl, inr, ℕ, ◌+◌, ◌<◌, ◌≤◌, nat_le, if◌then◌else◌, true, false, List, [], ◌∷◌, ◌++◌, length, Option, Result, Ok, Err, refl, sym, ap, subst, ◌∙◌, arith, append_assoc, append-nil}
+use Rattle.std.proofs.Common.{◌≡◌, ◌⊎◌, ⊎_elim, inl, inr, ℕ, ◌+◌, ◌<◌, ◌≤◌, nat_le, if◌then◌else◌, true, false, List, [], ◌∷◌, ◌++◌, length, Option, Some, Result, Ok, Err, refl, sym, ap, subst, ◌∙◌, arith, append_assoc, append-nil}
 use Rattle.std.proofs.KnownBytes.{Keeps-refl}
 use Rattle.std.proofs.lemmas.Bool.Decides.{nat_tests}
 use Rattle.std.specs.Io.KnownBytes.{Appends}
@@ -16,11 +16,12 @@ use Rattle.ssb_reports.specs.Writing.{AppendsBeginning, Writes}
 use Rattle.warehouse_objects.specs.Warehouse.{Warehouse, loaded}
 use Rattle.warehouse_objects.specs.Stands.{Stands}
 use Rattle.warehouse.specs.declared.session.Session.{Session}
-use Rattle.warehouse.specs.Session.{IsAt, SubmitRefuses, device_of, disk_of, has_failed}
+use Rattle.warehouse.specs.Comparing.{numbered}
+use Rattle.warehouse.specs.Session.{IsAt, device_of, disk_of, has_failed}
 use Rattle.warehouse.proofs.Refusing.{device_or}
 use Rattle.warehouse_jobs.specs.declared.taken.Taken.{Taken}
 use Rattle.warehouse_jobs.specs.declared.taken.Taken.TheVariants.{Added, Skipped}
-use Rattle.warehouse_jobs.specs.Loading.{DoesBatch, InTurn, Refuses, TakesIn, behind, lines_in, line_in, taken_of, with_batch, with_batches}
+use Rattle.warehouse_jobs.specs.Loading.{BatchRefuses, DoesBatch, InTurn, Refuses, TakesIn, behind, lines_in, line_in, taken_of, with_batch, with_batches}
 use Rattle.warehouse_jobs.specs.Printed.{batch_line}
 
 -- which batch is passed over
@@ -124,15 +125,15 @@ module _ {D : Type 0} (g : Ghosts D) (w : Warehouse) (number : ℕ) (rows : List
   takes-added lt admissible at leaves = record {
     taken_is = sym (is_added w number lt);
     follows = λ _. admissible;
+    same = λ le. absurd (omega (arith, lt, le));
     at = subst (λ (v : Warehouse). IsAt g new v) (sym (with-added w number rows lt)) at;
     leaves = leaves_weaker (λ (c : Content). Stands c w ⊎ (IsAdmissible w.rows w.batches number rows × Stands c (loaded w rows))) (λ (c : Content). Stands c w ⊎ Stands c (with_batch w number rows)) (disk_of g old) (disk_of g new)
         (λ k c here. ⊎_elim (λ s. inl s) (λ s. inr (subst (λ (v : Warehouse). Stands c v) (sym (with-added w number rows lt)) s.1)) here) leaves;
   }
 
-  pub refuses : (fault : Fault) → length w.batches < number → (fault ≡ Device → has_failed new ≡ true) → ((fault ≡ Device → ⊥) → SubmitRefuses g old w number rows fault × IsAt g new w)
+  pub refuses : (fault : Fault) → (fault ≡ Device → has_failed new ≡ true) → ((fault ≡ Device → ⊥) → BatchRefuses g old w number rows fault × IsAt g new w)
       → Leaves (disk_of g old) (disk_of g new) (λ c. Stands c w ⊎ (IsAdmissible w.rows w.batches number rows × Stands c (loaded w rows))) → Refuses g w number rows old new fault
-  refuses fault lt failed causes leaves = record {
-    not_there = lt;
+  refuses fault failed causes leaves = record {
     cause = ⊎_elim (λ e. inl (e, failed e)) (λ no. inr (causes no)) (device_or fault);
     leaves = leaves;
   }
@@ -153,11 +154,16 @@ module _ {D : Type 0} (g : Ghosts D) (w : Warehouse) (number : ℕ) (rows : List
     subst (λ (t : Taken). AppendsBeginning before after (batch_line number (length rows) t)) takes.taken_is written.1,
   )
 
-pub takes-skipped : {D : Type 0} (g : Ghosts D) (w : Warehouse) (number : ℕ) (rows : List LineOrder) (now : Session D g) → number ≤ length w.batches → IsAt g now w
-    → Leaves (disk_of g now) (disk_of g now) (λ c. Stands c w) → TakesIn g w number rows now now Skipped
-takes-skipped g w number rows now le at leaves = record {
-  taken_is = sym (is_skipped w number le);
-  follows = λ lt. absurd (omega (arith, lt, le));
-  at = subst (λ (v : Warehouse). IsAt g now v) (sym (with-skipped w number rows le)) at;
-  leaves = leaves_weaker (λ (c : Content). Stands c w) (λ (c : Content). Stands c w ⊎ Stands c (with_batch w number rows)) (disk_of g now) (disk_of g now) (λ k c here. inl here) leaves;
-}
+  -- the batch there was read, and nothing else was done
+  pub takes-skipped : number ≤ length w.batches → numbered w.batches number ≡ Some rows → IsAt g new w → Leaves (disk_of g old) (disk_of g new) (λ c. Stands c w) → TakesIn g w number rows old new Skipped
+  takes-skipped le same at leaves = record {
+    taken_is = sym (is_skipped w number le);
+    follows = λ lt. absurd (omega (arith, lt, le));
+    same = λ _. same;
+    at = subst (λ (v : Warehouse). IsAt g new v) (sym (with-skipped w number rows le)) at;
+    leaves = leaves_weaker (λ (c : Content). Stands c w) (λ (c : Content). Stands c w ⊎ Stands c (with_batch w number rows)) (disk_of g old) (disk_of g new) (λ k c here. inl here) leaves;
+  }
+
+  pub only-read : Leaves (disk_of g old) (disk_of g new) (λ c. Stands c w) → Leaves (disk_of g old) (disk_of g new) (λ c. Stands c w ⊎ (IsAdmissible w.rows w.batches number rows × Stands c (loaded w rows)))
+  only-read leaves =
+      leaves_weaker (λ (c : Content). Stands c w) (λ (c : Content). Stands c w ⊎ (IsAdmissible w.rows w.batches number rows × Stands c (loaded w rows))) (disk_of g old) (disk_of g new) (λ k c here. inl here) leaves

@@ -1,11 +1,11 @@
 -- What a load makes of a warehouse, and what it writes. Our own.
-use Rattle.std.specs.Prelude.{◌≡◌, ◌⊎◌, ◌<◌, ◌≤◌, ℕ, ◌+◌, nat_le, if◌then◌else◌, true, List, [], ◌∷◌, ◌++◌, length, Option, Result, Ok, Err}
+use Rattle.std.specs.Prelude.{◌≡◌, ◌≢◌, ◌⊎◌, ◌<◌, ◌≤◌, ℕ, ◌+◌, nat_le, if◌then◌else◌, true, List, [], ◌∷◌, ◌++◌, length, Option, Some, Result, Ok, Err}
 use Rattle.std.specs.Io.KnownBytes.{Appends, Keeps}
 use Rattle.sector_device.specs.declared.device.Sectors.{Ghosts}
 use Rattle.batch_loader.specs.Lines.{lines_of}
 use Rattle.batch_loader.specs.Parts.{parts_of}
 use Rattle.cube_model.specs.declared.fault.Fault.{Fault}
-use Rattle.cube_model.specs.declared.fault.Fault.TheVariants.{Memory, Input, Output, Device}
+use Rattle.cube_model.specs.declared.fault.Fault.TheVariants.{Memory, Input, Output, Device, Repeated}
 use Rattle.cube_model.specs.declared.rows.LineOrder.{LineOrder}
 use Rattle.cube_model.specs.Admission.{IsAdmissible}
 use Rattle.object_store.specs.Content.{Content}
@@ -14,13 +14,14 @@ use Rattle.ssb_reports.specs.Writing.{AppendsBeginning}
 use Rattle.warehouse_objects.specs.Warehouse.{Warehouse, loaded}
 use Rattle.warehouse_objects.specs.Stands.{Stands}
 use Rattle.warehouse.specs.declared.session.Session.{Session}
+use Rattle.warehouse.specs.Comparing.{numbered}
 use Rattle.warehouse.specs.Session.{IsAt, disk_of, has_failed, SubmitRefuses}
 use Rattle.warehouse_jobs.specs.declared.taken.Taken.{Taken}
 use Rattle.warehouse_jobs.specs.declared.taken.Taken.TheVariants.{Added, Skipped}
 use Rattle.warehouse_jobs.specs.Cutting.{AreCut, IsNextBatch, IsNextFault}
 use Rattle.warehouse_jobs.specs.Printed.{batch_line, count_line}
 
--- a batch is passed over where its number is there already
+-- a batch that was done was passed over where its number was there already
 abbrev pub taken_of : Warehouse → ℕ → Taken
 taken_of w number = if nat_le number (length w.batches) then Skipped else Added
 
@@ -46,18 +47,25 @@ abbrev pub lines_in : Warehouse → ℕ → List (List LineOrder) → List ℕ
 lines_in w number [] = []
 lines_in w number (rows ∷ batches) = line_in w number rows ++ lines_in (with_batch w number rows) (number + 1) batches
 
--- The device in one batch of a load. It stands for the warehouse behind it then, and until then for this or the one before
+-- The device in one batch of a load. It stands for the warehouse behind it then, and until then for this or the one before. A
+-- batch that is passed over has exactly the rows of the stored one, in the same order
 pub record TakesIn {D : Type 0} (g : Ghosts D) (w : Warehouse) (number : ℕ) (rows : List LineOrder) (old new : Session D g) (taken : Taken) : Type 0 where
   pub taken_is : taken ≡ taken_of w number
   pub follows : length w.batches < number → IsAdmissible w.rows w.batches number rows
+  pub same : number ≤ length w.batches → numbered w.batches number ≡ Some rows
   pub at : IsAt g new (with_batch w number rows)
   pub leaves : Leaves (disk_of g old) (disk_of g new) (λ c. Stands c w ⊎ Stands c (with_batch w number rows))
 
--- A batch that is not there is refused. The warehouse stays, unless the device failed: it may then have the batch, where
--- that is admissible
+-- Why a batch is refused where the device has not failed: the batch of its number is another one; or there is no memory to compare
+-- the two; or there is none of its number, and a submit is refused
+abbrev pub BatchRefuses : {D : Type 0} (g : Ghosts D) → Session D g → Warehouse → ℕ → List LineOrder → Fault → Type 0
+BatchRefuses g session w number rows fault =
+    ((fault ≡ Repeated) × (number ≤ length w.batches) × (numbered w.batches number ≢ Some rows))
+    ⊎ (((fault ≡ Memory) × (number ≤ length w.batches)) ⊎ ((length w.batches < number) × SubmitRefuses g session w number rows fault))
+
+-- A batch is refused. The warehouse stays, unless the device failed: it may then have the batch, where that is admissible
 pub record Refuses {D : Type 0} (g : Ghosts D) (w : Warehouse) (number : ℕ) (rows : List LineOrder) (old new : Session D g) (fault : Fault) : Type 0 where
-  pub not_there : length w.batches < number
-  pub cause : ((fault ≡ Device) × (has_failed new ≡ true)) ⊎ (SubmitRefuses g old w number rows fault × IsAt g new w)
+  pub cause : ((fault ≡ Device) × (has_failed new ≡ true)) ⊎ (BatchRefuses g old w number rows fault × IsAt g new w)
   pub leaves : Leaves (disk_of g old) (disk_of g new) (λ c. Stands c w ⊎ (IsAdmissible w.rows w.batches number rows × Stands c (loaded w rows)))
 
 -- One batch of a load did not end well: it is refused, and nothing is written. Or the device has it, and the writer fails

@@ -187,7 +187,7 @@ fn load_batch<D: Sectors, W: Write>(
     write_batch(out, number, batch.row_count() as usize, taken)
 }
 
-// Adds the batch of a number, unless it is there already.
+// Adds the batch of a number. Where a batch of that number is there already, it is passed over if it is this one, row by row.
 fn take_in<D: Sectors>(
     alloc: Global,
     session: &mut Session<D>,
@@ -201,9 +201,12 @@ fn take_in<D: Sectors>(
         → Refuses D.Sectors w number rows session.old session.new fault) }
     ensures word { D.keeps_word (device_of session.new) → D.keeps_word (device_of session.old) }
 {
-    if number <= session.status()?.batches {
-        return Ok(Taken::Skipped);
+    if number > session.status()?.batches {
+        session.submit_batch(alloc, number, batch)?;
+        return Ok(Taken::Added);
     }
-    session.submit_batch(alloc, number, batch)?;
-    Ok(Taken::Added)
+    if !session.has_batch(alloc, number, batch)? {
+        return Err(Fault::Repeated);
+    }
+    Ok(Taken::Skipped)
 }

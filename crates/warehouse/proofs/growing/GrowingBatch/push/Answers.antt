@@ -1,7 +1,7 @@
 use Rattle.std.proofs.Common.{rules}
 use Rattle.std.proofs.lemmas.Result.{on_ok_weaker}
 use Rattle.warehouse.specs.Growing.{totals_in}
-use Rattle.warehouse.proofs.GrownBatches.{grown-more, grown-refused, had_columns}
+use Rattle.warehouse.proofs.GrownBatches.{grown-more, grown-long, had_columns}
 use Rattle.warehouse.proofs.growing.GrowingBatch.push.Goals as goal
 
 pub push-requires : goal.push-requires
@@ -16,9 +16,9 @@ push-requires c =
       );
     }
 
-pub returns-then-is_some-clause-ok : goal.returns-then-is_some-clause-ok
-returns-then-is_some-clause-ok c = λ root before grown.
-    grown-refused c.args.dims.now root before c.args.rows.now c.args.self.now c.more-self.result grown (c.more-self.ensures (totals_in root) before grown.found) (search rules) c.numbers_fit.ensures
+pub returns-then-has_long_text-clause-ok : goal.returns-then-has_long_text-clause-ok
+returns-then-has_long_text-clause-ok c = λ root before grown.
+    grown-long c.args.dims.now root before c.args.rows.now c.args.self.now c.more-self.result grown (c.more-self.ensures (totals_in root) before grown.found) (search rules) c.numbers_fit.ensures
 
 pub returns-clause-ok : goal.returns-clause-ok
 returns-clause-ok c =
