@@ -4,6 +4,7 @@
 
 mod draw;
 mod facts;
+mod many_pairs;
 mod queries;
 mod readers;
 mod stars;
@@ -13,6 +14,7 @@ mod writers;
 
 pub use draw::Draw;
 pub use facts::{FACTS, FIRST_FACT, Fact, SECOND_FACT, THIRD_FACT, line_order, line_orders};
+pub use many_pairs::{pairs, rows_of_pairs};
 pub use queries::{
     AVERAGES, Asked, CITIES, CUBE, Condition, DISCOUNTED, EVERY_ROW, PROFIT, ROLLUP, query,
 };

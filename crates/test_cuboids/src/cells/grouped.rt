@@ -1,0 +1,226 @@
+//! Cells of the sample rows, worked out by hand.
+use crate::cells::sample::{FIRST, LAST_TWO, SECOND, SPELLED, THIRD, at_day};
+use cube_model::Fault;
+use cuboid_cells::{Cell, Cells, Key, Span, Summaries, Summary};
+use cuboid_upkeep::add_rows;
+use dimensions::Dims;
+use group_plan::RowSlice;
+use lattice::View;
+use sample_star::{FACTS, FIRST_FACT, Fact, SECOND_FACT, STAR, THIRD_FACT, dim_rows, line_orders};
+use std::alloc::Global;
+use std::test::Fail;
+
+// What is kept of the first row and the third together.
+pub(crate) const FIRST_AND_THIRD: Summaries = Summaries {
+    quantity: Summary {
+        sum: 42,
+        least: 17,
+        greatest: 25,
+    },
+    extendedprice: Summary {
+        sum: 1500,
+        least: 500,
+        greatest: 1000,
+    },
+    revenue: Summary {
+        sum: 1475,
+        least: 495,
+        greatest: 980,
+    },
+    supplycost: Summary {
+        sum: 700,
+        least: 100,
+        greatest: 600,
+    },
+    discounted: Summary {
+        sum: 2500,
+        least: 500,
+        greatest: 2000,
+    },
+    profit: Summary {
+        sum: 775,
+        least: 380,
+        greatest: 395,
+    },
+};
+
+// A cell of the codes of a customer, a supplier, a part and a day.
+fn cell(codes: [u16; 4], count: u64, measures: Summaries) -> Cell {
+    Cell {
+        key: Key {
+            customer: codes[0],
+            supplier: codes[1],
+            part: codes[2],
+            date: codes[3],
+            ship_mode: 65_535,
+        },
+        count,
+        measures,
+    }
+}
+
+// Takes the facts in as a batch.
+fn take_in(alloc: Global, dims: &Dims, facts: &[Fact<'_>], cells: &mut Cells) -> Result<(), Fault> {
+    let rows = line_orders(alloc, facts)?;
+    if rows.len() > 65_536 {
+        return Ok(());
+    }
+    add_rows(cells, alloc, dims, &RowSlice(&rows), None)
+}
+
+// The dimensions of the sample star.
+fn sample_dims(alloc: Global) -> Result<Dims, Fault> {
+    let rows = dim_rows(alloc, &STAR)?;
+    Dims::build(alloc, &rows)
+}
+
+// The cells of batches of facts under a view.
+fn grouped(alloc: Global, index: u16, batches: &[&[Fact<'_>]]) -> Result<Cells, Fault> {
+    let dims = sample_dims(alloc)?;
+    let Some(view) = View::new(index) else {
+        return Err(Fault::BadQuery);
+    };
+    let mut cells = Cells::empty(alloc, view);
+    for batch in batches {
+        take_in(alloc, &dims, batch, &mut cells)?;
+    }
+    Ok(cells)
+}
+
+// The cells of the sample rows, as one batch, under a view.
+fn grouped_sample(alloc: Global, index: u16) -> Result<Cells, Fault> {
+    grouped(alloc, index, &[&FACTS])
+}
+
+#[test]
+fn groups_the_sample_rows_by_manufacturer_and_day(rt: HostRuntime) -> Result<(), Fail> {
+    let cells = grouped_sample(rt.alloc(), 248)?;
+    let bytes = cells.encode(rt.alloc(), Span { from: 0, to: 1 })?;
+    assert_eq!(rt; bytes.as_slice(), SPELLED.as_slice());
+    Ok(())
+}
+
+const ALL: u16 = 65_535;
+
+// A view, and the codes of its two cells: of the first and the third row, and of the second.
+static CITIES: [(u16, [u16; 4], [u16; 4]); 4] = [
+    // City of the customer and manufacturer, city of the supplier and manufacturer.
+    (59, [0, ALL, 0, ALL], [1, ALL, 0, ALL]),
+    (203, [ALL, 0, 0, ALL], [ALL, 1, 0, ALL]),
+    // Nation of the customer and region of the supplier; region of the customer alone.
+    (111, [0, 0, ALL, ALL], [1, 1, ALL, ALL]),
+    (191, [0, ALL, ALL, ALL], [1, ALL, ALL, ALL]),
+];
+
+// The cell of the first and the third row, and that of the second.
+fn two_cells(first: [u16; 4], second: [u16; 4]) -> [Cell; 2] {
+    [cell(first, 2, FIRST_AND_THIRD), cell(second, 1, SECOND)]
+}
+
+#[test]
+fn groups_the_sample_rows_by_place(rt: HostRuntime) -> Result<(), Fail> {
+    for (view, first, second) in &CITIES {
+        let cells = grouped_sample(rt.alloc(), *view)?;
+        let want = two_cells(*first, *second);
+        assert_eq!(rt; cells.as_slice(), want.as_slice(), "view {view}");
+    }
+    Ok(())
+}
+
+// The sample rows in three batches, the third row first, and two batches of no row.
+static BATCHES: [&[Fact<'static>]; 5] = [&[THIRD_FACT], &[], &[FIRST_FACT], &[], &[SECOND_FACT]];
+
+#[test]
+fn groups_batches_as_their_rows(rt: HostRuntime) -> Result<(), Fail> {
+    let cells = grouped(rt.alloc(), 248, &BATCHES)?;
+    let want = [at_day(0, 1, FIRST), at_day(1, 2, LAST_TWO)];
+    assert_eq!(rt; cells.as_slice(), want.as_slice());
+    Ok(())
+}
+
+// Batches, the view, and its cell or none, where there is at most one.
+static SINGLE: [(&[Fact<'static>], u16, Option<([u16; 4], Summaries)>); 4] = [
+    (&[], 248, None),
+    (&[THIRD_FACT], 0, Some(([0, 0, 1, 1], THIRD))),
+    (&[THIRD_FACT], 85, Some(([0, 0, 1, 1], THIRD))),
+    (&[THIRD_FACT], 255, Some(([ALL, ALL, ALL, ALL], THIRD))),
+];
+
+// The first cell of a view over batches, if there is one, and whether there is no other.
+fn first_alone(
+    alloc: Global,
+    view: u16,
+    batches: &[&[Fact<'_>]],
+) -> Result<(Option<Cell>, bool), Fault> {
+    let cells = grouped(alloc, view, batches)?;
+    let found = cells.as_slice().first().copied();
+    Ok((found, cells.as_slice().len() < 2))
+}
+
+#[test]
+fn groups_no_row_and_one_row(rt: HostRuntime) -> Result<(), Fail> {
+    for (facts, view, want) in &SINGLE {
+        let found = first_alone(rt.alloc(), *view, &[facts])?;
+        let want = want.map(|(codes, measures)| cell(codes, 1, measures));
+        assert_eq!(rt; found, (want, true), "view {view}");
+    }
+    Ok(())
+}
+
+// The first row at the most money, without and with a discount, and at the most that can be lost.
+const RICH: Fact<'static> = Fact {
+    extendedprice: 9_223_372_036_854_775_807,
+    discount: 0,
+    ..FIRST_FACT
+};
+
+const REDUCED: Fact<'static> = Fact {
+    discount: 2,
+    ..RICH
+};
+
+const STRANGER: Fact<'static> = Fact {
+    suppkey: 9,
+    ..FIRST_FACT
+};
+
+// A view, a batch behind the sample rows, and whether it is taken.
+static BEHIND: [(u16, &[Fact<'static>], bool); 6] = [
+    (255, &[RICH], false),
+    (0, &[RICH], false),
+    (255, &[REDUCED], false),
+    (59, &[STRANGER], true),
+    (203, &[STRANGER], false),
+    (203, &[FIRST_FACT, STRANGER], false),
+];
+
+// What comes of a batch behind the sample rows, and whether the cells stay as they were.
+fn taken_behind(
+    alloc: Global,
+    dims: &Dims,
+    index: u16,
+    facts: &[Fact<'_>],
+) -> Result<(Result<(), Fault>, bool), Fault> {
+    let mut cells = grouped_sample(alloc, index)?;
+    let before = Vec::from_slice(alloc, cells.as_slice())?;
+    let found = take_in(alloc, dims, facts, &mut cells);
+    Ok((found, before.as_slice() == cells.as_slice()))
+}
+
+#[test]
+fn refuses_rows_and_stays_as_it_was(rt: HostRuntime) -> Result<(), Fail> {
+    let dims = sample_dims(rt.alloc())?;
+    for (view, facts, taken) in &BEHIND {
+        let want = if *taken {
+            Ok(())
+        } else {
+            Err(Fault::BadLayout)
+        };
+        assert_eq!(rt;
+            taken_behind(rt.alloc(), &dims, *view, facts),
+            Ok((want, !*taken)),
+            "view {view}"
+        );
+    }
+    Ok(())
+}

@@ -1,0 +1,3 @@
+//! Tests of the choice of cuboids.
+mod bound;
+mod chosen;

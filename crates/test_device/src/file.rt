@@ -1,0 +1,223 @@
+// A device over a file of the system.
+use crate::bytes::{get, put};
+use crate::fake_file::Torn;
+use cube_model::Fault;
+use file_device::{Existing, FileDisk, Host, OpenError, Unread};
+use sector_device::Sectors;
+use std::fs::{File, OpenOptions};
+use std::test::Fail;
+use std::{fs, io};
+
+type Disk = FileDisk<Host<File>, Unread>;
+
+// A folder of the test's own, empty.
+fn fresh(rt: &HostRuntime, folder: &str) -> io::Result<()> {
+    let _ = fs::remove_dir_all(rt, folder);
+    fs::create_dir(rt, folder)
+}
+
+// A file of so many sectors, each filled with its number modulo 200 and one more.
+fn filled(rt: &HostRuntime, path: &str, sectors: u32) -> Result<(), Fail> {
+    let mut disk = Disk::make(rt, path, sectors, Existing::Any)?.disk;
+    for i in 0..sectors {
+        put(&mut disk, i, (i % 200) as u8 + 1)?;
+    }
+    disk.sync()?;
+    Ok(())
+}
+
+// Which of the sectors from one on are right, and how many cannot be read.
+fn right_from(disk: &mut Disk, first: u32) -> (u32, u32) {
+    let mut right: u32 = 0;
+    let mut missing: u32 = 0;
+    for i in first..disk.count() {
+        match get(disk, i) {
+            Ok(byte) if byte == Some((i % 200) as u8 + 1) => right = right.wrapping_add(1),
+            Ok(_) => {}
+            Err(_) => missing = missing.wrapping_add(1),
+        }
+    }
+    (right, missing)
+}
+
+fn opened(rt: &HostRuntime, path: &str) -> Result<(u32, u64, (u32, u32)), Fail> {
+    let mut disk = Disk::open(rt, path)?;
+    let right = right_from(&mut disk, 0);
+    Ok((disk.count(), disk.failures(), right))
+}
+
+#[test]
+fn makes_and_opens_again(rt: HostRuntime) -> Result<(), Fail> {
+    fresh(&rt, "makes")?;
+    filled(&rt, "makes/disk", 300)?;
+    assert_eq!(rt; opened(&rt, "makes/disk")?, (300, 0, (300, 0)));
+    Ok(())
+}
+
+// What a device takes of a file that was made before, and of one that is empty: its sectors, and what the first gives.
+fn taken(rt: &HostRuntime, path: &str, sectors: u32) -> Result<(u32, Option<u8>), Fail> {
+    let mut disk = Disk::make(rt, path, sectors, Existing::Any)?.disk;
+    Ok((disk.count(), get(&mut disk, 0)?))
+}
+
+#[test]
+fn takes_a_file_of_its_length_as_it_is(rt: HostRuntime) -> Result<(), Fail> {
+    fresh(&rt, "takes")?;
+    filled(&rt, "takes/disk", 64)?;
+    assert_eq!(rt; taken(&rt, "takes/disk", 64)?, (64, Some(1)));
+    Ok(())
+}
+
+#[test]
+fn makes_a_file_of_zeros(rt: HostRuntime) -> Result<(), Fail> {
+    fresh(&rt, "zeros")?;
+    assert_eq!(rt; taken(&rt, "zeros/disk", 66)?, (66, Some(0)));
+    assert_eq!(rt; fs::metadata(&rt, "zeros/disk")?.len(), 33_792);
+    Ok(())
+}
+
+// The first sector, one in the middle and the last of a device of 2 GB.
+const FAR: [u32; 3] = [0, 2_097_152, 4_194_303];
+
+// What these sectors of a device give.
+fn far(disk: &mut Disk) -> Result<[Option<u8>; 3], Fail> {
+    Ok([get(disk, FAR[0])?, get(disk, FAR[1])?, get(disk, FAR[2])?])
+}
+
+// Makes a device of 2 GB of which the first sector and the last are written.
+fn sparse(rt: &HostRuntime, path: &str) -> Result<(), Fail> {
+    let mut disk = Disk::make(rt, path, 4_194_304, Existing::Any)?.disk;
+    put(&mut disk, FAR[0], 1)?;
+    put(&mut disk, FAR[2], 2)?;
+    Ok(disk.sync()?)
+}
+
+// How many sectors a device has, and what those give.
+fn found_far(rt: &HostRuntime, path: &str) -> Result<(u32, [Option<u8>; 3]), Fail> {
+    let mut disk = Disk::open(rt, path)?;
+    let bytes = far(&mut disk)?;
+    Ok((disk.count(), bytes))
+}
+
+#[test]
+fn keeps_what_is_written_at_the_ends_of_2_gb(rt: HostRuntime) -> Result<(), Fail> {
+    fresh(&rt, "sparse")?;
+    sparse(&rt, "sparse/disk")?;
+    let found = found_far(&rt, "sparse/disk")?;
+    assert_eq!(rt; found, (4_194_304, [Some(1), Some(0), Some(2)]));
+    Ok(fs::remove_dir_all(&rt, "sparse")?)
+}
+
+fn sectors_or_fault(disk: Result<Disk, OpenError>) -> Result<u32, Fault> {
+    Ok(disk?.count())
+}
+
+// What `make` says of a file that may hold anything.
+fn made(rt: &HostRuntime, path: &str, sectors: u32) -> Result<u32, Fault> {
+    Ok(Disk::make(rt, path, sectors, Existing::Any)?.disk.count())
+}
+
+// What `open` and `make` with 64 sectors say of a file of so many bytes.
+fn of_length(
+    rt: &HostRuntime,
+    path: &str,
+    length: u64,
+) -> Result<(Result<u32, Fault>, Result<u32, Fault>), Fail> {
+    fs::File::create(rt, path)?.set_len(length)?;
+    let opened = sectors_or_fault(Disk::open(rt, path));
+    Ok((opened, made(rt, path, 64)))
+}
+
+const LENGTHS: [(u64, Result<u32, Fault>, Result<u32, Fault>); 6] = [
+    (0, Err(Fault::DeviceSize), Ok(64)),
+    (512, Err(Fault::DeviceSize), Err(Fault::DeviceSize)),
+    (32_256, Err(Fault::DeviceSize), Err(Fault::DeviceSize)),
+    (32_768, Ok(64), Ok(64)),
+    (32_769, Err(Fault::DeviceSize), Err(Fault::DeviceSize)),
+    (33_280, Ok(65), Err(Fault::DeviceSize)),
+];
+
+#[test]
+fn refuses_other_lengths(rt: HostRuntime) -> Result<(), Fail> {
+    fresh(&rt, "lengths")?;
+    for (length, opened, made) in LENGTHS {
+        assert_eq!(rt;
+            of_length(&rt, "lengths/disk", length)?,
+            (opened, made),
+            "{length} bytes"
+        );
+    }
+    Ok(())
+}
+
+#[test]
+fn refuses_what_cannot_be_opened(rt: HostRuntime) -> Result<(), Fail> {
+    fresh(&rt, "absent")?;
+    let absent = sectors_or_fault(Disk::open(&rt, "absent/disk"));
+    let nowhere = made(&rt, "absent/none/disk", 64);
+    let few = made(&rt, "absent/disk", 63);
+    assert_eq!(rt;
+        [absent, nowhere, few],
+        [
+            Err(Fault::Device),
+            Err(Fault::Device),
+            Err(Fault::DeviceSize)
+        ]
+    );
+    assert_eq!(rt; fs::metadata(&rt, "absent/disk").is_err(), true);
+    Ok(())
+}
+
+// Cuts a file to 100 sectors, as another program does.
+fn cut(rt: &HostRuntime, path: &str) -> io::Result<()> {
+    let file = OpenOptions::new().write(true).open(rt, path)?;
+    file.set_len(51_200)
+}
+
+// Another program cuts a file of 300 sectors to 100 when the first sectors below a number were read. Which of the
+// sectors from there on are right, and how many cannot be read.
+fn cut_after(rt: &HostRuntime, path: &str, read: u32) -> Result<(u32, u32), Fail> {
+    filled(rt, path, 300)?;
+    let mut disk = Disk::open(rt, path)?;
+    for i in 0..read {
+        get(&mut disk, i)?;
+    }
+    cut(rt, path)?;
+    Ok(right_from(&mut disk, read))
+}
+
+// Behind the first sector there is a run of 128, which was read before the cut where two were read.
+#[test]
+fn reads_what_is_left_of_a_file_that_was_cut(rt: HostRuntime) -> Result<(), Fail> {
+    fresh(&rt, "cut")?;
+    for (read, right) in [(0, (100, 200)), (1, (99, 200)), (2, (127, 171))] {
+        assert_eq!(rt;
+            cut_after(&rt, "cut/disk", read)?,
+            right,
+            "{read} sectors read"
+        );
+        fs::remove_file(&rt, "cut/disk")?;
+    }
+    Ok(())
+}
+
+// Whether a read, a write, a sync, a read and a write succeed where syncs fail, and the failures.
+fn torn(rt: &HostRuntime, writes: bool) -> ([bool; 5], u64) {
+    let mut disk: FileDisk<Host<Torn>, Unread> = FileDisk::over(
+        rt.alloc(),
+        Host::new(Torn { writes }),
+        64,
+    );
+    let read = get(&mut disk, 0).is_ok();
+    let write = put(&mut disk, 0, 1).is_ok();
+    let sync = disk.sync().is_ok();
+    let again = get(&mut disk, 0).is_ok();
+    let last = put(&mut disk, 0, 1).is_ok();
+    ([read, write, sync, again, last], disk.failures())
+}
+
+#[test]
+fn fails_each_call_after_a_failed_write_or_sync(rt: HostRuntime) {
+    assert_eq!(rt; torn(&rt, false), ([true, true, false, false, false], 3));
+    assert_eq!(rt; torn(&rt, true), ([true, true, false, false, false], 3));
+}

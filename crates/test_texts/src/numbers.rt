@@ -1,0 +1,84 @@
+//! Bytes and numbers that were written down by hand.
+use cube_model::Fault;
+use std::test::Fail;
+use wire::{
+    Cursor, push_bytes, push_i64, push_u8, push_u16, push_u32, push_u64, write_bytes, write_i64,
+    write_u8, write_u16, write_u32, write_u64,
+};
+
+// A name, and then 1, 64, 6 and 140 in four bytes each, 1 in eight, 400 in two, 255 in one, and -2.
+const SPELLED: [u8; 43] = [
+    0x53, 0x53, 0x42, 0x43, 0x55, 0x42, 0x45, 0x31, 0x01, 0x00, 0x00, 0x00, 0x40, 0x00, 0x00, 0x00,
+    0x06, 0x00, 0x00, 0x00, 0x8c, 0x00, 0x00, 0x00, 0x01, 0x00, 0x00, 0x00, 0x00, 0x00, 0x00, 0x00,
+    0x90, 0x01, 0xff, 0xfe, 0xff, 0xff, 0xff, 0xff, 0xff, 0xff, 0xff,
+];
+
+#[derive(Clone, Copy, Debug, PartialEq, Eq)]
+struct Numbers {
+    words: [u32; 4],
+    long: u64,
+    short: u16,
+    byte: u8,
+    signed: i64,
+}
+
+const NUMBERS: Numbers = Numbers {
+    words: [1, 64, 6, 140],
+    long: 1,
+    short: 400,
+    byte: 255,
+    signed: -2,
+};
+
+fn push(out: &mut Vec<u8>) -> Result<(), Fault> {
+    push_bytes(out, b"SSBCUBE1")?;
+    for number in NUMBERS.words {
+        push_u32(out, number)?;
+    }
+    push_u64(out, NUMBERS.long)?;
+    push_u16(out, NUMBERS.short)?;
+    push_u8(out, NUMBERS.byte)?;
+    push_i64(out, NUMBERS.signed)
+}
+
+fn read(cursor: &mut Cursor<'_>) -> Result<Numbers, Fault> {
+    Ok(Numbers {
+        words: [cursor.u32()?, cursor.u32()?, cursor.u32()?, cursor.u32()?],
+        long: cursor.u64()?,
+        short: cursor.u16()?,
+        byte: cursor.u8()?,
+        signed: cursor.i64()?,
+    })
+}
+
+#[test]
+fn spells_by_pushing(rt: HostRuntime) -> Result<(), Fail> {
+    let mut out = Vec::new(rt.alloc());
+    push(&mut out)?;
+    assert_eq!(rt; out.as_slice(), SPELLED.as_slice());
+    Ok(())
+}
+
+#[test]
+fn spells_by_writing(rt: HostRuntime) {
+    let mut to = [0x77u8; 45];
+    write_bytes(&mut to, 1, b"SSBCUBE1");
+    write_u32(&mut to, 9, 1);
+    write_u32(&mut to, 13, 64);
+    write_u32(&mut to, 17, 6);
+    write_u32(&mut to, 21, 140);
+    write_u64(&mut to, 25, 1);
+    write_u16(&mut to, 33, 400);
+    write_u8(&mut to, 35, 255);
+    write_i64(&mut to, 36, -2);
+    assert_eq!(rt; &to[1..44], SPELLED.as_slice());
+    assert_eq!(rt; [to[0], to[44]], [0x77, 0x77]);
+}
+
+#[test]
+fn reads_what_is_spelled(rt: HostRuntime) -> Result<(), Fail> {
+    let mut cursor = Cursor::new(&SPELLED);
+    assert_eq!(rt; cursor.bytes(8)?, b"SSBCUBE1".as_slice());
+    assert_eq!(rt; read(&mut cursor)?, NUMBERS);
+    Ok(())
+}
