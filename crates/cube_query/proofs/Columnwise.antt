@@ -29,6 +29,16 @@ All-at P [] all k h x = absurd (omega (arith, h))
 All-at P (first ∷ xs) all zero h x = all.0
 All-at P (first ∷ xs) all (suc k) h x = All-at P xs all.1 k (omega (arith, h)) x
 
+pub All-set : {X : Type 0} (P : X → Type 0) (xs : List X) (k : ℕ) (x : X) → AllByRecursion P xs → P x → AllByRecursion P (slice_set xs k x)
+All-set P [] k x all here = tt
+All-set P (first ∷ xs) zero x all here = (here, all.1)
+All-set P (first ∷ xs) (suc k) x all here = (all.0, All-set P xs k x all.1 here)
+
+-- columns that have the same tallies are as many
+pub as_many_columns : (columns others : List (Vec Tally Global)) → ((slot : ℕ) → tallies_at columns slot ≡ tallies_at others slot) → length columns ≡ length others
+as_many_columns columns others same =
+    sym (length-map columns (λ (column : Vec Tally Global). tally_at column.items 0)) ∙ ap length (same 0) ∙ length-map others (λ (column : Vec Tally Global). tally_at column.items 0)
+
 pub tallies-length : (aggs : List Agg) (columns : List (Vec Tally Global)) (slot : ℕ) (rows : List LineOrder) → tallies_at columns slot ≡ tallies_of aggs rows → length columns ≡ length aggs
 tallies-length aggs columns slot rows same =
     sym (length-map columns (λ (column : Vec Tally Global). tally_at column.items slot)) ∙ ap length same ∙ length-map aggs (λ agg. tally_of (map (number_of agg) rows))

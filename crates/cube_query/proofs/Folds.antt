@@ -16,7 +16,7 @@ use Rattle.cube_model.specs.declared.rows.DimRows.{DimRows}
 use Rattle.cube_model.specs.declared.rows.LineOrder.{LineOrder}
 use Rattle.cube_query.specs.Columns.{is_seen, tallies_at}
 use Rattle.cube_query.specs.FoldInvariant.{AreGroupSlots, HaveRoom, CountIn, AreTallied, IsFold, IsKept, all_tallies, tallies_in, tallies_or_none}
-use Rattle.cube_query.specs.Groups.{FoldState, IsFoldOver, StandsFor, finest, rows_at}
+use Rattle.cube_query.specs.Groups.{FoldState, StandsFor, finest, rows_at}
 use Rattle.cube_query.specs.Limits.{AreFoldable}
 use Rattle.cube_query.specs.Slots.{entries_of, slot_of, AreSlots, Cover, Grow}
 use Rattle.cube_query.specs.Tallies.{tallies_of}
@@ -26,6 +26,7 @@ use Rattle.group_plan.specs.Numbers.{group_count, key_at}
 use Rattle.group_plan.specs.Plans.{IsPlanOf, IsPlanOver, count_of, query_of}
 use Rattle.group_plan.specs.declared.plan.Plan.{Plan}
 use Rattle.group_plan.proofs.Extending.{plan_of_over}
+use Rattle.cube_query.proofs.Columnwise.{tallies-length}
 use Rattle.cube_query.proofs.Marking.{key_eq-same, key_eq-true, keys_apart, slotted-none}
 use Rattle.cube_query.proofs.Seen.{some_seen}
 use Rattle.cube_query.proofs.Steps.{AreTallied-grow, AreTallied-count, HaveRoom-foldable}
@@ -146,13 +147,13 @@ module _ (dimensions : DimRows) (plan : Plan) (over : IsPlanOver dimensions plan
   })
 
   -- ---- over its dimensions
-  pub fold_over : (slots : Slots) (columns : List (Vec Tally Global)) → IsKept plan slots columns → IsFoldOver dimensions (shown plan slots columns) → IsFold dimensions (query_of plan) slots columns
-  fold_over slots columns kept is = record {
+  pub fold_over : (slots : Slots) (columns : List (Vec Tally Global)) → IsKept plan slots columns → IsFold dimensions (query_of plan) slots columns
+  fold_over slots columns kept = record {
     proper = kept.proper;
     rising = made.rising;
     numbers = kept_numbers slots columns kept;
     cover = kept_cover slots columns kept;
-    tallied = (is.0, tallied_for slots columns kept is.0 is.1);
+    count = tallies-length (query_of plan).aggregates columns (length (entries_of slots)) [] (kept.fresh (length (entries_of slots)) (omega arith));
   }
 
   -- ---- with more slots

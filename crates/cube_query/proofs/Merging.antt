@@ -8,7 +8,7 @@ use Rattle.std.proofs.lemmas.Option.{slice_get-get_or}
 use Rattle.cube_model.specs.Aggregates.{total}
 use Rattle.cube_model.specs.declared.measure.Agg.{Agg}
 use Rattle.cube_model.specs.declared.rows.LineOrder.{LineOrder}
-use Rattle.cube_query.specs.Coarser.{gathered, AddsIn, CanMerge, CanMergeAll, HasMergeRoom, HaveMergeRoom}
+use Rattle.cube_query.specs.Coarser.{gathered, AddsIn, CanMerge, CanMergeAll, HasMergeRoom, HaveMergeRoom, LieWithin}
 use Rattle.cube_query.specs.Columns.{no_tally, tally_at, IsCountable}
 use Rattle.cube_query.specs.Tallies.{merged, number_of, tally_of}
 use Rattle.cube_query.specs.declared.tally.Tally.{Tally}
@@ -57,6 +57,13 @@ left_none : {X : Type 0} (xs ys : List X) → [] ≡ xs ++ ys → xs ≡ []
 left_none [] ys e = refl
 left_none (x ∷ xs) ys e = cc e
 
+-- the slots of a source and of its target lie in the column
+pub source_in : (sources : List (ℕ × ℕ)) (targets : List ℕ) (len : ℕ) → LieWithin sources targets len → (n : ℕ) → n < length sources → (get_or sources n (0, 0)).1 < len
+source_in sources targets len lie n h = lie.from n (get_or sources n (0, 0)) (slice_get-get_or sources n (0, 0) h)
+
+pub target_in_column : (sources : List (ℕ × ℕ)) (targets : List ℕ) (len : ℕ) → LieWithin sources targets len → (n : ℕ) → n < length targets → get_or targets n 0 < len
+target_in_column sources targets len lie n h = lie.to n (get_or targets n 0) (slice_get-get_or targets n 0 h)
+
 module _ (agg : Agg) (part : ℕ × ℕ → List LineOrder) (sources : List (ℕ × ℕ)) (targets : List ℕ) (same : length targets ≡ length sources) (old now : List Tally) (long : length now ≡ length old)
     (can : CanMerge agg old sources targets part) (n : ℕ) (h : n < length sources) (added : AddsIn agg (λ slot. gathered slot part (take n sources) (take n targets)) old now) where
   abbrev source : ℕ × ℕ
@@ -74,10 +81,7 @@ module _ (agg : Agg) (part : ℕ × ℕ → List LineOrder) (sources : List (ℕ
   there : slice_get targets n ≡ Some target
   there = slice_get-get_or targets n 0 (omega (arith, same, h))
 
-  pub source_in : source.1 < length now
-  source_in = omega (arith, (can.parts n source here).0, long)
-
-  pub target_in : target < length now
+  target_in : target < length now
   target_in = omega (arith, can.within n target there, long)
 
   -- a source has still what it had

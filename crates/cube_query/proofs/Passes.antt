@@ -19,7 +19,7 @@ use Rattle.cube_model.specs.declared.rows.DimRows.{DimRows}
 use Rattle.cube_model.specs.declared.rows.LineOrder.{LineOrder}
 use Rattle.group_plan.specs.Columns.{is_all}
 use Rattle.group_plan.specs.Numbers.{group_count, key_at, KeysRise}
-use Rattle.cube_query.specs.Coarser.{keys_from, rows_from, leads, sources_of, AreTalliedFrom, IsTarget, AreTargets, gathered, AddIn, CanMergeAll, HaveMergeRoom}
+use Rattle.cube_query.specs.Coarser.{keys_from, rows_from, leads, sources_of, AreTalliedFrom, IsTarget, AreTargets, gathered, AddIn, CanMergeAll, HaveMergeRoom, LieWithin, MayMerge}
 use Rattle.cube_query.specs.Columns.{is_seen, tallies_at, IsCountable}
 use Rattle.cube_query.specs.Limits.{AreFoldable}
 use Rattle.cube_query.specs.Slots.{slot_of, AreSlots, Grow}
@@ -137,6 +137,25 @@ countable_alike agg rows others same countable = record {
   few = omega (arith, same.lengths, countable.few);
   small = omega (arith, same.sums (λ row. nat_abs (number_of agg row)), countable.small);
 }
+
+-- the sources that are found among entries have their slots in columns that are long enough, and so have the targets
+pub may_merge : (dimensions : DimRows) (query : Query) (i : ℕ) (old new : List (ℕ × ℕ)) (columns longer : List (Vec Tally Global)) → AreSlots (group_count dimensions query.columns) old → Apart (group_count dimensions query.columns) old
+    → Grow (group_count dimensions query.columns) old new → (targets : List ℕ) → AreTargets dimensions query.columns i new (sources_of dimensions query i (tallies_at columns) old) targets
+    → AllByRecursion (λ column. length new ≤ length column.items) longer → MayMerge (sources_of dimensions query i (tallies_at columns) old) targets longer
+may_merge dimensions query i old new columns longer slots differ grow targets are long =
+    let bound = group_count dimensions query.columns in
+    let sources = sources_of dimensions query i (tallies_at columns) old in
+    let test = λ (entry : ℕ × ℕ). is_seen (tallies_at columns entry.1) && leads query.kind i (key_at dimensions query.columns entry.0) in
+    let sources_found : AllByRecursion (λ e. slot_of old e.0 ≡ Some e.1) sources = all-filter (λ (e : ℕ × ℕ). slot_of old e.0 ≡ Some e.1) test old (all-found bound old differ) in
+    all-weaker (λ (column : Vec Tally Global). length new ≤ length column.items) (λ (column : Vec Tally Global). LieWithin sources targets (length column.items)) longer (λ column h. record {
+      from = λ place source at.
+          let in_slots = slots.within source.0 source.1 (all-get (λ (e : ℕ × ℕ). slot_of old e.0 ≡ Some e.1) sources place source sources_found at) in
+          omega (arith, in_slots, grow.longer, h);
+      to = λ place target at.
+          let is = AreTargets-at dimensions query.columns i new sources targets are place target at in
+          let in_slots = grow.slots.within is.1.0 target is.1.1 in
+          omega (arith, in_slots, h);
+    }) long
 
 module _ (dimensions : DimRows) (query : Query) (i : ℕ) (within : i < length query.columns) (some : 1 ≤ length query.aggregates) (rising : KeysRise dimensions query.columns)
     (old new : List (ℕ × ℕ)) (columns longer : List (Vec Tally Global)) (slots : AreSlots (group_count dimensions query.columns) old) (differ : Apart (group_count dimensions query.columns) old)

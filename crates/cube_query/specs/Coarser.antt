@@ -132,21 +132,24 @@ MergesIn sources targets old new = (aggs : List Agg) (part : ℕ × ℕ → List
     → CanMergeAll aggs old sources targets part
     → AddIn aggs (λ slot. gathered slot part sources targets) old new
 
--- the sources can be merged
-abbrev pub MayMerge : List (ℕ × ℕ) → List ℕ → List (Vec Tally Global) → Type 0
-MayMerge sources targets columns = (aggs : List Agg) × (part : ℕ × ℕ → List LineOrder)
-    × CanMergeAll aggs columns sources targets part
+-- the slots of sources and of targets lie in a column of so many tallies
+pub record LieWithin (sources : List (ℕ × ℕ)) (targets : List ℕ) (len : ℕ) : Type 0 where
+  pub from : (place : ℕ) (source : ℕ × ℕ) → slice_get sources place ≡ Some source → source.1 < len
+  pub to : (place target : ℕ) → slice_get targets place ≡ Some target → target < len
 
--- the same, with room for what comes
+-- the sources can be merged: their slots and those of the targets lie in each column
+abbrev pub MayMerge : List (ℕ × ℕ) → List ℕ → List (Vec Tally Global) → Type 0
+MayMerge sources targets columns = AllByRecursion (λ column. LieWithin sources targets (length column.items)) columns
+
+-- the sources can be merged, with room for what comes
 abbrev pub FitMerged : List (ℕ × ℕ) → List ℕ → List (Vec Tally Global) → Type 0
 FitMerged sources targets columns = (aggs : List Agg) × (part : ℕ × ℕ → List LineOrder)
     × (CanMergeAll aggs columns sources targets part × HaveMergeRoom aggs columns sources targets part)
 
--- a fold's slots and columns from which coarser groups can be made, from a column on
-pub record CanCoarsen (dimensions : DimRows) (query : Query) (i : ℕ) (slots : Slots) (columns : List
-    (Vec Tally Global)) : Type 0 where
+-- a fold's slots and columns from which coarser groups can be made
+pub record CanCoarsen (dimensions : DimRows) (query : Query) (slots : Slots) (columns : List (Vec Tally Global)) : Type 0 where
   pub proper : IsProper query
   pub rising : KeysRise dimensions query.columns
   pub numbers : AreSlots (group_count dimensions query.columns) (entries_of slots)
   pub cover : Cover (group_count dimensions query.columns) slots
-  pub tallied : (rows : List LineOrder) × AreTalliedFrom dimensions query i (entries_of slots) columns rows
+  pub count : length columns ≡ length query.aggregates

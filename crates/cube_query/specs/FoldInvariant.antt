@@ -11,7 +11,7 @@ use Rattle.cube_model.specs.declared.rows.LineOrder.{LineOrder}
 use Rattle.cube_model.specs.Proper.{IsProper}
 use Rattle.cube_model.specs.Selection.{is_selected}
 use Rattle.cube_query.specs.Columns.{tallies_at, slotted, HasRoom}
-use Rattle.cube_query.specs.Groups.{finest, rows_at}
+use Rattle.cube_query.specs.Groups.{rows_at}
 use Rattle.group_plan.specs.Numbers.{group_count, key_at, KeysRise, IsNumber}
 use Rattle.group_plan.specs.Plans.{count_of, query_of}
 use Rattle.group_plan.specs.declared.plan.Plan.{Plan}
@@ -85,4 +85,4 @@ pub record IsFold (dimensions : DimRows) (query : Query) (slots : Slots) (column
   pub rising : KeysRise dimensions query.columns
   pub numbers : AreSlots (group_count dimensions query.columns) (entries_of slots)
   pub cover : Cover (group_count dimensions query.columns) slots
-  pub tallied : (rows : List LineOrder) × AreTallied dimensions (finest query) (entries_of slots) columns rows
+  pub count : length columns ≡ length query.aggregates

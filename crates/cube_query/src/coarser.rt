@@ -135,6 +135,7 @@ fn merge(
     requires may { MayMerge sources.now targets.now columns.old.items }
     ensures ok { OnOk result (MergesIn sources.now targets.now columns.old.items columns.new.items) }
     ensures err { OnErr result (FitMerged sources.now targets.now columns.old.items → ⊥) }
+    ensures count { length columns.new.items ≡ length columns.old.items }
     ensures only { IfErr result (λ fault. fault ≡ Fault.BadLayout) }
 {
     match merge_in_all(columns.as_mut_slice(), sources, targets) {
@@ -154,8 +155,8 @@ fn coarsen(
 ) -> Result<(), Fault>
     requires kind { kind ≡ plan.now.query.kind }
     requires column { column < length plan.now.query.columns }
-    requires can { CanCoarsen plan.now.dimensions plan.now.query (column + 1) slots.old columns.old.items }
-    ensures can { OnOk result (CanCoarsen plan.now.dimensions plan.now.query column slots.new columns.new.items) }
+    requires can { CanCoarsen plan.now.dimensions plan.now.query slots.old columns.old.items }
+    ensures can { OnOk result (CanCoarsen plan.now.dimensions plan.now.query slots.new columns.new.items) }
     ensures tallied { OnOk result ((rows : List LineOrder)
         → AreTalliedFrom plan.now.dimensions plan.now.query (column + 1) (entries_of slots.old) columns.old.items rows
         → AreTalliedFrom plan.now.dimensions plan.now.query column (entries_of slots.new) columns.new.items rows) }
@@ -182,8 +183,8 @@ pub fn coarsen_all(
 ) -> Result<(), Fault>
     requires kind { kind ≡ plan.now.query.kind }
     requires count { count ≤ length plan.now.query.columns }
-    requires can { CanCoarsen plan.now.dimensions plan.now.query count slots.old columns.old.items }
-    ensures can { OnOk result (CanCoarsen plan.now.dimensions plan.now.query 0 slots.new columns.new.items) }
+    requires can { CanCoarsen plan.now.dimensions plan.now.query slots.old columns.old.items }
+    ensures can { OnOk result (CanCoarsen plan.now.dimensions plan.now.query slots.new columns.new.items) }
     ensures tallied { OnOk result ((rows : List LineOrder)
         → AreTalliedFrom plan.now.dimensions plan.now.query count (entries_of slots.old) columns.old.items rows
         → AreTalliedFrom plan.now.dimensions plan.now.query 0 (entries_of slots.new) columns.new.items rows) }

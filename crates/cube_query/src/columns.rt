@@ -4,7 +4,7 @@ ghost use Rattle.std.specs.List.{AllByRecursion, list_all};
 ghost use Rattle.std.specs.Int.{w64};
 ghost use Rattle.cube_model.specs.declared.measure.Agg.{Agg};
 ghost use Rattle.cube_model.specs.declared.rows.LineOrder.{LineOrder};
-ghost use Rattle.cube_query.specs.Coarser.{gathered, AddsIn, CanMerge, FitMerged, HasMergeRoom, MayMerge, MergesIn};
+ghost use Rattle.cube_query.specs.Coarser.{gathered, AddsIn, CanMerge, FitMerged, HasMergeRoom, LieWithin, MayMerge, MergesIn};
 ghost use Rattle.cube_query.specs.Columns.{tally_at, tallies_at, is_seen, CountsIn, HasRoom, IsBounded};
 ghost use Rattle.cube_query.specs.FoldInvariant.{CountIn, HaveRoom};
 ghost use Rattle.cube_query.specs.Slots.{entries_of};
@@ -110,7 +110,7 @@ pub fn merge_in(
     targets: &[u32],
 ) -> Result<(), TooLarge>
     requires targets { length targets.now ≡ length sources.now }
-    requires may { (agg : Agg) × (part : ℕ × ℕ → List LineOrder) × CanMerge agg column.old sources.now targets.now part }
+    requires may { LieWithin sources.now targets.now (length column.old) }
     ensures ok { OnOk result ((agg : Agg) (part : ℕ × ℕ → List LineOrder) → CanMerge agg column.old sources.now targets.now part
         → AddsIn agg (λ slot. gathered slot part sources.now targets.now) column.old column.new) }
     ensures err { OnErr result ((agg : Agg) (part : ℕ × ℕ → List LineOrder) → CanMerge agg column.old sources.now targets.now part

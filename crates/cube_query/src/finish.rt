@@ -52,7 +52,7 @@ fn all_lines(
     columns: &mut Vec<Vec<Tally>>,
 ) -> Result<Items<Line>, Fault>
     requires query { query.now ≡ plan.now.query }
-    requires can { CanCoarsen plan.now.dimensions plan.now.query (length plan.now.query.columns) slots.old columns.old.items }
+    requires can { CanCoarsen plan.now.dimensions plan.now.query slots.old columns.old.items }
     ensures lines { IfOk result (λ lines. (rows : List LineOrder)
         → AreTalliedFrom plan.now.dimensions plan.now.query (length plan.now.query.columns) (entries_of slots.old) columns.old.items rows
         → lines ≡ (answer plan.now.query plan.now.dimensions rows).lines) }

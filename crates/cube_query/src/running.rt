@@ -11,7 +11,7 @@ ghost use Rattle.cube_query.specs.Asked.{asked_columns};
 ghost use Rattle.cube_query.specs.CellSlots.{AreMergedIn, asked_of};
 ghost use Rattle.cube_query.specs.CellTallies.{GroupsHaveRoomFor};
 ghost use Rattle.cube_query.specs.Columns.{tallies_at};
-ghost use Rattle.cube_query.specs.Groups.{StandsFor, Begins, CanTake, IsFoldOver, IsFoldable, IsOver, Takes};
+ghost use Rattle.cube_query.specs.Groups.{StandsFor, Begins, CanTake, IsFoldable, IsOver, Takes};
 ghost use Rattle.group_plan.specs.Numbers.{group_count, IsKnown};
 ghost use Rattle.group_plan.specs.Plans.{IsPlanOver, query_of};
 ghost use Rattle.cube_query.specs.Slots.{entries_of, slot_of, AreSlots, CanPlace, Cover, Grow};
@@ -113,6 +113,7 @@ impl Fold {
     /// of the call some for each row.
     pub fn add_rows(&mut self, dims: &Dims, rows: &[LineOrder]) -> Result<(), Fault>
         requires { IsOver dims.now self.old }
+        ensures over { IsOver dims.now self.new }
         ensures ok { OnOk result (Takes dims.now self.old rows.now self.new) }
         ensures err { OnErr result (self.new ≡ self.old) }
         ensures refused { result ≡ Err Fault.BadLayout → CanTake dims.now self.old rows.now → ⊥ }
@@ -128,6 +129,7 @@ impl Fold {
     /// a dimension, all at once, by sums over the columns.
     pub fn add_segment(&mut self, dims: &Dims, segment: &Segment) -> Result<(), Fault>
         requires { IsOver dims.now self.old }
+        ensures over { IsOver dims.now self.new }
         ensures ok { OnOk result (Takes dims.now self.old segment.now.rows self.new) }
         ensures err { OnErr result (self.new ≡ self.old) }
         ensures refused { result ≡ Err Fault.BadLayout → CanTake dims.now self.old segment.now.rows → ⊥ }
@@ -157,6 +159,8 @@ impl Fold {
     ) -> Result<(), Fault>
         requires over { IsOver dims.now self.old }
         requires serves { Serves cells.now.view self.old.query }
+        ensures over { IsOver dims.now self.new }
+        ensures query { self.new.query ≡ self.old.query }
         ensures ok { OnOk result ((rows : List LineOrder)
             → StandFor dims.now (modes_of (option_map (λ modes. modes.now) modes.entry)) rows cells.now
             → Takes dims.now self.old rows self.new) }
@@ -180,6 +184,7 @@ impl Fold {
     fn add_whole(&mut self, dims: &Dims, segment: &Segment) -> Result<(), Fault>
         requires over { IsOver dims.now self.old }
         requires one_group { has_one_group self.old.query ≡ true }
+        ensures over { IsOver dims.now self.new }
         ensures ok { OnOk result (Takes dims.now self.old segment.now.rows self.new) }
         ensures err { OnErr result (self.new ≡ self.old) }
         ensures refused { result ≡ Err Fault.BadLayout → CanTake dims.now self.old segment.now.rows → ⊥ }
@@ -194,6 +199,7 @@ impl Fold {
         requires over { IsOver dims.now self.old }
         requires one_group { has_one_group self.old.query ≡ true }
         requires mask { mask.now ≡ map (is_selected dims.now self.old.query.conditions) segment.now.rows }
+        ensures over { IsOver dims.now self.new }
         ensures ok { OnOk result (Takes dims.now self.old segment.now.rows self.new) }
         ensures err { OnErr result (self.new ≡ self.old) }
         ensures refused { result ≡ Err Fault.BadLayout → CanTake dims.now self.old segment.now.rows → ⊥ }
@@ -221,6 +227,7 @@ impl Fold {
     // Counts fact rows in, wherever they stand. A refusal leaves the fold as it was.
     fn add<F: FactRows>(&mut self, dims: &Dims, rows: &F) -> Result<(), Fault>
         requires { IsOver dims.now self.old }
+        ensures over { IsOver dims.now self.new }
         ensures ok { OnOk result (Takes dims.now self.old (F.rows rows.now) self.new) }
         ensures err { OnErr result (self.new ≡ self.old) }
         ensures refused { result ≡ Err Fault.BadLayout → CanTake dims.now self.old (F.rows rows.now) → ⊥ }
@@ -244,7 +251,7 @@ impl Fold {
 
     /// The answer over the fact rows that were added. `BadLayout` says that a sum over some of them passes its limit.
     pub fn finish(&self, dims: &Dims) -> Result<Answer, Fault>
-        requires { IsFoldOver dims.now self.now }
+        requires { IsOver dims.now self.now }
         ensures answer { IfOk result (λ found. (rows : List LineOrder) → StandsFor dims.now self.now rows
             → found ≡ answer self.now.query dims.now rows) }
         ensures refused { result ≡ Err Fault.BadLayout → IsFoldable dims.now self.now → ⊥ }

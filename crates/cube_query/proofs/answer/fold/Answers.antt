@@ -8,9 +8,6 @@ use Rattle.cube_query.proofs.answer.fold.Goals as goal
 pub add_rows-requires : goal.add_rows-requires
 add_rows-requires c = c.in_ok-state.ensures.ok.stands.over
 
-pub finish-requires : goal.finish-requires
-finish-requires c = (c.args.rows.now, c.in_ok-add_rows.ensures.ok.stands [] c.in_ok-state.ensures.ok.stands)
-
 pub returns-clause-answer : goal.returns-clause-answer
 returns-clause-answer c =
     let begun = c.in_ok-state.ensures.ok in

@@ -2,20 +2,20 @@ use Rattle.std.proofs.Common.{◌≡◌, ◌∙◌, ℕ, List, ◌+◌, ap, sym,
 use Rattle.std.proofs.lemmas.List.{take_all}
 use Rattle.cube_model.specs.declared.measure.Agg.{Agg}
 use Rattle.cube_model.specs.declared.rows.LineOrder.{LineOrder}
-use Rattle.cube_query.specs.Coarser.{gathered, AddsIn, CanMerge, HasMergeRoom}
-use Rattle.cube_query.proofs.Merging.{source_in, target_in, count_room, sum_room, added-next}
+use Rattle.cube_query.specs.Coarser.{gathered, AddsIn, CanMerge, HasMergeRoom, LieWithin}
+use Rattle.cube_query.proofs.Merging.{source_in, target_in_column, count_room, sum_room, added-next}
 use Rattle.cube_query.proofs.Refusals.{on_err}
 use Rattle.cube_query.proofs.columns.merge_in.Goals as goal
 
 pub merge_one-requires-clause-source : goal.merge_one-requires-clause-source
 merge_one-requires-clause-source c =
-    let r = c.requires.may in
-    source_in r.0 r.1 c.args.sources.now c.args.targets.now c.requires.targets c.args.column.now c.loop-place.column c.loop-place.invariant.0 r.2 c.loop-place.place c.loop-place-test.true (c.loop-place.invariant.1 r.0 r.1 r.2)
+    let lie = subst (LieWithin c.args.sources.now c.args.targets.now) (sym c.loop-place.invariant.0) c.requires.may in
+    source_in c.args.sources.now c.args.targets.now (length c.loop-place.column) lie c.loop-place.place c.loop-place-test.true
 
 pub merge_one-requires-clause-target : goal.merge_one-requires-clause-target
 merge_one-requires-clause-target c =
-    let r = c.requires.may in
-    target_in r.0 r.1 c.args.sources.now c.args.targets.now c.requires.targets c.args.column.now c.loop-place.column c.loop-place.invariant.0 r.2 c.loop-place.place c.loop-place-test.true (c.loop-place.invariant.1 r.0 r.1 r.2)
+    let lie = subst (LieWithin c.args.sources.now c.args.targets.now) (sym c.loop-place.invariant.0) c.requires.may in
+    target_in_column c.args.sources.now c.args.targets.now (length c.loop-place.column) lie c.loop-place.place (omega (arith, c.loop-place-test.true, c.requires.targets))
 
 pub loop-place-preserved : goal.loop-place-preserved
 loop-place-preserved c = (

@@ -1,25 +1,20 @@
-use Rattle.std.proofs.Common.{◌≡◌, ◌∙◌, ◌<◌, ℕ, sym, subst, arith, length, length-set, get_or}
+use Rattle.std.proofs.Common.{◌≡◌, ◌∙◌, ◌<◌, ℕ, List, ap, sym, subst, arith, length, length-set, get_or}
 use Rattle.std.specs.Vec.{with_items}
 use Rattle.std.specs.declared.alloc.Global.{Global}
 use Rattle.std.specs.declared.vec.Vec.{Vec}
 use Rattle.std.proofs.lemmas.List.{get_or_default, with_items_is}
 use Rattle.cube_model.specs.declared.measure.Agg.TheVariants.{Count}
-use Rattle.cube_query.specs.Coarser.{gathered, AddsIn, CanMerge, FitMerged, HasMergeRoom}
+use Rattle.cube_query.specs.Coarser.{gathered, AddsIn, CanMerge, FitMerged, HasMergeRoom, LieWithin}
 use Rattle.cube_query.specs.declared.tally.Tally.{Tally}
-use Rattle.cube_query.proofs.Columnwise.{AreAddedBelow-set, AddIn-whole}
+use Rattle.cube_query.proofs.Columnwise.{AreAddedBelow-set, AddIn-whole, All-at, All-set}
 use Rattle.cube_query.proofs.Merging.{CanMerge-at, HasMergeRoom-at}
 use Rattle.cube_query.proofs.Refusals.{on_err}
 use Rattle.cube_query.proofs.columns.merge_in_all.Goals as goal
 
 pub merge_in-requires-clause-may : goal.merge_in-requires-clause-may
 merge_in-requires-clause-may c =
-    let r = c.requires.may in
-    let i = c.loop-i.i in
-    let within : i < length r.0 = omega (arith, c.loop-i-test.true, c.loop-i.invariant.0, r.2.count) in
-    let below = c.loop-i.invariant.1 r.0 r.1 r.2 in
-    let may : CanMerge (get_or r.0 i Count) c.as_mut_slice.result.now c.args.sources.now c.args.targets.now r.1 =
-    rw c.as_mut_slice.ensures.value (CanMerge-at r.0 c.args.sources.now c.args.targets.now r.1 c.args.columns.now c.loop-i.columns i within r.2 below Count c.index-columns-i.result) in
-    (get_or r.0 i Count, r.1, may)
+    subst (λ (column : List Tally). LieWithin c.args.sources.now c.args.targets.now (length column)) (sym c.as_mut_slice.ensures.value)
+    (All-at (λ (column : Vec Tally Global). LieWithin c.args.sources.now c.args.targets.now (length column.items)) c.loop-i.columns c.loop-i.invariant.2 c.loop-i.i (omega (arith, c.loop-i-test.true, c.loop-i.invariant.0)) c.index-columns-i.result)
 
 pub loop-i-preserved : goal.loop-i-preserved
 loop-i-preserved c =
@@ -42,6 +37,9 @@ loop-i-preserved c =
           subst (AddsIn (get_or aggs i agg) added (get_or c.loop-i.columns i first).items) (sym (with_items_is column new len))
           (subst (λ a. AddsIn a added (get_or c.loop-i.columns i first).items new) (get_or_default aggs i Count agg within)
           (subst (λ (old : Vec Tally Global). AddsIn (get_or aggs i Count) added old.items new) (get_or_default c.loop-i.columns i c.index-columns-i.result first in_columns) counted))),
+      All-set (λ (column : Vec Tally Global). LieWithin c.args.sources.now c.args.targets.now (length column.items)) c.loop-i.columns i (with_items column new) c.loop-i.invariant.2
+          (subst (LieWithin c.args.sources.now c.args.targets.now) (sym (ap length (with_items_is column new len) ∙ c.merge_in.ensures.length ∙ ap length c.as_mut_slice.ensures.value))
+          (All-at (λ (column : Vec Tally Global). LieWithin c.args.sources.now c.args.targets.now (length column.items)) c.loop-i.columns c.loop-i.invariant.2 i (omega (arith, c.loop-i-test.true, c.loop-i.invariant.0)) c.index-columns-i.result)),
     )
 
 pub returns-clause-ok : goal.returns-clause-ok

@@ -1,30 +1,18 @@
 use Rattle.cube_model.specs.declared.fault.Fault.TheVariants.{BadLayout}
-use Rattle.std.proofs.Common.{◌≡◌, ◌∙◌, Err, [], sym, ap, subst, arith, length}
+use Rattle.std.proofs.Common.{◌≡◌, ◌∙◌, Err, sym, ap, subst, length}
 use Rattle.std.proofs.lemmas.Result.{IfOk-weaker, err_from_is_err_and}
-use Rattle.cube_query.specs.Coarser.{AreTalliedFrom, CanCoarsen}
+use Rattle.cube_query.specs.Coarser.{AreTalliedFrom}
 use Rattle.cube_query.specs.Columns.{seen_groups, tallies_at}
 use Rattle.cube_query.specs.Groups.{groups_of}
 use Rattle.cube_query.specs.Slots.{entries_of}
 use Rattle.cube_query.specs.FoldInvariant.{AreTallied}
-use Rattle.cube_query.proofs.Columnwise.{tallies-length}
 use Rattle.cube_query.proofs.Ends.{all_groups}
 use Rattle.cube_query.proofs.Seen.{seen_are}
 use Rattle.group_plan.specs.Numbers.{key_at}
 use Rattle.cube_query.proofs.finish.all_lines.Goals as goal
 
-pub coarsen_all-requires-clause-can : goal.coarsen_all-requires-clause-can
-coarsen_all-requires-clause-can c =
-    let d = c.args.plan.now.dimensions in
-    let q = c.args.plan.now.query in
-    let count : c.len-count.result ≡ length q.columns = c.len-count.ensures ∙ ap (λ query. length query.columns) c.requires.query in
-    subst (λ n. CanCoarsen d q n c.args.slots.now c.args.columns.now.items) (sym count) c.requires.can
-
 pub finest_lines-requires-clause-columns : goal.finest_lines-requires-clause-columns
-finest_lines-requires-clause-columns c =
-    let q = c.args.plan.now.query in
-    let can = c.in_ok-coarsen_all.ensures.can in
-    let entries = entries_of c.coarsen_all.new.slots in
-    ap length c.as_slice.ensures.value ∙ tallies-length q.aggregates c.coarsen_all.new.columns.items (length entries) [] (can.tallied.1.fresh (length entries) (omega arith))
+finest_lines-requires-clause-columns c = ap length c.as_slice.ensures.value ∙ c.in_ok-coarsen_all.ensures.can.count
 
 pub returns-clause-lines : goal.returns-clause-lines
 returns-clause-lines c =

@@ -1,7 +1,8 @@
-use Rattle.std.proofs.Common.{◌≡◌, sym, subst, length}
+use Rattle.std.proofs.Common.{◌≡◌, ◌∙◌, sym, subst, length}
 use Rattle.std.proofs.lemmas.Result.{IfOk-weaker}
 use Rattle.cube_query.specs.Coarser.{AreTalliedFrom}
 use Rattle.cube_query.specs.Slots.{entries_of, AreSlots}
+use Rattle.cube_query.proofs.Columnwise.{as_many_columns}
 use Rattle.cube_query.proofs.Ends.{start}
 use Rattle.group_plan.specs.Numbers.{group_count}
 use Rattle.cube_query.proofs.finish.coarser_lines.Goals as goal
@@ -15,13 +16,12 @@ all_lines-requires-clause-can c =
     let columns = c.args.columns.now in
     let copy = c.in_ok-columns.columns.items in
     let same_entries : entries_of c.in_ok-slots.slots ≡ entries = c.in_ok-slots.ensures.entries in
-    let tallied : AreTalliedFrom d q (length q.columns) entries copy fold.tallied.0 = start d q entries columns copy fold.tallied.0 c.in_ok-columns.ensures fold.tallied.1 in
     record {
       proper = fold.proper;
       rising = fold.rising;
       numbers = subst (AreSlots (group_count d q.columns)) (sym same_entries) fold.numbers;
       cover = c.in_ok-slots.ensures.cover (group_count d q.columns) fold.cover;
-      tallied = (fold.tallied.0, subst (λ es. AreTalliedFrom d q (length q.columns) es copy fold.tallied.0) (sym same_entries) tallied);
+      count = as_many_columns copy columns c.in_ok-columns.ensures ∙ fold.count;
     }
 
 pub returns-clause-lines : goal.returns-clause-lines

@@ -3,7 +3,7 @@ use Rattle.std.proofs.lemmas.Result.{err_from_is_err_and}
 use Rattle.cube_model.specs.declared.fault.Fault.TheVariants.{BadLayout}
 use Rattle.cube_model.specs.Answers.{answer}
 use Rattle.cube_query.specs.FoldInvariant.{AreTallied, IsFold}
-use Rattle.cube_query.specs.Groups.{FoldState, IsFoldOver, IsFoldable, StandsFor, finest}
+use Rattle.cube_query.specs.Groups.{FoldState, IsFoldable, IsOver, StandsFor, finest}
 use Rattle.cube_query.specs.Limits.{AreFoldable}
 use Rattle.cube_query.specs.Slots.{entries_of}
 use Rattle.group_plan.specs.Numbers.{Asked}
@@ -13,16 +13,15 @@ use Rattle.cube_query.proofs.running.Fold.finish.Goals as goal
 
 pub over-plan-requires : goal.over-plan-requires
 over-plan-requires c =
-    let is = subst (λ (state : FoldState). IsFoldOver c.args.dims.now state) (sym c.self.view_is) c.requires in
-    is.1.over
+    subst (λ (state : FoldState). IsOver c.args.dims.now state) (sym c.self.view_is) c.requires
 
 pub answer_lines-requires-clause-fold : goal.answer_lines-requires-clause-fold
 answer_lines-requires-clause-fold c =
     let dims = c.args.dims.now in
     let inside = c.self.inside in
     let query = query_of inside.plan in
-    let is = subst (λ (state : FoldState). IsFoldOver dims state) (sym c.self.view_is) c.requires in
-    let fold : IsFold dims query inside.slots inside.columns.items = fold_over dims inside.plan is.1.over inside.slots inside.columns.items c.self.invariant is in
+    let over = subst (λ (state : FoldState). IsOver dims state) (sym c.self.view_is) c.requires in
+    let fold : IsFold dims query inside.slots inside.columns.items = fold_over dims inside.plan over inside.slots inside.columns.items c.self.invariant in
     subst (λ (asked : Asked). IsFold asked.dimensions asked.query inside.slots c.as_slice.result.now) (sym c.over-plan.ensures)
     (subst (IsFold dims query inside.slots) (sym c.as_slice.ensures.value) fold)
 
@@ -32,9 +31,9 @@ returns-clause-answer c = λ rows stands.
     let inside = c.self.inside in
     let query = query_of inside.plan in
     let entries = entries_of inside.slots in
-    let is = subst (λ (state : FoldState). IsFoldOver dims state) (sym c.self.view_is) c.requires in
+    let over = subst (λ (state : FoldState). IsOver dims state) (sym c.self.view_is) c.requires in
     let here = subst (λ (state : FoldState). StandsFor dims state rows) (sym c.self.view_is) stands in
-    let tallied : AreTallied dims (finest query) entries inside.columns.items rows = tallied_for dims inside.plan is.1.over inside.slots inside.columns.items c.self.invariant rows here in
+    let tallied : AreTallied dims (finest query) entries inside.columns.items rows = tallied_for dims inside.plan over inside.slots inside.columns.items c.self.invariant rows here in
     let lines : c.in_ok-lines.lines ≡ (answer query dims rows).lines =
     subst (λ (asked : Asked). AreTallied asked.dimensions (finest asked.query) entries c.as_slice.result.now rows → c.in_ok-lines.lines ≡ (answer asked.query asked.dimensions rows).lines) c.over-plan.ensures (c.in_ok-lines.ensures.lines rows)
     (subst (λ columns. AreTallied dims (finest query) entries columns rows) (sym c.as_slice.ensures.value) tallied) in
@@ -48,10 +47,10 @@ returns-in_err-lines-clause-refused c =
     let inside = c.self.inside in
     let query = query_of inside.plan in
     let entries = entries_of inside.slots in
-    let is = subst (λ (state : FoldState). IsFoldOver dims state) (sym c.self.view_is) c.requires in
+    let over = subst (λ (state : FoldState). IsOver dims state) (sym c.self.view_is) c.requires in
     let given = subst (λ (state : FoldState). IsFoldable dims state) (sym c.self.view_is) can in
     let rows = given.0 in
-    let tallied : AreTallied dims (finest query) entries inside.columns.items rows = tallied_for dims inside.plan is.1.over inside.slots inside.columns.items c.self.invariant rows given.1.0 in
+    let tallied : AreTallied dims (finest query) entries inside.columns.items rows = tallied_for dims inside.plan over inside.slots inside.columns.items c.self.invariant rows given.1.0 in
     let fault : c.in_err-lines.field-0.0 ≡ BadLayout = cc bad in
     c.in_err-lines.ensures.refused (ap (λ f. Err f) fault) rows
     (subst (λ (asked : Asked). AreTallied asked.dimensions (finest asked.query) entries c.as_slice.result.now rows) (sym c.over-plan.ensures)
