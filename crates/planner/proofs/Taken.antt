@@ -21,12 +21,12 @@ only_at x y zero below is = is
 only_at x y (suc k) below is = absurd (omega arith)
 
 module _ (query : Query) (rows : List ℕ) (as_of : ℕ) (stored : List Stored) (one : Stored) where
-  more : (plan : Plan) (cost : ℕ) → AnswersAt query stored rows as_of plan cost → AnswersAt query (stored ++ one ∷ []) rows as_of plan cost
+  pub more : (plan : Plan) (cost : ℕ) → AnswersAt query stored rows as_of plan cost → AnswersAt query (stored ++ one ∷ []) rows as_of plan cost
   more Scan cost h = h
   more (Cells view mark) cost h = (h.0, Contains-append_left stored (one ∷ []) h.0 h.1, h.2, h.3, h.4, h.5)
 
   -- a plan over one more cuboid is one over those before, or by the cuboid
-  cases : (plan : Plan) (cost : ℕ) → AnswersAt query (stored ++ one ∷ []) rows as_of plan cost
+  pub cases : (plan : Plan) (cost : ℕ) → AnswersAt query (stored ++ one ∷ []) rows as_of plan cost
       → AnswersAt query stored rows as_of plan cost
       ⊎ (ServesAsOf query as_of one × (plan ≡ Cells one.view one.mark) × (cost ≡ cells_cost rows as_of one))
   cases Scan cost h = inl h

@@ -3,9 +3,11 @@
 
 mod cheapest;
 mod cost;
+mod listing;
 mod price;
 mod stored;
 
 pub use cheapest::plan;
-pub use price::Plan;
+pub use listing::plans;
+pub use price::{Plan, Priced};
 pub use stored::Stored;

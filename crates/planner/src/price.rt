@@ -1,5 +1,5 @@
 //! Plans, and which of two is to be taken.
-ghost use Rattle.std.specs.Prelude.{◌≡◌, ◌⊎◌};
+ghost use Rattle.std.specs.Prelude.{◌≡◌, ◌⊎◌, IsTrue};
 ghost use Rattle.planner.specs.Plans.{rank, ComesFirst};
 
 use lattice::View;
@@ -13,11 +13,11 @@ pub enum Plan {
     Cells { view: View, mark: u32 },
 }
 
-// A plan, and how many cells and fact rows it reads.
-#[derive(Clone, Copy)]
-pub(crate) struct Priced {
-    pub(crate) plan: Plan,
-    pub(crate) cost: u64,
+/// A plan, and how many cells and fact rows it reads.
+#[derive(Clone, Copy, Debug, PartialEq, Eq)]
+pub struct Priced {
+    pub plan: Plan,
+    pub cost: u64,
 }
 
 impl Plan {
@@ -32,13 +32,23 @@ impl Plan {
     }
 }
 
+impl Priced {
+    // Whether the plan is to be taken before another.
+    pub(crate) fn comes_before(self, other: Priced) -> bool
+        ensures yes { IsTrue result → ComesFirst self other }
+        ensures no { (IsTrue result → ⊥) → ComesFirst other self }
+    {
+        self.cost < other.cost || (self.cost == other.cost && self.plan.rank() < other.plan.rank())
+    }
+}
+
 // The plan of the two that is to be taken.
 pub(crate) fn better(best: Priced, other: Priced) -> Priced
     ensures one { (result ≡ best) ⊎ (result ≡ other) }
     ensures before_best { ComesFirst result best }
     ensures before_other { ComesFirst result other }
 {
-    if other.cost < best.cost || (other.cost == best.cost && other.plan.rank() < best.plan.rank()) {
+    if other.comes_before(best) {
         other
     } else {
         best

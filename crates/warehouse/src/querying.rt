@@ -1,26 +1,19 @@
 //! The answer to a query over the first batches of a warehouse.
 ghost use Rattle.std.specs.Prelude.{◌≡◌, ◌≢◌, take, ◌⊎◌, ◌<◌, ◌≤◌, ◌↔◌, true, false, [], Err, length, IfOk, IfErr, IsErrOf, OnOk};
 ghost use Rattle.cube_model.specs.declared.fault.Fault.TheVariants.{BadLayout, Device, Failed, Memory, BadQuery, NoSuchPrefix};
-ghost use Rattle.cube_model.specs.Admission.{all_rows};
-ghost use Rattle.cube_model.specs.Answers.{answer, answer_as_of};
+ghost use Rattle.cube_model.specs.Answers.{answer_as_of};
 ghost use Rattle.cube_model.specs.Proper.{IsProper};
-ghost use Rattle.cube_query.specs.Groups.{StandsFor};
 ghost use Rattle.object_store.specs.Disk.{Leaves};
-ghost use Rattle.object_store.specs.Store as stores;
 ghost use Rattle.warehouse_objects.specs.Warehouse.{Warehouse};
-ghost use Rattle.warehouse_objects.specs.Stands.{Stands, root_of};
+ghost use Rattle.warehouse_objects.specs.Stands.{Stands};
 ghost use Rattle.warehouse.specs.Session.{has_failed, device_of, disk_of, IsAt, Breaks, KeepsContent, IsAsked, QueryRefuses};
 
 use crate::prepared::kept_is_what_stands;
 use crate::session::Session;
 use cube_model::{Answer, Fault, Query};
-use cube_query::Fold;
-use dimensions::Dims;
-use object_store::Store;
+use planned_queries::answer_by_plan;
 use sector_device::Sectors;
 use std::alloc::Global;
-use warehouse_objects::fold_batches;
-use warehouse_root::Root;
 
 impl<D: Sectors> Session<D> {
     /// The answer to a query over the first `as_of` batches.
@@ -58,69 +51,15 @@ impl<D: Sectors> Session<D> {
         if let Err(fault) = check(query, as_of, self.root.batches().len() as u32) {
             return Err(fault);
         }
-        match answer_of(alloc, &mut self.store, &self.root, &self.dims, as_of, query) {
+        match answer_by_plan(alloc, &mut self.store, &self.root, &self.dims, as_of, query) {
             Ok(answer) => Ok(answer),
             Err(fault) => Err(fault),
         }
     }
 }
 
-// The answer to a proper query over the first batches of a store.
-fn answer_of<D: Sectors>(
-    alloc: Global,
-    store: &mut Store<D>,
-    root: &Root,
-    dims: &Dims,
-    as_of: u32,
-    query: &Query,
-) -> Result<Answer, Fault>
-    requires fine { stores.has_failed store.old ≡ false }
-    requires proper { IsProper query.now }
-    requires few { as_of ≤ length root.now.batches }
-    ensures answer { IfOk result (λ found. D.keeps_word (stores.device_of store.new) → (w : Warehouse) → Stands (stores.content_of D.Sectors store.old) w
-        → found ≡ answer query.now dims.now (all_rows (take as_of w.batches))) }
-    ensures refused { IsErrOf result BadLayout → D.keeps_word (stores.device_of store.new) → (w : Warehouse) → Stands (stores.content_of D.Sectors store.old) w
-        → root.now ≡ root_of w → dims.now ≡ w.rows → ⊥ }
-    ensures leaves { Leaves (stores.disk_of D.Sectors store.old) (stores.disk_of D.Sectors store.new) (λ c. c ≡ stores.content_of D.Sectors store.old) }
-    ensures stays { (IsErrOf result Device → ⊥) → stores.IsStill D.Sectors store.old store.new }
-    ensures device { IsErrOf result Device → stores.Breaks D.Sectors store.old store.new }
-    ensures causes { IfErr result (λ fault. (fault ≡ Memory) ⊎ ((fault ≡ Device) ⊎ (fault ≡ BadLayout))) }
-{
-    let _broken = store.is_broken();
-    match Fold::new(alloc, dims, query) {
-        Ok(mut fold) => answer_by(alloc, store, root, dims, &mut fold, as_of),
-        Err(_) => Err(Fault::Memory), // the query is proper
-    }
-}
-
-// The answer to the query of a fold that stands for no row yet, over the first batches of a store.
-fn answer_by<D: Sectors>(
-    alloc: Global,
-    store: &mut Store<D>,
-    root: &Root,
-    dims: &Dims,
-    fold: &mut Fold,
-    as_of: u32,
-) -> Result<Answer, Fault>
-    requires fine { stores.has_failed store.old ≡ false }
-    requires begun { StandsFor dims.now fold.old [] }
-    requires few { as_of ≤ length root.now.batches }
-    ensures answer { IfOk result (λ found. D.keeps_word (stores.device_of store.new) → (w : Warehouse) → Stands (stores.content_of D.Sectors store.old) w
-        → found ≡ answer fold.old.query dims.now (all_rows (take as_of w.batches))) }
-    ensures refused { IsErrOf result BadLayout → D.keeps_word (stores.device_of store.new) → (w : Warehouse) → Stands (stores.content_of D.Sectors store.old) w
-        → root.now ≡ root_of w → dims.now ≡ w.rows → ⊥ }
-    ensures leaves { Leaves (stores.disk_of D.Sectors store.old) (stores.disk_of D.Sectors store.new) (λ c. c ≡ stores.content_of D.Sectors store.old) }
-    ensures stays { (IsErrOf result Device → ⊥) → stores.IsStill D.Sectors store.old store.new }
-    ensures device { IsErrOf result Device → stores.Breaks D.Sectors store.old store.new }
-    ensures causes { IfErr result (λ fault. (fault ≡ Memory) ⊎ ((fault ≡ Device) ⊎ (fault ≡ BadLayout))) }
-{
-    let _broken = store.is_broken();
-    fold_batches(alloc, store, root, dims, fold, as_of)?;
-    fold.finish(dims)
-}
-
-// Says whether a query may be asked over the first of so many batches.
-fn check(query: &Query, as_of: u32, batches: u32) -> Result<(), Fault>
+/// Says whether a query may be asked over the first of so many batches.
+pub(crate) fn check(query: &Query, as_of: u32, batches: u32) -> Result<(), Fault>
     ensures ok { OnOk result (IsProper query.now × (as_of ≤ batches)) }
     ensures improper { (IsProper query.now → ⊥) → result ≡ Err BadQuery }
     ensures beyond { IsProper query.now → batches < as_of → result ≡ Err NoSuchPrefix }

@@ -3,16 +3,15 @@ use Rattle.std.proofs.Common.{◌≡◌, ◌⊎◌, inl, inr, ⊎_elim, ◌<◌,
 use Rattle.std.specs.Cmp.{IsEquivalence}
 use Rattle.cube_model.specs.declared.attr.Axis.TheVariants.{Customer, Supplier, Part, Date}
 use Rattle.cube_model.specs.declared.rows.LineOrder.{LineOrder}
-use Rattle.std.specs.List.{AllPairs, Contains, IsDistinct, flat_map, list_any, range_with_len}
+use Rattle.std.specs.List.{AllPairs, IsDistinct, flat_map, list_any, range_with_len}
 use Rattle.std.specs.Option.{option_map}
-use Rattle.std.proofs.Math.Nat.{div-add-mod, mod-lt}
+use Rattle.std.proofs.Math.Nat.{div-add-mod}
 use Rattle.std.proofs.lemmas.Bool.{cases_lt, cases_eq}
 use Rattle.std.proofs.lemmas.Bool.Decides.{Decides-eqb, nat_tests}
 use Rattle.std.proofs.lemmas.List.{get_or-map, length-map}
 use Rattle.std.proofs.lemmas.List.Elements.{All-append, All-cons, All-head, All-nil, All-tail}
 use Rattle.std.proofs.lemmas.List.FromFn.{get_or-range_with_len, length-range_with_len}
 use Rattle.std.proofs.lemmas.Map.Made.{IsDistinct-from_AllPairs, length-le_from_is_member}
-use Rattle.std.proofs.lemmas.Option.{slice_get-get_or, slice_get_within}
 use Rattle.object_store.specs.Content.{Content, bytes_of, look_up}
 use Rattle.column_segment.specs.Segment.{segment_of}
 use Rattle.lattice.specs.Views.{index_of}
@@ -21,7 +20,7 @@ use Rattle.warehouse_root.specs.declared.layout.Layout.TheVariants.{First}
 use Rattle.warehouse_root.specs.Objects.{object_ids, run_id, run_ids}
 use Rattle.warehouse_root.specs.Root.{PlainRoot}
 use Rattle.warehouse_objects.specs.Warehouse.{Cuboid, Warehouse, cuboid_at}
-use Rattle.warehouse_objects.specs.Stands.{HasItsObjects, Stands, dimension_of, object_of, root_of, run_behind, run_bytes, run_in, said_of}
+use Rattle.warehouse_objects.specs.Stands.{HasItsObjects, Stands, dimension_of, root_of, run_behind, run_bytes, run_in, said_of}
 use Rattle.warehouse_objects.proofs.Batches.{few_batches, get_within}
 use Rattle.warehouse_objects.proofs.Contents.{object_batch}
 use Rattle.warehouse_objects.proofs.OneWarehouse.{object_run}

@@ -1,6 +1,6 @@
 -- The cuboids of some views, as objects and in the root.
-use Rattle.std.proofs.Common.{◌≡◌, ◌≢◌, ◌⊎◌, ⊎_elim, inl, inr, ℕ, zero, suc, ◌+◌, ◌-◌, ◌*◌, ◌/◌, ◌%◌, ◌<◌, ◌≤◌, ◌==◌, nat_eq, nat_lt, if◌then◌else◌, cond, Bool, true, false, ◌&&◌, ◌||◌, not, Option, Some, None, List, [], ◌∷◌, ◌++◌, map, length, get_or, slice_get, All, refl, sym, ◌∙◌, ap, subst, arith, append-nil}
-use Rattle.std.specs.List.{AllPairs, filter, find, flat_map, list_any, range_with_len}
+use Rattle.std.proofs.Common.{◌≡◌, ◌≢◌, ◌⊎◌, inl, inr, ℕ, zero, suc, ◌+◌, ◌-◌, ◌*◌, ◌/◌, ◌%◌, ◌<◌, ◌≤◌, ◌==◌, nat_eq, nat_lt, if◌then◌else◌, cond, Bool, true, false, ◌&&◌, ◌||◌, not, Option, Some, None, List, [], ◌∷◌, ◌++◌, map, length, get_or, slice_get, All, refl, sym, ◌∙◌, ap, subst, arith, append-nil}
+use Rattle.std.specs.List.{AllPairs, filter, find, flat_map, range_with_len}
 use Rattle.std.specs.Option.{option_map}
 use Rattle.std.proofs.Math.Nat.{div-add-mod, mod-lt}
 use Rattle.std.proofs.lemmas.Bool.{cases_lt}
@@ -22,13 +22,12 @@ use Rattle.lattice.specs.declared.view.View.{View}
 use Rattle.lattice.specs.Views.{index_of, lattice}
 use Rattle.warehouse_root.specs.declared.cuboid.StoredCuboid.{StoredCuboid}
 use Rattle.warehouse_root.specs.declared.layout.Layout.{Layout}
-use Rattle.warehouse_root.specs.declared.layout.Layout.TheVariants.{First}
 use Rattle.warehouse_root.specs.Layouts.{number_of, views_of}
 use Rattle.warehouse_root.specs.Limits.{most_cuboids}
 use Rattle.warehouse_root.specs.Objects.{run_id, run_ids}
 use Rattle.warehouse_root.specs.Root as roots
 use Rattle.warehouse_root.specs.Root.{AreAscending, IsProperCuboid}
-use Rattle.warehouse_objects.specs.Warehouse.{Cuboid, StoredRun, Warehouse, cuboid_at, dropped_ids, in_order, is_among, kept_of, with_views}
+use Rattle.warehouse_objects.specs.Warehouse.{Cuboid, Warehouse, cuboid_at, dropped_ids, in_order, is_among, kept_of, with_views}
 use Rattle.warehouse_objects.specs.Stands.{HoldsGroupings, Stands, dimension_of, numbers_among, object_of, root_of, run_behind, run_bytes, run_in, said_below, said_of, said_or_new, said_with}
 use Rattle.warehouse_objects.proofs.Asked.{asks, asks_range, nat_eq_laws}
 use Rattle.warehouse_objects.proofs.Batches.{AreProperCuboids, root_proper}
@@ -173,7 +172,7 @@ among_in_order views q = asked_views (in_order views) q ∙ ap (λ (l : List ℕ
 
 -- ---- what a root says of them
 
-found_said : (cuboids : List StoredCuboid) (number : ℕ) (cuboid : StoredCuboid) → find (λ (c : StoredCuboid). c.view == number) cuboids ≡ Some cuboid → cuboid.view ≡ number
+pub found_said : (cuboids : List StoredCuboid) (number : ℕ) (cuboid : StoredCuboid) → find (λ (c : StoredCuboid). c.view == number) cuboids ≡ Some cuboid → cuboid.view ≡ number
 found_said [] number cuboid is = absurd (cc is)
 found_said (x ∷ xs) number cuboid is =
     (elim (x.view == number) as (λ t. (x.view == number) ≡ t → (if t then Some x else find (λ (c : StoredCuboid). c.view == number) xs) ≡ Some cuboid → cuboid.view ≡ number) [
@@ -244,7 +243,7 @@ found_in P (x ∷ xs) v c all is =
     ]) is
 
 -- the root says it of the cuboid that is found
-find_said : (cuboids : List Cuboid) (v : ℕ) → find (λ (c : StoredCuboid). c.view == v) (map said_of cuboids) ≡ option_map said_of (cuboid_at v cuboids)
+pub find_said : (cuboids : List Cuboid) (v : ℕ) → find (λ (c : StoredCuboid). c.view == v) (map said_of cuboids) ≡ option_map said_of (cuboid_at v cuboids)
 find_said [] v = refl
 find_said (c ∷ cs) v =
     (elim (index_of c.view == v) as (λ t. (if t then Some (said_of c) else find (λ (s : StoredCuboid). s.view == v) (map said_of cs)) ≡ option_map said_of (if t then Some c else cuboid_at v cs)) [

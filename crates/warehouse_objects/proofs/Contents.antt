@@ -17,7 +17,6 @@ use Rattle.object_store.specs.Commit.{ArePuts, IsObject, committed, created}
 use Rattle.object_store.proofs.CallerLemmas.{bytes_after, bytes_created, layout_after, layout_created, once_after, once_created, one_put, root_after, root_created}
 use Rattle.object_store.proofs.Lists.{AllPairs-nil}
 use Rattle.column_segment.specs.Segment.{FitColumns, IsBatch, segment_of}
-use Rattle.column_segment.proofs.CallerLemmas.{IsSegment-one}
 use Rattle.dimensions.proofs.CallerLemmas.{good_customers, good_dates, good_parts, good_suppliers}
 use Rattle.dimensions.specs.Shown.{rows_on}
 use Rattle.warehouse_root.specs.declared.layout.Layout.TheVariants.{First}
@@ -26,15 +25,14 @@ use Rattle.warehouse_root.specs.Objects.{segment_id}
 use Rattle.warehouse_root.specs.Root as roots
 use Rattle.warehouse_root.specs.Root.{IsProper, IsProperCuboid}
 use Rattle.warehouse_root.specs.declared.cuboid.StoredCuboid.{StoredCuboid}
-use Rattle.warehouse_root.proofs.CallerLemmas.{root_fits, root_of-one}
 use Rattle.cuboid_cells.specs.declared.span.Span.{Span}
 use Rattle.cuboid_cells.specs.Spelled.{IsSpan}
 use Rattle.cuboid_cells.specs.Steps.{cells_of}
 use Rattle.cuboid_upkeep.specs.Grouping.{StandFor}
 use Rattle.warehouse_objects.specs.Warehouse.{AreInOrder, AreStorable, Cuboid, IsNext, StoredRun, Warehouse, aimed, fresh, loaded, modes_of}
-use Rattle.warehouse_objects.specs.Stands.{Follow, HasRows, HoldsGroupings, IsLaid, Stands, dimension_of, object_of, root_of, rows_in, run_behind, said_of, segment_behind, stored}
+use Rattle.warehouse_objects.specs.Stands.{Follow, HasRows, HoldsGroupings, Stands, dimension_of, object_of, root_of, rows_in, run_behind, said_of, segment_behind, stored}
 use Rattle.warehouse_objects.specs.Lawful.{batch_put, dimension_puts}
-use Rattle.warehouse_objects.proofs.Batches.{few_batches, in_order_more, in_order_none, next_number, root_proper, segment_at, slice_get_snoc, some_one}
+use Rattle.warehouse_objects.proofs.Batches.{few_batches, in_order_more, in_order_none, next_number, root_proper, slice_get_snoc, some_one}
 use Rattle.warehouse_objects.proofs.Lengths.{dimension_least, dimension_most, segment_least, segment_most}
 use Rattle.warehouse_objects.proofs.Rows.{same_rows}
 

@@ -1,36 +1,29 @@
 -- A content stands for one warehouse.
-use Rattle.std.proofs.Common.{◌≡◌, ◌≢◌, ◌<◌, ◌≤◌, ◌+◌, ◌-◌, ◌*◌, ◌/◌, ◌%◌, ◌==◌, ◌∙◌, zero, suc, sym, ap, refl, subst, arith, if◌then◌else◌, ℕ, Bool, true, false, List, [], ◌∷◌, ◌++◌, map, length, get_or, slice_get, Option, Some, None, All}
+use Rattle.std.proofs.Common.{◌≡◌, ◌<◌, ◌≤◌, ◌+◌, ◌-◌, ◌*◌, ◌/◌, ◌%◌, ◌==◌, ◌∙◌, zero, suc, sym, ap, refl, arith, if◌then◌else◌, ℕ, Bool, true, false, List, [], ◌∷◌, map, length, get_or, slice_get, Option, Some}
 use Rattle.std.specs.Option.{option_map}
 use Rattle.std.proofs.Math.Nat.{div-add-mod, mod-lt}
 use Rattle.std.proofs.lemmas.Bool.Decides.{nat_tests}
 use Rattle.std.proofs.lemmas.List.{get_or-map, length-map}
-use Rattle.std.proofs.lemmas.List.Elements.{All-head, All-tail}
 use Rattle.std.proofs.lemmas.Option.{slice_get-get_or, slice_get_within}
 use Rattle.cube_model.specs.declared.attr.Axis.TheVariants.{Customer, Supplier, Part, Date}
-use Rattle.cube_model.specs.declared.rows.DimRows.{DimRows}
 use Rattle.cube_model.specs.declared.rows.LineOrder.{LineOrder}
 use Rattle.cube_model.specs.Lawful.{ValidRowsKeepTheRules}
 use Rattle.object_store.specs.Content.{Content}
 use Rattle.column_segment.specs.Segment.{segment_of}
 use Rattle.column_segment.proofs.CallerLemmas.{IsSegment-one}
-use Rattle.lattice.specs.declared.view.View.{View}
 use Rattle.lattice.specs.Views.{index_of}
 use Rattle.lattice.proofs.Places.{one_view}
-use Rattle.cuboid_cells.specs.declared.cell.Cell.{Cell}
-use Rattle.cuboid_cells.specs.declared.span.Span.{Span}
 use Rattle.cuboid_cells.specs.Cells.{PlainCells}
-use Rattle.cuboid_cells.specs.Spelled.{IsRun, run_of}
 use Rattle.cuboid_cells.specs.Steps.{cells_of}
 use Rattle.cuboid_cells.proofs.CallerLemmas.{IsRun-one}
 use Rattle.warehouse_root.specs.declared.cuboid.StoredCuboid.{StoredCuboid}
 use Rattle.warehouse_root.specs.declared.layout.Layout.{Layout}
 use Rattle.warehouse_root.specs.declared.layout.Layout.TheVariants.{First, Second}
 use Rattle.warehouse_root.specs.Layouts.{number_of}
-use Rattle.warehouse_root.specs.Limits.{most_runs}
 use Rattle.warehouse_root.specs.Objects.{run_id}
 use Rattle.warehouse_root.specs.Root.{AreAscending}
 use Rattle.warehouse_root.proofs.CallerLemmas.{root_fits, root_of-one}
-use Rattle.warehouse_objects.specs.Warehouse.{Cuboid, StoredRun, Warehouse, cuboid_at}
+use Rattle.warehouse_objects.specs.Warehouse.{Cuboid, Warehouse, cuboid_at}
 use Rattle.warehouse_objects.specs.Stands.{IsLaid, Stands, StandsWith, dimension_of, object_of, root_of, run_behind, run_bytes, run_in, said_of}
 use Rattle.warehouse_objects.proofs.Batches.{few_batches, segment_at, some_one}
 use Rattle.warehouse_objects.proofs.Contents.{object_batch, objects_high, rows_one}

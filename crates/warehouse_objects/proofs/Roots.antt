@@ -1,5 +1,5 @@
 -- The root that was read, beside the warehouse for which the content stands.
-use Rattle.std.proofs.Common.{◌≡◌, ◌⊎◌, ⊎_elim, inl, inr, ℕ, List, Result, Ok, Err, IfErr, IfOk, ◌∙◌, refl}
+use Rattle.std.proofs.Common.{◌≡◌, ◌⊎◌, ⊎_elim, inl, inr, ℕ, List, Result, Ok, Err, IfErr, IfOk, ◌∙◌}
 use Rattle.cube_model.specs.declared.fault.Fault.{Fault}
 use Rattle.cube_model.specs.declared.fault.Fault.TheVariants.{BadLayout, Memory}
 use Rattle.object_store.specs.Content.{Content}

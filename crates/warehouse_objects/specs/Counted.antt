@@ -7,9 +7,8 @@ use Rattle.object_store.specs.Content.{Content}
 use Rattle.warehouse_objects.specs.Stands.{Stands}
 use Rattle.warehouse_objects.specs.Warehouse.{Warehouse}
 
--- Rows were counted into a fold. Where the device keeps its word and the content stands for a warehouse, they are the same to
--- the fold as those of its batch behind so many others.
-pub record CountsBatch (dimensions : DimRows) (old new : FoldState) (before : ℕ) (keeps : Type 0) (content : Content) : Type 0 where
-  pub some : (rows : List LineOrder) × Takes dimensions old rows new
-  pub own : keeps → (w : Warehouse) → Stands content w
-      → (batch : List LineOrder) × (slice_get w.batches before ≡ Some batch) × Takes dimensions old batch new
+-- Where the device keeps its word and the content stands for a warehouse, the rows of its batch after so many others were
+-- counted into a fold, or rows that are the same to the fold.
+abbrev pub CountsBatch : DimRows → FoldState → FoldState → ℕ → Type 0 → Content → Type 0
+CountsBatch dimensions old new before keeps content = keeps → (w : Warehouse) → Stands content w
+    → (batch : List LineOrder) × (slice_get w.batches before ≡ Some batch) × Takes dimensions old batch new

@@ -10,7 +10,7 @@ ghost use Rattle.object_store.specs.Store.{Breaks, IsStill, content_of, device_o
 ghost use Rattle.column_segment.specs.Replaced.{AgreeOn};
 ghost use Rattle.column_segment.specs.Segment.{IsSegment};
 ghost use Rattle.cube_query.specs.Asked.{asked_columns};
-ghost use Rattle.cube_query.specs.Groups.{CanTake, IsFoldOver, IsOver, StandsFor, Takes};
+ghost use Rattle.cube_query.specs.Groups.{CanTake, IsOver, StandsFor, Takes};
 ghost use Rattle.warehouse_root.specs.Objects.{segment_id};
 ghost use Rattle.warehouse_objects.specs.Counted.{CountsBatch};
 ghost use Rattle.warehouse_objects.specs.Warehouse.{Warehouse};
@@ -26,9 +26,9 @@ use sector_device::Sectors;
 use std::alloc::Global;
 use warehouse_root::{Root, segment_id};
 
-/// Counts the rows of the first batches of a store into a fold that stands for no row yet, straight from their columns.
-/// There is one batch in memory at a time. Behind a batch of as many rows only the columns are read at which the fold's query
-/// looks, over those of the batch before.
+/// Counts the rows of the batches after the first `from`, up to `as_of`, into a fold, straight from their columns. There is
+/// one batch in memory at a time. After a batch of as many rows only the columns are read at which the fold's query looks,
+/// over those of the batch before.
 ///
 /// `BadLayout` where a batch has another number than its place, or another count of rows than the root says, and where the
 /// fold cannot take its rows. After a refusal the fold is to be dropped.
@@ -38,19 +38,21 @@ pub fn fold_batches<D: Sectors>(
     root: &Root,
     dims: &Dims,
     fold: &mut Fold,
+    from: u32,
     as_of: u32,
 ) -> Result<(), Fault>
     requires fine { has_failed store.old ≡ false }
-    requires begun { StandsFor dims.now fold.old [] }
+    requires over { IsOver dims.now fold.old }
+    requires order { from ≤ as_of }
     requires few { as_of ≤ length root.now.batches }
 
-    // Then it stands for the rows of the first batches of the warehouse.
+    // A fold that stands for the rows of the batches up to the first of them then stands for those up to the last.
     ensures ok { OnOk result (D.keeps_word (device_of store.new) → (w : Warehouse) → Stands (content_of D.Sectors store.old) w
-        → StandsFor dims.now fold.new (all_rows (take as_of w.batches))) }
-    ensures over { OnOk result (IsFoldOver dims.now fold.new) }
+        → StandsFor dims.now fold.old (all_rows (take from w.batches)) → StandsFor dims.now fold.new (all_rows (take as_of w.batches))) }
+    ensures over { IsOver dims.now fold.new }
     ensures query { fold.new.query ≡ fold.old.query }
     ensures refused { IsErrOf result BadLayout → D.keeps_word (device_of store.new) → (w : Warehouse) → Stands (content_of D.Sectors store.old) w
-        → root.now ≡ root_of w → dims.now ≡ w.rows → ⊥ }
+        → root.now ≡ root_of w → dims.now ≡ w.rows → StandsFor dims.now fold.old (all_rows (take from w.batches)) → ⊥ }
 
     // The content stays, at each moment.
     ensures leaves { Leaves (disk_of D.Sectors store.old) (disk_of D.Sectors store.new) (λ c. c ≡ content_of D.Sectors store.old) }
@@ -60,11 +62,12 @@ pub fn fold_batches<D: Sectors>(
 {
     let _usable = store.is_broken();
     let columns = fold.asked_columns()?;
-    add_batches(alloc, store, root, dims, fold, columns.as_slice(), as_of)
+    let columns = columns.as_slice();
+    add_batches(alloc, store, root, dims, fold, columns, from, as_of)
 }
 
-// Counts the rows of the first batches of a store into a fold that stands for no row yet. Of a batch behind one of as many
-// rows only the columns at which the fold's query looks are read.
+// Counts the rows of the batches after the first `from`, up to `as_of`, into a fold. Of a batch after one of as many rows
+// only the columns at which the fold's query looks are read.
 fn add_batches<D: Sectors>(
     alloc: Global,
     store: &mut Store<D>,
@@ -72,18 +75,20 @@ fn add_batches<D: Sectors>(
     dims: &Dims,
     fold: &mut Fold,
     columns: &[FactColumn],
+    from: u32,
     as_of: u32,
 ) -> Result<(), Fault>
     requires fine { has_failed store.old ≡ false }
-    requires begun { StandsFor dims.now fold.old [] }
+    requires over { IsOver dims.now fold.old }
+    requires order { from ≤ as_of }
     requires few { as_of ≤ length root.now.batches }
     requires asked { columns.now ≡ asked_columns fold.old.query }
     ensures ok { OnOk result (D.keeps_word (device_of store.new) → (w : Warehouse) → Stands (content_of D.Sectors store.old) w
-        → StandsFor dims.now fold.new (all_rows (take as_of w.batches))) }
-    ensures over { OnOk result (IsFoldOver dims.now fold.new) }
+        → StandsFor dims.now fold.old (all_rows (take from w.batches)) → StandsFor dims.now fold.new (all_rows (take as_of w.batches))) }
+    ensures over { IsOver dims.now fold.new }
     ensures query { fold.new.query ≡ fold.old.query }
     ensures refused { IsErrOf result BadLayout → D.keeps_word (device_of store.new) → (w : Warehouse) → Stands (content_of D.Sectors store.old) w
-        → root.now ≡ root_of w → dims.now ≡ w.rows → ⊥ }
+        → root.now ≡ root_of w → dims.now ≡ w.rows → StandsFor dims.now fold.old (all_rows (take from w.batches)) → ⊥ }
     ensures leaves { Leaves (disk_of D.Sectors store.old) (disk_of D.Sectors store.new) (λ c. c ≡ content_of D.Sectors store.old) }
     ensures stays { (IsErrOf result Device → ⊥) → IsStill D.Sectors store.old store.new }
     ensures device { IsErrOf result Device → Breaks D.Sectors store.old store.new }
@@ -93,7 +98,7 @@ fn add_batches<D: Sectors>(
     let _layout = root.layout();
     let batches = root.batches();
     let mut earlier = None;
-    for before in 0..as_of {
+    for before in from..as_of {
         let count = batches[before as usize];
         let segment = add_batch(alloc, store, dims, fold, columns, earlier, before, count)?;
         earlier = Some(segment);
@@ -118,6 +123,7 @@ fn add_batch<D: Sectors>(
     requires few { before < most_batches }
     requires asked { columns.now ≡ asked_columns fold.old.query }
     ensures ok { OnOk result (CountsBatch dims.now fold.old fold.new before (D.keeps_word (device_of store.new)) (content_of D.Sectors store.old)) }
+    ensures over { IsOver dims.now fold.new }
     ensures query { fold.new.query ≡ fold.old.query }
     ensures refused { IsErrOf result BadLayout → D.keeps_word (device_of store.new) → (w : Warehouse) → Stands (content_of D.Sectors store.old) w
         → dims.now ≡ w.rows → (batch : List LineOrder) → slice_get w.batches before ≡ Some batch → count ≡ length batch
@@ -152,6 +158,7 @@ fn add_columns<D: Sectors>(
     requires asked { columns.now ≡ asked_columns fold.old.query }
     ensures ok { IfOk result (λ found. MatchOption found (fold.new ≡ fold.old)
         (λ _. CountsBatch dims.now fold.old fold.new before (D.keeps_word (device_of store.new)) (content_of D.Sectors store.old))) }
+    ensures over { IsOver dims.now fold.new }
     ensures query { fold.new.query ≡ fold.old.query }
     ensures leaves { Leaves (disk_of D.Sectors store.old) (disk_of D.Sectors store.new) (λ c. c ≡ content_of D.Sectors store.old) }
     ensures stays { (IsErrOf result Device → ⊥) → IsStill D.Sectors store.old store.new }
@@ -193,6 +200,7 @@ fn add_over<D: Sectors>(
     requires asked { columns.now ≡ asked_columns fold.old.query }
     ensures ok { IfOk result (λ found. MatchOption found (fold.new ≡ fold.old)
         (λ _. CountsBatch dims.now fold.old fold.new before (D.keeps_word (device_of store.new)) (content_of D.Sectors store.old))) }
+    ensures over { IsOver dims.now fold.new }
     ensures query { fold.new.query ≡ fold.old.query }
     ensures leaves { Leaves (disk_of D.Sectors store.old) (disk_of D.Sectors store.new) (λ c. c ≡ content_of D.Sectors store.old) }
     ensures stays { (IsErrOf result Device → ⊥) → IsStill D.Sectors store.old store.new }
@@ -210,6 +218,7 @@ fn add_over<D: Sectors>(
 fn taken_in(dims: &Dims, fold: &mut Fold, segment: Segment) -> Result<Option<Segment>, Fault>
     requires over { IsOver dims.now fold.old }
     ensures ok { IfOk result (λ found. MatchOption found (fold.new ≡ fold.old) (λ _. Takes dims.now fold.old segment.rows fold.new)) }
+    ensures over { IsOver dims.now fold.new }
     ensures query { fold.new.query ≡ fold.old.query }
     ensures memory { IfErr result (λ fault. fault ≡ Memory) }
 {
@@ -258,6 +267,7 @@ fn add_whole<D: Sectors>(
     requires over { IsOver dims.now fold.old }
     requires few { before < most_batches }
     ensures ok { OnOk result (CountsBatch dims.now fold.old fold.new before (D.keeps_word (device_of store.new)) (content_of D.Sectors store.old)) }
+    ensures over { IsOver dims.now fold.new }
     ensures query { fold.new.query ≡ fold.old.query }
     ensures refused { IsErrOf result BadLayout → D.keeps_word (device_of store.new) → (w : Warehouse) → Stands (content_of D.Sectors store.old) w
         → dims.now ≡ w.rows → (batch : List LineOrder) → slice_get w.batches before ≡ Some batch → count ≡ length batch
@@ -303,6 +313,7 @@ fn is_batch(segment: &Segment, number: u32, count: u32) -> bool
 fn take_in(dims: &Dims, fold: &mut Fold, segment: &Segment) -> Result<(), Fault>
     requires over { IsOver dims.now fold.old }
     ensures ok { OnOk result (Takes dims.now fold.old segment.now.rows fold.new) }
+    ensures over { IsOver dims.now fold.new }
     ensures query { fold.new.query ≡ fold.old.query }
     ensures refused { IfErr result (λ fault. (fault ≡ Memory) ⊎ ((fault ≡ BadLayout)
         × (CanTake dims.now fold.old segment.now.rows → ⊥))) }

@@ -1,15 +1,15 @@
-use Rattle.std.proofs.Common.{◌+◌, [], take, subst, sym}
+use Rattle.std.proofs.Common.{◌≡◌, ◌+◌, ◌⊎◌, [], take, ap, subst, sym}
 use Rattle.std.proofs.lemmas.List.{take_all}
-use Rattle.planner.specs.declared.price.Plan.TheVariants.{Scan}
+use Rattle.planner.specs.declared.price.Plan.{Plan}
 use Rattle.planner.specs.declared.price.Priced.{Priced}
-use Rattle.planner.specs.Plans.{IsCheapest}
+use Rattle.planner.specs.Plans.{ComesFirst, IsCheapest}
 use Rattle.planner.proofs.Taken.{untrue, passed_at, taken_at, scan_alone}
 use Rattle.planner.proofs.cheapest.plan.Goals as goal
 use Rattle.planner.proofs.cheapest.plan.Goals.{then-serves, else-serves}
 
 pub loop-one-init : goal.loop-one-init
-loop-one-init c = subst (λ cost. IsCheapest c.args.query.now [] c.args.batch_rows.now c.args.as_of Scan cost)
-    (sym c.rows_between.ensures.rows) (scan_alone c.args.query.now c.args.batch_rows.now c.args.as_of)
+loop-one-init c = subst (λ (best : Priced). IsCheapest c.args.query.now [] c.args.batch_rows.now c.args.as_of best.plan best.cost)
+    (sym c.by_scan-best.ensures) (scan_alone c.args.query.now c.args.batch_rows.now c.args.as_of)
 
 pub loop-one-preserved : goal.loop-one-preserved
 loop-one-preserved c = elim c.if-serves.branch [
@@ -17,9 +17,11 @@ loop-one-preserved c = elim c.if-serves.branch [
       subst (λ (best : Priced). IsCheapest c.args.query.now (take (c.loop-one.one-index + 1) c.args.stored.now) c.args.batch_rows.now c.args.as_of best.plan best.cost)
       (sym w.best-is)
       (taken_at c.args.query.now c.args.batch_rows.now c.args.as_of c.args.stored.now c.loop-one.one-index _ c.loop-one-test.true
-      c.loop-one.best w.better-best.result w.cells_cost-cost.result w.cells_cost-cost.ensures
+      c.loop-one.best w.better-best.result w.by_cells.result.cost (ap (λ (other : Priced). other.cost) w.by_cells.ensures)
       (c.serves.ensures.0 w.if-serves.true) c.loop-one.invariant
-      w.better-best.ensures.one w.better-best.ensures.before_best w.better-best.ensures.before_other)
+      (subst (λ (plan : Plan). (w.better-best.result ≡ c.loop-one.best) ⊎ (w.better-best.result ≡ record { plan = plan; cost = w.by_cells.result.cost })) (ap (λ (other : Priced). other.plan) w.by_cells.ensures) w.better-best.ensures.one)
+      w.better-best.ensures.before_best
+      (subst (λ (plan : Plan). ComesFirst w.better-best.result (record { plan = plan; cost = w.by_cells.result.cost })) (ap (λ (other : Priced). other.plan) w.by_cells.ensures) w.better-best.ensures.before_other))
   | else-serves w ↦
       subst (λ (best : Priced). IsCheapest c.args.query.now (take (c.loop-one.one-index + 1) c.args.stored.now) c.args.batch_rows.now c.args.as_of best.plan best.cost)
       (sym w.best-is)

@@ -23,12 +23,9 @@ returns-in-None-clause-ok g c =
     let same : c.add_columns.new.fold ≡ c.args.fold.now = none_of _ _ _ c.in-None.is c.in_ok-segment.ensures.ok in
     let dims = c.args.dims.now in
     let new = c.add_whole.new.fold in
-    ok_so _ _ c.add_whole.result (λ counts. record {
-      some = (counts.some.0, subst (λ (fold : FoldState). Takes dims fold counts.some.0 new) same counts.some.1);
-      own = λ k w stands.
-          let here = counts.own k w (subst (λ (x : Content). Stands x w) (sym (still.content (c.add_whole.ensures.leaves.word k))) stands) in (
-            here.0,
-            here.1,
-            subst (λ (fold : FoldState). Takes dims fold here.0 new) same here.2,
-          );
-    }) c.add_whole.ensures.ok
+    ok_so _ _ c.add_whole.result (λ counts k w stands.
+    let here = counts k w (subst (λ (x : Content). Stands x w) (sym (still.content (c.add_whole.ensures.leaves.word k))) stands) in (
+      here.0,
+      here.1,
+      subst (λ (fold : FoldState). Takes dims fold here.0 new) same here.2,
+    )) c.add_whole.ensures.ok

@@ -16,7 +16,7 @@ use Rattle.warehouse_objects.proofs.OneMoreRead.{breaks_then, reads_more, still_
 use Rattle.warehouse_objects.proofs.folding.add_batches.Goals as goal
 
 pub add_batch-requires-clause-over : goal.add_batch-requires-clause-over
-add_batch-requires-clause-over g c = c.loop-before.invariant.some.1.over
+add_batch-requires-clause-over g c = c.loop-before.invariant.over
 
 pub add_batch-requires-clause-asked : goal.add_batch-requires-clause-asked
 add_batch-requires-clause-asked g c = c.requires.asked ∙ ap asked_columns (sym c.loop-before.invariant.query)
@@ -34,18 +34,18 @@ loop-before-preserved g c =
       still = still_then g.D.Sectors first was now so_far.still still;
       leaves = reads_more g.D.Sectors first was now so_far.still so_far.leaves c.in_ok-segment.ensures.leaves;
       query = c.in_ok-segment.ensures.query ∙ so_far.query;
-      some = (so_far.some.0 ++ next.some.0, next.some.1.stands so_far.some.0 so_far.some.1);
-      own = λ k w stands.
-          let here = next.own k w (subst (λ (x : Content). Stands x w) (sym (so_far.still.content (still.word k))) stands) in
+      over = c.in_ok-segment.ensures.over;
+      own = λ k w stands begun.
+          let here = next k w (subst (λ (x : Content). Stands x w) (sym (so_far.still.content (still.word k))) stands) in
           let more : all_rows (take (before + 1) w.batches) ≡ all_rows (take before w.batches) ++ here.0 =
           ap (λ (n : ℕ). all_rows (take n w.batches)) (add-one before) ∙ rows_next w.batches before here.0 here.1 in
-          subst (λ (l : List LineOrder). StandsFor c.args.dims.now c.add_batch.new.fold l) (sym more) (here.2.stands (all_rows (take before w.batches)) (so_far.own (still.word k) w stands));
+          subst (λ (l : List LineOrder). StandsFor c.args.dims.now c.add_batch.new.fold l) (sym more) (here.2.stands (all_rows (take before w.batches)) (so_far.own (still.word k) w stands begun));
     }
 
 pub returns-in_err-segment-clause-refused : goal.returns-in_err-segment-clause-refused
 returns-in_err-segment-clause-refused g c =
     let p = err_from_is_err_and c.from_residual.result c.from_residual.ensures.1 in
-    rw (p.1, p.2) (λ is k w stands rooted same.
+    rw (p.1, p.2) (λ is k w stands rooted same begun.
     let so_far = c.loop-before.invariant in
     let word = c.in_err-segment.ensures.leaves.word k in
     let lengths : length c.args.root.now.batches ≡ length w.batches = ap (λ r. length r.batches) rooted ∙ length-map w.batches length in
@@ -54,7 +54,7 @@ returns-in_err-segment-clause-refused g c =
     let many = ap (λ (l : List ℕ). get_or l c.loop-before.before 0) (c.batches-batches.ensures ∙ ap (λ r. r.batches) rooted)
     ∙ count_there (content_of g.D.Sectors c.args.store.now) w stands c.loop-before.before got.0 got.1 in
     c.in_err-segment.ensures.refused (ap (λ (f : Fault). Err f) (err_fault c.in_err-segment.field-0.0 BadLayout is)) k w (subst (λ (x : Content). Stands x w) (sym (so_far.still.content word)) stands) same got.0 got.1 many
-    (so_far.own word w stands))
+    (so_far.own word w stands begun))
 
 pub returns-in_err-segment-clause-leaves : goal.returns-in_err-segment-clause-leaves
 returns-in_err-segment-clause-leaves g c =
@@ -62,12 +62,9 @@ returns-in_err-segment-clause-leaves g c =
     reads_more g.D.Sectors c.args.store.now c.loop-before.store c.add_batch.new.store so_far.still so_far.leaves c.in_err-segment.ensures.leaves
 
 pub returns-clause-ok : goal.returns-clause-ok
-returns-clause-ok g c k w stands =
+returns-clause-ok g c k w stands begun =
     let ends : c.loop-before.before ≡ c.args.as_of = omega (arith, c.loop-before-test.false, c.loop-before.auto.before-end) in
-    subst (λ (n : ℕ). StandsFor c.args.dims.now c.loop-before.fold (all_rows (take n w.batches))) ends (c.loop-before.invariant.own k w stands)
-
-pub returns-clause-over : goal.returns-clause-over
-returns-clause-over g c = c.loop-before.invariant.some
+    subst (λ (n : ℕ). StandsFor c.args.dims.now c.loop-before.fold (all_rows (take n w.batches))) ends (c.loop-before.invariant.own k w stands begun)
 
 pub returns-in_err-segment-clause-stays : goal.returns-in_err-segment-clause-stays
 returns-in_err-segment-clause-stays g c =

@@ -1,7 +1,6 @@
-use Rattle.std.proofs.Common.{◌≡◌, false, List, take}
+use Rattle.std.proofs.Common.{◌≡◌, false, take}
 use Rattle.cube_model.specs.Admission.{all_rows}
-use Rattle.cube_model.specs.declared.rows.LineOrder.{LineOrder}
-use Rattle.cube_query.specs.Groups.{StandsFor}
+use Rattle.cube_query.specs.Groups.{IsOver, StandsFor}
 use Rattle.object_store.specs.Disk.{Leaves}
 use Rattle.object_store.specs.Store.{IsStill, content_of, device_of, disk_of, has_failed}
 use Rattle.warehouse_objects.specs.Stands.{Stands}
@@ -15,6 +14,7 @@ invariant-loop-before g l =
       still : IsStill g.D.Sectors l.initial.store l.store;
       leaves : Leaves (disk_of g.D.Sectors l.initial.store) (disk_of g.D.Sectors l.store) (λ c. c ≡ first);
       query : l.fold.query ≡ l.initial.fold.query;
-      some : (rows : List LineOrder) × StandsFor l.dims l.fold rows;
-      own : g.D.Sectors.keeps_word (device_of l.store) → (w : Warehouse) → Stands first w → StandsFor l.dims l.fold (all_rows (take l.before w.batches));
+      over : IsOver l.dims l.fold;
+      own : g.D.Sectors.keeps_word (device_of l.store) → (w : Warehouse) → Stands first w → StandsFor l.dims l.initial.fold (all_rows (take l.from w.batches))
+          → StandsFor l.dims l.fold (all_rows (take l.before w.batches));
     }

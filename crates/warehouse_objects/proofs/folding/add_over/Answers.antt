@@ -9,16 +9,13 @@ use Rattle.warehouse_objects.proofs.folding.add_over.Goals as goal
 pub returns-clause-ok : goal.returns-clause-ok
 returns-clause-ok g c =
     let rows = c.in-Some.segment.rows in
-    found_so _ _ _ c.taken_in.result (λ takes. record {
-      some = (rows, takes);
-      own = λ k w stands.
-          let found = some_of _ _ c.in-Some.segment c.in-Some.is c.in_ok-segment.ensures.ok k w stands in
-          let agree = subst (λ (columns : List FactColumn). AgreeOn columns rows found.0) c.requires.asked found.2 in (
-            found.0,
-            found.1,
-            c.agreeing_rows_are_the_same.ensures c.args.dims.now c.args.fold.now c.taken_in.new.fold rows found.0 agree takes,
-          );
-    }) c.taken_in.ensures.ok
+    found_so _ _ _ c.taken_in.result (λ takes k w stands.
+    let found = some_of _ _ c.in-Some.segment c.in-Some.is c.in_ok-segment.ensures.ok k w stands in
+    let agree = subst (λ (columns : List FactColumn). AgreeOn columns rows found.0) c.requires.asked found.2 in (
+      found.0,
+      found.1,
+      c.agreeing_rows_are_the_same.ensures c.args.dims.now c.args.fold.now c.taken_in.new.fold rows found.0 agree takes,
+    )) c.taken_in.ensures.ok
 
 pub returns-clause-stays : goal.returns-clause-stays
 returns-clause-stays g c other = c.in_ok-segment.ensures.stays (λ is. cc)

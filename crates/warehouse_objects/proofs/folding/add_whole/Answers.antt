@@ -10,16 +10,12 @@ use Rattle.warehouse_objects.proofs.folding.add_whole.Goals as goal
 pub returns-clause-ok : goal.returns-clause-ok
 returns-clause-ok g c =
     let rows : List LineOrder = c.in_ok-segment.segment.rows in
-    let takes = c.in_ok-take_in.ensures.ok in
-    record {
-      some = (rows, takes);
-      own = λ k w stands. (
-        rows,
-        found_at (content_of g.D.Sectors c.args.store.now) w stands c.args.before (c.args.before + 1) c.segment_id.result refl c.segment_id.ensures (omega (arith, c.requires.few))
-            c.in_ok-bytes.bytes.items rows (c.in_ok-bytes.ensures.found k) c.in_ok-segment.ensures.ok,
-        takes,
-      );
-    }
+    λ k w stands. (
+      rows,
+      found_at (content_of g.D.Sectors c.args.store.now) w stands c.args.before (c.args.before + 1) c.segment_id.result refl c.segment_id.ensures (omega (arith, c.requires.few))
+          c.in_ok-bytes.bytes.items rows (c.in_ok-bytes.ensures.found k) c.in_ok-segment.ensures.ok,
+      c.in_ok-take_in.ensures.ok,
+    )
 
 pub returns-in_err-take_in-clause-refused : goal.returns-in_err-take_in-clause-refused
 returns-in_err-take_in-clause-refused g c =

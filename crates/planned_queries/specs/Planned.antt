@@ -1,0 +1,37 @@
+-- The plan of a query over a warehouse.
+use Rattle.std.specs.Prelude.{◌≡◌, ℕ, Some, List, length, map}
+use Rattle.cube_model.specs.declared.query.Query.{Query}
+use Rattle.lattice.specs.Determined.{Serves}
+use Rattle.lattice.specs.Views.{index_of}
+use Rattle.planner.specs.declared.price.Plan.{Plan}
+use Rattle.planner.specs.declared.price.Plan.TheVariants.{Scan, Cells}
+use Rattle.planner.specs.declared.stored.Stored.{Stored}
+use Rattle.planner.specs.Plans.{IsPlan}
+use Rattle.warehouse_objects.specs.Warehouse.{Cuboid, Warehouse, cells_in, cuboid_at}
+
+-- what the planner looks at of a stored cuboid
+abbrev pub seen_of : Cuboid → Stored
+seen_of cuboid = record { view = cuboid.view; mark = cuboid.mark; cells = cells_in cuboid.runs }
+
+-- the stored cuboids of a warehouse, as the planner looks at them
+abbrev pub stored_of : Warehouse → List Stored
+stored_of w = map seen_of w.cuboids
+
+-- the plan of a query over the first batches of a warehouse
+abbrev pub IsPlanOf : Warehouse → ℕ → Query → Plan → Type 0
+IsPlanOf w as_of query plan = IsPlan query (stored_of w) (map length w.batches) as_of plan
+
+-- how many of the first batches the cells of a plan hold
+abbrev pub mark_of : Plan → ℕ
+mark_of Scan = 0
+mark_of (Cells view mark) = mark
+
+-- the view of a plan has what a query asks for
+abbrev pub ServesBy : Query → Plan → Type 0
+ServesBy query Scan = Unit {0}
+ServesBy query (Cells view mark) = Serves view query
+
+-- the cells of a plan are those of a stored cuboid of a warehouse
+abbrev pub IsOfCuboid : Warehouse → Plan → Type 0
+IsOfCuboid w Scan = Unit {0}
+IsOfCuboid w (Cells view mark) = (cuboid : Cuboid) × (cuboid_at (index_of view) w.cuboids ≡ Some cuboid) × (cuboid.mark ≡ mark)

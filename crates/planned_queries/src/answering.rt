@@ -1,0 +1,86 @@
+//! Answers by plans.
+ghost use Rattle.std.specs.Prelude.{◌≡◌, ◌⊎◌, ◌≤◌, [], false, length, take, IfErr, IfOk, IsErrOf};
+ghost use Rattle.cube_model.specs.declared.fault.Fault.TheVariants.{BadLayout, Device, Memory};
+ghost use Rattle.cube_model.specs.Admission.{all_rows};
+ghost use Rattle.cube_model.specs.Answers.{answer};
+ghost use Rattle.cube_model.specs.Proper.{IsProper};
+ghost use Rattle.cube_query.specs.Groups.{Begins};
+ghost use Rattle.object_store.specs.Disk.{Leaves};
+ghost use Rattle.object_store.specs.Store.{Breaks, IsStill, content_of, device_of, disk_of, has_failed};
+ghost use Rattle.warehouse_objects.specs.Warehouse.{Warehouse};
+ghost use Rattle.warehouse_objects.specs.Stands.{Stands, root_of};
+
+use crate::following::begin_by_plan;
+use crate::planning::plan_of;
+use cube_model::{Answer, Fault, Query};
+use cube_query::Fold;
+use dimensions::Dims;
+use object_store::Store;
+use sector_device::Sectors;
+use std::alloc::Global;
+use warehouse_objects::fold_batches;
+use warehouse_root::Root;
+
+/// The answer to a proper query over the first `as_of` batches of a store, by the plan that reads least.
+///
+/// `BadLayout` where a cuboid or a batch is not as the root says. It can also run out of memory, or fail because the device
+/// does.
+pub fn answer_by_plan<D: Sectors>(
+    alloc: Global,
+    store: &mut Store<D>,
+    root: &Root,
+    dims: &Dims,
+    as_of: u32,
+    query: &Query,
+) -> Result<Answer, Fault>
+    requires fine { has_failed store.old ≡ false }
+    requires proper { IsProper query.now }
+    requires few { as_of ≤ length root.now.batches }
+
+    // The answer is the definition's over the rows of these batches.
+    ensures answer { IfOk result (λ found. D.keeps_word (device_of store.new) → (w : Warehouse) → Stands (content_of D.Sectors store.old) w
+        → root.now ≡ root_of w → dims.now ≡ w.rows → found ≡ answer query.now dims.now (all_rows (take as_of w.batches))) }
+    ensures refused { IsErrOf result BadLayout → D.keeps_word (device_of store.new) → (w : Warehouse) → Stands (content_of D.Sectors store.old) w
+        → root.now ≡ root_of w → dims.now ≡ w.rows → ⊥ }
+
+    // The content stays, at each moment.
+    ensures leaves { Leaves (disk_of D.Sectors store.old) (disk_of D.Sectors store.new) (λ c. c ≡ content_of D.Sectors store.old) }
+    ensures stays { (IsErrOf result Device → ⊥) → IsStill D.Sectors store.old store.new }
+    ensures device { IsErrOf result Device → Breaks D.Sectors store.old store.new }
+    ensures causes { IfErr result (λ fault. (fault ≡ Memory) ⊎ ((fault ≡ Device) ⊎ (fault ≡ BadLayout))) }
+{
+    let _usable = store.is_broken();
+    match Fold::new(alloc, dims, query) {
+        Ok(mut fold) => answer_by(alloc, store, root, dims, &mut fold, as_of, query),
+        Err(_) => Err(Fault::Memory), // the query is proper
+    }
+}
+
+// The answer to a query over the first batches of a store, by a fold of it that stands for no row yet.
+fn answer_by<D: Sectors>(
+    alloc: Global,
+    store: &mut Store<D>,
+    root: &Root,
+    dims: &Dims,
+    fold: &mut Fold,
+    as_of: u32,
+    query: &Query,
+) -> Result<Answer, Fault>
+    requires fine { has_failed store.old ≡ false }
+    requires begins { Begins dims.now query.now fold.old }
+    requires few { as_of ≤ length root.now.batches }
+    ensures answer { IfOk result (λ found. D.keeps_word (device_of store.new) → (w : Warehouse) → Stands (content_of D.Sectors store.old) w
+        → root.now ≡ root_of w → dims.now ≡ w.rows → found ≡ answer query.now dims.now (all_rows (take as_of w.batches))) }
+    ensures refused { IsErrOf result BadLayout → D.keeps_word (device_of store.new) → (w : Warehouse) → Stands (content_of D.Sectors store.old) w
+        → root.now ≡ root_of w → dims.now ≡ w.rows → ⊥ }
+    ensures leaves { Leaves (disk_of D.Sectors store.old) (disk_of D.Sectors store.new) (λ c. c ≡ content_of D.Sectors store.old) }
+    ensures stays { (IsErrOf result Device → ⊥) → IsStill D.Sectors store.old store.new }
+    ensures device { IsErrOf result Device → Breaks D.Sectors store.old store.new }
+    ensures causes { IfErr result (λ fault. (fault ≡ Memory) ⊎ ((fault ≡ Device) ⊎ (fault ≡ BadLayout))) }
+{
+    let _usable = store.is_broken();
+    let plan = plan_of(alloc, root, as_of, query)?;
+    let from = begin_by_plan(alloc, store, root, dims, fold, plan)?;
+    fold_batches(alloc, store, root, dims, fold, from, as_of)?;
+    fold.finish(dims)
+}

@@ -1,0 +1,106 @@
+//! A fold that begins with the cells of a plan.
+ghost use Rattle.std.specs.Prelude.{◌≡◌, ◌⊎◌, ◌==◌, [], false, take, IfErr, IfOk, IsErrOf, OnOk};
+ghost use Rattle.std.specs.List.{find};
+ghost use Rattle.cube_model.specs.declared.fault.Fault.TheVariants.{BadLayout, Device, Memory};
+ghost use Rattle.cube_model.specs.Admission.{all_rows};
+ghost use Rattle.cube_query.specs.Groups.{IsOver, StandsFor, Takes};
+ghost use Rattle.lattice.specs.Determined.{Serves};
+ghost use Rattle.lattice.specs.Views.{index_of};
+ghost use Rattle.object_store.specs.Disk.{Leaves};
+ghost use Rattle.object_store.specs.Store.{Breaks, IsStill, content_of, device_of, disk_of, has_failed};
+ghost use Rattle.planner.specs.declared.price.Plan.TheVariants as plans;
+ghost use Rattle.warehouse_objects.specs.Warehouse.{Warehouse};
+ghost use Rattle.warehouse_objects.specs.Stands.{Stands, root_of};
+ghost use Rattle.planned_queries.specs.Planned.{IsOfCuboid, ServesBy, mark_of};
+
+use cube_model::Fault;
+use cube_query::Fold;
+use dimensions::Dims;
+use lattice::{View, indexes_name_views};
+use object_store::Store;
+use planner::Plan;
+use sector_device::Sectors;
+use std::alloc::Global;
+use stored_cuboids::merged_runs;
+use warehouse_root::{Root, StoredCuboid};
+
+/// Counts the cells of a plan into a fold that stands for no row yet. It answers how many of the first batches they hold: none
+/// of a scan.
+///
+/// `BadLayout` where the cuboid is not as the root says, and where the fold cannot take its cells.
+pub fn begin_by_plan<D: Sectors>(
+    alloc: Global,
+    store: &mut Store<D>,
+    root: &Root,
+    dims: &Dims,
+    fold: &mut Fold,
+    plan: Plan,
+) -> Result<u32, Fault>
+    requires fine { has_failed store.old ≡ false }
+    requires begun { StandsFor dims.now fold.old [] }
+    requires serves { ServesBy fold.old.query plan }
+
+    // Then it stands for the rows of these batches.
+    ensures ok { OnOk result (D.keeps_word (device_of store.new) → (w : Warehouse) → Stands (content_of D.Sectors store.old) w
+        → root.now ≡ root_of w → dims.now ≡ w.rows → IsOfCuboid w plan → StandsFor dims.now fold.new (all_rows (take (mark_of plan) w.batches))) }
+    ensures from { IfOk result (λ from. from ≡ mark_of plan) }
+    ensures over { IsOver dims.now fold.new }
+    ensures query { fold.new.query ≡ fold.old.query }
+    ensures refused { IsErrOf result BadLayout → D.keeps_word (device_of store.new) → (w : Warehouse) → Stands (content_of D.Sectors store.old) w
+        → root.now ≡ root_of w → dims.now ≡ w.rows → IsOfCuboid w plan → ⊥ }
+
+    // The content stays, at each moment.
+    ensures leaves { Leaves (disk_of D.Sectors store.old) (disk_of D.Sectors store.new) (λ c. c ≡ content_of D.Sectors store.old) }
+    ensures stays { (IsErrOf result Device → ⊥) → IsStill D.Sectors store.old store.new }
+    ensures device { IsErrOf result Device → Breaks D.Sectors store.old store.new }
+    ensures causes { IfErr result (λ fault. (fault ≡ Memory) ⊎ ((fault ≡ Device) ⊎ (fault ≡ BadLayout))) }
+{
+    let _usable = store.is_broken();
+    match plan {
+        Plan::Scan => Ok(0),
+        Plan::Cells { view, mark } => {
+            add_cuboid(alloc, store, root, dims, fold, view, mark)?;
+            Ok(mark)
+        }
+    }
+}
+
+// Counts the cells of the stored cuboid of a view into a fold that stands for no row yet. They hold so many of the first batches.
+fn add_cuboid<D: Sectors>(
+    alloc: Global,
+    store: &mut Store<D>,
+    root: &Root,
+    dims: &Dims,
+    fold: &mut Fold,
+    view: View,
+    mark: u32,
+) -> Result<(), Fault>
+    requires fine { has_failed store.old ≡ false }
+    requires begun { StandsFor dims.now fold.old [] }
+    requires serves { Serves view fold.old.query }
+    ensures ok { OnOk result (D.keeps_word (device_of store.new) → (w : Warehouse) → Stands (content_of D.Sectors store.old) w
+        → root.now ≡ root_of w → dims.now ≡ w.rows → IsOfCuboid w (plans.Cells view mark) → Takes dims.now fold.old (all_rows (take mark w.batches)) fold.new) }
+    ensures over { IsOver dims.now fold.new }
+    ensures query { fold.new.query ≡ fold.old.query }
+    ensures refused { IsErrOf result BadLayout → D.keeps_word (device_of store.new) → (w : Warehouse) → Stands (content_of D.Sectors store.old) w
+        → root.now ≡ root_of w → dims.now ≡ w.rows → IsOfCuboid w (plans.Cells view mark) → ⊥ }
+    ensures leaves { Leaves (disk_of D.Sectors store.old) (disk_of D.Sectors store.new) (λ c. c ≡ content_of D.Sectors store.old) }
+    ensures stays { (IsErrOf result Device → ⊥) → IsStill D.Sectors store.old store.new }
+    ensures device { IsErrOf result Device → Breaks D.Sectors store.old store.new }
+    ensures causes { IfErr result (λ fault. (fault ≡ Memory) ⊎ ((fault ≡ Device) ⊎ (fault ≡ BadLayout))) }
+{
+    indexes_name_views();
+    let _usable = store.is_broken();
+    let Some(cuboid) = cuboid_of(root.cuboids(), view.index()) else {
+        return Err(Fault::BadLayout);
+    };
+    let cells = merged_runs(alloc, store, cuboid)?;
+    fold.add_cells(dims, &cells, None)
+}
+
+// The cuboid of the view of a number.
+fn cuboid_of(cuboids: &[StoredCuboid], number: u16) -> Option<StoredCuboid>
+    ensures { result ≡ find (λ cuboid. cuboid.view == number) cuboids.now }
+{
+    cuboids.iter().find(|cuboid| cuboid.view == number).copied()
+}

@@ -1,0 +1,44 @@
+//! How a query is answered.
+ghost use Rattle.std.specs.Prelude.{◌≡◌, ◌<◌, ◌↔◌, true, false, Err, length, IfOk, IfErr, IsErrOf};
+ghost use Rattle.cube_model.specs.declared.fault.Fault.TheVariants.{BadQuery, Failed, NoSuchPrefix};
+ghost use Rattle.cube_model.specs.Proper.{IsProper};
+ghost use Rattle.planned_queries.specs.Planned.{IsPlanOf};
+ghost use Rattle.warehouse_objects.specs.Warehouse.{Warehouse};
+ghost use Rattle.warehouse.specs.Session.{has_failed, device_of, IsAt, IsAsked, QueryRefuses};
+
+use crate::prepared::kept_is_what_stands;
+use crate::querying::check;
+use crate::session::Session;
+use cube_model::{Fault, Query};
+use planned_queries::plan_of;
+use planner::Plan;
+use sector_device::Sectors;
+use std::alloc::Global;
+
+impl<D: Sectors> Session<D> {
+    /// How a query over the first `as_of` batches is answered: by the plan that reads least. It makes no device call.
+    ///
+    /// `BadQuery` exactly where the query is not proper, else `NoSuchPrefix` exactly where there are fewer batches. It can
+    /// also run out of memory.
+    pub fn plan(&self, alloc: Global, as_of: u32, query: &Query) -> Result<Plan, Fault>
+        ensures plan { IfOk result (λ plan. (w : Warehouse) → IsAt D.Sectors self.now w → D.keeps_word (device_of self.now)
+            → IsAsked w as_of query.now × IsPlanOf w as_of query.now plan) }
+
+        // When each error comes.
+        ensures improper { has_failed self.now ≡ false → (IsProper query.now → ⊥) → result ≡ Err BadQuery }
+        ensures beyond { (w : Warehouse) → IsAt D.Sectors self.now w → D.keeps_word (device_of self.now)
+            → IsProper query.now → length w.batches < as_of → result ≡ Err NoSuchPrefix }
+        ensures refused { IfErr result (λ fault. (w : Warehouse) → IsAt D.Sectors self.now w → D.keeps_word (device_of self.now)
+            → QueryRefuses w as_of query.now fault) }
+        ensures failed { IsErrOf result Failed ↔ (has_failed self.now ≡ true) }
+    {
+        if self.store.is_broken() {
+            return Err(Fault::Failed);
+        }
+        kept_is_what_stands(&self.dims, &self.root);
+        if let Err(fault) = check(query, as_of, self.root.batches().len() as u32) {
+            return Err(fault);
+        }
+        plan_of(alloc, &self.root, as_of, query)
+    }
+}
