@@ -56,4 +56,4 @@ finish-requires g c =
     let batches = c.loop-more.invariant.0 in
     let own = AreTaken-own c.args.dims.now c.args.fold.now.query c.loop-more.admission c.loop-more.fold batches c.loop-more.invariant.1 in
     let done = rw c.if-not-more.true at (c.in_ok-more.ensures batches own) in
-    (all_rows batches, done.1.folded)
+    done.1.folded.over
