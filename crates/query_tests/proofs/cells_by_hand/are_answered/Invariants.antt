@@ -1,6 +1,0 @@
-use Rattle.std.proofs.Common.{◌≡◌}
-use Rattle.cube_query.specs.Groups.{IsFoldOver}
-use Rattle.query_tests.proofs.cells_by_hand.are_answered.Given as goal
-
-abbrev pub invariant-loop-place : goal.invariant-loop-place
-invariant-loop-place l = IsFoldOver l.dims l.fold × (l.fold.query ≡ l.query)

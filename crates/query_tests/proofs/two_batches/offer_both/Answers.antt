@@ -1,5 +1,0 @@
-use Rattle.std.proofs.Common.{[]}
-use Rattle.query_tests.proofs.two_batches.offer_both.Goals as goal
-
-pub offer-requires : goal.offer-requires
-offer-requires c = ([], c.requires)

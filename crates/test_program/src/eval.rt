@@ -1,0 +1,3 @@
+//! Tests of the way from the texts of the tables to a report.
+mod failures;
+mod long_texts;

@@ -1,0 +1,14 @@
+//! Tests of `query_words`, `word_hints`, `table_hints` and `ssb_eval`: the words of queries, what is said after a refusal, and
+//! the way from the texts of the tables to a report. What the program prints is in the pages of `user_pages`.
+#![tactic(auto)]
+
+#[cfg(test)]
+mod eval;
+#[cfg(test)]
+mod hints;
+#[cfg(test)]
+mod readers;
+#[cfg(test)]
+mod spelled_queries;
+#[cfg(test)]
+mod words;
