@@ -1,7 +1,7 @@
 //! Cells of the sample star, worked out by hand and counted into folds. The answers were worked out by hand too.
 ghost use Rattle.std.specs.Prelude.{◌≡◌, ◌≤◌, [], length, IfOk, IsTrue, OnOk};
 ghost use Rattle.cube_model.specs.Limits.{most_batch_rows};
-ghost use Rattle.cube_query.specs.Groups.{IsFoldOver, StandsFor};
+ghost use Rattle.cube_query.specs.Groups.{IsOver, StandsFor};
 ghost use Rattle.lattice.specs.Determined.{Serves};
 
 use super::cells_at_limits::{LIMITS, OTHER_LIMITS};
@@ -440,10 +440,10 @@ fn count_in(
     cells: &Cells,
     rows: &[LineOrder],
 ) -> Result<bool, Fault>
-    requires fold { IsFoldOver dims.now fold.old }
+    requires fold { IsOver dims.now fold.old }
     requires serves { Serves cells.now.view fold.old.query }
     requires few { length rows.now ≤ most_batch_rows }
-    ensures fold { OnOk result (IsFoldOver dims.now fold.new) }
+    ensures fold { OnOk result (IsOver dims.now fold.new) }
     ensures query { OnOk result (fold.new.query ≡ fold.old.query) }
 {
     let modes = match batch {
@@ -475,9 +475,9 @@ fn is_answered(
     fold: &mut Fold,
     offer: &Offer,
 ) -> Result<bool, Fault>
-    requires fold { IsFoldOver dims.now fold.old }
+    requires fold { IsOver dims.now fold.old }
     requires query { fold.old.query ≡ query.now }
-    ensures fold { OnOk result (IsFoldOver dims.now fold.new) }
+    ensures fold { OnOk result (IsOver dims.now fold.new) }
     ensures query { OnOk result (fold.new.query ≡ query.now) }
 {
     let batch = if offer.with_modes { Some(sample) } else { None };
@@ -499,9 +499,9 @@ fn are_answered(
     fold: &mut Fold,
     offers: &[Offer],
 ) -> Result<bool, Fault>
-    requires fold { IsFoldOver dims.now fold.old }
+    requires fold { IsOver dims.now fold.old }
     requires query { fold.old.query ≡ query.now }
-    ensures { OnOk result (IsFoldOver dims.now fold.new) }
+    ensures { OnOk result (IsOver dims.now fold.new) }
 {
     for place in 0..offers.len() {
         if !is_answered(alloc, dims, sample, query, fold, &offers[place])? {

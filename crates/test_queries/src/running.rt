@@ -1,6 +1,6 @@
 //! Answers by the plain program, and by the fold in one call, in several, and over the columns of a batch.
 ghost use Rattle.std.specs.Prelude.{[], OnOk};
-ghost use Rattle.cube_query.specs.Groups.{IsFoldOver, StandsFor};
+ghost use Rattle.cube_query.specs.Groups.{IsOver, StandsFor};
 
 use super::examples::Example;
 use super::plain::plain_answer;
@@ -22,7 +22,7 @@ struct Session {
 // Counts rows in one by one, with calls of no row between them.
 fn add_row_by_row(dims: &Dims, fold: &mut Fold, rows: &[LineOrder]) -> Result<(), Fault>
     requires { StandsFor dims.now fold.old [] }
-    ensures { OnOk result (IsFoldOver dims.now fold.new) }
+    ensures { OnOk result (IsOver dims.now fold.new) }
 {
     for i in 0..rows.len() {
         fold.add_rows(dims, &[])?;

@@ -1,6 +1,6 @@
 //! Folds over the columns of two batches, of which the second may be refused.
 ghost use Rattle.std.specs.Prelude.{[]};
-ghost use Rattle.cube_query.specs.Groups.{IsFoldOver, StandsFor};
+ghost use Rattle.cube_query.specs.Groups.{IsOver, StandsFor};
 
 use super::printing::has_lines;
 use super::refusals::batch_of;
@@ -116,8 +116,8 @@ static PAIRS: [Pair; 8] = [
 
 // Counts a batch in, or stays as it was where a sum would pass its limit. Says whether it was counted in.
 fn offer(dims: &Dims, fold: &mut Fold, segment: &Segment) -> Result<bool, Fault>
-    requires { IsFoldOver dims.now fold.old }
-    ensures { IsFoldOver dims.now fold.new }
+    requires { IsOver dims.now fold.old }
+    ensures { IsOver dims.now fold.new }
 {
     match fold.add_segment(dims, segment) {
         Ok(()) => Ok(true),

@@ -6,9 +6,6 @@ use Rattle.test_queries.proofs.running.add_row_by_row.Goals as goal
 pub add_rows-requires : goal.add_rows-requires
 add_rows-requires c = c.loop-i.invariant.over
 
-pub add_rows-requires-in-loop-i : goal.add_rows-requires-in-loop-i
-add_rows-requires-in-loop-i c = (c.in_ok-add_rows.ensures.ok.stands (take c.loop-i.i c.args.rows.now) c.loop-i.invariant).over
-
 pub loop-i-preserved : goal.loop-i-preserved
 loop-i-preserved c =
     let before = take c.loop-i.i c.args.rows.now in
@@ -17,4 +14,4 @@ loop-i-preserved c =
     subst (StandsFor c.args.dims.now c.add_rows-in-loop-i.new.self) (one_more c.args.rows.now c.loop-i.i) (row.stands (before ++ []) (nothing.stands before c.loop-i.invariant))
 
 pub returns : goal.returns
-returns c = (take c.loop-i.i c.args.rows.now, c.loop-i.invariant)
+returns c = c.loop-i.invariant.over
