@@ -44,13 +44,10 @@ const TURNED: &[u8] =
 const FOUR: &[u8] =
     b"1|1|1|1|1|19930105|1-URGENT|0|17|1000|1000|2|980|600|0|19930201|AIR|\n2|1|2|2|2|19971202|5-LOW|0|24|2000|2000|3|1940|2000|0|19980101|RAIL|\n3|1|1|2|1|19971202|5-LOW|0|25|500|500|1|495|100|0|19980101|AIR|\n3|1|1|2|1|19971202|5-LOW|0|25|500|500|1|495|100|0|19980101|AIR|\n";
 
-/// The third line; with another ship mode; and with an order priority of 256 characters.
+/// The third line, and the same with another ship mode.
 const THIRD: &[u8] = b"3|1|1|2|1|19971202|5-LOW|0|25|500|500|1|495|100|0|19980101|AIR|\n";
 
 const BY_SHIP: &[u8] = b"3|1|1|2|1|19971202|5-LOW|0|25|500|500|1|495|100|0|19980101|SHIP|\n";
-
-const LONG: &[u8] =
-    b"3|1|1|2|1|19971202|LLLLLLLLLLLLLLLLLLLLLLLLLLLLLLLLLLLLLLLLLLLLLLLLLLLLLLLLLLLLLLLLLLLLLLLLLLLLLLLLLLLLLLLLLLLLLLLLLLLLLLLLLLLLLLLLLLLLLLLLLLLLLLLLLLLLLLLLLLLLLLLLLLLLLLLLLLLLLLLLLLLLLLLLLLLLLLLLLLLLLLLLLLLLLLLLLLLLLLLLLLLLLLLLLLLLLLLLLLLLLLLLLLLLLLLLLLLLLLLLLLLLLLLLLLLLLLLL|0|25|500|500|1|495|100|0|19980101|AIR|\n";
 
 /// The first line with a revenue of 5 * 10 ^ 18.
 const DEAR: &[u8] =
@@ -89,9 +86,8 @@ static LOADS: [&[Step]; 8] = [
         (4, 2, Text(TURNED), "", Err(Fault::Repeated)),
         // The last batch had fewer rows than this one.
         (4, 2, Text(FOUR), "batch 4 skipped\n", Err(Fault::Repeated)),
-        // It differs in one text, and in one that is too long to be stored.
+        // It differs in one text.
         (3, 1, Text(BY_SHIP), "", Err(Fault::Repeated)),
-        (3, 1, Text(LONG), "", Err(Fault::Repeated)),
         (3, 1, Text(THIRD), "batch 3 skipped\nbatches 5\n", Ok(true)),
     ],
     &[

@@ -1,5 +1,5 @@
 -- What the batches of a load come to.
-use Rattle.std.proofs.Common.{true, ◌≡◌, ⊎_elim, ℕ, zero, suc, ◌+◌, ◌-◌, ◌<◌, ◌≤◌, List, [], ◌∷◌, ◌++◌, length, take, drop, slice_get, Option, None, Some, Ok, refl, sym, ap, subst, ◌∙◌, arith, append_assoc, append-nil, length-append, length-drop}
+use Rattle.std.proofs.Common.{Bool, true, ◌≡◌, ⊎_elim, inl, ℕ, zero, suc, ◌+◌, ◌-◌, ◌<◌, ◌≤◌, List, [], ◌∷◌, ◌++◌, length, take, drop, slice_get, Option, None, Some, Result, Ok, refl, sym, ap, subst, ◌∙◌, arith, append_assoc, append-nil, length-append, length-drop}
 use Rattle.std.proofs.Math.Seq.{take-append_seam}
 use Rattle.std.proofs.lemmas.Bool.{cases_lt}
 use Rattle.std.proofs.lemmas.List.{length_push, take_all}
@@ -8,23 +8,30 @@ use Rattle.batch_loader.specs.Lines.{lines_of}
 use Rattle.batch_loader.specs.Outcomes.{and_then, unless}
 use Rattle.batch_loader.specs.Parts.{parts_of}
 use Rattle.batch_loader.specs.Rows.{number_after}
+use Rattle.cube_model.specs.declared.fault.Fault.{Fault}
 use Rattle.cube_model.specs.declared.rows.DimRows.{DimRows}
 use Rattle.cube_model.specs.declared.rows.LineOrder.{LineOrder}
 use Rattle.cube_model.specs.Admission.{all_rows, refusal}
 use Rattle.cube_model.specs.Answers.{answer}
 use Rattle.cube_model.specs.Limits.{most_batch_rows}
 use Rattle.object_store.specs.Content.{Content}
+use Rattle.object_store.specs.Disk.{disk, Leaves}
+use Rattle.object_store.specs.Moments.{all_weaker}
 use Rattle.ssb_eval.specs.Evaluation.{facts_behind, facts_of}
+use Rattle.warehouse_objects.specs.Stands.{Stands}
+use Rattle.warehouse_objects.proofs.Batches.{get_within, some_one, take_next}
 use Rattle.warehouse_objects.specs.Warehouse.{AreInOrder, Warehouse, loaded}
 use Rattle.warehouse.specs.declared.session.Session.{Session}
 use Rattle.warehouse.specs.Comparing.{numbered}
-use Rattle.warehouse.specs.Session.{IsAt}
+use Rattle.warehouse.specs.Found.{MayStand}
+use Rattle.warehouse.specs.Headline.{RestartedShows}
+use Rattle.warehouse.specs.Session.{IsAt, device_of, disk_of}
 use Rattle.warehouse.proofs.Preparing.{follows}
 use Rattle.warehouse_jobs.specs.Cutting.{AreCut}
-use Rattle.warehouse_jobs.specs.Lawful.{LoadAddsTheOthers, LoadHoldsItsBatches, LoadedIsEvaluated}
-use Rattle.warehouse_jobs.specs.Loading.{InTurn, MayHold, TakesIn, taken_of, with_batch, with_batches}
+use Rattle.warehouse_jobs.specs.Lawful.{LoadAddsTheOthers, LoadHoldsItsBatches, LoadedIsEvaluated, StoppedLoadIsFound}
+use Rattle.warehouse_jobs.specs.Loading.{Done, DoesAll, Loads, MayHold, TakesIn, batches_of, session_after, taken_of, with_batch, with_batches}
 use Rattle.warehouse_jobs.specs.declared.taken.Taken.{Taken}
-use Rattle.warehouse_jobs.proofs.Turns.{with-added, with-skipped}
+use Rattle.warehouse_jobs.proofs.Turns.{trace-count, trace-session, with-added, with-skipped}
 
 -- batches that are not there are added
 
@@ -89,23 +96,58 @@ is_held g w number rows old new taken takes =
     (λ le. subst (λ (v : Warehouse). numbered v.batches number ≡ Some rows) (sym (with-skipped w number rows le)) (takes.same le))
     (cases_lt (length w.batches) number)
 
-each_is_held : {D : Type 0} (g : Ghosts D) (May : ℕ → Content → Type 0) (last : Session D g) (count : ℕ) (old new : Session D g) (before after : Option (List ℕ)) (w : Warehouse) (number : ℕ) (batches : List (List LineOrder))
-    → InTurn g May last count old before w number batches new after
-    → (place : ℕ) (rows : List LineOrder) → slice_get batches place ≡ Some rows → numbered (with_batches w number batches).batches (number + place) ≡ Some rows
-each_is_held g May last count old new before after w number [] turns place rows is = absurd cc
-each_is_held g May last count old new before after w number (batch ∷ batches) turns zero rows is =
-    let same : batch ≡ rows = cc in
-    let here : number + 0 ≡ number = omega arith in
-    let held = is_held g w number batch old turns.0 (taken_of w number) turns.2 in
-    ap (numbered (with_batches w number (batch ∷ batches)).batches) here ∙ stays_there (with_batch w number batch) (number + 1) batches number batch held ∙ ap Some same
-each_is_held g May last count old new before after w number (batch ∷ batches) turns (suc place) rows is =
-    let later : number + suc place ≡ number + 1 + place = omega arith in
-    ap (numbered (with_batches w number (batch ∷ batches)).batches) later
-    ∙ each_is_held g May last (count + 1) turns.0 new turns.1 after (with_batch w number batch) (number + 1) batches turns.5 place rows is
+first_held : (w : Warehouse) (number : ℕ) (rows : List LineOrder) (batches : List (List LineOrder)) → numbered (with_batch w number rows).batches number ≡ Some rows
+    → numbered (with_batches w number (rows ∷ batches)).batches (number + 0) ≡ Some rows
+first_held w number rows batches held =
+    let here : number ≡ number + 0 = omega arith in
+    subst (λ n. numbered (with_batches w number (rows ∷ batches)).batches n ≡ Some rows) here (stays_there (with_batch w number rows) (number + 1) batches number rows held)
+
+later_held : (w : Warehouse) (number place : ℕ) (rows other : List LineOrder) (batches : List (List LineOrder)) → numbered (with_batches (with_batch w number rows) (number + 1) batches).batches (number + 1 + place) ≡ Some other
+    → numbered (with_batches w number (rows ∷ batches)).batches (number + suc place) ≡ Some other
+later_held w number place rows other batches held =
+    let later : number + 1 + place ≡ number + suc place = omega arith in
+    subst (λ n. numbered (with_batches w number (rows ∷ batches)).batches n ≡ Some other) later held
+
+each_is_held : {D : Type 0} (g : Ghosts D) (old : Session D g) (before : Option (List ℕ)) (w : Warehouse) (number : ℕ) (trace : List (Done g)) → DoesAll g old before w number trace
+    → (place : ℕ) (one : Done g) → slice_get trace place ≡ Some one → numbered (with_batches w number (batches_of trace)).batches (number + place) ≡ Some one.rows
+each_is_held g old before w number [] does place one is = absurd cc
+each_is_held {D} g old before w number (first ∷ trace) does zero one is =
+    first_held w number first.rows (batches_of trace) (is_held g w number first.rows old first.session (taken_of w number) does.0) ∙ ap (λ (d : Done g). Some d.rows) (some_one first one is)
+each_is_held g old before w number (first ∷ trace) does (suc place) one is =
+    later_held w number place first.rows one.rows (batches_of trace) (each_is_held g first.session first.written (with_batch w number first.rows) (number + 1) trace does.2 place one is)
 
 pub holds_its_batches : {D : Type 0} (g : Ghosts D) → LoadHoldsItsBatches g
-holds_its_batches g w first size text old new before after result loads =
-    each_is_held g (MayHold w first (parts_of size (lines_of text))) new 0 old loads.session before loads.told w first loads.done loads.in_turn
+holds_its_batches g w first size text old new before after result loads = each_is_held g old before w first loads.trace loads.does
+
+-- ---- a load that is stopped
+
+-- after some lines a crash leaves the batches of these lines
+leaves_after : {D : Type 0} (g : Ghosts D) (w : Warehouse) (first size : ℕ) (text : Option (List ℕ)) (old new : Session D g) (before after : Option (List ℕ)) (result : Result Bool Fault)
+    → (loads : Loads g w first size text old new before after result) → (lines : ℕ) → lines ≤ length loads.trace
+    → Leaves (disk_of g (session_after old (take lines loads.trace))) (disk_of g new) (MayHold w first size text lines)
+leaves_after g w first size text old new before after result loads zero within = loads.leaves
+leaves_after {D} g w first size text old new before after result loads (suc place) within =
+    let got = get_within loads.trace place (omega (arith, within)) in
+    let last : session_after old (take (suc place) loads.trace) ≡ got.0.session = ap (session_after old) (take_next loads.trace place got.0 got.1) ∙ trace-session old (take place loads.trace) got.0 in
+    let next : place + 1 ≡ suc place = omega arith in
+    subst (λ n. Leaves (disk_of g (session_after old (take (suc place) loads.trace))) (disk_of g new) (MayHold w first size text n)) next
+    (subst (λ (s : Session D g). Leaves (disk_of g s) (disk_of g new) (MayHold w first size text (place + 1))) (sym last) (loads.stay place got.0 got.1))
+
+pub stopped_load : {D : Type 0} (g : Ghosts D) → RestartedShows g → StoppedLoadIsFound g
+stopped_load {D} g shows_it w first size text old mid new before after result loads k lines within mid_is image left device restarted =
+    let leaves = subst (λ (s : Session D g). Leaves (disk_of g s) (disk_of g new) (MayHold w first size text lines)) (sym mid_is) (leaves_after g w first size text old new before after result loads lines within) in
+    let shown = (leaves.moments k).each image left in
+    let may = shown.2 in
+    let v = with_batches w first may.some in
+    let one = shows_it (g.state (device_of mid)).size image device shown.0 restarted shown.1 in record {
+      batches = may.some;
+      next = may.next;
+      left = may.left;
+      cut = may.cut;
+      no_fewer = may.no_fewer;
+      stands = all_weaker (λ (c : Content). c ≡ shown.0) (MayStand v.rows v.batches None) (disk g device)
+          (λ word c is. (v, record { of_rows = refl; of_batches = inl refl }, subst (λ (x : Content). Stands x v) (sym is) may.stands)) one;
+    }
 
 -- ---- a whole text
 
@@ -158,19 +200,28 @@ facts_cut dimensions batches number (lines ∷ parts) (rows ∷ done) next cut a
     ∙ facts_cut dimensions (batches ++ rows ∷ []) (number_after (length rows) number) parts done next cut.1 admitted.1
     ∙ ap (λ l. Ok (all_rows l)) (append_assoc batches (rows ∷ []) done)
 
+-- the one of some rows
+done_at : {D : Type 0} {g : Ghosts D} (trace : List (Done g)) (place : ℕ) (rows : List LineOrder) → slice_get (batches_of trace) place ≡ Some rows
+    → (one : Done g) × (slice_get trace place ≡ Some one) × (one.rows ≡ rows)
+done_at [] place rows is = absurd cc
+done_at (one ∷ trace) zero rows is = let same : one.rows ≡ rows = cc in (one, refl, same)
+done_at (one ∷ trace) (suc place) rows is = done_at trace place rows is
+
 pub is_evaluated : {D : Type 0} (g : Ghosts D) → LoadedIsEvaluated g
 is_evaluated {D} g w text old new before after query loads no_more k =
-    let done = loads.done in
+    let done = batches_of loads.trace in
+    let count : length done ≡ length loads.trace = trace-count loads.trace in
     let v = with_batches w 1 done in
     let parts = parts_of most_batch_rows (lines_of text) in
     let at : IsAt g new v = subst (λ (s : Session D g). IsAt g s v) (sym loads.ends.same) loads.at in
     let within : length w.batches + 1 - 1 ≡ length w.batches = omega arith in
     let all : v.batches ≡ w.batches ++ drop (length w.batches) done = adds_the_others w 1 done (omega arith) ∙ ap (λ n. w.batches ++ drop n done) within in
-    let many : length v.batches ≡ length done = omega (arith, ap length all, length-append w.batches (drop (length w.batches) done), length-drop (length w.batches) done, no_more) in
+    let many : length v.batches ≡ length done = omega (arith, ap length all, length-append w.batches (drop (length w.batches) done), length-drop (length w.batches) done, count, no_more) in
     let same : v.batches ≡ done =
     same_list v.batches done many (λ place rows is.
+    let one = done_at loads.trace place rows is in
     let number : 1 + place ≡ suc place = omega arith in
-    ap (numbered v.batches) (sym number) ∙ holds_its_batches g w 1 most_batch_rows text old new before after (Ok true) loads place rows is) in
+    ap (numbered v.batches) (sym number) ∙ holds_its_batches g w 1 most_batch_rows (Some text) old new before after (Ok true) loads place one.0 one.1 ∙ ap Some one.2) in
     let rows : v.rows ≡ w.rows = same_rows w 1 done in
     let order : AreInOrder w.rows done = subst (λ (bs : List (List LineOrder)). AreInOrder w.rows bs) same (subst (λ (r : DimRows). AreInOrder r v.batches) rows (at.stands k).batches) in
     let cut : AreCut 1 parts done loads.next [] = subst (λ l. AreCut 1 parts done loads.next l) loads.ends.none loads.cut in

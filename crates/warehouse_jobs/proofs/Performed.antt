@@ -14,30 +14,28 @@ abbrev pub Says : Result Unit Fault → Result Bool Fault → Type 0
 Says done result = MatchResult done (λ _. result ≡ Ok true) (λ fault. result ≡ Err fault)
 
 module _ {D : Type 0} (g : Ghosts D) (w : Warehouse) (old new : Session D g) (before after : Option (List ℕ)) where
-  pub yes-loads : (first size : ℕ) (text : List ℕ) (done : Result Unit Fault) (result : Result Bool Fault) → Says done result → Loads g w first size text old new before after done → Loads g w first size text old new before after result
+  pub yes-loads : (first size : ℕ) (text : Option (List ℕ)) (done : Result Unit Fault) (result : Result Bool Fault) → Says done result → Loads g w first size text old new before after done → Loads g w first size text old new before after result
   yes-loads first size text (Ok wrote) result is loads = rw is (record {
-    done = loads.done;
+    trace = loads.trace;
     next = loads.next;
     left = loads.left;
     cut = loads.cut;
-    session = loads.session;
-    told = loads.told;
-    in_turn = loads.in_turn;
+    does = loads.does;
+    stay = loads.stay;
     at = loads.at;
-    told_is = loads.told_is;
+    written = loads.written;
     ends = loads.ends;
     leaves = loads.leaves;
   })
   yes-loads first size text (Err fault) result is loads = rw is (record {
-    done = loads.done;
+    trace = loads.trace;
     next = loads.next;
     left = loads.left;
     cut = loads.cut;
-    session = loads.session;
-    told = loads.told;
-    in_turn = loads.in_turn;
+    does = loads.does;
+    stay = loads.stay;
     at = loads.at;
-    told_is = loads.told_is;
+    written = loads.written;
     ends = loads.ends;
     leaves = loads.leaves;
   })

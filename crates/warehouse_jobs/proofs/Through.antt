@@ -1,14 +1,13 @@
 -- A load that did some batches.
-use Rattle.std.proofs.Common.{◌≡◌, ◌⊎◌, ⊎_elim, inl, inr, ℕ, ◌+◌, ◌<◌, ◌≤◌, List, [], ◌∷◌, ◌++◌, length, map, take, Option, Some, None, refl, sym, ap, subst, ◌∙◌, arith}
+use Rattle.std.proofs.Common.{◌≡◌, ◌⊎◌, ⊎_elim, inl, inr, ℕ, ◌+◌, ◌<◌, ◌≤◌, List, [], ◌∷◌, ◌++◌, length, map, slice_get, Option, Some, refl, sym, ap, subst, ◌∙◌, arith}
 use Rattle.std.proofs.KnownBytes.{Appends-nil, Appends-trans}
 use Rattle.std.proofs.lemmas.Bool.{cases_lt}
 use Rattle.std.proofs.lemmas.List.{length-map, length_push}
-use Rattle.std.specs.Io.KnownBytes.{Appends}
+use Rattle.std.proofs.lemmas.Option.{slice_get_within}
+use Rattle.std.specs.Io.KnownBytes.{Appends, Keeps}
+use Rattle.std.specs.Option.{IfSome}
 use Rattle.sector_device.specs.declared.device.Sectors.{Ghosts}
-use Rattle.batch_loader.specs.Lines.{lines_of}
-use Rattle.batch_loader.specs.Parts.{parts_of}
-use Rattle.batch_loader.specs.Reading.{TakesBatch, TakesRows}
-use Rattle.batch_loader.specs.Rows.{next_number, number_after}
+use Rattle.batch_loader.specs.Reading.{TakesBatch}
 use Rattle.batch_loader.specs.Tables.{lineorder_row}
 use Rattle.batch_loader.specs.Unread.{Unread}
 use Rattle.cube_model.specs.declared.rows.LineOrder.{LineOrder}
@@ -17,86 +16,55 @@ use Rattle.cube_model.specs.Limits.{most_batches}
 use Rattle.object_store.specs.Content.{Content}
 use Rattle.object_store.specs.Disk.{Leaves}
 use Rattle.object_store.specs.Moments.{leaves_then, leaves_weaker}
-use Rattle.ssb_eval.proofs.Batches.{next_number-after}
 use Rattle.warehouse_objects.specs.Warehouse.{Warehouse}
 use Rattle.warehouse_objects.specs.Stands.{Stands}
 use Rattle.warehouse.specs.declared.session.Session.{Session}
 use Rattle.warehouse.specs.Session.{IsAt, disk_of}
 use Rattle.warehouse.proofs.Preparing.{follows}
-use Rattle.warehouse_jobs.specs.Cutting.{AreCut, IsNextBatch}
-use Rattle.warehouse_jobs.specs.Loading.{InTurn, MayHold, TakesIn, line_in, lines_in, taken_of, with_batch, with_batches}
-use Rattle.warehouse_jobs.proofs.Cuts.{cut-more, parts-next}
-use Rattle.warehouse_jobs.proofs.Turns.{lines-last, turn-more, turns-later, with-added, with-last, with-skipped}
+use Rattle.warehouse_jobs.specs.Cutting.{AreCutFrom, IsNextBatch}
+use Rattle.warehouse_jobs.specs.Loading.{Done, DoesAll, MayHold, TakesIn, batches_of, line_in, lines_in, session_after, taken_of, with_batch, with_batches, written_after}
+use Rattle.warehouse_jobs.proofs.Cuts.{CutSoFar, cut-from, cut-none, cut-on, remains}
+use Rattle.warehouse_jobs.proofs.Turns.{does-more, lines-last, places-more, trace-batches, trace-count, trace-session, trace-written, with-added, with-last, with-skipped}
 
 -- so many batches of a text were done, and the lines of the others are left
-pub record IsThrough {D : Type 0} (g : Ghosts D) (w : Warehouse) (first size : ℕ) (text : List ℕ) (old now : Session D g) (before after : Option (List ℕ)) (lines : Unread) (done : List (List LineOrder)) : Type 0 where
-  pub left : List ℕ
-  pub left_is : lines.left ≡ Some left
-  pub cut : AreCut 1 (parts_of size (lines_of text)) done (next_number lines.number) (parts_of size (lines_of left))
-  pub in_turn : InTurn g (MayHold w first (parts_of size (lines_of text))) now 0 old before w first done now after
-  pub at : IsAt g now (with_batches w first done)
-  pub told_is : Appends before after (lines_in w first done)
-  pub leaves : Leaves (disk_of g old) (disk_of g now) (MayHold w first (parts_of size (lines_of text)) 0)
-  pub reached : (length done ≡ 0) ⊎ (first + length done ≤ length (with_batches w first done).batches + 1)
+pub record IsThrough {D : Type 0} (g : Ghosts D) (w : Warehouse) (first size : ℕ) (text : Option (List ℕ)) (old now : Session D g) (before after : Option (List ℕ)) (lines : Unread) (trace : List (Done g)) : Type 0 where
+  pub cut : CutSoFar size text lines (batches_of trace)
+  pub does : DoesAll g old before w first trace
+  pub stay : (place : ℕ) (one : Done g) → slice_get trace place ≡ Some one → Leaves (disk_of g one.session) (disk_of g now) (MayHold w first size text (place + 1))
+  pub session_is : session_after old trace ≡ now
+  pub written_is : written_after before trace ≡ after
+  pub at : IsAt g now (with_batches w first (batches_of trace))
+  pub written : Appends before after (lines_in w first (batches_of trace))
+  pub leaves : Leaves (disk_of g old) (disk_of g now) (MayHold w first size text 0)
+  pub reached : (length trace ≡ 0) ⊎ (first + length trace ≤ length (with_batches w first (batches_of trace)).batches + 1)
+
+-- what is left where none were done
+none_held : (w : Warehouse) (first size : ℕ) (text : Option (List ℕ)) (lines : Unread) (c : Content) → 1 ≤ size → CutSoFar size text lines [] → Stands c w → MayHold w first size text 0 c
+none_held w first size text lines c some cut here =
+    let left = remains size text lines [] some cut in
+    record { some = []; next = left.next; left = left.left; cut = left.cut; no_fewer = omega arith; stands = here }
 
 -- none at first
-pub through-none : {D : Type 0} (g : Ghosts D) (w : Warehouse) (first size : ℕ) (text : List ℕ) (now : Session D g) (before : Option (List ℕ)) (lines : Unread)
-    → lines.left ≡ Some text → lines.number ≡ 0 → IsAt g now w → Leaves (disk_of g now) (disk_of g now) (λ c. Stands c w)
+pub through-none : {D : Type 0} (g : Ghosts D) (w : Warehouse) (first size : ℕ) (text : Option (List ℕ)) (now : Session D g) (before : Option (List ℕ)) (lines : Unread)
+    → 1 ≤ size → Keeps text lines.left → lines.number ≡ 0 → IsAt g now w → Leaves (disk_of g now) (disk_of g now) (λ c. Stands c w)
     → IsThrough g w first size text now now before before lines []
-through-none g w first size text now before lines left_is number at leaves = record {
-  left = text;
-  left_is = left_is;
-  cut = (ap next_number number, refl);
-  in_turn = (refl, refl);
-  at = at;
-  told_is = Appends-nil before;
-  leaves = leaves_weaker (λ (c : Content). Stands c w) (MayHold w first (parts_of size (lines_of text)) 0) (disk_of g now) (disk_of g now)
-      (λ k c here. record { some = []; next = 1; left = parts_of size (lines_of text); cut = (refl, refl); no_fewer = omega arith; stands = here }) leaves;
-  reached = inl refl;
-}
-
--- the rows of a batch are those of the next part
-pub record IsPart (size number next : ℕ) (left : List ℕ) (new : Option (List ℕ)) (rows : List LineOrder) : Type 0 where
-  pub rest : List ℕ
-  pub rest_is : new ≡ Some rest
-  pub batch : IsNextBatch (next_number number) (parts_of size (lines_of left)) rows
-  pub others_are : batch.others ≡ parts_of size (lines_of rest)
-
-pub next-part : (size : ℕ) (old new : Unread) (left : List ℕ) (rows : List LineOrder) → 1 ≤ size → 1 ≤ length rows → old.left ≡ Some left → TakesBatch lineorder_row size old new rows
-    → IsPart size old.number new.number left new.left rows
-next-part size old new left rows some any left_is takes =
-    of_known new.left refl (subst (λ (known : Option (List ℕ)). TakesRows lineorder_row size old.number known new.left rows) left_is takes.taken) where
-      of_known : (known : Option (List ℕ)) → new.left ≡ known → TakesRows lineorder_row size old.number (Some left) known rows → IsPart size old.number new.number left new.left rows
-      of_known None is taken = absurd taken
-      of_known (Some rest) is taken = record {
-        rest = rest;
-        rest_is = is;
-        batch = record {
-          lines = take size (lines_of left);
-          others = parts_of size (lines_of rest);
-          part = parts-next size (next_number old.number) (lines_of left) rows some any taken.0 ∙ ap (λ l. take size (lines_of left) ∷ parts_of size l) (sym taken.1);
-          read = taken.0;
-        };
-        others_are = refl;
-      }
-
--- what a stop within a batch leaves
-pub holds-next : {D : Type 0} (g : Ghosts D) (w : Warehouse) (first next : ℕ) (parts left : List (List (List ℕ))) (done : List (List LineOrder)) (rows : List LineOrder) (c : Content)
-    → AreCut 1 parts done next left → IsNextBatch next left rows
-    → Stands c (with_batches w first done) ⊎ Stands c (with_batch (with_batches w first done) (first + length done) rows) → MayHold w first parts (length done) c
-holds-next g w first next parts left done rows c cut batch (inl here) = record { some = done; next = next; left = left; cut = cut; no_fewer = omega arith; stands = here }
-holds-next g w first next parts left done rows c cut batch (inr here) = record {
-  some = done ++ rows ∷ [];
-  next = number_after (length rows) next;
-  left = batch.others;
-  cut = cut-more 1 parts done next left batch.others batch.lines rows cut batch.part batch.read;
-  no_fewer = let longer : length (done ++ rows ∷ []) ≡ length done + 1 = length_push done rows in omega (arith, longer);
-  stands = subst (λ (v : Warehouse). Stands c v) (sym (with-last w first done rows)) here;
-}
+through-none g w first size text now before lines some keeps number at leaves =
+    let cut = cut-none size text lines keeps number in
+    record {
+      cut = cut;
+      does = tt;
+      stay = λ place one is. absurd cc;
+      session_is = refl;
+      written_is = refl;
+      at = at;
+      written = Appends-nil before;
+      leaves = leaves_weaker (λ (c : Content). Stands c w) (MayHold w first size text 0) (disk_of g now) (disk_of g now) (λ k c here. none_held w first size text lines c some cut here) leaves;
+      reached = inl refl;
+    }
 
 -- what may be held with many batches may be with fewer
-pub holds-fewer : (w : Warehouse) (first : ℕ) (parts : List (List (List ℕ))) (fewer many : ℕ) (c : Content) → fewer ≤ many → MayHold w first parts many c → MayHold w first parts fewer c
-holds-fewer w first parts fewer many c le may = record {
+pub holds-fewer : (w : Warehouse) (first size : ℕ) (text : Option (List ℕ)) (fewer many : ℕ) (c : Content) → fewer ≤ many → MayHold w first size text many c → MayHold w first size text fewer c
+holds-fewer w first size text fewer many c le may = record {
   some = may.some;
   next = may.next;
   left = may.left;
@@ -104,6 +72,42 @@ holds-fewer w first parts fewer many c le may = record {
   no_fewer = omega (arith, le, may.no_fewer);
   stands = may.stands;
 }
+
+-- what is held once a batch more was done
+holds-with : (w : Warehouse) (first size : ℕ) (text : Option (List ℕ)) (next : ℕ) (left : List (List (List ℕ))) (done : List (List LineOrder)) (rows : List LineOrder) (c : Content)
+    → AreCutFrom text size done next left → IfSome text (λ _. IsNextBatch next left rows)
+    → Stands c (with_batch (with_batches w first done) (first + length done) rows) → MayHold w first size text (length done + 1) c
+holds-with w first size text next left done rows c cut batch here = let more = cut-from size next text left done rows cut batch in record {
+  some = done ++ rows ∷ [];
+  next = more.0;
+  left = more.1;
+  cut = more.2;
+  no_fewer = let longer : length (done ++ rows ∷ []) ≡ length done + 1 = length_push done rows in omega (arith, longer);
+  stands = subst (λ (v : Warehouse). Stands c v) (sym (with-last w first done rows)) here;
+}
+
+-- what a crash within a batch leaves
+pub holds-next : (w : Warehouse) (first size : ℕ) (text : Option (List ℕ)) (next : ℕ) (left : List (List (List ℕ))) (done : List (List LineOrder)) (rows : List LineOrder) (c : Content)
+    → AreCutFrom text size done next left → IfSome text (λ _. IsNextBatch next left rows)
+    → Stands c (with_batches w first done) ⊎ Stands c (with_batch (with_batches w first done) (first + length done) rows) → MayHold w first size text (length done) c
+holds-next w first size text next left done rows c cut batch (inl here) = record { some = done; next = next; left = left; cut = cut; no_fewer = omega arith; stands = here }
+holds-next w first size text next left done rows c cut batch (inr here) =
+    holds-fewer w first size text (length done) (length done + 1) c (omega arith) (holds-with w first size text next left done rows c cut batch here)
+
+pub leaves-fewer : {D : Type 0} (g : Ghosts D) (w : Warehouse) (first size : ℕ) (text : Option (List ℕ)) (fewer many : ℕ) (old new : Session D g) → fewer ≤ many
+    → Leaves (disk_of g old) (disk_of g new) (MayHold w first size text many) → Leaves (disk_of g old) (disk_of g new) (MayHold w first size text fewer)
+leaves-fewer g w first size text fewer many old new le leaves =
+    leaves_weaker (MayHold w first size text many) (MayHold w first size text fewer) (disk_of g old) (disk_of g new) (λ k c may. holds-fewer w first size text fewer many c le may) leaves
+
+-- the batches that were done stay to a later session, until which no fewer are held
+pub stay-on : {D : Type 0} (g : Ghosts D) (w : Warehouse) (first size : ℕ) (text : Option (List ℕ)) (trace : List (Done g)) (mid new : Session D g)
+    → ((place : ℕ) (one : Done g) → slice_get trace place ≡ Some one → Leaves (disk_of g one.session) (disk_of g mid) (MayHold w first size text (place + 1)))
+    → Leaves (disk_of g mid) (disk_of g new) (MayHold w first size text (length trace))
+    → (place : ℕ) (one : Done g) → slice_get trace place ≡ Some one → Leaves (disk_of g one.session) (disk_of g new) (MayHold w first size text (place + 1))
+stay-on g w first size text trace mid new stay between place one is =
+    let within : place + 1 ≤ length trace = omega (arith, slice_get_within trace place one is) in
+    leaves_then (MayHold w first size text (place + 1)) (disk_of g one.session) (disk_of g mid) (disk_of g new) (stay place one is)
+    (leaves-fewer g w first size text (place + 1) (length trace) mid new within between)
 
 -- a batch that was done has a number of the warehouse behind it
 reaches : (w : Warehouse) (number : ℕ) (rows : List LineOrder) → (length w.batches < number → IsAdmissible w.rows w.batches number rows) → number ≤ length (with_batch w number rows).batches
@@ -124,46 +128,47 @@ few_batches g session w at k =
     omega (arith, few, same)
 
 -- and one more
-pub through-more : {D : Type 0} (g : Ghosts D) (w : Warehouse) (first size : ℕ) (text : List ℕ) (old mid new : Session D g) (before told after : Option (List ℕ)) (lines others : Unread) (done : List (List LineOrder)) (rows : List LineOrder)
-    → 1 ≤ size → 1 ≤ length rows → IsThrough g w first size text old mid before told lines done → TakesBatch lineorder_row size lines others rows
-    → TakesIn g (with_batches w first done) (first + length done) rows mid new (taken_of (with_batches w first done) (first + length done))
-    → Leaves (disk_of g new) (disk_of g new) (λ c. Stands c (with_batch (with_batches w first done) (first + length done) rows))
-    → Appends told after (line_in (with_batches w first done) (first + length done) rows)
-    → IsThrough g w first size text old new before after others (done ++ rows ∷ [])
-through-more {D} g w first size text old mid new before told after lines others done rows some any through takes one here line =
-    let part = next-part size lines others through.left rows some any through.left_is takes in
-    let parts = parts_of size (lines_of text) in
+pub through-more : {D : Type 0} (g : Ghosts D) (w : Warehouse) (first size : ℕ) (text : Option (List ℕ)) (old mid : Session D g) (before told : Option (List ℕ)) (lines others : Unread) (trace : List (Done g)) (one : Done g)
+    → 1 ≤ size → 1 ≤ length one.rows → IsThrough g w first size text old mid before told lines trace → TakesBatch lineorder_row size lines others one.rows
+    → TakesIn g (with_batches w first (batches_of trace)) (first + length trace) one.rows mid one.session (taken_of (with_batches w first (batches_of trace)) (first + length trace))
+    → Leaves (disk_of g one.session) (disk_of g one.session) (λ c. Stands c (with_batch (with_batches w first (batches_of trace)) (first + length trace) one.rows))
+    → Appends told one.written (line_in (with_batches w first (batches_of trace)) (first + length trace) one.rows)
+    → IsThrough g w first size text old one.session before one.written others (trace ++ one ∷ [])
+through-more {D} g w first size text old mid before told lines others trace one some any through takes is here line =
+    let rows = one.rows in
+    let new = one.session in
+    let done = batches_of trace in
+    let count : length done ≡ length trace = trace-count trace in
+    let place : first + length trace ≡ first + length done = ap (λ n. first + n) (sym count) in
+    let left = remains size text lines done some through.cut in
+    let batch = left.batch others rows any takes in
     let now = with_batches w first done in
-    let number = first + length done in
-    let back = with-last w first done rows in
-    let counted : number_after (length rows) (next_number lines.number) ≡ next_number others.number = sym (next_number-after (length rows) lines.number) ∙ ap next_number (sym takes.number) in
-    let cut = cut-more 1 parts done (next_number lines.number) (parts_of size (lines_of through.left)) part.batch.others part.batch.lines rows through.cut part.batch.part part.batch.read in
-    let longer : length (done ++ rows ∷ []) ≡ length done + 1 = length_push done rows in
-    let reached : number ≤ length (with_batch now number rows).batches = reaches now number rows one.follows in
-    let at_most : number + 1 ≤ length (with_batches w first (done ++ rows ∷ [])).batches + 1 = subst (λ (v : Warehouse). number + 1 ≤ length v.batches + 1) (sym back) (omega (arith, reached)) in
-    let between : Leaves (disk_of g mid) (disk_of g new) (MayHold w first parts (length done)) =
-    leaves_weaker (λ (c : Content). Stands c now ⊎ Stands c (with_batch now number rows)) (MayHold w first parts (length done)) (disk_of g mid) (disk_of g new)
-    (λ k c holds. holds-next g w first (next_number lines.number) parts (parts_of size (lines_of through.left)) done rows c through.cut part.batch holds) one.leaves in
-    let then : Leaves (disk_of g new) (disk_of g new) (MayHold w first parts (0 + length done + 1)) =
-    leaves_weaker (λ (c : Content). Stands c (with_batch now number rows)) (MayHold w first parts (0 + length done + 1)) (disk_of g new) (disk_of g new)
-    (λ k c stands. record {
-      some = done ++ rows ∷ [];
-      next = number_after (length rows) (next_number lines.number);
-      left = part.batch.others;
-      cut = cut;
-      no_fewer = omega (arith, longer);
-      stands = subst (λ (v : Warehouse). Stands c v) (sym back) stands;
-    }) here in
+    let number = first + length trace in
+    let all = trace-batches trace one in
+    let back : with_batches w first (batches_of (trace ++ one ∷ [])) ≡ with_batch now number rows =
+    ap (with_batches w first) all ∙ with-last w first done rows ∙ ap (λ n. with_batch now n rows) (sym place) in
+    let longer : length (trace ++ one ∷ []) ≡ length trace + 1 = length_push trace one in
+    let reached : number ≤ length (with_batch now number rows).batches = reaches now number rows is.follows in
+    let at_most : number + 1 ≤ length (with_batches w first (batches_of (trace ++ one ∷ []))).batches + 1 = subst (λ (v : Warehouse). number + 1 ≤ length v.batches + 1) (sym back) (omega (arith, reached)) in
+    let between : Leaves (disk_of g mid) (disk_of g new) (MayHold w first size text (length trace)) =
+    subst (λ n. Leaves (disk_of g mid) (disk_of g new) (MayHold w first size text n)) count
+    (leaves_weaker (λ (c : Content). Stands c now ⊎ Stands c (with_batch now number rows)) (MayHold w first size text (length done)) (disk_of g mid) (disk_of g new)
+    (λ k c holds. holds-next w first size text left.next left.left done rows c left.cut batch (subst (λ n. Stands c now ⊎ Stands c (with_batch now n rows)) place holds)) is.leaves) in
+    let then : Leaves (disk_of g new) (disk_of g new) (MayHold w first size text (length trace + 1)) =
+    subst (λ n. Leaves (disk_of g new) (disk_of g new) (MayHold w first size text (n + 1))) count
+    (leaves_weaker (λ (c : Content). Stands c (with_batch now number rows)) (MayHold w first size text (length done + 1)) (disk_of g new) (disk_of g new)
+    (λ k c stands. holds-with w first size text left.next left.left done rows c left.cut batch (subst (λ n. Stands c (with_batch now n rows)) place stands)) here) in
     record {
-      left = part.rest;
-      left_is = part.rest_is;
-      cut = subst (λ n. AreCut 1 parts (done ++ rows ∷ []) n (parts_of size (lines_of part.rest))) counted
-          (subst (λ (l : List (List (List ℕ))). AreCut 1 parts (done ++ rows ∷ []) (number_after (length rows) (next_number lines.number)) l) part.others_are cut);
-      in_turn = turn-more g (MayHold w first parts) 0 old mid new before told after w first done rows
-          (turns-later g (MayHold w first parts) (length done) mid new 0 old mid before told w first done (holds-fewer w first parts) between (omega arith) through.in_turn) one then line;
-      at = subst (λ (v : Warehouse). IsAt g new v) (sym back) one.at;
-      told_is = subst (λ (l : List ℕ). Appends before after l) (sym (lines-last w first done rows)) (Appends-trans before told after (lines_in w first done) (line_in now number rows) through.told_is line);
-      leaves = leaves_then (MayHold w first parts 0) (disk_of g old) (disk_of g mid) (disk_of g new) through.leaves
-          (leaves_weaker (MayHold w first parts (length done)) (MayHold w first parts 0) (disk_of g mid) (disk_of g new) (λ k c may. holds-fewer w first parts 0 (length done) c (omega arith) may) between);
+      cut = subst (λ (bs : List (List LineOrder)). CutSoFar size text others bs) (sym all) (cut-on size text lines others done rows some any through.cut takes);
+      does = does-more g old before w first trace one through.does
+          (subst (λ (s : Session D g). TakesIn g now number rows s new (taken_of now number)) (sym through.session_is) is)
+          (subst (λ (t : Option (List ℕ)). Appends t one.written (line_in now number rows)) (sym through.written_is) line);
+      stay = places-more (λ k (d : Done g). Leaves (disk_of g d.session) (disk_of g new) (MayHold w first size text (k + 1))) trace one (stay-on g w first size text trace mid new through.stay between) then;
+      session_is = trace-session old trace one;
+      written_is = trace-written before trace one;
+      at = subst (λ (v : Warehouse). IsAt g new v) (sym back) is.at;
+      written = subst (λ (l : List ℕ). Appends before one.written l) (sym (ap (lines_in w first) all ∙ lines-last w first done rows ∙ ap (λ n. lines_in w first done ++ line_in now n rows) (sym place)))
+          (Appends-trans before told one.written (lines_in w first done) (line_in now number rows) through.written line);
+      leaves = leaves_then (MayHold w first size text 0) (disk_of g old) (disk_of g mid) (disk_of g new) through.leaves (leaves-fewer g w first size text 0 (length trace) mid new (omega arith) between);
       reached = inr (omega (arith, longer, at_most));
     }

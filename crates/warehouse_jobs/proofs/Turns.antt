@@ -1,7 +1,8 @@
 -- Batches that are done one after the other, and one more.
-use Rattle.std.proofs.Common.{◌≡◌, ◌⊎◌, ⊎_elim, inl, inr, ℕ, ◌+◌, ◌<◌, ◌≤◌, nat_le, if◌then◌else◌, true, false, List, [], ◌∷◌, ◌++◌, length, Option, Some, Result, Ok, Err, refl, sym, ap, subst, ◌∙◌, arith, append_assoc, append-nil}
+use Rattle.std.proofs.Common.{◌≡◌, ◌⊎◌, ⊎_elim, inl, inr, ℕ, zero, suc, ◌+◌, ◌<◌, ◌≤◌, nat_le, if◌then◌else◌, true, false, List, [], ◌∷◌, ◌++◌, length, map, slice_get, Option, Some, Result, Ok, Err, refl, sym, ap, subst, ◌∙◌, arith, append_assoc, append-nil}
 use Rattle.std.proofs.KnownBytes.{Keeps-refl}
 use Rattle.std.proofs.lemmas.Bool.Decides.{nat_tests}
+use Rattle.std.proofs.lemmas.List.{length-map, map-append}
 use Rattle.std.specs.Io.KnownBytes.{Appends}
 use Rattle.sector_device.specs.declared.device.Sectors.{Ghosts}
 use Rattle.sector_device.specs.Device.{Image, IsImage}
@@ -11,7 +12,7 @@ use Rattle.cube_model.specs.declared.rows.LineOrder.{LineOrder}
 use Rattle.cube_model.specs.Admission.{IsAdmissible}
 use Rattle.object_store.specs.Content.{Content}
 use Rattle.object_store.specs.Disk.{Leaves, ShowsSome}
-use Rattle.object_store.specs.Moments.{begins, leaves_then, leaves_weaker}
+use Rattle.object_store.specs.Moments.{begins, leaves_weaker}
 use Rattle.ssb_reports.specs.Writing.{AppendsBeginning, Writes}
 use Rattle.warehouse_objects.specs.Warehouse.{Warehouse, loaded}
 use Rattle.warehouse_objects.specs.Stands.{Stands}
@@ -21,7 +22,7 @@ use Rattle.warehouse.specs.Session.{IsAt, device_of, disk_of, has_failed}
 use Rattle.warehouse.proofs.Refusing.{device_or}
 use Rattle.warehouse_jobs.specs.declared.taken.Taken.{Taken}
 use Rattle.warehouse_jobs.specs.declared.taken.Taken.TheVariants.{Added, Skipped}
-use Rattle.warehouse_jobs.specs.Loading.{BatchRefuses, DoesBatch, InTurn, Refuses, TakesIn, behind, lines_in, line_in, taken_of, with_batch, with_batches}
+use Rattle.warehouse_jobs.specs.Loading.{BatchRefuses, Done, DoesAll, DoesBatch, Refuses, TakesIn, batches_of, behind, lines_in, line_in, session_after, taken_of, with_batch, with_batches, written_after}
 use Rattle.warehouse_jobs.specs.Printed.{batch_line}
 
 -- which batch is passed over
@@ -67,49 +68,48 @@ lines-last w number (batch ∷ batches) rows =
     ∙ sym (append_assoc (line_in w number batch) front (line_in back (number + 1 + length batches) rows))
     ∙ ap (λ n. (line_in w number batch ++ front) ++ line_in back n rows) same
 
-pub turn-more : {D : Type 0} (g : Ghosts D) (May : ℕ → Content → Type 0) (count : ℕ) (old mid new : Session D g) (before told after : Option (List ℕ)) (w : Warehouse) (number : ℕ) (batches : List (List LineOrder)) (rows : List LineOrder)
-    → InTurn g May new count old before w number batches mid told
-    → TakesIn g (with_batches w number batches) (number + length batches) rows mid new (taken_of (with_batches w number batches) (number + length batches))
-    → Leaves (disk_of g new) (disk_of g new) (May (count + length batches + 1))
-    → Appends told after (line_in (with_batches w number batches) (number + length batches) rows)
-    → InTurn g May new count old before w number (batches ++ rows ∷ []) new after
-turn-more {D} g May count old mid new before told after w number [] rows all takes leaves line =
-    let same : number + 0 ≡ number = omega arith in
-    let one : count + 0 + 1 ≡ count + 1 = omega arith in (
-      new,
-      after,
-      subst (λ (s : Session D g). TakesIn g w number rows s new (taken_of w number)) all.0 (subst (λ n. TakesIn g w n rows mid new (taken_of w n)) same takes),
-      subst (λ n. Leaves (disk_of g new) (disk_of g new) (May n)) one leaves,
-      subst (λ (t : Option (List ℕ)). Appends t after (line_in w number rows)) all.1 (subst (λ n. Appends told after (line_in w n rows)) same line),
-      (refl, refl),
+-- ---- a list of batches that were done, and one more
+
+pub trace-batches : {D : Type 0} {g : Ghosts D} (trace : List (Done g)) (one : Done g) → batches_of (trace ++ one ∷ []) ≡ batches_of trace ++ one.rows ∷ []
+trace-batches {D} {g} trace one = map-append (λ (d : Done g). d.rows) trace (one ∷ [])
+
+pub trace-count : {D : Type 0} {g : Ghosts D} (trace : List (Done g)) → length (batches_of trace) ≡ length trace
+trace-count {D} {g} trace = length-map trace (λ (d : Done g). d.rows)
+
+pub trace-session : {D : Type 0} {g : Ghosts D} (old : Session D g) (trace : List (Done g)) (one : Done g) → session_after old (trace ++ one ∷ []) ≡ one.session
+trace-session old [] one = refl
+trace-session old (first ∷ trace) one = trace-session first.session trace one
+
+pub trace-written : {D : Type 0} {g : Ghosts D} (before : Option (List ℕ)) (trace : List (Done g)) (one : Done g) → written_after before (trace ++ one ∷ []) ≡ one.written
+trace-written before [] one = refl
+trace-written before (first ∷ trace) one = trace-written first.written trace one
+
+pub does-more : {D : Type 0} (g : Ghosts D) (old : Session D g) (before : Option (List ℕ)) (w : Warehouse) (number : ℕ) (trace : List (Done g)) (one : Done g) → DoesAll g old before w number trace
+    → TakesIn g (with_batches w number (batches_of trace)) (number + length trace) one.rows (session_after old trace) one.session (taken_of (with_batches w number (batches_of trace)) (number + length trace))
+    → Appends (written_after before trace) one.written (line_in (with_batches w number (batches_of trace)) (number + length trace) one.rows) → DoesAll g old before w number (trace ++ one ∷ [])
+does-more g old before w number [] one all takes line =
+    let same : number + 0 ≡ number = omega arith in (
+      subst (λ n. TakesIn g w n one.rows old one.session (taken_of w n)) same takes,
+      subst (λ n. Appends before one.written (line_in w n one.rows)) same line,
+      tt,
     )
-turn-more {D} g May count old mid new before told after w number (batch ∷ batches) rows all takes leaves line =
-    let same : number + length (batch ∷ batches) ≡ number + 1 + length batches = omega arith in
-    let more : count + length (batch ∷ batches) + 1 ≡ count + 1 + length batches + 1 = omega arith in
-    let back = with_batches (with_batch w number batch) (number + 1) batches in (
+does-more g old before w number (first ∷ trace) one all takes line =
+    let back = with_batches (with_batch w number first.rows) (number + 1) (batches_of trace) in
+    let same : number + length (first ∷ trace) ≡ number + 1 + length trace = omega arith in (
       all.0,
       all.1,
-      all.2,
-      all.3,
-      all.4,
-      turn-more g May (count + 1) all.0 mid new all.1 told after (with_batch w number batch) (number + 1) batches rows all.5
-          (subst (λ n. TakesIn g back n rows mid new (taken_of back n)) same takes) (subst (λ n. Leaves (disk_of g new) (disk_of g new) (May n)) more leaves) (subst (λ n. Appends told after (line_in back n rows)) same line),
+      does-more g first.session first.written (with_batch w number first.rows) (number + 1) trace one all.2
+          (subst (λ n. TakesIn g back n one.rows (session_after first.session trace) one.session (taken_of back n)) same takes)
+          (subst (λ n. Appends (written_after first.written trace) one.written (line_in back n one.rows)) same line),
     )
 
--- the same to a later last session, until which no fewer are held
-pub turns-later : {D : Type 0} (g : Ghosts D) (May : ℕ → Content → Type 0) (all_done : ℕ) (last later : Session D g) (count : ℕ) (old new : Session D g) (before after : Option (List ℕ)) (w : Warehouse) (number : ℕ) (batches : List (List LineOrder))
-    → ((fewer many : ℕ) (c : Content) → fewer ≤ many → May many c → May fewer c) → Leaves (disk_of g last) (disk_of g later) (May all_done) → count + length batches ≤ all_done
-    → InTurn g May last count old before w number batches new after → InTurn g May later count old before w number batches new after
-turns-later g May all_done last later count old new before after w number [] fewer leaves within all = all
-turns-later g May all_done last later count old new before after w number (rows ∷ batches) fewer leaves within all = (
-  all.0,
-  all.1,
-  all.2,
-  leaves_then (May (count + 1)) (disk_of g all.0) (disk_of g last) (disk_of g later) all.3
-      (leaves_weaker (May all_done) (May (count + 1)) (disk_of g last) (disk_of g later) (λ k c here. fewer (count + 1) all_done c (omega (arith, within)) here) leaves),
-  all.4,
-  turns-later g May all_done last later (count + 1) all.0 new all.1 after (with_batch w number rows) (number + 1) batches fewer leaves (omega (arith, within)) all.5,
-)
+-- what holds at each place of a list, and of one more
+pub places-more : {A : Type 0} (P : ℕ → A → Type 0) (items : List A) (last : A) → ((place : ℕ) (item : A) → slice_get items place ≡ Some item → P place item) → P (length items) last
+    → (place : ℕ) (item : A) → slice_get (items ++ last ∷ []) place ≡ Some item → P place item
+places-more P [] last all one zero item is = let same : last ≡ item = cc in subst (λ x. P 0 x) same one
+places-more P [] last all one (suc place) item is = absurd cc
+places-more P (first ∷ items) last all one zero item is = all 0 item is
+places-more P (first ∷ items) last all one (suc place) item is = places-more (λ k x. P (suc k) x) items last (λ k x. all (suc k) x) one place item is
 
 -- at this moment a stop leaves what the session stands for
 pub still : {D : Type 0} (g : Ghosts D) (session : Session D g) (w : Warehouse)

@@ -1,9 +1,7 @@
 -- What a load makes of a warehouse, and what it writes. Our own.
-use Rattle.std.specs.Prelude.{◌≡◌, ◌≢◌, ◌⊎◌, ◌<◌, ◌≤◌, ℕ, ◌+◌, nat_le, if◌then◌else◌, true, List, [], ◌∷◌, ◌++◌, length, Option, Some, Result, Ok, Err}
+use Rattle.std.specs.Prelude.{◌≡◌, ◌≢◌, ◌⊎◌, ◌<◌, ◌≤◌, ⊤, ℕ, ◌+◌, nat_le, if◌then◌else◌, true, List, [], ◌∷◌, ◌++◌, length, map, slice_get, IfSome, Option, Some, Result, Ok, Err}
 use Rattle.std.specs.Io.KnownBytes.{Appends, Keeps}
 use Rattle.sector_device.specs.declared.device.Sectors.{Ghosts}
-use Rattle.batch_loader.specs.Lines.{lines_of}
-use Rattle.batch_loader.specs.Parts.{parts_of}
 use Rattle.cube_model.specs.declared.fault.Fault.{Fault}
 use Rattle.cube_model.specs.declared.fault.Fault.TheVariants.{Memory, Input, Output, Device, Repeated}
 use Rattle.cube_model.specs.declared.rows.LineOrder.{LineOrder}
@@ -18,7 +16,7 @@ use Rattle.warehouse.specs.Comparing.{numbered}
 use Rattle.warehouse.specs.Session.{IsAt, disk_of, has_failed, SubmitRefuses}
 use Rattle.warehouse_jobs.specs.declared.taken.Taken.{Taken}
 use Rattle.warehouse_jobs.specs.declared.taken.Taken.TheVariants.{Added, Skipped}
-use Rattle.warehouse_jobs.specs.Cutting.{AreCut, IsNextBatch, IsNextFault}
+use Rattle.warehouse_jobs.specs.Cutting.{AreCutFrom, IsNextBatch, IsNextFault}
 use Rattle.warehouse_jobs.specs.Printed.{batch_line, count_line}
 
 -- a batch that was done was passed over where its number was there already
@@ -81,73 +79,89 @@ DoesBatch g w number rows old new before after (Ok done) =
     TakesIn g w number rows old new (taken_of w number) × Appends before after (line_in w number rows)
 DoesBatch g w number rows old new before after (Err fault) = FailsInBatch g w number rows old new before after fault
 
--- Batches that were done one after the other, behind so many, with the session and what the writer had as each of them
--- ended. The line of a batch is written while the device stands for a warehouse with it, and nothing happens to the device
--- meanwhile. From then on to the last session a stop leaves what may be held with it
-abbrev pub InTurn : {D : Type 0} (g : Ghosts D) → (ℕ → Content → Type 0) → (last : Session D g) → ℕ → (old : Session D g) → Option (List ℕ) → Warehouse → ℕ → List (List LineOrder) → (new : Session D g) → Option (List ℕ) → Type 0
-InTurn g May last count old before w number [] new after = (new ≡ old) × (after ≡ before)
-InTurn {D} g May last count old before w number (rows ∷ batches) new after =
-    (session : Session D g) × (told : Option (List ℕ))
-    × TakesIn g w number rows old session (taken_of w number)
-    × Leaves (disk_of g session) (disk_of g last) (May (count + 1))
-    × Appends before told (line_in w number rows)
-    × InTurn g May last (count + 1) session told (with_batch w number rows) (number + 1) batches new after
+-- A batch of a load that was done: its rows, and the session and what the writer had once its line was written
+pub record Done {D : Type 0} (g : Ghosts D) : Type 0 where
+  pub rows : List LineOrder
+  pub session : Session D g
+  pub written : Option (List ℕ)
+
+-- the rows of some batches that were done, and the session and what the writer had after the last of them
+abbrev pub batches_of : {D : Type 0} {g : Ghosts D} → List (Done g) → List (List LineOrder)
+batches_of trace = map (λ one. one.rows) trace
+
+abbrev pub session_after : {D : Type 0} {g : Ghosts D} → Session D g → List (Done g) → Session D g
+session_after old [] = old
+session_after old (one ∷ later) = session_after one.session later
+
+abbrev pub written_after : {D : Type 0} {g : Ghosts D} → Option (List ℕ) → List (Done g) → Option (List ℕ)
+written_after before [] = before
+written_after before (one ∷ later) = written_after one.written later
+
+-- Batches are done one after the other: the device takes each in, and then its line is written, while nothing happens to the device
+abbrev pub DoesAll : {D : Type 0} (g : Ghosts D) → (old : Session D g) → Option (List ℕ) → Warehouse → ℕ → List (Done g) → Type 0
+DoesAll g old before w number [] = ⊤
+DoesAll g old before w number (one ∷ later) =
+    TakesIn g w number one.rows old one.session (taken_of w number)
+    × Appends before one.written (line_in w number one.rows)
+    × DoesAll g one.session one.written (with_batch w number one.rows) (number + 1) later
 
 -- no line was left, and the number of batches is written
-pub record Closes {D : Type 0} (g : Ghosts D) (left : List (List (List ℕ))) (w : Warehouse) (old new : Session D g) (before after : Option (List ℕ)) : Type 0 where
-  pub none : left ≡ []
+pub record Closes {D : Type 0} (g : Ghosts D) (text : Option (List ℕ)) (left : List (List (List ℕ))) (w : Warehouse) (old new : Session D g) (before after : Option (List ℕ)) : Type 0 where
+  pub none : IfSome text (λ _. left ≡ [])
   pub same : new ≡ old
   pub written : Appends before after (count_line (length w.batches))
 
 -- or the writer failed in that line
-pub record CannotClose {D : Type 0} (g : Ghosts D) (left : List (List (List ℕ))) (w : Warehouse) (old new : Session D g) (before after : Option (List ℕ)) (fault : Fault) : Type 0 where
+pub record CannotClose {D : Type 0} (g : Ghosts D) (text : Option (List ℕ)) (left : List (List (List ℕ))) (w : Warehouse) (old new : Session D g) (before after : Option (List ℕ)) (fault : Fault) : Type 0 where
   pub failed : fault ≡ Output
-  pub none : left ≡ []
+  pub none : IfSome text (λ _. left ≡ [])
   pub same : new ≡ old
   pub written : AppendsBeginning before after (count_line (length w.batches))
 
 -- the next batch could not be read: for want of memory, since the reader failed, or for the first fault of its lines
-pub record CannotRead {D : Type 0} (g : Ghosts D) (next : ℕ) (left : List (List (List ℕ))) (old new : Session D g) (before after : Option (List ℕ)) (fault : Fault) : Type 0 where
-  pub cause : (fault ≡ Memory) ⊎ ((fault ≡ Input) ⊎ IsNextFault next left fault)
+pub record CannotRead {D : Type 0} (g : Ghosts D) (text : Option (List ℕ)) (next : ℕ) (left : List (List (List ℕ))) (old new : Session D g) (before after : Option (List ℕ)) (fault : Fault) : Type 0 where
+  pub cause : (fault ≡ Memory) ⊎ ((fault ≡ Input) ⊎ IfSome text (λ _. IsNextFault next left fault))
   pub same : new ≡ old
   pub nothing : Keeps before after
 
 -- the next batch was read, and did not end well
-pub record EndsInBatch {D : Type 0} (g : Ghosts D) (next : ℕ) (left : List (List (List ℕ))) (w : Warehouse) (number : ℕ) (old new : Session D g) (before after : Option (List ℕ)) (fault : Fault) : Type 0 where
+pub record EndsInBatch {D : Type 0} (g : Ghosts D) (text : Option (List ℕ)) (next : ℕ) (left : List (List (List ℕ))) (w : Warehouse) (number : ℕ) (old new : Session D g) (before after : Option (List ℕ)) (fault : Fault) : Type 0 where
   pub rows : List LineOrder
-  pub read : IsNextBatch next left rows
+  pub read : IfSome text (λ _. IsNextBatch next left rows)
   pub ends : FailsInBatch g w number rows old new before after fault
 
--- how a load ends behind the batches that were done
-abbrev pub Ends : {D A : Type 0} (g : Ghosts D) → ℕ → List (List (List ℕ)) → Warehouse → ℕ → (old new : Session D g) → (before after : Option (List ℕ)) → Result A Fault → Type 0
-Ends g next left w number old new before after (Ok done) = Closes g left w old new before after
-Ends g next left w number old new before after (Err fault) =
-    CannotRead g next left old new before after fault
-    ⊎ (EndsInBatch g next left w number old new before after fault ⊎ CannotClose g left w old new before after fault)
+-- how a load ends after the batches that were done, where these parts of the text are left
+abbrev pub Ends : {D A : Type 0} (g : Ghosts D) → Option (List ℕ) → ℕ → List (List (List ℕ)) → Warehouse → ℕ → (old new : Session D g) → (before after : Option (List ℕ)) → Result A Fault → Type 0
+Ends g text next left w number old new before after (Ok done) = Closes g text left w old new before after
+Ends g text next left w number old new before after (Err fault) =
+    CannotRead g text next left old new before after fault
+    ⊎ (EndsInBatch g text next left w number old new before after fault ⊎ CannotClose g text left w old new before after fault)
 
--- what a stop within a load may leave once so many batches were done: the warehouse behind these, or behind more of them
-pub record MayHold (w : Warehouse) (first : ℕ) (parts : List (List (List ℕ))) (count : ℕ) (c : Content) : Type 0 where
+-- what a crash within a load may leave once so many batches were done: the warehouse with these, or with more of the text's
+pub record MayHold (w : Warehouse) (first size : ℕ) (text : Option (List ℕ)) (count : ℕ) (c : Content) : Type 0 where
   pub some : List (List LineOrder)
   pub next : ℕ
   pub left : List (List (List ℕ))
-  pub cut : AreCut 1 parts some next left
+  pub cut : AreCutFrom text size some next left
   pub no_fewer : count ≤ length some
   pub stands : Stands c (with_batches w first some)
 
--- A load of a text in batches of so many lines, the first of them with a number
-pub record Loads {D A : Type 0} (g : Ghosts D) (w : Warehouse) (first size : ℕ) (text : List ℕ) (old new : Session D g) (before after : Option (List ℕ)) (result : Result A Fault) : Type 0 where
-  -- the batches that were done
-  pub done : List (List LineOrder)
+-- A load in batches of so many lines, the first of them with a number. What the reader holds is a text, or it is not known, as that
+-- of a file: then all is said but which rows those of the batches are
+pub record Loads {D A : Type 0} (g : Ghosts D) (w : Warehouse) (first size : ℕ) (text : Option (List ℕ)) (old new : Session D g) (before after : Option (List ℕ)) (result : Result A Fault) : Type 0 where
+  -- the batches that were done: the rows of the first parts of the text
+  pub trace : List (Done g)
   pub next : ℕ
   pub left : List (List (List ℕ))
-  pub cut : AreCut 1 (parts_of size (lines_of text)) done next left
-  -- the warehouse has them, and their lines are written: each once its batch is there, and to stay
-  pub session : Session D g
-  pub told : Option (List ℕ)
-  pub in_turn : InTurn g (MayHold w first (parts_of size (lines_of text))) new 0 old before w first done session told
-  pub at : IsAt g session (with_batches w first done)
-  pub told_is : Appends before told (lines_in w first done)
+  pub cut : AreCutFrom text size (batches_of trace) next left
+  -- the device takes each in, and then its line is written
+  pub does : DoesAll g old before w first trace
+  -- from then on a crash leaves it
+  pub stay : (place : ℕ) (one : Done g) → slice_get trace place ≡ Some one → Leaves (disk_of g one.session) (disk_of g new) (MayHold w first size text (place + 1))
+  -- so the warehouse has them, and their lines are written
+  pub at : IsAt g (session_after old trace) (with_batches w first (batches_of trace))
+  pub written : Appends before (written_after before trace) (lines_in w first (batches_of trace))
   -- and the end
-  pub ends : Ends g next left (with_batches w first done) (first + length done) session new told after result
-  -- what a stop at any moment leaves
-  pub leaves : Leaves (disk_of g old) (disk_of g new) (MayHold w first (parts_of size (lines_of text)) 0)
+  pub ends : Ends g text next left (with_batches w first (batches_of trace)) (first + length trace) (session_after old trace) new (written_after before trace) after result
+  -- what a crash at any moment leaves
+  pub leaves : Leaves (disk_of g old) (disk_of g new) (MayHold w first size text 0)

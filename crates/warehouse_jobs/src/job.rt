@@ -89,8 +89,8 @@ impl BatchRows {
 /// What is asked of a warehouse.
 #[derive(Drop)]
 pub enum Job {
-    /// Adds the fact rows of a file, so many rows a batch, its first batch with a number. Batches that are there already
-    /// are passed over.
+    /// Adds the fact rows of a file, so many rows a batch, its first batch with a number. A batch that is there already is
+    /// passed over, and one that is another than the batch of its number is refused.
     Load { first: BatchNumber, rows: BatchRows },
     /// Reports the answer to a query over the first batches, so many of them, or all that are there.
     Report { as_of: Option<u32>, query: Query },

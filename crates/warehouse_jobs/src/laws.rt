@@ -1,7 +1,8 @@
 //! Laws of loads: each function proves the statement that its contract names, and does nothing.
-ghost use Rattle.warehouse_jobs.specs.Lawful.{LoadAddsTheOthers, LoadHoldsItsBatches, LoadedIsEvaluated};
+ghost use Rattle.warehouse_jobs.specs.Lawful.{LoadAddsTheOthers, LoadHoldsItsBatches, LoadedIsEvaluated, StoppedLoadIsFound};
 
 use sector_device::Sectors;
+use warehouse::laws::restarted_shows;
 
 /// A load whose first batch is there, or is the next one, adds just those of its batches that are not there.
 pub fn load_adds_the_others()
@@ -12,6 +13,14 @@ pub fn load_adds_the_others()
 pub fn load_holds_its_batches<D: Sectors>()
     ensures { LoadHoldsItsBatches D.Sectors }
 {}
+
+/// However a load is stopped after some of its lines were written: the restarted device has the batches of these lines, and by its
+/// contract opening finds them.
+pub fn stopped_load_is_found<D: Sectors>()
+    ensures { StoppedLoadIsFound D.Sectors }
+{
+    restarted_shows::<D>();
+}
 
 /// What is reported over a text that was loaded whole is what is evaluated over it.
 pub fn loaded_is_evaluated<D: Sectors>()

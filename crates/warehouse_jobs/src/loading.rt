@@ -1,5 +1,6 @@
 //! Loading the fact rows of a file.
-ghost use Rattle.std.specs.Prelude.{◌≡◌, ◌≤◌, ◌++◌, [], ℕ, List, Some, None, length, IfOk, IfErr, OnOk};
+ghost use Rattle.std.specs.Prelude.{◌≡◌, ◌≤◌, ◌++◌, [], ℕ, List, Option, None, length, IfOk, IfErr, OnOk};
+ghost use Rattle.std.specs.Io.KnownBytes.{Keeps};
 ghost use Rattle.cube_model.specs.declared.rows.LineOrder.{LineOrder};
 ghost use Rattle.cube_model.specs.Limits.{most_batch_rows};
 ghost use Rattle.batch_loader.specs.Reading.{RefusesBatch, TakesBatch};
@@ -38,8 +39,8 @@ pub(crate) fn load<D: Sectors, R: Read + Drop, W: Write>(
     lineorder: R,
     out: &mut W,
 ) -> Result<(), Fault>
-    ensures loads { (w : Warehouse) (text : List ℕ) → IsAt D.Sectors session.old w → R.remaining lineorder ≡ Some text → D.keeps_word (device_of session.new)
-        → Loads D.Sectors w first rows text session.old session.new (W.contents out.old) (W.contents out.new) result }
+    ensures loads { (w : Warehouse) → IsAt D.Sectors session.old w → D.keeps_word (device_of session.new)
+        → Loads D.Sectors w first rows (R.remaining lineorder) session.old session.new (W.contents out.old) (W.contents out.new) result }
     ensures word { D.keeps_word (device_of session.new) → D.keeps_word (device_of session.old) }
 {
     let mut lines = Lines::new(alloc, lineorder)?;
@@ -60,7 +61,7 @@ fn load_lines<D: Sectors, R: Read, W: Write>(
     requires few { size ≤ most_batch_rows }
     requires number { lines.old.number ≡ 0 }
     requires fault { lines.old.fault ≡ None }
-    ensures loads { (w : Warehouse) (text : List ℕ) → IsAt D.Sectors session.old w → lines.old.left ≡ Some text → D.keeps_word (device_of session.new)
+    ensures loads { (w : Warehouse) (text : Option (List ℕ)) → IsAt D.Sectors session.old w → Keeps text lines.old.left → D.keeps_word (device_of session.new)
         → Loads D.Sectors w first size text session.old session.new (W.contents out.old) (W.contents out.new) result }
     ensures word { D.keeps_word (device_of session.new) → D.keeps_word (device_of session.old) }
 {

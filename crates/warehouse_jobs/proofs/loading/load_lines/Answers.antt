@@ -1,5 +1,5 @@
 use Rattle.std.proofs.Common.{◌≤◌, [], length, refl, arith}
-use Rattle.warehouse_jobs.specs.Loading.{with_batches}
+use Rattle.warehouse_jobs.specs.Loading.{batches_of, with_batches}
 use Rattle.warehouse_jobs.proofs.Endings.{never_more}
 use Rattle.warehouse_jobs.proofs.Stepping.{stepped, stepped-fault, stepped-last}
 use Rattle.warehouse_jobs.proofs.Through.{through-none}
@@ -13,7 +13,7 @@ loop-done-init g c = record {
   through = λ w text at left k. (
     [],
     refl,
-    through-none g.D.Sectors w c.args.first c.args.size text c.args.session.now (g.W.Write.contents c.args.out.now) c.args.lines.now left c.requires.number at (still g.D.Sectors c.args.session.now w g.met.D.Sectors.only_now at),
+    through-none g.D.Sectors w c.args.first c.args.size text c.args.session.now (g.W.Write.contents c.args.out.now) c.args.lines.now c.requires.some left c.requires.number at (still g.D.Sectors c.args.session.now w g.met.D.Sectors.only_now at),
   );
 }
 
@@ -23,8 +23,8 @@ returns-in-Ok-false-clause-loads g c w text at left k =
     let th = c.loop-done.invariant.through w text at left old in
     stepped-last g.D.Sectors w c.args.first c.args.size text c.args.session.now c.loop-done.session c.load_next.new.session (g.W.Write.contents c.args.out.now) (g.W.Write.contents c.loop-done.out)
     (g.W.Write.contents c.load_next.new.out) c.loop-done.lines c.load_next.new.lines th.0 th.2 c.requires.some c.saturating_add-number.result
-    (omega (arith, c.ranges.first.fits)) (omega (arith, c.saturating_add-number.ensures, th.1)) old c.load_next.result (c.load_next.ensures.steps (with_batches w c.args.first th.0) th.2.at k)
-    _ c.in-Ok-false.is c.in-Ok-false.field-0-test (g.W.Write.contents c.end.new.out) _ (λ here. c.end.ensures (with_batches w c.args.first th.0) here k)
+    (omega (arith, c.ranges.first.fits)) (omega (arith, c.saturating_add-number.ensures, th.1)) old c.load_next.result (c.load_next.ensures.steps (with_batches w c.args.first (batches_of th.0)) th.2.at k)
+    _ c.in-Ok-false.is c.in-Ok-false.field-0-test (g.W.Write.contents c.end.new.out) _ (λ here. c.end.ensures (with_batches w c.args.first (batches_of th.0)) here k)
 
 pub returns-in-Err-clause-loads : goal.returns-in-Err-clause-loads
 returns-in-Err-clause-loads g c w text at left k =
@@ -32,7 +32,7 @@ returns-in-Err-clause-loads g c w text at left k =
     let th = c.loop-done.invariant.through w text at left old in
     stepped-fault g.D.Sectors w c.args.first c.args.size text c.args.session.now c.loop-done.session c.load_next.new.session (g.W.Write.contents c.args.out.now) (g.W.Write.contents c.loop-done.out)
     (g.W.Write.contents c.load_next.new.out) c.loop-done.lines c.load_next.new.lines th.0 th.2 c.requires.some c.saturating_add-number.result
-    (omega (arith, c.ranges.first.fits)) (omega (arith, c.saturating_add-number.ensures, th.1)) old c.load_next.result (c.load_next.ensures.steps (with_batches w c.args.first th.0) th.2.at k)
+    (omega (arith, c.ranges.first.fits)) (omega (arith, c.saturating_add-number.ensures, th.1)) old c.load_next.result (c.load_next.ensures.steps (with_batches w c.args.first (batches_of th.0)) th.2.at k)
     _ c.in-Err.is
 
 pub loop-done-preserved : goal.loop-done-preserved
@@ -44,7 +44,7 @@ loop-done-preserved g c = record {
       let th = c.loop-done.invariant.through w text at left old in
       stepped g.D.Sectors w c.args.first c.args.size text c.args.session.now c.loop-done.session c.load_next.new.session (g.W.Write.contents c.args.out.now) (g.W.Write.contents c.loop-done.out)
       (g.W.Write.contents c.load_next.new.out) c.loop-done.lines c.load_next.new.lines th.0 th.2 c.requires.some c.saturating_add-number.result
-      (omega (arith, c.ranges.first.fits)) (omega (arith, c.saturating_add-number.ensures, th.1)) old c.load_next.result (c.load_next.ensures.steps (with_batches w c.args.first th.0) th.2.at k)
+      (omega (arith, c.ranges.first.fits)) (omega (arith, c.saturating_add-number.ensures, th.1)) old c.load_next.result (c.load_next.ensures.steps (with_batches w c.args.first (batches_of th.0)) th.2.at k)
       _ c.in-Ok-true.is c.in-Ok-true.field-0-test c.loop-done.done th.1 (λ v here. still g.D.Sectors c.load_next.new.session v g.met.D.Sectors.only_now here);
 }
 
@@ -52,4 +52,4 @@ pub returns-clause-loads : goal.returns-clause-loads
 returns-clause-loads g c w text at left k =
     let th = c.loop-done.invariant.through w text at left k in
     let many : 4097 ≤ length th.0 = omega (arith, th.1, c.loop-done-test.false) in
-    absurd (never_more g.D.Sectors w c.args.first c.args.size text c.args.session.now c.loop-done.session (g.W.Write.contents c.args.out.now) (g.W.Write.contents c.loop-done.out) c.loop-done.lines th.0 th.2 c.requires.positive many k)
+    absurd (never_more g.D.Sectors w c.args.first c.args.size text c.args.session.now c.loop-done.session (g.W.Write.contents c.args.out.now) (g.W.Write.contents c.loop-done.out) c.loop-done.lines th.0 c.requires.some th.2 c.requires.positive many k)
