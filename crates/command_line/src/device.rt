@@ -103,7 +103,7 @@ where
     R::File: FileExt + LockFile,
 {
     let disk = FileDisk::open(rt, path)?;
-    session_on(rt.alloc(), disk)
+    session_on(rt.alloc(), disk, Access::Commit)
 }
 
 /// Opens the warehouse in a file for reading alone. No other program may have it open for writing.
@@ -115,19 +115,24 @@ where
     R::File: FileExt + LockFile,
 {
     let disk = FileDisk::open_to_read(rt, path)?;
-    session_on(rt.alloc(), disk)
+    session_on(rt.alloc(), disk, Access::Read)
 }
 
-// Opens the warehouse on a disk, behind a cache.
+// Opens the warehouse on a disk, behind a cache. Where it is only read, an upkeep that was cut off stays so.
 fn session_on<F: FileExt + OpenFile + Drop>(
     alloc: Global,
     disk: FileDisk<Host<F>, Unread>,
+    access: Access,
 ) -> Result<Session<Device<F>>, Met> {
     let device = match Cached::new(alloc, disk, CACHED_SECTORS) {
         Ok(device) => device,
         Err((fault, _)) => return Err(Met::from(fault)),
     };
-    match warehouse::open(alloc, device) {
+    let opened = match access {
+        Access::Commit => warehouse::open(alloc, device),
+        Access::Read => warehouse::open_as_is(alloc, device),
+    };
+    match opened {
         Ok(session) => Ok(session),
         Err((fault, device)) => Err(met_by(fault, &device)),
     }

@@ -23,6 +23,8 @@ mod example;
 #[cfg(test)]
 mod failures;
 #[cfg(test)]
+mod finishing;
+#[cfg(test)]
 mod formatting;
 #[cfg(test)]
 mod full;

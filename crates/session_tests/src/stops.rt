@@ -51,7 +51,7 @@ static STOPS: [Stop; 16] = [
 ];
 
 /// How calls are refused, if they are, that are stopped after so many of them.
-fn refusal(made: u64, calls: u64) -> Option<Fault> {
+pub(crate) fn refusal(made: u64, calls: u64) -> Option<Fault> {
     if made < calls {
         Some(Fault::Device)
     } else {
@@ -96,7 +96,7 @@ fn a_failing_write_that_reaches_the_disk_leaves_either(rt: HostRuntime) {
 }
 
 /// How an opening ends that is stopped after so many calls, and the disk then.
-fn half_opened(alloc: Global, disk: MemDisk, calls: u64) -> (Option<Fault>, MemDisk) {
+pub(crate) fn half_opened(alloc: Global, disk: MemDisk, calls: u64) -> (Option<Fault>, MemDisk) {
     let fuse = Fuse::new(disk, calls.saturating_add(1), true, false);
     match open(alloc, fuse) {
         Ok(session) => (None, session.close().close()),

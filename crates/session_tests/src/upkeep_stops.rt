@@ -1,5 +1,6 @@
 //! An upkeep of three cuboids that stops after each of its device calls.
 use crate::answers::{Lines, answer, report};
+use crate::finishing::as_is;
 use crate::sample::{opened, status};
 use crate::stops::OPENING;
 use crate::stored::{THREE, with_cuboids, with_three};
@@ -112,7 +113,7 @@ fn outcome(
     remains: &Remains,
 ) -> Result<(Option<Fault>, Found, Kept), Fault> {
     let (refused, disk) = stopped(alloc, calls, remains.0)?;
-    let mut session = opened(alloc, disk.crash(remains.1))?;
+    let mut session = as_is(alloc, disk.crash(remains.1))?;
     let found = found(alloc, &mut session)?;
     Ok((refused, found, kept_up(alloc, &mut session)?))
 }
