@@ -1,12 +1,15 @@
 -- The plan of a query over a warehouse.
-use Rattle.std.specs.Prelude.{◌≡◌, ℕ, Some, List, length, map}
+use Rattle.std.specs.Prelude.{◌≡◌, ◌↔◌, ℕ, Some, List, length, map}
+use Rattle.std.specs.List.{Contains}
 use Rattle.cube_model.specs.declared.query.Query.{Query}
 use Rattle.lattice.specs.Determined.{Serves}
 use Rattle.lattice.specs.Views.{index_of}
 use Rattle.planner.specs.declared.price.Plan.{Plan}
 use Rattle.planner.specs.declared.price.Plan.TheVariants.{Scan, Cells}
+use Rattle.planner.specs.declared.price.Priced.{Priced}
 use Rattle.planner.specs.declared.stored.Stored.{Stored}
-use Rattle.planner.specs.Plans.{IsPlan}
+use Rattle.planner.specs.Listed.{HasCheapestFirst}
+use Rattle.planner.specs.Plans.{AnswersAt, IsPlan}
 use Rattle.warehouse_objects.specs.Warehouse.{Cuboid, Warehouse, cells_in, cuboid_at}
 
 -- what the planner looks at of a stored cuboid
@@ -20,6 +23,11 @@ stored_of w = map seen_of w.cuboids
 -- the plan of a query over the first batches of a warehouse
 abbrev pub IsPlanOf : Warehouse → ℕ → Query → Plan → Type 0
 IsPlanOf w as_of query plan = IsPlan query (stored_of w) (map length w.batches) as_of plan
+
+-- every plan that answers a query over the first batches of a warehouse, each with what it reads, the one to be taken first
+pub record ArePlansOf (w : Warehouse) (as_of : ℕ) (query : Query) (plans : List Priced) : Type 0 where
+  pub each : (one : Priced) → Contains plans one ↔ AnswersAt query (stored_of w) (map length w.batches) as_of one.plan one.cost
+  pub first : HasCheapestFirst query (stored_of w) (map length w.batches) as_of plans
 
 -- how many of the first batches the cells of a plan hold
 abbrev pub mark_of : Plan → ℕ

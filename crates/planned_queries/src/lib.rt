@@ -6,4 +6,4 @@ mod following;
 mod planning;
 
 pub use answering::answer_by_plan;
-pub use planning::plan_of;
+pub use planning::{plan_of, plans_of};

@@ -3,11 +3,11 @@ ghost use Rattle.std.specs.Prelude.{◌≡◌, ◌≤◌, Some, length, IfErr, I
 ghost use Rattle.cube_model.specs.declared.fault.Fault.TheVariants.{Memory};
 ghost use Rattle.warehouse_objects.specs.Warehouse.{Cuboid, Warehouse};
 ghost use Rattle.warehouse_objects.specs.Stands.{root_of, said_of};
-ghost use Rattle.planned_queries.specs.Planned.{IsPlanOf, ServesBy, mark_of, seen_of, stored_of};
+ghost use Rattle.planned_queries.specs.Planned.{ArePlansOf, IsPlanOf, ServesBy, mark_of, seen_of, stored_of};
 
 use cube_model::{Fault, Query};
 use lattice::{View, indexes_name_views};
-use planner::{Plan, Stored, plan};
+use planner::{Plan, Priced, Stored, plan, plans};
 use std::alloc::{AllocError, Global};
 use warehouse_root::{Root, StoredCuboid};
 
@@ -24,6 +24,20 @@ pub fn plan_of(alloc: Global, root: &Root, as_of: u32, query: &Query) -> Result<
 {
     let stored = stored_in(alloc, root)?;
     Ok(plan(query, stored.as_slice(), root.batches(), as_of))
+}
+
+/// Every plan that answers a query over the first `as_of` batches, each with how many cells and fact rows it reads. The first is
+/// the one that `plan_of` gives.
+///
+/// It can run out of memory.
+pub fn plans_of(alloc: Global, root: &Root, as_of: u32, query: &Query) -> Result<Vec<Priced>, Fault>
+    requires { as_of ≤ length root.now.batches }
+    ensures plans { IfOk result (λ plans. (w : Warehouse) → root.now ≡ root_of w → ArePlansOf w as_of query.now plans.items) }
+    ensures memory { IfErr result (λ fault. fault ≡ Memory) }
+{
+    let stored = stored_in(alloc, root)?;
+    let batches = root.batches();
+    Ok(plans(alloc, query, stored.as_slice(), batches, as_of)?)
 }
 
 // The stored cuboids of a root, as the planner looks at them.

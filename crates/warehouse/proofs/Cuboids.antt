@@ -1,8 +1,7 @@
 -- A session and its store, for the commits of cuboids and for audits.
-use Rattle.std.proofs.Common.{◌≡◌, false, sym}
+use Rattle.std.proofs.Common.{◌≡◌, sym}
 use Rattle.sector_device.specs.declared.device.Sectors.{Ghosts}
 use Rattle.object_store.specs.Content.{Content}
-use Rattle.object_store.specs.declared.store.Store.{Store}
 use Rattle.warehouse_objects.specs.Loaded.{IsLoaded}
 use Rattle.warehouse_objects.specs.Stands.{Stands}
 use Rattle.warehouse_objects.specs.Warehouse.{Warehouse}
@@ -10,7 +9,7 @@ use Rattle.warehouse_objects.proofs.CallerLemmas.{laid_of}
 use Rattle.cuboid_commits.specs.Keeping as keeping
 use Rattle.warehouse.specs.declared.session.Session.{Session}
 use Rattle.warehouse.specs.Loaded.{Agrees}
-use Rattle.warehouse.specs.Session.{IsAt, content_of, disk_of, is_at}
+use Rattle.warehouse.specs.Session.{IsAt, content_of, disk_of}
 use Rattle.warehouse.specs.Upkeep.{IsLaidAt}
 
 module _ {D : Type 0} (g : Ghosts D) (w : Warehouse) where

@@ -17,7 +17,6 @@ use Rattle.column_segment.specs.declared.encoding.BatchColumns.{BatchColumns}
 use Rattle.batch_admission.specs.Found.{Found, found_in}
 use Rattle.batch_admission.specs.Totals.{totals_of}
 use Rattle.batch_admission.proofs.CallerLemmas.{long_before}
-use Rattle.warehouse_root.specs.declared.layout.Layout.TheVariants.{First}
 use Rattle.warehouse_root.specs.declared.totals.StoredTotals.{StoredTotals}
 use Rattle.warehouse_root.specs.Root.{PlainRoot, with_batch}
 use Rattle.warehouse_objects.proofs.CallerLemmas.{batch_of}

@@ -1,5 +1,5 @@
 -- What is found behind a run that was stopped.
-use Rattle.std.proofs.Common.{◌≡◌, ⊎_elim, inl, inr, ◌≤◌, ℕ, zero, suc, Some, None, Option, List, [], ◌∷◌, length, take, slice_get, refl, sym, subst, arith}
+use Rattle.std.proofs.Common.{⊎_elim, inl, inr, ◌≤◌, ℕ, zero, suc, Some, None, Option, List, [], ◌∷◌, length, take, slice_get, refl, sym, subst, arith}
 use Rattle.sector_device.specs.declared.device.Sectors.{Ghosts}
 use Rattle.sector_device.specs.Device.{Image, IsImage}
 use Rattle.cube_model.specs.declared.rows.DimRows.{DimRows}

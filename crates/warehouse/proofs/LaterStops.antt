@@ -1,5 +1,5 @@
 -- A stop behind some of the commands of a run.
-use Rattle.std.proofs.Common.{◌≡◌, ◌⊎◌, ⊎_elim, List, [], ◌∷◌, refl, sym, ◌∙◌, ap, subst}
+use Rattle.std.proofs.Common.{◌≡◌, ⊎_elim, List, [], ◌∷◌, sym, ◌∙◌, ap, subst}
 use Rattle.sector_device.specs.declared.device.Sectors.{Ghosts}
 use Rattle.cube_model.specs.declared.rows.LineOrder.{LineOrder}
 use Rattle.warehouse_objects.specs.Warehouse.{Warehouse}

@@ -1,13 +1,13 @@
 -- What a restarted device shows.
-use Rattle.std.proofs.Common.{◌≡◌, ◌⊎◌, ⊎_elim, inl, inr, ◌≤◌, ℕ, zero, suc, None, Option, take, slice_get, List, [], ◌∷◌, ◌++◌, length, refl, sym, ◌∙◌, ap, subst, arith}
+use Rattle.std.proofs.Common.{◌≡◌, ◌⊎◌, ⊎_elim, inl, inr, ◌≤◌, ℕ, None, Option, take, slice_get, List, [], ◌∷◌, ◌++◌, length, refl, sym, ap, subst, arith}
 use Rattle.std.proofs.lemmas.List.{length-append}
 use Rattle.sector_device.specs.declared.device.Sectors.{Ghosts}
-use Rattle.sector_device.specs.Device.{Image, IsImage}
+use Rattle.sector_device.specs.Device.{Image}
 use Rattle.cube_model.specs.declared.rows.DimRows.{DimRows}
 use Rattle.cube_model.specs.declared.rows.LineOrder.{LineOrder}
 use Rattle.object_store.specs.Content.{Content}
-use Rattle.object_store.specs.Disk.{disk, AllShow, Each, IsBlank, Leaves, LeavesOrNone}
-use Rattle.object_store.specs.Shows.{HasNone, Shows}
+use Rattle.object_store.specs.Disk.{disk, AllShow, Each, IsBlank}
+use Rattle.object_store.specs.Shows.{HasNone}
 use Rattle.object_store.proofs.CallerLemmas.{shows_one}
 use Rattle.object_store.proofs.Looking.{none_same}
 use Rattle.warehouse_objects.specs.Warehouse.{Warehouse, fresh}
@@ -17,7 +17,7 @@ use Rattle.warehouse.specs.declared.command.Command.{Command}
 use Rattle.warehouse.specs.declared.command.Reply.{Reply}
 use Rattle.warehouse.specs.declared.command.Command.TheVariants.{Submit, Query, Status, Choose, Upkeep, Audit}
 use Rattle.warehouse.specs.declared.command.Reply.TheVariants.{Done, Answer, Numbers, Chosen, Audited, Refused}
-use Rattle.warehouse.specs.Found.{MayBeFound, MayStand, MayStandSince}
+use Rattle.warehouse.specs.Found.{MayBeFound}
 use Rattle.warehouse.specs.Headline.{FewerIsNotFound, IsRestarted, RestartedShows, StoppedCreateIsFound, StoppedOpenIsFound, acknowledged_all, submitted}
 use Rattle.warehouse.specs.Running.{acknowledged}
 use Rattle.warehouse.proofs.Headlining.{restarted_shows}

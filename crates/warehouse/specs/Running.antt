@@ -1,7 +1,6 @@
 -- Runs of commands: replies of the plain model, and what a crash leaves at each moment.
 use Rattle.std.specs.Prelude.{◌≡◌, ◌⊎◌, true, List, [], ◌∷◌, ◌++◌}
 use Rattle.sector_device.specs.declared.device.Sectors.{Ghosts}
-use Rattle.cube_model.specs.declared.answer.Answer.{Answer}
 use Rattle.cube_model.specs.declared.fault.Fault.{Fault}
 use Rattle.cube_model.specs.declared.fault.Fault.TheVariants.{Device, Failed, Memory}
 use Rattle.cube_model.specs.declared.rows.LineOrder.{LineOrder}

@@ -25,7 +25,7 @@ pub use command::{Command, Reply};
 pub use creation::create;
 pub use growing::GrowingBatch;
 pub use opening::{open, open_as_is};
-pub use planner::Plan;
+pub use planner::{Plan, Priced};
 pub use running::run;
 pub use session::Session;
 pub use status::Status;

@@ -2,7 +2,7 @@
 ghost use Rattle.std.specs.Prelude.{◌≡◌, ◌<◌, ◌↔◌, true, false, Err, length, IfOk, IfErr, IsErrOf};
 ghost use Rattle.cube_model.specs.declared.fault.Fault.TheVariants.{BadQuery, Failed, NoSuchPrefix};
 ghost use Rattle.cube_model.specs.Proper.{IsProper};
-ghost use Rattle.planned_queries.specs.Planned.{IsPlanOf};
+ghost use Rattle.planned_queries.specs.Planned.{ArePlansOf, IsPlanOf};
 ghost use Rattle.warehouse_objects.specs.Warehouse.{Warehouse};
 ghost use Rattle.warehouse.specs.Session.{has_failed, device_of, IsAt, IsAsked, QueryRefuses};
 
@@ -10,8 +10,8 @@ use crate::prepared::kept_is_what_stands;
 use crate::querying::check;
 use crate::session::Session;
 use cube_model::{Fault, Query};
-use planned_queries::plan_of;
-use planner::Plan;
+use planned_queries::{plan_of, plans_of};
+use planner::{Plan, Priced};
 use sector_device::Sectors;
 use std::alloc::Global;
 
@@ -40,5 +40,29 @@ impl<D: Sectors> Session<D> {
             return Err(fault);
         }
         plan_of(alloc, &self.root, as_of, query)
+    }
+
+    /// Every plan by which a query over the first `as_of` batches could be answered, each with how many cells and fact rows
+    /// it reads. The first is the one that `plan` gives. It makes no device call, and is refused as `plan` is.
+    pub fn plans(&self, alloc: Global, as_of: u32, query: &Query) -> Result<Vec<Priced>, Fault>
+        ensures plans { IfOk result (λ plans. (w : Warehouse) → IsAt D.Sectors self.now w → D.keeps_word (device_of self.now)
+            → IsAsked w as_of query.now × ArePlansOf w as_of query.now plans.items) }
+
+        // When each error comes.
+        ensures improper { has_failed self.now ≡ false → (IsProper query.now → ⊥) → result ≡ Err BadQuery }
+        ensures beyond { (w : Warehouse) → IsAt D.Sectors self.now w → D.keeps_word (device_of self.now)
+            → IsProper query.now → length w.batches < as_of → result ≡ Err NoSuchPrefix }
+        ensures refused { IfErr result (λ fault. (w : Warehouse) → IsAt D.Sectors self.now w → D.keeps_word (device_of self.now)
+            → QueryRefuses w as_of query.now fault) }
+        ensures failed { IsErrOf result Failed ↔ (has_failed self.now ≡ true) }
+    {
+        if self.store.is_broken() {
+            return Err(Fault::Failed);
+        }
+        kept_is_what_stands(&self.dims, &self.root);
+        if let Err(fault) = check(query, as_of, self.root.batches().len() as u32) {
+            return Err(fault);
+        }
+        plans_of(alloc, &self.root, as_of, query)
     }
 }

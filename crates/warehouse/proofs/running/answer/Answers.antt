@@ -1,4 +1,4 @@
-use Rattle.std.proofs.Common.{◌≡◌, true, false, Err, List, refl, sym, ◌∙◌, ap, subst}
+use Rattle.std.proofs.Common.{Err, ap}
 use Rattle.warehouse.proofs.Performing.{query_done, query_refused}
 use Rattle.warehouse.proofs.running.answer.Goals as goal
 

@@ -1,4 +1,4 @@
-use Rattle.std.proofs.Common.{◌≡◌, true, false, Err, List, refl, sym, ◌∙◌, ap, subst}
+use Rattle.std.proofs.Common.{Err, ap}
 use Rattle.warehouse.proofs.Cuboids.{laid_at}
 use Rattle.warehouse.proofs.Performing.{audit_done, audit_refused}
 use Rattle.warehouse.proofs.running.audit.Goals as goal

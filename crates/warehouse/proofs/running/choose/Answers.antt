@@ -1,4 +1,4 @@
-use Rattle.std.proofs.Common.{◌≡◌, true, false, Err, List, refl, sym, ◌∙◌, ap, subst}
+use Rattle.std.proofs.Common.{Err, List, sym, ap, subst}
 use Rattle.warehouse.specs.declared.chosen.Chosen.{Chosen}
 use Rattle.warehouse.specs.declared.command.Command.TheVariants as asks
 use Rattle.warehouse.specs.declared.command.Reply.TheVariants as says

@@ -1,4 +1,4 @@
-use Rattle.std.proofs.Common.{◌≡◌, true, false, Err, List, refl, sym, ◌∙◌, ap, subst}
+use Rattle.std.proofs.Common.{◌≡◌, true, false, Err, refl, sym, ◌∙◌, ap}
 use Rattle.warehouse.proofs.Performing.{status_done}
 use Rattle.warehouse.proofs.running.status.Goals as goal
 

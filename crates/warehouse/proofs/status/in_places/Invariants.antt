@@ -1,4 +1,4 @@
-use Rattle.std.proofs.Common.{◌≡◌, ◌<◌, ◌≤◌, ℕ, None, length, nat_lt, if◌then◌else◌, slice_get, slice_index_or}
+use Rattle.std.proofs.Common.{◌≡◌, ◌<◌, ℕ, None, length, nat_lt, if◌then◌else◌, slice_get, slice_index_or}
 use Rattle.warehouse.proofs.status.in_places.Given as goal
 
 abbrev pub invariant-loop-place : goal.invariant-loop-place

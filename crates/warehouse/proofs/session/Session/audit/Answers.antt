@@ -1,4 +1,4 @@
-use Rattle.std.proofs.Common.{◌≡◌, ⊎_elim, true, false, Err, refl, sym, ◌∙◌, ap, subst}
+use Rattle.std.proofs.Common.{⊎_elim, Err, sym, ap}
 use Rattle.object_store.specs.Store as stores
 use Rattle.warehouse.proofs.Cuboids.{laid_at}
 use Rattle.warehouse.proofs.Standing.{store_at, session_at, still_at, content_leaves}

@@ -1,4 +1,4 @@
-use Rattle.std.proofs.Common.{◌≡◌, ◌≤◌, length, ap, sym, ◌∙◌, arith}
+use Rattle.std.proofs.Common.{arith}
 use Rattle.warehouse_objects.proofs.CallerLemmas.{few_objects}
 use Rattle.warehouse.specs.Session.{content_of}
 use Rattle.warehouse.proofs.session.Session.can_put.Goals as goal

@@ -1,4 +1,4 @@
-use Rattle.std.proofs.Common.{◌≡◌, ◌⊎◌, ⊎_elim, inl, inr, List, ◌∙◌, subst}
+use Rattle.std.proofs.Common.{◌⊎◌, ⊎_elim, inl, inr, List, ◌∙◌, subst}
 use Rattle.lattice.specs.declared.view.View.{View}
 use Rattle.object_store.specs.Content.{Content}
 use Rattle.object_store.specs.Moments.{leaves_weaker}

@@ -1,4 +1,4 @@
-use Rattle.std.proofs.Common.{◌≡◌, List, [], ◌∷◌, ℕ, zero, suc, Option, None, length, map, slice_get, refl, sym, ◌∙◌, ap, subst}
+use Rattle.std.proofs.Common.{List, [], ◌∷◌, ℕ, zero, suc, Option, length, map, slice_get, refl, sym, ◌∙◌, ap, subst}
 use Rattle.std.proofs.lemmas.List.{length-map}
 use Rattle.std.specs.List.{sum_by}
 use Rattle.cube_model.specs.declared.rows.LineOrder.{LineOrder}

@@ -1,4 +1,3 @@
-use Rattle.std.proofs.Common.{◌≡◌, true, false, Err, List, refl, sym, ◌∙◌, ap, subst}
 use Rattle.warehouse.specs.Session.{is_at}
 use Rattle.warehouse_objects.specs.Warehouse.{with_views}
 use Rattle.warehouse.proofs.Cuboids.{kept_at}
