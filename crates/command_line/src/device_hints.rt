@@ -26,7 +26,7 @@ pub fn device_hint<R: Files + AllocGlobal>(
     }
     match fault {
         Fault::DeviceSize => size_hint(rt, given),
-        Fault::Full => room_hint(rt.alloc(), given),
+        Fault::Full => dimensions_hint(rt.alloc(), given),
         Fault::NotFormatted => said(rt.alloc(), given, missing(rt, given)),
         Fault::AlreadyFormatted => present_hint(rt, given),
         Fault::BadLayout => said(
@@ -135,15 +135,14 @@ fn found_hint(alloc: Global, path: &str, bytes: u64) -> Result<Option<String>, F
     Ok(Some(said))
 }
 
-fn room_hint(alloc: Global, given: &ArgMatches<'_>) -> Result<Option<String>, Fault> {
-    let path = path_of(given);
-    let said = match sectors_of(given) {
-        Some(sectors) => {
-            format!(in alloc; "{path}: {sectors} sectors have no room for the dimension tables")?
-        }
-        None => format!(in alloc;
-            "{path}: no room for the next batch; 65536 rows take some 9100 sectors"
-        )?,
+// What is said of a file that is too small for the dimension tables.
+fn dimensions_hint(alloc: Global, given: &ArgMatches<'_>) -> Result<Option<String>, Fault> {
+    let Some(sectors) = sectors_of(given) else {
+        return Ok(None);
     };
+    let path = path_of(given);
+    let said = format!(in alloc;
+        "{path}: {sectors} sectors have no room for the dimension tables"
+    )?;
     Ok(Some(said))
 }

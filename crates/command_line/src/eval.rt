@@ -2,41 +2,18 @@
 use crate::exit::DONE;
 use crate::files::{DimensionFiles, open, open_dimensions};
 use crate::notes::note_conditions;
-use crate::options::{CUBE_HELP, cube_words, described, dimension_tables, option};
-use crate::output::{is_closed, output, unwritten};
+use crate::output::{cut_short, output};
 use crate::progress::Progress;
 use crate::query::query_of;
 use crate::refusal::{Met, Refusal, explained};
 use crate::screens::Screens;
-use clap::{ArgMatches, Command};
+use clap::ArgMatches;
 use cube_model::{Fault, Query};
 use dimensions::Dims;
 use ssb_eval::eval_keeping_dims;
-use std::alloc::{AllocError, Global};
+use std::alloc::Global;
 use std::io::{self, Read};
 use std::rt::{Clock, Files};
-
-const ABOUT: &str = "Answers one query over five table files, and keeps nothing.";
-
-const USAGE: &str = "ssbcube eval --customer FILE --supplier FILE --part FILE
-                    --date FILE --lineorder FILE --query Q
-       ssbcube eval ... [--set SET] [--by A,A] --agg G,G [CONDITION]...";
-
-/// The words of the command.
-pub fn words<'a>(alloc: Global) -> Result<Command<'a>, AllocError> {
-    let eval = described(alloc, "eval", ABOUT, USAGE, CUBE_HELP);
-    let eval = with_tables(alloc, eval)?;
-    let number = "A query of the benchmark, 1.1 to 4.3";
-    let eval = eval.arg(option(alloc, "query", "Q", number))?;
-    cube_words(alloc, eval)
-}
-
-// The words of the tables, behind the other words of the command.
-fn with_tables<'a>(alloc: Global, eval: Command<'a>) -> Result<Command<'a>, AllocError> {
-    let facts = "The fact table, such as lineorder.tbl";
-    let eval = dimension_tables(alloc, eval)?;
-    eval.arg(option(alloc, "lineorder", "FILE", facts).required(true))
-}
 
 /// Reads the query's words, opens the files in the order of the command, and writes the report.
 pub fn eval<R: Files + AllocGlobal + Print + Eprint + Clock>(
@@ -79,8 +56,7 @@ fn not_done<R: Files + AllocGlobal>(
     failure: Option<io::Error>,
 ) -> Result<u8, Refusal> {
     match fault {
-        Fault::Output if is_closed(failure) => Ok(DONE),
-        Fault::Output => Err(unwritten(rt.alloc(), failure)),
+        Fault::Output => cut_short(rt.alloc(), failure),
         fault => Err(explained(rt, given, Met::from(fault))),
     }
 }

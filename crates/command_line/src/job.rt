@@ -2,14 +2,17 @@
 use crate::device::{self, Access, Device};
 use crate::exit::{DONE, UNFINISHED};
 use crate::load::cut_of;
+use crate::notes::note_conditions;
 use crate::output::{Output, is_closed, output, unwritten};
 use crate::query::query_of;
 use crate::refusal::{Met, Refusal, explained};
 use crate::report::swapped;
+use crate::space::{Room, note_room};
 use clap::ArgMatches;
 use cube_model::Fault;
 use file_device::LockFile;
 use ssb_eval::exit_of;
+use std::alloc::Global;
 use std::fs::OpenFile;
 use std::io::{self, Read};
 use std::os::unix::fs::FileExt;
@@ -17,8 +20,11 @@ use std::rt::Files;
 use warehouse::Session;
 use warehouse_jobs::{Job, perform};
 
-/// Asks the query of a command, over the batches that it names.
-pub fn ask<R: Files + AllocGlobal + Print>(rt: &R, given: &ArgMatches<'_>) -> Result<u8, Refusal>
+/// Asks the query of a command, over the batches that it names, and writes the notes on its conditions.
+pub fn ask<R: Files + AllocGlobal + Print + Eprint>(
+    rt: &R,
+    given: &ArgMatches<'_>,
+) -> Result<u8, Refusal>
 where
     R::File: FileExt + LockFile,
 {
@@ -27,13 +33,25 @@ where
         Err(fault) => return Err(unasked(rt, given, fault)),
     };
     let as_of = given.get_one::<u32>("as-of");
-    perform_job(
-        rt,
-        given,
-        Access::Read,
-        Job::Report { as_of, query },
-        io::empty(),
-    )
+    match device::open(rt, given, Access::Read) {
+        Ok(mut session) => answer_in(rt, given, &mut session, Job::Report { as_of, query }),
+        Err(met) => Err(explained(rt, given, met)),
+    }
+}
+
+// Asks a query of an open warehouse, and writes the notes on its conditions.
+fn answer_in<R: Files + AllocGlobal + Print + Eprint>(
+    rt: &R,
+    given: &ArgMatches<'_>,
+    session: &mut Session<Device<R::File>>,
+    job: Job,
+) -> Result<u8, Refusal>
+where
+    R::File: FileExt + LockFile,
+{
+    let status = done_in(rt, given, session, job, io::empty())?;
+    note_conditions(rt, given, session.dims());
+    Ok(status)
 }
 
 // The refusal of words that spell no query.
@@ -47,8 +65,8 @@ fn unasked<R: Files + AllocGlobal>(rt: &R, given: &ArgMatches<'_>, fault: Fault)
     }
 }
 
-/// Opens the warehouse of a command, does a job to it, and gives the status of the program.
-pub fn perform_job<R: Files + AllocGlobal + Print, L: Read + Drop>(
+/// Opens the warehouse of a command, does a job to it, and gives the status of the program. A load for which it has no room is noted.
+pub fn perform_job<R: Files + AllocGlobal + Print + Eprint, L: Read + Drop>(
     rt: &R,
     given: &ArgMatches<'_>,
     access: Access,
@@ -59,7 +77,10 @@ where
     R::File: FileExt + LockFile,
 {
     match device::open(rt, given, access) {
-        Ok(mut session) => done_in(rt, given, &mut session, job, lineorder),
+        Ok(mut session) => {
+            note_room(rt, given, &session);
+            done_in(rt, given, &mut session, job, lineorder)
+        }
         Err(met) => Err(explained(rt, given, met)),
     }
 }
@@ -109,7 +130,7 @@ where
     match done {
         Ok(_) => Ok(exit_of(&done)),
         Err(Fault::Output) => not_written(rt, given, failure),
-        Err(fault) => Err(explained(rt, given, met_in(fault, session))),
+        Err(fault) => Err(explained(rt, given, met_in(rt.alloc(), fault, session))),
     }
 }
 
@@ -134,14 +155,23 @@ fn status_of_closed(given: &ArgMatches<'_>) -> u8 {
     }
 }
 
-// A fault, with how many batches there are, where that is still known, and why the device failed.
-fn met_in<F: FileExt + OpenFile + Drop>(fault: Fault, session: &Session<Device<F>>) -> Met {
+/// A fault, with how many batches there are, where that is still known, the room where that is lacking, and why the device failed.
+pub fn met_in<F: FileExt + OpenFile + Drop>(
+    alloc: Global,
+    fault: Fault,
+    session: &Session<Device<F>>,
+) -> Met {
     let batches = match session.status() {
         Ok(status) => Some(status.batches),
         Err(_) => None,
     };
+    let room = match fault {
+        Fault::Full => Room::of(alloc, session).ok(),
+        _ => None,
+    };
     Met {
         batches,
+        room,
         ..device::met_by(fault, session.device())
     }
 }

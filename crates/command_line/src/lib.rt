@@ -1,12 +1,11 @@
-//! The words and the commands of the program, over any system of files and streams.
+//! The commands of the program, over any system of files and streams.
 #![tactic(auto)]
 
 mod arguments;
-mod command;
 mod contents;
 mod create;
-mod cube;
 mod cuboids;
+mod demo;
 mod device;
 mod device_hints;
 mod eval;
@@ -15,7 +14,6 @@ mod files;
 mod job;
 mod load;
 mod notes;
-mod options;
 mod output;
 mod progress;
 mod query;
@@ -24,7 +22,8 @@ mod report;
 mod running;
 mod screens;
 mod sizes;
-mod status;
+mod space;
+mod views;
 mod watched;
 
 pub use arguments::words;

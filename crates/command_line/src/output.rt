@@ -1,4 +1,5 @@
 //! Standard output.
+use crate::exit::DONE;
 use crate::refusal::Refusal;
 use crate::watched::Watched;
 use cube_model::Fault;
@@ -33,5 +34,15 @@ pub fn unwritten(alloc: Global, failure: Option<io::Error>) -> Refusal {
     Refusal {
         fault: Fault::Output,
         hint,
+    }
+}
+
+/// The status where standard output took no more of what a command prints, or the refusal of the write. A reader that closes early has
+/// read what it wants.
+pub fn cut_short(alloc: Global, failure: Option<io::Error>) -> Result<u8, Refusal> {
+    if is_closed(failure) {
+        Ok(DONE)
+    } else {
+        Err(unwritten(alloc, failure))
     }
 }

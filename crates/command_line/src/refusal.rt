@@ -3,6 +3,7 @@ use crate::device_hints::{device_hint, failure_hint};
 use crate::files::GivenFiles;
 use crate::load::cut_of;
 use crate::query::query_hint;
+use crate::space::{Room, room_hint};
 use clap::ArgMatches;
 use cube_model::Fault;
 use std::alloc::{AllocError, Global};
@@ -35,6 +36,8 @@ pub struct Met {
     pub fault: Fault,
     /// How many batches the warehouse has, where it was opened.
     pub batches: Option<u32>,
+    /// Its sectors, where it has too few that are free.
+    pub room: Option<Room>,
     /// What the system said of the warehouse's file.
     pub failure: Option<io::Error>,
 }
@@ -44,6 +47,7 @@ impl From<Fault> for Met {
         Met {
             fault,
             batches: None,
+            room: None,
             failure: None,
         }
     }
@@ -72,6 +76,7 @@ fn hint_of<R: Files + AllocGlobal>(
         Fault::Input => files.unreadable(rt.alloc()),
         Fault::NoSuchPrefix => prefix_hint(rt.alloc(), given, met.batches),
         Fault::Device => failure_hint(rt, given, met.failure),
+        Fault::Full if met.room.is_some() => room_hint(rt, given, met.room, met.batches),
         Fault::Full
         | Fault::NotFormatted
         | Fault::AlreadyFormatted

@@ -1,28 +1,7 @@
 //! The command `report`.
-use crate::options::{as_of, on_device, word};
-use clap::{ArgMatches, Command};
+use clap::ArgMatches;
 use query_words::read_query;
-use std::alloc::{AllocError, Global};
-
-const ABOUT: &str = "Answers a query of the benchmark over a warehouse.";
-
-const USAGE: &str = "ssbcube report DEV Q [--as-of N]";
-
-const HELP: &str = "Q, a query of the benchmark:
-  1.1 1.2 1.3  2.1 2.2 2.3  3.1 3.2 3.3 3.4  4.1 4.2 4.3
-  Those of the third flight are in order by year and descending revenue.
-
-Examples:
-  ssbcube report star.dev 3.1
-  ssbcube report star.dev 3.1 --as-of 12";
-
-/// The words of the command.
-pub fn words<'a>(alloc: Global) -> Result<Command<'a>, AllocError> {
-    let query = "A query of the benchmark, 1.1 to 4.3";
-    on_device(alloc, "report", ABOUT, USAGE, HELP)?
-        .arg(word(alloc, "query", "Q", query))?
-        .arg(as_of(alloc))
-}
+use std::alloc::Global;
 
 /// What is said where the file and the query of a report were given in the other order.
 pub fn swapped(alloc: Global, given: &ArgMatches<'_>) -> Option<String> {

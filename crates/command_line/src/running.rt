@@ -3,9 +3,10 @@ use crate::device::Access;
 use crate::exit::{DONE, NO_COMMAND};
 use crate::refusal::Refusal;
 use crate::screens::Screens;
-use crate::{command, create, cuboids, eval, job, load};
+use crate::{create, cuboids, demo, eval, job, load, views};
 use clap::ArgMatches;
 use clap::error::{Error, ErrorKind};
+use command_words::command;
 use cube_model::Fault;
 use file_device::LockFile;
 use ssb_eval::exit_of;
@@ -50,7 +51,7 @@ fn matched<R: Files + AllocGlobal + Print + Eprint + Clock + Input>(
 where
     R::File: FileExt + LockFile,
 {
-    let command = command::command(rt.alloc())?;
+    let command = command(rt.alloc())?;
     match command.try_get_matches_from(words) {
         Ok(matches) => perform(rt, &matches, screens),
         Err(error) => Ok(explain(rt, &error)?),
@@ -70,13 +71,14 @@ where
         Some(("eval", given)) => eval::eval(rt, given, screens),
         Some(("create", given)) => create::create(rt, given),
         Some(("load", given)) => load::load(rt, given, screens),
+        Some(("demo", _)) => demo::demo(rt),
         Some((name, given)) => consult(rt, name, given),
         None => Ok(NO_COMMAND),
     }
 }
 
 // The status of a command that asks a warehouse.
-fn consult<R: Files + AllocGlobal + Print>(
+fn consult<R: Files + AllocGlobal + Print + Eprint>(
     rt: &R,
     name: &str,
     given: &ArgMatches<'_>,
@@ -90,6 +92,7 @@ where
         "status" => job::perform_job(rt, given, Access::Read, Job::Status, io::empty()),
         "choose" => cuboids::choose(rt, given),
         "upkeep" => job::perform_job(rt, given, Access::Commit, Job::Upkeep, io::empty()),
+        "views" => views::views(rt, given),
         "audit" => job::perform_job(rt, given, Access::Read, Job::Audit, io::empty()),
         _ => Ok(NO_COMMAND),
     }

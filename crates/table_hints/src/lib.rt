@@ -8,10 +8,12 @@ mod facts;
 mod files;
 mod lines;
 mod loads;
+mod needs;
 mod quoted;
 mod refusals;
 mod text_lines;
 
 pub use files::{Table, TableFiles};
 pub use loads::{Cut, load_hint};
+pub use needs::{Needs, row_count};
 pub use refusals::table_hint;

@@ -13,3 +13,4 @@ pub mod Choosing
 pub mod Upkeep
 pub mod Running
 pub mod Headline
+pub mod Room

@@ -14,10 +14,12 @@ mod opening;
 mod planning;
 mod prepared;
 mod querying;
+mod room;
 mod running;
 mod session;
 mod status;
 mod submit;
+mod tables;
 mod upkeep;
 
 pub use chosen::Chosen;

@@ -1,4 +1,4 @@
-//! The command `cube`.
+//! The words of the command `cube`.
 use crate::options::{CUBE_HELP, as_of, cube_words, on_device};
 use clap::Command;
 use std::alloc::{AllocError, Global};

@@ -1,4 +1,4 @@
-//! The command `status`.
+//! The words of the command `status`.
 use crate::options::on_device;
 use clap::Command;
 use std::alloc::{AllocError, Global};

@@ -1,5 +1,5 @@
 //! The commands of the program.
-use crate::{create, cube, cuboids, eval, load, report, status};
+use crate::{create, cube, cuboids, demo, eval, load, report, status, views};
 use clap::Command;
 use std::alloc::{AllocError, Global};
 
@@ -23,6 +23,7 @@ pub fn command<'a>(alloc: Global) -> Result<Command<'a>, AllocError> {
     push_loading(alloc, &mut commands)?;
     push_asking(alloc, &mut commands)?;
     push_cuboids(alloc, &mut commands)?;
+    push(&mut commands, Ok(demo::words(alloc)))?;
     program(alloc).subcommands(commands)
 }
 
@@ -54,7 +55,8 @@ fn push_asking<'a>(alloc: Global, commands: &mut Vec<Command<'a>>) -> Result<(),
 fn push_cuboids<'a>(alloc: Global, commands: &mut Vec<Command<'a>>) -> Result<(), AllocError> {
     push(commands, cuboids::choose_words(alloc))?;
     push(commands, cuboids::upkeep_words(alloc))?;
-    push(commands, cuboids::audit_words(alloc))
+    push(commands, cuboids::audit_words(alloc))?;
+    push(commands, views::words(alloc))
 }
 
 // Puts a command behind others, where there was memory for its words.

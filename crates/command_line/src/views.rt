@@ -1,0 +1,150 @@
+//! The command `views`.
+ghost use Rattle.std.specs.Prelude.{◌<◌, ◌≤◌, All, length};
+ghost use Rattle.lattice.specs.Views.{index_of};
+ghost use Rattle.warehouse_root.specs.Limits.{most_cuboids};
+
+use crate::device::{self, Access, Device};
+use crate::exit::DONE;
+use crate::job::met_in;
+use crate::output::{cut_short, output};
+use crate::refusal::{Refusal, explained};
+use clap::ArgMatches;
+use cube_model::{Axis, Fault};
+use dimensions::Dims;
+use file_device::LockFile;
+use lattice::{View, ViewName};
+use sector_device::Sectors;
+use std::alloc::Global;
+use std::io::Write;
+use std::os::unix::fs::FileExt;
+use std::rt::Files;
+use view_words::{Refused, hint_of_view, read_views};
+use warehouse::{MOST_CUBOIDS, Session, StoredCuboid};
+
+/// The dimensions.
+static AXES: [Axis; 4] = [Axis::Customer, Axis::Supplier, Axis::Part, Axis::Date];
+
+/// Lists the stored cuboids of a warehouse. Where views are named it stores theirs before, and no others.
+pub fn views<R: Files + AllocGlobal + Print>(rt: &R, given: &ArgMatches<'_>) -> Result<u8, Refusal>
+where
+    R::File: FileExt + LockFile,
+{
+    let words = given.get_strs("view").unwrap_or(&[]);
+    if words.is_empty() {
+        return match device::open(rt, given, Access::Read) {
+            Ok(session) => list(rt, given, &session),
+            Err(met) => Err(explained(rt, given, met)),
+        };
+    }
+    match read_views(rt.alloc(), words) {
+        Ok(views) => store_views(rt, given, views),
+        Err(refused) => Err(unnamed(rt.alloc(), words, refused)),
+    }
+}
+
+// Stores the cuboids of some views, and lists them.
+fn store_views<R: Files + AllocGlobal + Print>(
+    rt: &R,
+    given: &ArgMatches<'_>,
+    views: Vec<View>,
+) -> Result<u8, Refusal>
+where
+    R::File: FileExt + LockFile,
+    requires few { length views.items ≤ most_cuboids }
+    requires known { All (λ view. index_of view < 256) views.items }
+{
+    let mut session = match device::open(rt, given, Access::Commit) {
+        Ok(session) => session,
+        Err(met) => return Err(explained(rt, given, met)),
+    };
+    match session.set_views(rt.alloc(), views.as_slice()) {
+        Ok(()) => list(rt, given, &session),
+        Err(fault) => Err(explained(rt, given, met_in(rt.alloc(), fault, &session))),
+    }
+}
+
+// The refusal of words that name no list of views.
+fn unnamed(alloc: Global, words: &[&str], refused: Refused) -> Refusal {
+    let hint = match refused {
+        Refused::Memory => return Refusal::from(Fault::Memory),
+        Refused::TooMany => {
+            format!(in alloc; "{} views: at most {MOST_CUBOIDS} are stored", words.len())
+        }
+        Refused::Unknown(place) => hint_of_view(alloc, word_at(words, place)),
+        Refused::Twice(place) => {
+            format!(in alloc; "{}: this view is named twice", word_at(words, place))
+        }
+    };
+    Refusal {
+        fault: Fault::BadQuery,
+        hint: hint.ok(),
+    }
+}
+
+fn word_at<'w>(words: &[&'w str], place: usize) -> &'w str {
+    match words.get(place) {
+        Some(word) => word,
+        None => "",
+    }
+}
+
+// Prints the stored cuboids of a warehouse.
+fn list<R: Files + AllocGlobal + Print>(
+    rt: &R,
+    given: &ArgMatches<'_>,
+    session: &Session<Device<R::File>>,
+) -> Result<u8, Refusal>
+where
+    R::File: FileExt + LockFile,
+{
+    let mut out = output(rt)?;
+    match write_cuboids(session, &mut out) {
+        Ok(()) => Ok(DONE),
+        Err(Fault::Output) => cut_short(rt.alloc(), out.failure()),
+        Err(fault) => Err(explained(rt, given, met_in(rt.alloc(), fault, session))),
+    }
+}
+
+// Writes a line for each stored cuboid.
+fn write_cuboids<D: Sectors, W: Write>(session: &Session<D>, out: &mut W) -> Result<(), Fault> {
+    let status = session.status()?;
+    for place in status.cuboids {
+        if let Some(cuboid) = place {
+            write_cuboid(session.dims(), cuboid, out)?;
+        }
+    }
+    match out.flush() {
+        Ok(()) => Ok(()),
+        Err(_) => Err(Fault::Output),
+    }
+}
+
+fn write_cuboid<W: Write>(dims: &Dims, cuboid: StoredCuboid, out: &mut W) -> Result<(), Fault> {
+    let Some(view) = View::new(cuboid.view) else {
+        return Ok(());
+    };
+    let name = ViewName {
+        view,
+        ship_modes: false,
+    };
+    let members = members(dims, view);
+    match writeln!(
+        out,
+        "{name} members {members} mark {} cells {}",
+        cuboid.mark, cuboid.cells
+    ) {
+        Ok(()) => Ok(()),
+        Err(_) => Err(Fault::Output),
+    }
+}
+
+// The product of the numbers of members of the levels of a view.
+fn members(dims: &Dims, view: View) -> u64 {
+    let mut product = 1u64;
+    for axis in AXES {
+        if let Some(attr) = view.level(axis).attribute(axis) {
+            product = product.saturating_mul(dims.members(attr) as u64);
+        }
+    }
+    product
+}

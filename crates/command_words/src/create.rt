@@ -1,0 +1,44 @@
+//! The words of the command `create`.
+use crate::options::{dimension_tables, on_device, option};
+use clap::{Arg, ArgAction, Command};
+use std::alloc::{AllocError, Global};
+
+const ABOUT: &str = "Makes a warehouse in a file, with the four dimension tables.";
+
+const USAGE: &str = "ssbcube create DEV --sectors N --customer FILE --supplier FILE
+                      --part FILE --date FILE [--overwrite]";
+
+const HELP: &str = "DEV is a file of N sectors of 512 bytes. It is made where it is absent; an
+empty file is taken too, and one of just that length whose first two sectors
+are all zero, as a create that was cut off leaves it. With --overwrite it may
+hold anything but a warehouse. It takes its place on the disk as it fills.
+
+N is 64 to 4294967295, or a size such as 512M or 4G: K, M and G are 1,024
+bytes, and these times 1,024 and times 1,048,576.
+
+How many sectors: a batch of 65,536 rows takes some 9,100. Scale 1 of the
+benchmark, 6 million rows, takes some 850,000, so --sectors 1000000, a file of
+512 MB, has room for it. A warehouse cannot be made larger afterwards.
+
+Example:
+  ssbcube create star.dev --sectors 1000000 --customer customer.tbl \\
+      --supplier supplier.tbl --part part.tbl --date date.tbl
+
+It prints 'created 1000000 sectors' once the warehouse is there to stay. At a
+refusal a file that it made is removed again.";
+
+/// The words of the command.
+pub fn words<'a>(alloc: Global) -> Result<Command<'a>, AllocError> {
+    let sectors = "The sectors of the file, 64 to 4294967295, or its size, as 4G";
+    let create = on_device(alloc, "create", ABOUT, USAGE, HELP)?;
+    let create = create.arg(option(alloc, "sectors", "N", sectors).required(true))?;
+    dimension_tables(alloc, create)?.arg(overwrite(alloc))
+}
+
+// The option that lets the file hold anything but a warehouse.
+fn overwrite<'a>(alloc: Global) -> Arg<'a> {
+    Arg::new(alloc, "overwrite")
+        .long("overwrite")
+        .action(ArgAction::SetTrue)
+        .help("Replaces what the file holds, if that is no warehouse")
+}

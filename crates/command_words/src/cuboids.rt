@@ -1,0 +1,73 @@
+//! The words of the commands `choose`, `upkeep` and `audit`.
+use crate::options::on_device;
+use clap::builder::ValueParser;
+use clap::{Arg, ArgAction, Command};
+use std::alloc::{AllocError, Global};
+
+const CHOOSE_ABOUT: &str = "Chooses the cuboids that a warehouse stores.";
+
+const CHOOSE_USAGE: &str = "ssbcube choose DEV K";
+
+const CHOOSE_HELP: &str =
+    "A cuboid holds the fact rows grouped by one level of each dimension, ALL where
+it does not group by one: a count, and the sum, minimum and maximum of each
+measure. K views are chosen one by one, 0 to 16, each time the one that spares
+most rows; its benefit is how many rows it spares over all views that its cells
+can answer. The choice ends early where no view has a benefit any more.
+
+It prints a line for each, in the order of choice, such as
+'view 59 city|ALL|mfgr|ALL benefit 8': customer, supplier, part, date. A view
+that is stored already keeps its cells, a new one is empty until the next
+upkeep, and all others are dropped. K of 0 drops all.
+
+Examples:
+  ssbcube choose star.dev 8
+  ssbcube upkeep star.dev";
+
+const UPKEEP_ABOUT: &str = "Brings each stored cuboid to all batches.";
+
+const UPKEEP_USAGE: &str = "ssbcube upkeep DEV";
+
+const UPKEEP_HELP: &str =
+    "Each stored cuboid gets the cells of the batches that it does not hold yet, in
+a change of its own, which a power cut leaves done or not begun. 'upkeep done'
+is printed once all hold all batches. A cuboid that would have more than
+262144 cells is passed over and named at the end.
+
+Load first, then bring cuboids up to date: one upkeep for many batches is
+cheaper than one for each.
+
+Example:
+  ssbcube upkeep star.dev";
+
+const AUDIT_ABOUT: &str = "Says whether each stored cuboid is right.";
+
+const AUDIT_USAGE: &str = "ssbcube audit DEV";
+
+const AUDIT_HELP: &str =
+    "Each stored cuboid is worked out anew from the fact rows of the batches that
+it holds, and compared. It prints 'audit yes', or 'audit no' with status 1.
+
+Example:
+  ssbcube audit star.dev";
+
+/// The words of `choose`.
+pub fn choose_words<'a>(alloc: Global) -> Result<Command<'a>, AllocError> {
+    let views = Arg::new(alloc, "views")
+        .value_name("K")
+        .action(ArgAction::Set)
+        .required(true)
+        .value_parser(ValueParser::unsigned(0, u64::from(u8::MAX)))
+        .help("How many views, 0 to 16");
+    on_device(alloc, "choose", CHOOSE_ABOUT, CHOOSE_USAGE, CHOOSE_HELP)?.arg(views)
+}
+
+/// The words of `upkeep`.
+pub fn upkeep_words<'a>(alloc: Global) -> Result<Command<'a>, AllocError> {
+    on_device(alloc, "upkeep", UPKEEP_ABOUT, UPKEEP_USAGE, UPKEEP_HELP)
+}
+
+/// The words of `audit`.
+pub fn audit_words<'a>(alloc: Global) -> Result<Command<'a>, AllocError> {
+    on_device(alloc, "audit", AUDIT_ABOUT, AUDIT_USAGE, AUDIT_HELP)
+}

@@ -1,0 +1,16 @@
+//! The words of the program: its commands, their options, and what the help says of each.
+#![tactic(auto)]
+
+mod commands;
+mod create;
+mod cube;
+mod cuboids;
+mod demo;
+mod eval;
+mod load;
+mod options;
+mod report;
+mod status;
+mod views;
+
+pub use commands::command;

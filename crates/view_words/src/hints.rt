@@ -1,0 +1,43 @@
+//! What is wrong with a word that names no view.
+use cube_model::Axis;
+use lattice::Level;
+use std::alloc::{AllocError, Global};
+use word_hints::nearest;
+
+/// The dimensions in the order of the levels of a view.
+static AXES: [Axis; 4] = [Axis::Customer, Axis::Supplier, Axis::Part, Axis::Date];
+
+/// The levels, the finest first.
+static LEVELS: [Level; 4] = [Level::Lowest, Level::Middle, Level::Highest, Level::All];
+
+/// What is wrong with a word that names no view, as one line without its end. It fails only for want of memory.
+pub fn hint_of_view(alloc: Global, word: &str) -> Result<String, AllocError> {
+    let parts = word.split(',').collect::<Vec<&str>>(alloc)?;
+    if parts.len() != AXES.len() {
+        return format!(in alloc;
+            "{word}: a view is its number, 0 to 255, or four levels, such as nation,nation,ALL,year"
+        );
+    }
+    for place in 0..AXES.len() {
+        if !is_level(AXES[place], parts[place]) {
+            return unknown_level(alloc, AXES[place], parts[place]);
+        }
+    }
+    format!(in alloc; "{word}: no such view")
+}
+
+// Whether a word is a level of a dimension.
+fn is_level(axis: Axis, word: &str) -> bool {
+    LEVELS.iter().any(|level| level.name(axis) == word)
+}
+
+// What is said of a word that is no level of a dimension.
+fn unknown_level(alloc: Global, axis: Axis, word: &str) -> Result<String, AllocError> {
+    let [lowest, middle, highest, all] = LEVELS.map(|level| level.name(axis));
+    match nearest(alloc, word, &[lowest, middle, highest, all])? {
+        Some(name) => format!(in alloc; "{word}: no such level of {axis}; {name}?"),
+        None => format!(in alloc;
+            "{word}: no such level of {axis}; there are {lowest} {middle} {highest} {all}"
+        ),
+    }
+}
