@@ -6,6 +6,7 @@ use crate::notes::note_conditions;
 use crate::output::{Output, is_closed, output, unwritten};
 use crate::query::query_of;
 use crate::refusal::{Met, Refusal, explained};
+use crate::repeated::StoredBatch;
 use crate::report::swapped;
 use crate::space::{Room, note_room};
 use clap::ArgMatches;
@@ -113,25 +114,40 @@ where
     R::File: FileExt + LockFile,
 {
     let done = perform(rt.alloc(), session, job, lineorder, out);
-    ended(rt, given, session, done, out.failure())
+    ended(rt, given, session, done, out)
 }
 
 // The status of a job that was done, or its refusal. Standard output may have failed.
-fn ended<R: Files + AllocGlobal>(
+fn ended<R: Files + AllocGlobal + Print>(
     rt: &R,
     given: &ArgMatches<'_>,
     session: &Session<Device<R::File>>,
     done: Result<bool, Fault>,
-    failure: Option<io::Error>,
+    out: &Output<'_, R>,
 ) -> Result<u8, Refusal>
 where
     R::File: FileExt + LockFile,
 {
     match done {
         Ok(_) => Ok(exit_of(&done)),
-        Err(Fault::Output) => not_written(rt, given, failure),
-        Err(fault) => Err(explained(rt, given, met_in(rt.alloc(), fault, session))),
+        Err(Fault::Output) => not_written(rt, given, out.failure()),
+        Err(fault) => {
+            let stored = stored_batch(given, session, out.flushes());
+            let met = met_in(rt.alloc(), fault, session);
+            Err(explained(rt, given, Met { stored, ..met }))
+        }
     }
+}
+
+// The stored batch that has the number of the next batch of a load, after so many that were done.
+fn stored_batch<F: FileExt + OpenFile + Drop>(
+    given: &ArgMatches<'_>,
+    session: &Session<Device<F>>,
+    done: u32,
+) -> Option<StoredBatch> {
+    let number = cut_of(given)?.first.checked_add(done)?;
+    let rows = session.batch_rows(number)?;
+    Some(StoredBatch { number, rows })
 }
 
 // The status where standard output took no more, or the refusal of the write.

@@ -18,6 +18,7 @@ mod output;
 mod progress;
 mod query;
 mod refusal;
+mod repeated;
 mod report;
 mod running;
 mod screens;

@@ -3,6 +3,7 @@ use crate::device_hints::{device_hint, failure_hint};
 use crate::files::GivenFiles;
 use crate::load::cut_of;
 use crate::query::query_hint;
+use crate::repeated::{StoredBatch, repeated_hint};
 use crate::space::{Room, room_hint};
 use clap::ArgMatches;
 use cube_model::Fault;
@@ -38,6 +39,8 @@ pub struct Met {
     pub batches: Option<u32>,
     /// Its sectors, where it has too few that are free.
     pub room: Option<Room>,
+    /// The stored batch that a batch of a load is not, though it has its number.
+    pub stored: Option<StoredBatch>,
     /// What the system said of the warehouse's file.
     pub failure: Option<io::Error>,
 }
@@ -48,6 +51,7 @@ impl From<Fault> for Met {
             fault,
             batches: None,
             room: None,
+            stored: None,
             failure: None,
         }
     }
@@ -74,6 +78,7 @@ fn hint_of<R: Files + AllocGlobal>(
     match met.fault {
         Fault::BadQuery => query_hint(rt.alloc(), given),
         Fault::Input => files.unreadable(rt.alloc()),
+        Fault::Repeated => repeated_hint(rt.alloc(), &files, met.stored),
         Fault::NoSuchPrefix => prefix_hint(rt.alloc(), given, met.batches),
         Fault::Device => failure_hint(rt, given, met.failure),
         Fault::Full if met.room.is_some() => room_hint(rt, given, met.room, met.batches),

@@ -1,11 +1,12 @@
 //! A writer that keeps why a write failed.
 use std::io::{self, Write};
 
-/// A writer, and the last failure of a write to it.
+/// A writer, the last failure of a write to it, and how often it was flushed.
 #[derive(Drop)]
 pub struct Watched<W> {
     writer: W,
     failure: Option<io::Error>,
+    flushes: u32,
 }
 
 impl<W> Watched<W> {
@@ -14,12 +15,18 @@ impl<W> Watched<W> {
         Watched {
             writer,
             failure: None,
+            flushes: 0,
         }
     }
 
     /// Why a write failed, if one did.
     pub fn failure(&self) -> Option<io::Error> {
         self.failure
+    }
+
+    /// How often it was flushed: by a load, once after the line of each batch.
+    pub fn flushes(&self) -> u32 {
+        self.flushes
     }
 }
 
@@ -35,6 +42,7 @@ impl<W: Write> Write for Watched<W> {
     }
 
     fn flush(&mut self) -> io::Result<()> {
+        self.flushes = self.flushes.saturating_add(1);
         let done = self.writer.flush();
         if let Err(error) = &done {
             self.failure = Some(*error);

@@ -13,8 +13,9 @@ of - is standard input.
 
 'batch 1 rows 65536' says that the batch is there to stay, also after a power
 cut; a batch is stored whole or not at all. A batch whose number is there
-already is read and checked, and 'batch 1 skipped' is printed. 'batches N' at
-the end says how many the warehouse has.
+already is compared with the stored one: 'batch 1 skipped' says that they are
+the same, row by row, and another one ends the load. 'batches N' at the end
+says how many the warehouse has.
 
 A load that was cut off is given again as it was. The first refusal ends a
 load, and the batches before it stay. A further file goes on with the number
