@@ -1,5 +1,5 @@
 //! Tests of a warehouse's session: each refusal, stops at each device call, the bytes on the device, hostile
-//! images, and stored cuboids with their upkeep and audits.
+//! images, stored cuboids with their upkeep and audits, and the plans of queries.
 #![tactic(auto)]
 
 #[cfg(test)]
@@ -39,9 +39,13 @@ mod most_cells;
 #[cfg(test)]
 mod plain;
 #[cfg(test)]
+mod planned;
+#[cfg(test)]
 mod queries;
 #[cfg(test)]
 mod random;
+#[cfg(test)]
+mod random_queries;
 #[cfg(test)]
 mod runs;
 #[cfg(test)]

@@ -110,7 +110,7 @@ pub(crate) const SEVERAL: Star<'static> = Star {
 /// A row: its batch, and its members on each axis.
 #[derive(Clone, Copy, Debug)]
 pub(crate) struct Row {
-    batch: u32,
+    pub(crate) batch: u32,
     customer: Location<'static>,
     supplier: Location<'static>,
     part: Product<'static>,

@@ -19,7 +19,8 @@ struct Run {
     is_audited: bool,
 }
 
-fn created(alloc: Global) -> Result<Session<MemDisk>, Fault> {
+/// A warehouse without batches over the star of several members, on a disk of 2,048 sectors.
+pub(crate) fn created(alloc: Global) -> Result<Session<MemDisk>, Fault> {
     let rows = dim_rows(alloc, &SEVERAL)?;
     let disk = MemDisk::new(alloc, 2_048)?;
     match create(alloc, disk, Dims::build(alloc, &rows)?) {
