@@ -93,7 +93,7 @@ kept_on change number (c ∷ cs) goes_on =
 
 pub changed_caught : (change : Cuboid → Cuboid) (number : ℕ) (w : Warehouse) → GoesOn change → IsCaughtUp w (changed change number w)
 changed_caught change number w goes_on = record {
-  kept = record { layout = refl; rows = refl; batches = refl; additions = refl; cuboids = kept_on change number w.cuboids goes_on };
+  kept = record { facts = refl; cuboids = kept_on change number w.cuboids goes_on };
   target = refl;
 }
 

@@ -13,6 +13,7 @@ use Rattle.object_store.specs.Disk.{Disk, Leaves}
 use Rattle.object_store.specs.Moments.{leaves_then, leaves_weaker}
 use Rattle.cuboid_upkeep.specs.Steps.{HaveTooMany}
 use Rattle.warehouse_root.specs.Root.{AreAscending}
+use Rattle.warehouse_objects.specs.Facts.{Facts}
 use Rattle.warehouse_objects.specs.Warehouse.{Cuboid, Warehouse, cuboid_at}
 use Rattle.warehouse_objects.specs.Stands.{Stands, said_of}
 use Rattle.cuboid_commits.specs.Keeping.{AreKeptOn, IsCaughtUp, IsDone, IsKeptUp, IsReached, IsReachedOrLarge, IsTooLarge}
@@ -32,16 +33,20 @@ on_then (x ∷ a) (y ∷ b) (z ∷ c) first second = (second.0 ∙ first.0, omeg
 
 -- nothing was brought on
 pub kept_same : (w : Warehouse) → IsKeptUp w w
-kept_same w = record { layout = refl; rows = refl; batches = refl; additions = refl; cuboids = on_same w.cuboids }
+kept_same w = record { facts = refl; cuboids = on_same w.cuboids }
 
 pub kept_then : (a b c : Warehouse) → IsKeptUp a b → IsKeptUp b c → IsKeptUp a c
 kept_then a b c first second = record {
-  layout = second.layout ∙ first.layout;
-  rows = second.rows ∙ first.rows;
-  batches = second.batches ∙ first.batches;
-  additions = second.additions ∙ first.additions;
+  facts = second.facts ∙ first.facts;
   cuboids = on_then a.cuboids b.cuboids c.cuboids first.cuboids second.cuboids;
 }
+
+-- the rows and the batches stay
+pub rows_kept : (w v : Warehouse) → IsKeptUp w v → v.rows ≡ w.rows
+rows_kept w v kept = ap (λ (facts : Facts). facts.rows) kept.facts
+
+pub batches_kept : (w v : Warehouse) → IsKeptUp w v → v.batches ≡ w.batches
+batches_kept w v kept = ap (λ (facts : Facts). facts.batches) kept.facts
 
 pub same : (w : Warehouse) → IsCaughtUp w w
 same w = record { kept = kept_same w; target = refl }
@@ -74,8 +79,8 @@ is_there (x ∷ xs) (y ∷ ys) (suc place) old on is = is_there xs ys place old 
 -- what is too large stays so
 pub still_large : (w v : Warehouse) (view : View) → IsCaughtUp w v → IsTooLarge w view → IsTooLarge v view
 still_large w v view caught large =
-    subst (λ (rows : DimRows). HaveTooMany rows [] view (all_rows (take v.target v.batches))) (sym caught.kept.rows)
-    (subst (λ (batches : List (List LineOrder)). HaveTooMany w.rows [] view (all_rows (take v.target batches))) (sym caught.kept.batches)
+    subst (λ (rows : DimRows). HaveTooMany rows [] view (all_rows (take v.target v.batches))) (sym (rows_kept w v caught.kept))
+    (subst (λ (batches : List (List LineOrder)). HaveTooMany w.rows [] view (all_rows (take v.target batches))) (sym (batches_kept w v caught.kept))
     (subst (λ (target : ℕ). HaveTooMany w.rows [] view (all_rows (take target w.batches))) (sym caught.target) large))
 
 -- the first cuboid that was passed over, among the first so many

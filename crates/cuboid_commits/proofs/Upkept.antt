@@ -14,22 +14,19 @@ use Rattle.warehouse_objects.specs.Stands.{Stands, root_of, said_of}
 use Rattle.warehouse_objects.specs.Warehouse.{Warehouse, aimed}
 use Rattle.cuboid_commits.specs.Keeping.{IsCaughtUp, IsDone, IsKeptUp}
 use Rattle.cuboid_commits.specs.Upkeep.{AreWhole, AreWholeBut}
-use Rattle.cuboid_commits.proofs.Turns.{kept_same}
+use Rattle.cuboid_commits.proofs.Turns.{batches_kept, kept_same}
 
 pub memory_or : (fault : Fault) → (fault ≡ Memory) ⊎ (fault ≡ Memory → ⊥)
 memory_or Memory = inl refl
 memory_or fault = inr (λ e. cc)
 
 pub kept_aimed : (w : Warehouse) → IsKeptUp w (aimed w)
-kept_aimed w = record { layout = refl; rows = refl; batches = refl; additions = refl; cuboids = (kept_same w).cuboids }
+kept_aimed w = record { facts = refl; cuboids = (kept_same w).cuboids }
 
 -- the target is none of what is kept
 pub from_aimed : (w v : Warehouse) → IsCaughtUp (aimed w) v → IsKeptUp w v
 from_aimed w v caught = record {
-  layout = caught.kept.layout;
-  rows = caught.kept.rows;
-  batches = caught.kept.batches;
-  additions = caught.kept.additions;
+  facts = caught.kept.facts;
   cuboids = caught.kept.cuboids;
 }
 
@@ -62,7 +59,7 @@ all_whole c w (Some view) stands target done = (done, target)
 
 -- the target after upkeep is all batches
 pub target_is : (w v : Warehouse) → IsCaughtUp (aimed w) v → v.target ≡ length v.batches
-target_is w v caught = caught.target ∙ ap (λ (batches : List (List LineOrder)). length batches) (sym caught.kept.batches)
+target_is w v caught = caught.target ∙ ap (λ (batches : List (List LineOrder)). length batches) (sym (batches_kept (aimed w) v caught.kept))
 
 -- the marks of the cuboids are those that the root says
 pub whole_by_root : (w : Warehouse) (root : PlainRoot) (count : ℕ) → root_of w ≡ root → count ≡ length root.batches → All (λ cuboid. cuboid.mark ≡ count) root.cuboids → AreWhole w

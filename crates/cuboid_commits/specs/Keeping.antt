@@ -8,6 +8,7 @@ use Rattle.lattice.specs.declared.view.View.{View}
 use Rattle.lattice.specs.Views.{index_of}
 use Rattle.cuboid_upkeep.specs.Steps.{HaveTooMany}
 use Rattle.warehouse_root.specs.Root.{PlainRoot}
+use Rattle.warehouse_objects.specs.Facts.{facts_in}
 use Rattle.warehouse_objects.specs.Warehouse.{Cuboid, Warehouse, cuboid_at, modes_of}
 use Rattle.warehouse_objects.specs.Stands.{Stands, root_of}
 
@@ -26,10 +27,7 @@ AreKeptOn (one ∷ ones) (other ∷ others) = (other.view ≡ one.view) × (one.
 
 -- what upkeep leaves: the same facts, and its cuboids kept on
 pub record IsKeptUp (old new : Warehouse) : Type 0 where
-  pub layout : new.layout ≡ old.layout
-  pub rows : new.rows ≡ old.rows
-  pub batches : new.batches ≡ old.batches
-  pub additions : new.additions ≡ old.additions
+  pub facts : facts_in new ≡ facts_in old
   pub cuboids : AreKeptOn old.cuboids new.cuboids
 
 -- and the same target

@@ -1,10 +1,8 @@
 -- An opening that brings the cuboids to the target.
-use Rattle.std.proofs.Common.{◌≡◌, ◌≢◌, ◌⊎◌, ⊎_elim, inl, inr, Option, List, Result, Ok, Err, IfOk, IfErr, IsOk, IsErrOf, All, refl, sym, ◌∙◌, subst}
+use Rattle.std.proofs.Common.{◌≡◌, ◌≢◌, ◌⊎◌, ⊎_elim, inl, inr, Option, Some, Result, Ok, Err, IfOk, IfErr, IsOk, IsErrOf, All, refl, sym, ◌∙◌, subst}
 use Rattle.sector_device.specs.declared.device.Sectors.{Ghosts}
 use Rattle.cube_model.specs.declared.fault.Fault.{Fault}
 use Rattle.cube_model.specs.declared.fault.Fault.TheVariants.{BadLayout, Device, Full, Memory, Worn}
-use Rattle.cube_model.specs.declared.rows.DimRows.{DimRows}
-use Rattle.cube_model.specs.declared.rows.LineOrder.{LineOrder}
 use Rattle.lattice.specs.declared.view.View.{View}
 use Rattle.object_store.specs.Content.{Content}
 use Rattle.object_store.specs.Disk.{Disk, Leaves}
@@ -13,12 +11,13 @@ use Rattle.object_store.specs.declared.store.Store.{Store}
 use Rattle.object_store.specs.Store as stores
 use Rattle.warehouse_root.specs.Root.{PlainRoot}
 use Rattle.warehouse_objects.specs.Stands.{Stands}
+use Rattle.warehouse_objects.specs.Facts.{Adds, Change, Facts}
 use Rattle.warehouse_objects.specs.Warehouse.{Warehouse}
 use Rattle.cuboid_commits.specs.Keeping.{IsCaughtUp, IsDone, IsReachedOrLarge, StoreAt}
 use Rattle.cuboid_commits.specs.Nexts.{EndsBringing, RefusesLeast}
 use Rattle.cuboid_commits.proofs.CallerLemmas.{done_or_large, kept_then, leaves_if}
 use Rattle.warehouse.specs.declared.session.Session.{Session}
-use Rattle.warehouse.specs.Found.{IsBehind, IsSince, MayBeFound, MayStandSince}
+use Rattle.warehouse.specs.Found.{IsSince, MayBeFound, MayStandSince}
 use Rattle.warehouse.specs.Session.{IsAt, disk_of}
 
 -- the error of a result
@@ -68,13 +67,11 @@ module _ {D : Type 0} (g : Ghosts D) (store : Store D g) (root : PlainRoot) (w :
 
 -- ---- what it leaves
 
-module _ (start : Disk) (rows : DimRows) (batches : List (List LineOrder)) (last : Option (List LineOrder)) where
+module _ (start : Disk) (facts : Facts) (last : Option Change) where
   -- cuboids that are brought on leave the batches
-  pub found_caught : (w v : Warehouse) → IsCaughtUp w v → MayBeFound rows batches last w → MayBeFound rows batches last v
-  found_caught w v caught may = record {
-    of_rows = caught.kept.rows ∙ may.of_rows;
-    of_batches = subst (λ (found : List (List LineOrder)). (found ≡ batches) ⊎ IsBehind rows batches last found) (sym caught.kept.batches) may.of_batches;
-  }
+  pub found_caught : (w v : Warehouse) → IsCaughtUp w v → MayBeFound facts last w → MayBeFound facts last v
+  found_caught w v caught may =
+      subst (λ (found : Facts). (found ≡ facts) ⊎ ((change : Change) × (last ≡ Some change) × Adds facts change found)) (sym caught.kept.facts) may
 
   pub since_caught : (w v : Warehouse) → IsCaughtUp w v → IsSince start w → IsSince start v
   since_caught w v caught since = record {
@@ -88,13 +85,13 @@ module _ (start : Disk) (rows : DimRows) (batches : List (List LineOrder)) (last
 
   -- an opening, and then the cuboids
   pub finish_leaves : {D : Type 0} (g : Ghosts D) (session : Session D g) (now : Disk)
-      → ((disk_of g session).keeps_word → (w : Warehouse) × MayBeFound rows batches last w × IsSince start w × IsAt g session w)
-      → Leaves start (disk_of g session) (MayStandSince start rows batches last) → (now.keeps_word → (disk_of g session).keeps_word)
+      → ((disk_of g session).keeps_word → (w : Warehouse) × MayBeFound facts last w × IsSince start w × IsAt g session w)
+      → Leaves start (disk_of g session) (MayStandSince start facts last) → (now.keeps_word → (disk_of g session).keeps_word)
       → ((w : Warehouse) → IsAt g session w → Leaves (disk_of g session) now (λ c. (v : Warehouse) × IsCaughtUp w v × Stands c v))
-      → Leaves start now (MayStandSince start rows batches last)
+      → Leaves start now (MayStandSince start facts last)
   finish_leaves g session now found before word caught =
-      leaves_then (MayStandSince start rows batches last) start (disk_of g session) now before
-      (leaves_if (MayStandSince start rows batches last) (disk_of g session) now word (λ k.
+      leaves_then (MayStandSince start facts last) start (disk_of g session) now before
+      (leaves_if (MayStandSince start facts last) (disk_of g session) now word (λ k.
       let at = found k in
-      leaves_weaker (λ (c : Content). (v : Warehouse) × IsCaughtUp at.0 v × Stands c v) (MayStandSince start rows batches last) (disk_of g session) now
+      leaves_weaker (λ (c : Content). (v : Warehouse) × IsCaughtUp at.0 v × Stands c v) (MayStandSince start facts last) (disk_of g session) now
       (λ j c there. (there.0, found_caught at.0 there.0 there.1 at.1, since_caught at.0 there.0 there.1 at.2, there.2)) (caught at.0 at.3)))

@@ -1,7 +1,5 @@
 -- An opening: the store's, and the reading of what the session keeps.
-use Rattle.std.proofs.Common.{◌≡◌, false, Option, List, refl, sym, subst}
-use Rattle.cube_model.specs.declared.rows.DimRows.{DimRows}
-use Rattle.cube_model.specs.declared.rows.LineOrder.{LineOrder}
+use Rattle.std.proofs.Common.{◌≡◌, false, Option, refl, sym, subst}
 use Rattle.sector_device.specs.declared.device.Sectors.{Ghosts}
 use Rattle.object_store.specs.Content.{Content}
 use Rattle.object_store.specs.Disk.{Disk, disk, AllShow, Leaves, ShowsSome, OnlyImagesOf, IsShown, MayShowNothing}
@@ -9,6 +7,7 @@ use Rattle.object_store.specs.Moments.{only_images, leaves_then, leaves_weaker}
 use Rattle.object_store.specs.Store as stores
 use Rattle.object_store.specs.declared.store.Store.{Store}
 use Rattle.object_store.proofs.CallerLemmas.{shown_has}
+use Rattle.warehouse_objects.specs.Facts.{Change, Facts}
 use Rattle.warehouse_objects.specs.Warehouse.{Warehouse}
 use Rattle.warehouse_objects.specs.Stands.{Stands}
 use Rattle.warehouse.specs.declared.session.Session.{Session}
@@ -28,23 +27,23 @@ since_then start c w shown stands = record {
 }
 
 -- each image then
-pub images_since : (start : Disk) (rows : DimRows) (batches : List (List LineOrder)) (last : Option (List LineOrder)) → AllShow start (MayStand rows batches last) → AllShow start (MayStandSince start rows batches last)
-images_since start rows batches last all k image is =
+pub images_since : (start : Disk) (facts : Facts) (last : Option Change) → AllShow start (MayStand facts last) → AllShow start (MayStandSince start facts last)
+images_since start facts last all k image is =
     let shown = all k image is in
     let may = shown.2 in
     (shown.0, shown.1, (may.0, may.1, since_then start shown.0 may.0 (record { image = image; is = is; shows = shown.1 }) may.2, may.2))
 
 -- where nothing but reads was done
-pub only_since : (start now : Disk) (rows : DimRows) (batches : List (List LineOrder)) (last : Option (List LineOrder)) → AllShow start (MayStand rows batches last) → OnlyImagesOf start now → Leaves start now (MayStandSince start rows batches last)
-only_since start now rows batches last all only = only_images (ShowsSome (MayStandSince start rows batches last)) start now only (images_since start rows batches last all)
+pub only_since : (start now : Disk) (facts : Facts) (last : Option Change) → AllShow start (MayStand facts last) → OnlyImagesOf start now → Leaves start now (MayStandSince start facts last)
+only_since start now facts last all only = only_images (ShowsSome (MayStandSince start facts last)) start now only (images_since start facts last all)
 
-module _ {D : Type 0} (g : Ghosts D) (device : D) (store : Store D g) (rows : DimRows) (batches : List (List LineOrder)) (last : Option (List LineOrder)) (all : AllShow (disk g device) (MayStand rows batches last))
+module _ {D : Type 0} (g : Ghosts D) (device : D) (store : Store D g) (facts : Facts) (last : Option Change) (all : AllShow (disk g device) (MayStand facts last))
     (only : OnlyImagesOf (disk g device) (stores.disk_of g store)) (found : (stores.disk_of g store).keeps_word → IsShown (disk g device) (stores.content_of g store)) where
   abbrev Since : Content → Type 0
-  Since = MayStandSince (disk g device) rows batches last
+  Since = MayStandSince (disk g device) facts last
 
   all_since : AllShow (disk g device) Since
-  all_since = images_since (disk g device) rows batches last all
+  all_since = images_since (disk g device) facts last all
 
   content_may : (stores.disk_of g store).keeps_word → Since (stores.content_of g store)
   content_may k = shown_has Since (disk g device) (stores.content_of g store) (only.word k) all_since (found k)
@@ -58,7 +57,7 @@ module _ {D : Type 0} (g : Ghosts D) (device : D) (store : Store D g) (rows : Di
   -- the session is at what was found
   pub session_may : (session : Session D g) → has_failed session ≡ false → ((disk_of g session).keeps_word → content_of g session ≡ stores.content_of g store)
       → Leaves (stores.disk_of g store) (disk_of g session) (λ c. c ≡ stores.content_of g store)
-      → (disk_of g session).keeps_word → (w : Warehouse) × MayBeFound rows batches last w × IsSince (disk g device) w × IsAt g session w
+      → (disk_of g session).keeps_word → (w : Warehouse) × MayBeFound facts last w × IsSince (disk g device) w × IsAt g session w
   session_may session fine same reads k =
       let may = content_may (reads.word k) in
       (may.0, may.1, may.2, is_at g session may.0 fine (λ j. subst (λ (c : Content). Stands c may.0) (sym (same j)) may.3))

@@ -2,14 +2,13 @@
 use Rattle.std.proofs.Common.{⊎_elim, inl, inr, ◌≤◌, ℕ, zero, suc, Some, None, Option, List, [], ◌∷◌, length, take, slice_get, refl, sym, subst, arith}
 use Rattle.sector_device.specs.declared.device.Sectors.{Ghosts}
 use Rattle.sector_device.specs.Device.{Image, IsImage}
-use Rattle.cube_model.specs.declared.rows.DimRows.{DimRows}
-use Rattle.cube_model.specs.declared.rows.LineOrder.{LineOrder}
 use Rattle.cube_model.specs.Admission.{IsAdmissible}
 use Rattle.object_store.specs.Content.{Content}
 use Rattle.object_store.specs.Shows.{Shows}
 use Rattle.object_store.specs.Frames.{shows_same}
 use Rattle.object_store.specs.Disk.{ShowsSome}
 use Rattle.object_store.specs.Moments.{begins}
+use Rattle.warehouse_objects.specs.Facts.{Change, Facts, a_batch, facts_in}
 use Rattle.warehouse_objects.specs.Warehouse.{Warehouse, loaded, with_views}
 use Rattle.warehouse_objects.specs.Stands.{Stands}
 use Rattle.warehouse_objects.proofs.CallerLemmas.{next_number}
@@ -23,41 +22,31 @@ use Rattle.warehouse.specs.Headline.{acknowledged_all, submitted, IsRestarted, S
 use Rattle.warehouse.specs.Choosing.{views_of}
 use Rattle.warehouse.proofs.Whole.{same_facts, whole}
 
-as_it_is : (w : Warehouse) (last : Option (List LineOrder)) → MayBeFound w.rows w.batches last w
-as_it_is w last = record { of_rows = refl; of_batches = inl refl }
+as_it_is : (w : Warehouse) (last : Option Change) → MayBeFound (facts_in w) last w
+as_it_is w last = inl refl
 
 -- in a command
-in_command : (w : Warehouse) (command : Command) (c : Content) → During w command c → MayStand w.rows w.batches (submitted (Some command)) c
+in_command : (w : Warehouse) (command : Command) (c : Content) → During w command c → MayStand (facts_in w) (submitted (Some command)) c
 in_command w (Submit number batch) c during =
-    ⊎_elim {C = MayStand w.rows w.batches (Some batch) c}
-    (λ stands. (w, as_it_is w (Some batch), stands))
-    (λ more. (
-      loaded w batch,
-      record {
-        of_rows = refl;
-        of_batches = inr (record {
-          batch = batch;
-          is_last = refl;
-          admissible = subst (λ (n : ℕ). IsAdmissible w.rows w.batches n batch) (next_number w.rows w.batches number batch more.0) more.0;
-          found_is = refl;
-        });
-      },
-      more.1,
-    )) during
+    ⊎_elim {C = MayStand (facts_in w) (Some (a_batch batch)) c}
+    (λ stands. (w, as_it_is w (Some (a_batch batch)), stands))
+    (λ more.
+    let admissible = subst (λ (n : ℕ). IsAdmissible w.rows w.batches n batch) (next_number w.rows w.batches number batch more.0) more.0 in
+    (loaded w batch, inr (a_batch batch, refl, (admissible, refl)), more.1)) during
 in_command w (Query as_of query) c stands = (w, as_it_is w None, stands)
 in_command w Status c stands = (w, as_it_is w None, stands)
 in_command w (Choose k) c during =
-    ⊎_elim {C = MayStand w.rows w.batches None c}
+    ⊎_elim {C = MayStand (facts_in w) None c}
     (λ stands. (w, as_it_is w None, stands))
-    (λ chosen. (with_views w (views_of chosen.0), record { of_rows = refl; of_batches = inl refl }, chosen.2)) during
-in_command w Upkeep c during = (during.0, record { of_rows = during.1.rows; of_batches = inl during.1.batches }, during.2)
+    (λ chosen. (with_views w (views_of chosen.0), inl refl, chosen.2)) during
+in_command w Upkeep c during = (during.0, inl during.1.facts, during.2)
 in_command w Audit c stands = (w, as_it_is w None, stands)
 
 -- stopped after some commands, in the next
 record IsStopped (w : Warehouse) (commands : List Command) (replies : List Reply) (c : Content) : Type 0 where
   done : ℕ
   within : done ≤ length commands
-  found : MayStand w.rows (acknowledged_all w.batches (take done commands) (take done replies)) (submitted (slice_get commands done)) c
+  found : MayStand (acknowledged_all (facts_in w) (take done commands) (take done replies)) (submitted (slice_get commands done)) c
 
 stopped : (w : Warehouse) (commands : List Command) (replies : List Reply) (c : Content) → FoundIn w commands replies c → IsStopped w commands replies c
 stopped w [] replies c stands = record { done = zero; within = omega arith; found = (w, as_it_is w None, stands) }
@@ -67,12 +56,11 @@ stopped w (command ∷ commands) (reply ∷ replies) c found =
     (λ here. record { done = zero; within = omega arith; found = in_command w command c here })
     (λ later.
     let rest = stopped later.0 commands replies c later.2 in
-    let facts = same_facts w command reply later.0 later.1 in
+    let same = same_facts w command reply later.0 later.1 in
     let last = submitted (slice_get commands rest.done) in record {
       done = suc rest.done;
       within = omega (arith, rest.within);
-      found = subst (λ (rows : DimRows). MayStand rows (acknowledged_all (acknowledged w.batches command reply) (take rest.done commands) (take rest.done replies)) last c) facts.0
-          (subst (λ (batches : List (List LineOrder)). MayStand later.0.rows (acknowledged_all batches (take rest.done commands) (take rest.done replies)) last c) facts.1 rest.found);
+      found = subst (λ (facts : Facts). MayStand (acknowledged_all facts (take rest.done commands) (take rest.done replies)) last c) same rest.found;
     }) found
 
 -- where an image shows a content, the restarted device shows it

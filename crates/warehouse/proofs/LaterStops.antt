@@ -1,7 +1,7 @@
 -- A stop behind some of the commands of a run.
 use Rattle.std.proofs.Common.{◌≡◌, ⊎_elim, List, [], ◌∷◌, sym, ◌∙◌, ap, subst}
 use Rattle.sector_device.specs.declared.device.Sectors.{Ghosts}
-use Rattle.cube_model.specs.declared.rows.LineOrder.{LineOrder}
+use Rattle.warehouse_objects.specs.Facts.{Facts, facts_in}
 use Rattle.warehouse_objects.specs.Warehouse.{Warehouse}
 use Rattle.warehouse.specs.declared.command.Command.{Command}
 use Rattle.warehouse.specs.declared.command.Reply.{Reply}
@@ -28,20 +28,19 @@ ends_broken g old new after (command ∷ commands) (reply ∷ replies) all =
     ends_broken g all.0 new after commands replies (subst (λ (p : Phase). RanAll g all.0 p commands replies new after) all.2.2 all.3)
 
 pub ends_at : {D : Type 0} (g : Ghosts D) (old mid : Session D g) (w v : Warehouse) (commands : List Command) (replies : List Reply) → IsAt g old w → RanAll g old (at w) commands replies mid (at v)
-    → (v.rows ≡ w.rows) × (v.batches ≡ acknowledged_all w.batches commands replies) × IsAt g mid v
+    → (facts_in v ≡ acknowledged_all (facts_in w) commands replies) × IsAt g mid v
 ends_at {D} g old mid w v [] [] is all =
     let same : v ≡ w = ap (warehouse_in w) all.1 in (
-      ap (λ (x : Warehouse). x.rows) same,
-      ap (λ (x : Warehouse). x.batches) same,
+      ap facts_in same,
       subst (λ (x : Warehouse). IsAt g mid x) (sym same) (subst (λ (s : Session D g). IsAt g s w) (sym all.0) is),
     )
 ends_at g old mid w v [] (reply ∷ replies) is all = absurd all
 ends_at g old mid w v (command ∷ commands) [] is all = absurd all
 ends_at {D} g old mid w v (command ∷ commands) (reply ∷ replies) is all =
-    ⊎_elim {C = (v.rows ≡ w.rows) × (v.batches ≡ acknowledged_all (acknowledged w.batches command reply) commands replies) × IsAt g mid v}
+    ⊎_elim {C = (facts_in v ≡ acknowledged_all (acknowledged (facts_in w) command reply) commands replies) × IsAt g mid v}
     (λ then_at.
     let rest = ends_at g all.0 mid then_at.0 v commands replies (subst (Holds g all.0) then_at.1 all.2.2) (subst (λ (p : Phase). RanAll g all.0 p commands replies mid (at v)) then_at.1 all.3) in
-    let facts = same_facts w command reply then_at.0 then_at.2 in
-    (rest.0 ∙ facts.0, rest.1 ∙ ap (λ (batches : List (List LineOrder)). acknowledged_all batches commands replies) facts.1, rest.2))
+    let same = same_facts w command reply then_at.0 then_at.2 in
+    (rest.0 ∙ ap (λ (facts : Facts). acknowledged_all facts commands replies) same, rest.1))
     (λ e. absurd (ends_broken g all.0 mid (at v) commands replies (subst (λ (p : Phase). RanAll g all.0 p commands replies mid (at v)) e all.3)))
     (phase_is g old all.0 w command reply all.1 all.2.0)

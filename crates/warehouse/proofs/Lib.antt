@@ -1,5 +1,6 @@
 mod LaterStops
 mod Restarting
+mod Reopened
 pub mod Refusing
 pub mod Preparing
 pub mod GrownBatches

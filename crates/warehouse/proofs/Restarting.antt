@@ -3,13 +3,12 @@ use Rattle.std.proofs.Common.{◌≡◌, ◌⊎◌, ⊎_elim, inl, inr, ◌≤�
 use Rattle.std.proofs.lemmas.List.{length-append}
 use Rattle.sector_device.specs.declared.device.Sectors.{Ghosts}
 use Rattle.sector_device.specs.Device.{Image}
-use Rattle.cube_model.specs.declared.rows.DimRows.{DimRows}
-use Rattle.cube_model.specs.declared.rows.LineOrder.{LineOrder}
 use Rattle.object_store.specs.Content.{Content}
 use Rattle.object_store.specs.Disk.{disk, AllShow, Each, IsBlank}
 use Rattle.object_store.specs.Shows.{HasNone}
 use Rattle.object_store.proofs.CallerLemmas.{shows_one}
 use Rattle.object_store.proofs.Looking.{none_same}
+use Rattle.warehouse_objects.specs.Facts.{Adds, Change, Facts, a_batch, facts_in}
 use Rattle.warehouse_objects.specs.Warehouse.{Warehouse, fresh}
 use Rattle.warehouse_objects.specs.Stands.{Stands}
 use Rattle.warehouse_objects.specs.Lawful.{ContentIsOneWarehouse}
@@ -26,7 +25,7 @@ pub shows_it : {D : Type 0} (g : Ghosts D) → RestartedShows g
 shows_it g size image device c restarted shows k other is = (c, restarted_shows g size image device c restarted shows other is, refl)
 
 pub open_again : {D : Type 0} (g : Ghosts D) → StoppedOpenIsFound g
-open_again g start end rows batches leaves word image left device restarted k other is =
+open_again g start end facts leaves word image left device restarted k other is =
     let shown = (leaves.moments word).each image left in
     (shown.0, restarted_shows g (g.state start).size image device shown.0 restarted shown.1 other is, (shown.2.0, shown.2.1, shown.2.3))
 
@@ -40,34 +39,38 @@ create_again g start end rows leaves word image left device restarted =
     (λ shown. inr (λ k other is. (shown.0, restarted_shows g (g.state start).size image device shown.0 restarted shown.1 other is, shown.2)))
     ((leaves.moments word).each image left)
 
--- acknowledged batches are no fewer than those before
-no_fewer : (batches : List (List LineOrder)) (command : Command) (reply : Reply) → length batches ≤ length (acknowledged batches command reply)
-no_fewer batches (Submit number batch) Done = omega (arith, length-append batches (batch ∷ []))
-no_fewer batches (Submit number batch) (Answer found) = omega arith
-no_fewer batches (Submit number batch) (Numbers numbers) = omega arith
-no_fewer batches (Submit number batch) (Chosen chosen) = omega arith
-no_fewer batches (Submit number batch) (Audited said) = omega arith
-no_fewer batches (Submit number batch) (Refused fault) = omega arith
-no_fewer batches (Query as_of query) reply = omega arith
-no_fewer batches Status reply = omega arith
-no_fewer batches (Choose k) reply = omega arith
-no_fewer batches Upkeep reply = omega arith
-no_fewer batches Audit reply = omega arith
+-- there are no fewer acknowledged batches than before
+no_fewer : (facts : Facts) (command : Command) (reply : Reply) → length facts.batches ≤ length (acknowledged facts command reply).batches
+no_fewer facts (Submit number batch) Done = omega (arith, length-append facts.batches (batch ∷ []))
+no_fewer facts (Submit number batch) (Answer found) = omega arith
+no_fewer facts (Submit number batch) (Numbers numbers) = omega arith
+no_fewer facts (Submit number batch) (Chosen chosen) = omega arith
+no_fewer facts (Submit number batch) (Audited said) = omega arith
+no_fewer facts (Submit number batch) (Refused fault) = omega arith
+no_fewer facts (Query as_of query) reply = omega arith
+no_fewer facts Status reply = omega arith
+no_fewer facts (Choose k) reply = omega arith
+no_fewer facts Upkeep reply = omega arith
+no_fewer facts Audit reply = omega arith
 
-none_fewer : (batches : List (List LineOrder)) (commands : List Command) (replies : List Reply) → length batches ≤ length (acknowledged_all batches commands replies)
-none_fewer batches [] replies = omega arith
-none_fewer batches (command ∷ commands) [] = omega arith
-none_fewer batches (command ∷ commands) (reply ∷ replies) =
-    omega (arith, no_fewer batches command reply, none_fewer (acknowledged batches command reply) commands replies)
+none_fewer : (facts : Facts) (commands : List Command) (replies : List Reply) → length facts.batches ≤ length (acknowledged_all facts commands replies).batches
+none_fewer facts [] replies = omega arith
+none_fewer facts (command ∷ commands) [] = omega arith
+none_fewer facts (command ∷ commands) (reply ∷ replies) =
+    omega (arith, no_fewer facts command reply, none_fewer (acknowledged facts command reply) commands replies)
 
--- what may be found has no fewer batches than those that were acknowledged
-found_more : (rows : DimRows) (batches : List (List LineOrder)) (last : Option (List LineOrder)) (found : Warehouse) → MayBeFound rows batches last found → length batches ≤ length found.batches
-found_more rows batches last found may =
-    ⊎_elim {C = length batches ≤ length found.batches}
-    (λ same. let e : length found.batches ≡ length batches = ap (λ (b : List (List LineOrder)). length b) same in omega (arith, e))
-    (λ behind. let e : length found.batches ≡ length (batches ++ behind.batch ∷ []) = ap (λ (b : List (List LineOrder)). length b) behind.found_is in
-    omega (arith, e, length-append batches (behind.batch ∷ [])))
-    may.of_batches
+-- facts with a change have no fewer batches
+adds_none_fewer : (facts new : Facts) (change : Change) → Adds facts change new → length facts.batches ≤ length new.batches
+adds_none_fewer facts new (a_batch batch) adds =
+    let e : length new.batches ≡ length (facts.batches ++ batch ∷ []) = ap (λ (f : Facts). length f.batches) adds.1 in
+    omega (arith, e, length-append facts.batches (batch ∷ []))
+
+-- nor has what may be found
+found_more : (facts : Facts) (last : Option Change) (found : Warehouse) → MayBeFound facts last found → length facts.batches ≤ length found.batches
+found_more facts last found =
+    ⊎_elim {C = length facts.batches ≤ length found.batches}
+    (λ same. let e : length found.batches ≡ length facts.batches = ap (λ (f : Facts). length f.batches) same in omega (arith, e))
+    (λ more. adds_none_fewer facts (facts_in found) more.0 more.2)
 
 pub fewer_not_found : {D : Type 0} (g : Ghosts D) → ContentIsOneWarehouse → FewerIsNotFound g
 fewer_not_found g one w fewer commands replies device image k is found shown less =
@@ -81,7 +84,7 @@ fewer_not_found g one w fewer commands replies device image k is found shown les
       arith,
       less,
       e,
-      found_more found.found.rows found.found.batches None v there.2.1,
-      found_more w.rows (acknowledged_all w.batches (take found.done commands) (take found.done replies)) (submitted (slice_get commands found.done)) found.found found.may,
-      none_fewer w.batches (take found.done commands) (take found.done replies),
+      found_more (facts_in found.found) None v there.2.1,
+      found_more (acknowledged_all (facts_in w) (take found.done commands) (take found.done replies)) (submitted (slice_get commands found.done)) found.found found.may,
+      none_fewer (facts_in w) (take found.done commands) (take found.done replies),
     ))

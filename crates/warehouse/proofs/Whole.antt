@@ -5,6 +5,7 @@ use Rattle.object_store.specs.Disk.{Leaves}
 use Rattle.object_store.specs.Moments.{leaves_then, leaves_weaker}
 use Rattle.cube_model.specs.declared.fault.Fault.{Fault}
 use Rattle.cube_model.specs.declared.fault.Fault.TheVariants.{Memory}
+use Rattle.warehouse_objects.specs.Facts.{facts_in}
 use Rattle.warehouse_objects.specs.Warehouse.{Warehouse, loaded, with_views}
 use Rattle.warehouse_objects.specs.Stands.{Stands}
 use Rattle.warehouse.specs.declared.command.Command.{Command}
@@ -53,25 +54,25 @@ phase_is g old new w Audit reply after is =
     (λ done. inl (w, done.2, refl))
     (refused_is w (λ fault. (fault ≡ Memory) × KeepsContent g old new) Audit reply after (λ fault. refl)) is
 
--- the rows and the batches then
+-- the facts then
 pub same_facts : (w : Warehouse) (command : Command) (reply : Reply) (v : Warehouse) → Becomes w command reply v
-    → (v.rows ≡ w.rows) × (v.batches ≡ acknowledged w.batches command reply)
-same_facts w (Submit number batch) Done v is = (ap (λ (x : Warehouse). x.rows) is, ap (λ (x : Warehouse). x.batches) is)
-same_facts w (Submit number batch) (Answer found) v is = (ap (λ (x : Warehouse). x.rows) is, ap (λ (x : Warehouse). x.batches) is)
-same_facts w (Submit number batch) (Numbers numbers) v is = (ap (λ (x : Warehouse). x.rows) is, ap (λ (x : Warehouse). x.batches) is)
-same_facts w (Submit number batch) (Chosen chosen) v is = (ap (λ (x : Warehouse). x.rows) is, ap (λ (x : Warehouse). x.batches) is)
-same_facts w (Submit number batch) (Audited said) v is = (ap (λ (x : Warehouse). x.rows) is, ap (λ (x : Warehouse). x.batches) is)
-same_facts w (Submit number batch) (Refused fault) v is = (ap (λ (x : Warehouse). x.rows) is, ap (λ (x : Warehouse). x.batches) is)
-same_facts w (Query as_of query) reply v is = (ap (λ (x : Warehouse). x.rows) is, ap (λ (x : Warehouse). x.batches) is)
-same_facts w Status reply v is = (ap (λ (x : Warehouse). x.rows) is, ap (λ (x : Warehouse). x.batches) is)
-same_facts w (Choose k) Done v is = (ap (λ (x : Warehouse). x.rows) is, ap (λ (x : Warehouse). x.batches) is)
-same_facts w (Choose k) (Answer found) v is = (ap (λ (x : Warehouse). x.rows) is, ap (λ (x : Warehouse). x.batches) is)
-same_facts w (Choose k) (Numbers numbers) v is = (ap (λ (x : Warehouse). x.rows) is, ap (λ (x : Warehouse). x.batches) is)
-same_facts w (Choose k) (Chosen chosen) v is = (ap (λ (x : Warehouse). x.rows) is, ap (λ (x : Warehouse). x.batches) is)
-same_facts w (Choose k) (Audited said) v is = (ap (λ (x : Warehouse). x.rows) is, ap (λ (x : Warehouse). x.batches) is)
-same_facts w (Choose k) (Refused fault) v is = (ap (λ (x : Warehouse). x.rows) is, ap (λ (x : Warehouse). x.batches) is)
-same_facts w Upkeep reply v is = (is.rows, is.batches)
-same_facts w Audit reply v is = (ap (λ (x : Warehouse). x.rows) is, ap (λ (x : Warehouse). x.batches) is)
+    → facts_in v ≡ acknowledged (facts_in w) command reply
+same_facts w (Submit number batch) Done v is = ap facts_in is
+same_facts w (Submit number batch) (Answer found) v is = ap facts_in is
+same_facts w (Submit number batch) (Numbers numbers) v is = ap facts_in is
+same_facts w (Submit number batch) (Chosen chosen) v is = ap facts_in is
+same_facts w (Submit number batch) (Audited said) v is = ap facts_in is
+same_facts w (Submit number batch) (Refused fault) v is = ap facts_in is
+same_facts w (Query as_of query) reply v is = ap facts_in is
+same_facts w Status reply v is = ap facts_in is
+same_facts w (Choose k) Done v is = ap facts_in is
+same_facts w (Choose k) (Answer found) v is = ap facts_in is
+same_facts w (Choose k) (Numbers numbers) v is = ap facts_in is
+same_facts w (Choose k) (Chosen chosen) v is = ap facts_in is
+same_facts w (Choose k) (Audited said) v is = ap facts_in is
+same_facts w (Choose k) (Refused fault) v is = ap facts_in is
+same_facts w Upkeep reply v is = is.facts
+same_facts w Audit reply v is = ap facts_in is
 
 -- after a failure nothing happens
 stays_broken : {D : Type 0} (g : Ghosts D) (old new : Session D g) (after : Phase) (commands : List Command) (replies : List Reply) → RanAll g old broken commands replies new after → new ≡ old

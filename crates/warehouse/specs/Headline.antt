@@ -4,10 +4,10 @@ use Rattle.std.specs.Prelude.{◌≡◌, ◌⊎◌, ◌≤◌, ◌<◌, ℕ, Opt
 use Rattle.sector_device.specs.declared.device.Sectors.{Ghosts}
 use Rattle.sector_device.specs.Device.{Image, IsImage}
 use Rattle.cube_model.specs.declared.rows.DimRows.{DimRows}
-use Rattle.cube_model.specs.declared.rows.LineOrder.{LineOrder}
 use Rattle.object_store.specs.Content.{Content}
 use Rattle.object_store.specs.Disk.{disk, AllShow, Each, IsBlank, Leaves, LeavesOrNone}
 use Rattle.object_store.specs.Shows.{Shows}
+use Rattle.warehouse_objects.specs.Facts.{Change, Facts, a_batch, facts_in}
 use Rattle.warehouse_objects.specs.Warehouse.{Warehouse, fresh}
 use Rattle.warehouse_objects.specs.Stands.{Stands}
 use Rattle.warehouse.specs.declared.command.Command.{Command}
@@ -18,15 +18,15 @@ use Rattle.warehouse.specs.Found.{MayBeFound, MayStand, MayStandSince}
 use Rattle.warehouse.specs.Running.{Phase, at, RanAll, acknowledged}
 use Rattle.warehouse.specs.Session.{IsAt, device_of, disk_of}
 
--- the batches that are acknowledged after commands with these replies
-abbrev pub acknowledged_all : List (List LineOrder) → List Command → List Reply → List (List LineOrder)
-acknowledged_all batches [] replies = batches
-acknowledged_all batches (command ∷ commands) [] = batches
-acknowledged_all batches (command ∷ commands) (reply ∷ replies) = acknowledged_all (acknowledged batches command reply) commands replies
+-- the facts that are acknowledged after commands with these replies
+abbrev pub acknowledged_all : Facts → List Command → List Reply → Facts
+acknowledged_all facts [] replies = facts
+acknowledged_all facts (command ∷ commands) [] = facts
+acknowledged_all facts (command ∷ commands) (reply ∷ replies) = acknowledged_all (acknowledged facts command reply) commands replies
 
--- the batch that a command submits
-abbrev pub submitted : Option Command → Option (List LineOrder)
-submitted (Some (asks.Submit number batch)) = Some batch
+-- what a command submits
+abbrev pub submitted : Option Command → Option Change
+submitted (Some (asks.Submit number batch)) = Some (a_batch batch)
 submitted _ = None
 
 -- a device that was restarted where a crash left an image: it has that image alone
@@ -40,9 +40,9 @@ pub record IsFoundAfter {D : Type 0} (g : Ghosts D) (w : Warehouse) (commands : 
   pub done : ℕ
   pub within : done ≤ length commands
   pub found : Warehouse
-  pub may : MayBeFound w.rows (acknowledged_all w.batches (take done commands) (take done replies)) (submitted (slice_get commands done)) found
+  pub may : MayBeFound (acknowledged_all (facts_in w) (take done commands) (take done replies)) (submitted (slice_get commands done)) found
   -- so the contract of opening holds of this one list
-  pub stands : AllShow (disk g device) (MayStand found.rows found.batches None)
+  pub stands : AllShow (disk g device) (MayStand (facts_in found) None)
 
 -- Whatever a crash at any moment of a run leaves, the restarted device has what may be found.
 abbrev pub StoppedRunIsFound : {D : Type 0} → Ghosts D → Type 0
@@ -52,14 +52,35 @@ StoppedRunIsFound {D} g = (old new : Session D g) (w : Warehouse) (commands : Li
     → (device : D) → IsRestarted g (g.state (device_of old)).size image device
     → IsFoundAfter g w commands replies device
 
+-- A run crashed after some of its commands had replied: the device was restarted with an image that the crash may have left since.
+pub record IsCrashed {D : Type 0} (g : Ghosts D) (w v : Warehouse) (earlier later : List Command) (replies others : List Reply) (device : D) : Type 0 where
+  pub old : Session D g
+  pub mid : Session D g
+  pub new : Session D g
+  pub after : Phase
+  pub began : IsAt g old w
+  -- these commands had replied
+  pub first : RanAll g old (at w) earlier replies mid (at v)
+  -- and these were being done
+  pub then_ran : RanAll g mid (at v) later others new after
+  pub word : (disk_of g new).keeps_word
+  pub image : Image
+  pub left : (g.state (device_of new)).left_since (g.state (device_of mid)).moment image
+  pub restarted : IsRestarted g (g.state (device_of mid)).size image device
+
 -- The same after any of the commands: a crash later than some of them leaves all batches that these acknowledged. So no batch is
 -- lost that was acknowledged before the crash.
 abbrev pub LaterStopIsFound : {D : Type 0} → Ghosts D → Type 0
-LaterStopIsFound {D} g = (old mid new : Session D g) (w v : Warehouse) (earlier later : List Command) (told left : List Reply) (after : Phase)
-    → IsAt g old w → RanAll g old (at w) earlier told mid (at v) → RanAll g mid (at v) later left new after → (disk_of g new).keeps_word
-    → (image : Image) → (g.state (device_of new)).left_since (g.state (device_of mid)).moment image
-    → (device : D) → IsRestarted g (g.state (device_of mid)).size image device
-    → (v.rows ≡ w.rows) × (v.batches ≡ acknowledged_all w.batches earlier told) × IsFoundAfter g v later left device
+LaterStopIsFound {D} g = (w v : Warehouse) (earlier later : List Command) (replies others : List Reply) (device : D)
+    → IsCrashed g w v earlier later replies others device
+    → (facts_in v ≡ acknowledged_all (facts_in w) earlier replies) × IsFoundAfter g v later others device
+
+-- What a run leaves that crashed after some of its commands had replied: the facts that these acknowledged, then those that some of the
+-- others acknowledged, and maybe the change that the next one was making.
+pub record IsLeftByCrash (w : Warehouse) (earlier later : List Command) (replies others : List Reply) (found : Warehouse) : Type 0 where
+  pub done : ℕ
+  pub within : done ≤ length later
+  pub may : MayBeFound (acknowledged_all (acknowledged_all (facts_in w) earlier replies) (take done later) (take done others)) (submitted (slice_get later done)) found
 
 -- A device that was restarted with an image shows what that image shows, and nothing else. So what any call says of what a crash
 -- leaves holds of the restarted device.
@@ -70,11 +91,11 @@ RestartedShows {D} g = (size : ℕ) (image : Image) (device : D) (c : Content) �
 -- Opening that is stopped anywhere, and run again: by the clauses of `open` on what a crash leaves, the restarted device has the same
 -- batches still, and so the next opening finds them.
 abbrev pub StoppedOpenIsFound : {D : Type 0} → Ghosts D → Type 0
-StoppedOpenIsFound {D} g = (start end : D) (rows : DimRows) (batches : List (List LineOrder))
-    → Leaves (disk g start) (disk g end) (MayStandSince (disk g start) rows batches None) → g.keeps_word end
+StoppedOpenIsFound {D} g = (start end : D) (facts : Facts)
+    → Leaves (disk g start) (disk g end) (MayStandSince (disk g start) facts None) → g.keeps_word end
     → (image : Image) → (g.state end).left_since (g.state start).moment image
     → (device : D) → IsRestarted g (g.state start).size image device
-    → AllShow (disk g device) (MayStand rows batches None)
+    → AllShow (disk g device) (MayStand facts None)
 
 -- A creation that is stopped anywhere: by the clauses of `create` on what a crash leaves, the restarted device has no valid superblock
 -- still, or is the warehouse of no batch.

@@ -3,13 +3,14 @@ use Rattle.std.specs.Prelude.{◌≡◌, ◌⊎◌, ℕ, ◌+◌, ◌≤◌, Som
 use Rattle.cube_model.specs.declared.fault.Fault.{Fault}
 use Rattle.cube_model.specs.declared.fault.Fault.TheVariants.{Memory}
 use Rattle.cube_model.specs.declared.rows.LineOrder.{LineOrder}
-use Rattle.cube_model.specs.Admission.{all_rows, refusal, IsAdmissible}
+use Rattle.cube_model.specs.Admission.{all_rows}
 use Rattle.cube_model.specs.Limits.{most_batches}
 use Rattle.column_segment.specs.Segment.{FitColumns, IsBatch, segment_of}
 use Rattle.batch_admission.specs.Totals.{totals_of}
 use Rattle.warehouse_root.specs.declared.totals.StoredTotals.{StoredTotals}
 use Rattle.warehouse_root.specs.Root.{IsRoot, PlainRoot}
 use Rattle.warehouse_objects.specs.Stands.{root_of, stored}
+use Rattle.warehouse_objects.specs.Facts.{Admits, refusal_of}
 use Rattle.warehouse_objects.specs.Warehouse.{Warehouse, loaded}
 use Rattle.warehouse.specs.declared.prepared.Prepared.{Prepared}
 
@@ -30,11 +31,11 @@ pub record IsPrepared (root : PlainRoot) (number : ℕ) (rows : List LineOrder) 
 -- Of a batch that may follow those of a warehouse the totals with it are answered, and else the first cause to refuse it.
 abbrev pub Admitted : Warehouse → ℕ → List LineOrder → Result StoredTotals Fault → Type 0
 Admitted w number rows (Ok totals) =
-    IsAdmissible w.rows w.batches number rows × (totals ≡ stored (totals_of (all_rows (w.batches ++ rows ∷ []))))
-Admitted w number rows (Err fault) = refusal w.rows w.batches number rows ≡ Some fault
+    Admits w number rows × (totals ≡ stored (totals_of (all_rows (w.batches ++ rows ∷ []))))
+Admitted w number rows (Err fault) = refusal_of w number rows ≡ Some fault
 
 -- Such a batch is made ready with the root of the warehouse with it, unless there is no memory.
 abbrev pub Prepares : Warehouse → ℕ → List LineOrder → Result Prepared Fault → Type 0
-Prepares w number rows (Ok p) = IsAdmissible w.rows w.batches number rows × (p.root ≡ root_of (loaded w rows))
+Prepares w number rows (Ok p) = Admits w number rows × (p.root ≡ root_of (loaded w rows))
 Prepares w number rows (Err fault) =
-    (refusal w.rows w.batches number rows ≡ Some fault) ⊎ (IsAdmissible w.rows w.batches number rows × (fault ≡ Memory))
+    (refusal_of w number rows ≡ Some fault) ⊎ (Admits w number rows × (fault ≡ Memory))

@@ -1,13 +1,13 @@
 -- Runs of commands: replies of the plain model, and what a crash leaves at each moment.
-use Rattle.std.specs.Prelude.{◌≡◌, ◌⊎◌, true, List, [], ◌∷◌, ◌++◌}
+use Rattle.std.specs.Prelude.{◌≡◌, ◌⊎◌, true, List, [], ◌∷◌}
 use Rattle.sector_device.specs.declared.device.Sectors.{Ghosts}
 use Rattle.cube_model.specs.declared.fault.Fault.{Fault}
 use Rattle.cube_model.specs.declared.fault.Fault.TheVariants.{Device, Failed, Memory}
 use Rattle.cube_model.specs.declared.rows.LineOrder.{LineOrder}
-use Rattle.cube_model.specs.Admission.{IsAdmissible}
 use Rattle.cube_model.specs.Answers.{answer_as_of}
 use Rattle.object_store.specs.Content.{Content}
 use Rattle.object_store.specs.Disk.{Leaves}
+use Rattle.warehouse_objects.specs.Facts.{Admits, Facts, with_next}
 use Rattle.warehouse_objects.specs.Warehouse.{Warehouse, loaded, with_views}
 use Rattle.warehouse_objects.specs.Stands.{Stands}
 use Rattle.cuboid_commits.specs.Keeping.{IsKeptUp}
@@ -47,7 +47,7 @@ Refuses cause w reply after =
 -- else but upkeep commits.
 abbrev pub Replies : {D : Type 0} (g : Ghosts D) → Session D g → Warehouse → Command → Reply → Session D g → Phase → Type 0
 Replies g old w (asks.Submit number batch) reply new after =
-    Says says.Done (IsAdmissible w.rows w.batches number batch × CommitsOnce g old new) (loaded w batch) reply after
+    Says says.Done (Admits w number batch × CommitsOnce g old new) (loaded w batch) reply after
     ⊎ Refuses (λ fault. SubmitRefuses g old w number batch fault × KeepsContent g old new) w reply after
 Replies g old w (asks.Query as_of query) reply new after =
     Says (says.Answer (answer_as_of query as_of w.rows w.batches)) (IsAsked w as_of query × KeepsContent g old new) w reply after
@@ -65,7 +65,7 @@ Replies g old w asks.Audit reply new after =
 
 -- what an image may be of while a command runs
 abbrev pub During : Warehouse → Command → Content → Type 0
-During w (asks.Submit number batch) c = Stands c w ⊎ (IsAdmissible w.rows w.batches number batch × Stands c (loaded w batch))
+During w (asks.Submit number batch) c = Stands c w ⊎ (Admits w number batch × Stands c (loaded w batch))
 During w (asks.Query as_of query) c = Stands c w
 During w asks.Status c = Stands c w
 During w (asks.Choose k) c = Stands c w ⊎ ((chosen : List Chosen) × IsChoice w k chosen × Stands c (with_views w (views_of chosen)))
@@ -91,15 +91,15 @@ RanAll g old before (command ∷ commands) [] new after = ⊥
 RanAll {D} g old before (command ∷ commands) (reply ∷ replies) new after =
     (session : Session D g) × (phase : Phase) × Ran g old before command reply session phase × RanAll g session phase commands replies new after
 
--- the batches that are acknowledged after a submit with this reply: its batch is one of them where it was done
-abbrev pub acknowledged_by : List (List LineOrder) → List LineOrder → Reply → List (List LineOrder)
-acknowledged_by batches batch says.Done = batches ++ batch ∷ []
-acknowledged_by batches batch _ = batches
+-- the facts that are acknowledged after a submit with this reply: its batch is one of them where it was done
+abbrev pub acknowledged_by : Facts → List LineOrder → Reply → Facts
+acknowledged_by facts batch says.Done = with_next facts batch
+acknowledged_by facts batch _ = facts
 
 -- and after any command
-abbrev pub acknowledged : List (List LineOrder) → Command → Reply → List (List LineOrder)
-acknowledged batches (asks.Submit number batch) reply = acknowledged_by batches batch reply
-acknowledged batches _ reply = batches
+abbrev pub acknowledged : Facts → Command → Reply → Facts
+acknowledged facts (asks.Submit number batch) reply = acknowledged_by facts batch reply
+acknowledged facts _ reply = facts
 
 -- what a submit makes of the warehouse
 abbrev pub BecomesLoaded : Warehouse → List LineOrder → Reply → Warehouse → Type 0

@@ -6,7 +6,6 @@ use Rattle.cube_model.specs.declared.fault.Fault.{Fault}
 use Rattle.cube_model.specs.declared.fault.Fault.TheVariants.{Memory, BadQuery, NoSuchPrefix}
 use Rattle.cube_model.specs.declared.query.Query.{Query}
 use Rattle.cube_model.specs.declared.rows.LineOrder.{LineOrder}
-use Rattle.cube_model.specs.Admission.{refusal, IsAdmissible}
 use Rattle.cube_model.specs.Proper.{IsProper}
 use Rattle.warehouse_root.specs.Root as roots
 use Rattle.object_store.specs.Content.{Content}
@@ -15,9 +14,10 @@ use Rattle.object_store.specs.Frames.{always_shows}
 use Rattle.object_store.specs.Moments.{all_weaker}
 use Rattle.object_store.specs.Room.{Room}
 use Rattle.object_store.specs.Store as stores
+use Rattle.warehouse_objects.specs.Facts.{Admits, refusal_of}
 use Rattle.warehouse_objects.specs.Warehouse.{Warehouse, loaded}
 use Rattle.warehouse_objects.specs.Stands.{Stands, root_of}
-use Rattle.warehouse_objects.specs.Lawful.{batch_put}
+use Rattle.warehouse_objects.specs.Lawful.{loading_puts}
 use Rattle.warehouse.specs.declared.session.Session.{Session}
 
 module _ {D : Type 0} where
@@ -61,9 +61,9 @@ CommitsOnce g old new = (disk_of g new).keeps_word → (content_of g new).genera
 -- puts the segment of the batch, and the root with it.
 abbrev pub SubmitRefuses : {D : Type 0} (g : Ghosts D) → Session D g → Warehouse → ℕ → List LineOrder → Fault → Type 0
 SubmitRefuses g session w number batch fault =
-    (refusal w.rows w.batches number batch ≡ Some fault)
-    ⊎ (IsAdmissible w.rows w.batches number batch
-    × stores.Refuses (content_of g session) (room_of session) (batch_put number batch) [] (roots.root_of (root_of (loaded w batch))) fault)
+    (refusal_of w number batch ≡ Some fault)
+    ⊎ (Admits w number batch
+    × stores.Refuses (content_of g session) (room_of session) (loading_puts w number batch) [] (roots.root_of (root_of (loaded w batch))) fault)
 
 -- a query that is proper, over batches that are there
 pub record IsAsked (w : Warehouse) (as_of : ℕ) (query : Query) : Type 0 where

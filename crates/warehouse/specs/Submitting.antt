@@ -2,9 +2,9 @@
 use Rattle.std.specs.Prelude.{◌≡◌, ◌⊎◌, ℕ, List}
 use Rattle.sector_device.specs.declared.device.Sectors.{Ghosts}
 use Rattle.cube_model.specs.declared.rows.LineOrder.{LineOrder}
-use Rattle.cube_model.specs.Admission.{IsAdmissible}
 use Rattle.object_store.specs.Content.{Content}
 use Rattle.object_store.specs.Disk.{Leaves}
+use Rattle.warehouse_objects.specs.Facts.{Admits}
 use Rattle.warehouse_objects.specs.Warehouse.{Warehouse, loaded}
 use Rattle.warehouse_objects.specs.Stands.{Stands, root_of}
 use Rattle.warehouse.specs.Prepared.{IsPrepared}
@@ -16,9 +16,9 @@ use Rattle.warehouse.specs.declared.session.Session.{Session}
 pub record IsReady {D : Type 0} (g : Ghosts D) (session : Session D g) (w : Warehouse) (number : ℕ) (rows : List LineOrder) (prepared : Prepared) : Type 0 where
   pub at : IsAt g session w
   pub prepared_is : IsPrepared session.root number rows prepared
-  pub admissible : g.keeps_word (device_of session) → IsAdmissible w.rows w.batches number rows × (prepared.root ≡ root_of (loaded w rows))
+  pub admissible : g.keeps_word (device_of session) → Admits w number rows × (prepared.root ≡ root_of (loaded w rows))
   pub still : Leaves (disk_of g session) (disk_of g session) (λ c. Stands c w)
 
 -- what a stop within its submit may leave: the warehouse as it was, or with the batch if that is admissible
 abbrev pub WithOrWithout : Warehouse → ℕ → List LineOrder → Content → Type 0
-WithOrWithout w number rows c = Stands c w ⊎ (IsAdmissible w.rows w.batches number rows × Stands c (loaded w rows))
+WithOrWithout w number rows c = Stands c w ⊎ (Admits w number rows × Stands c (loaded w rows))

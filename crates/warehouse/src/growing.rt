@@ -5,7 +5,7 @@ ghost use Rattle.cube_model.specs.declared.fault.Fault.TheVariants.{Device, Fail
 ghost use Rattle.cube_model.specs.declared.rows.DimRows.{DimRows};
 ghost use Rattle.cube_model.specs.declared.rows.LineOrder.{LineOrder};
 ghost use Rattle.column_segment.specs.Segment.{IsBatch, segment_of};
-ghost use Rattle.cube_model.specs.Admission.{IsAdmissible, long_text};
+ghost use Rattle.cube_model.specs.Admission.{long_text};
 ghost use Rattle.cube_model.specs.Limits.{most_batch_rows};
 ghost use Rattle.object_store.specs.Disk.{Leaves};
 ghost use Rattle.warehouse.specs.Growing.{IsGrown, totals_in};
@@ -13,6 +13,7 @@ ghost use Rattle.warehouse.specs.Prepared.{Admitted, IsPrepared, MayFollow, Prep
 ghost use Rattle.warehouse.specs.Refusing.{is_of_device};
 ghost use Rattle.warehouse.specs.Session.{Breaks, CommitsOnce, IsAt, KeepsContent, SubmitRefuses, content_of, device_of, disk_of, has_failed};
 ghost use Rattle.warehouse.specs.Submitting.{WithOrWithout};
+ghost use Rattle.warehouse_objects.specs.Facts.{Admits};
 ghost use Rattle.warehouse_objects.specs.Stands.{Stands, root_of};
 ghost use Rattle.warehouse_objects.specs.Warehouse.{Warehouse, loaded};
 ghost use Rattle.warehouse_root.specs.Root.{AreProperTotals, PlainRoot};
@@ -143,7 +144,7 @@ impl<D: Sectors> Session<D> {
 
         // Then with it.
         ensures ok { OnOk result ((w : Warehouse) (rows : List LineOrder) → IsAt D.Sectors self.old w → Grows self.old rows batch.now
-            → IsAt D.Sectors self.new (loaded w rows) × (D.keeps_word (device_of self.new) → IsAdmissible w.rows w.batches number rows)) }
+            → IsAt D.Sectors self.new (loaded w rows) × (D.keeps_word (device_of self.new) → Admits w number rows)) }
 
         // After a refusal, unless the device failed, as it was at each moment.
         ensures refused { IfErr result (λ fault. fault ≢ Device → (w : Warehouse) → IsAt D.Sectors self.old w →

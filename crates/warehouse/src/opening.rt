@@ -1,8 +1,6 @@
 //! Opening what stands on a device.
-ghost use Rattle.std.specs.Prelude.{◌≡◌, ◌≢◌, ◌⊎◌, ◌+◌, ◌-◌, ◌^◌, min, true, false, List, Option, IfOk, IfErr, IsErrOf, OnOk};
+ghost use Rattle.std.specs.Prelude.{◌≡◌, ◌≢◌, ◌⊎◌, ◌+◌, ◌-◌, ◌^◌, min, true, false, Option, IfOk, IfErr, IsErrOf, OnOk};
 ghost use Rattle.cube_model.specs.declared.fault.Fault.TheVariants.{BadLayout, Device, Memory, NotFormatted};
-ghost use Rattle.cube_model.specs.declared.rows.DimRows.{DimRows};
-ghost use Rattle.cube_model.specs.declared.rows.LineOrder.{LineOrder};
 ghost use Rattle.object_store.specs.Disk.{disk, AllShow, Each, IsBlank, IsShown, Leaves};
 ghost use Rattle.object_store.specs.Found.{Explains, is_of_layout};
 ghost use Rattle.object_store.specs.Shows.{HasNone};
@@ -10,6 +8,7 @@ ghost use Rattle.object_store.specs.Store as stores;
 ghost use Rattle.warehouse_root.specs.declared.layout.Layout.TheVariants.{First};
 ghost use Rattle.warehouse_root.specs.Layouts.{number_of};
 ghost use Rattle.warehouse_root.specs.Root.{IsRootOf};
+ghost use Rattle.warehouse_objects.specs.Facts.{Change, Facts};
 ghost use Rattle.warehouse_objects.specs.Warehouse.{Warehouse};
 ghost use Rattle.warehouse_objects.specs.Stands.{Stands};
 ghost use Rattle.warehouse.specs.Found.{IsFinished, IsSince, MayBeFound, MayStand, MayStandSince};
@@ -34,19 +33,19 @@ use warehouse_root::Root;
 /// device fails, cuboids that were brought on stay so.
 pub fn open<D: Sectors>(alloc: Global, device: D) -> Result<Session<D>, (Fault, D)>
     // Where every image at the start stands for batches that may be found, each at any moment stands for such.
-    ensures leaves { IfOk result (λ session. (rows : DimRows) (batches : List (List LineOrder)) (last : Option (List LineOrder)) →
-        AllShow (disk D.Sectors device) (MayStand rows batches last) → Leaves (disk D.Sectors device) (disk_of D.Sectors session) (MayStandSince (disk D.Sectors device) rows batches last)) }
-    ensures leaves_err { IfErr result (λ e. (rows : DimRows) (batches : List (List LineOrder)) (last : Option (List LineOrder)) →
-        AllShow (disk D.Sectors device) (MayStand rows batches last) → Leaves (disk D.Sectors device) (disk D.Sectors e.1) (MayStandSince (disk D.Sectors device) rows batches last)) }
+    ensures leaves { IfOk result (λ session. (facts : Facts) (last : Option Change) →
+        AllShow (disk D.Sectors device) (MayStand facts last) → Leaves (disk D.Sectors device) (disk_of D.Sectors session) (MayStandSince (disk D.Sectors device) facts last)) }
+    ensures leaves_err { IfErr result (λ e. (facts : Facts) (last : Option Change) →
+        AllShow (disk D.Sectors device) (MayStand facts last) → Leaves (disk D.Sectors device) (disk D.Sectors e.1) (MayStandSince (disk D.Sectors device) facts last)) }
 
     // Then it is at one of them, and every image stands for that one. Its cuboids hold the batches up to the target.
-    ensures ok { IfOk result (λ session. (rows : DimRows) (batches : List (List LineOrder)) (last : Option (List LineOrder)) →
-        AllShow (disk D.Sectors device) (MayStand rows batches last) → D.keeps_word (device_of session)
-        → (w : Warehouse) × MayBeFound rows batches last w × IsSince (disk D.Sectors device) w × IsAt D.Sectors session w × IsFinished D.Sectors session w) }
+    ensures ok { IfOk result (λ session. (facts : Facts) (last : Option Change) →
+        AllShow (disk D.Sectors device) (MayStand facts last) → D.keeps_word (device_of session)
+        → (w : Warehouse) × MayBeFound facts last w × IsSince (disk D.Sectors device) w × IsAt D.Sectors session w × IsFinished D.Sectors session w) }
 
     // Where every image at the start stands for a warehouse, it never finds none: it refuses for memory or the device.
-    ensures never { IfErr result (λ e. (rows : DimRows) (batches : List (List LineOrder)) (last : Option (List LineOrder)) →
-        AllShow (disk D.Sectors device) (MayStand rows batches last) → D.keeps_word e.1 → (e.0 ≡ Memory) ⊎ (e.0 ≡ Device)) }
+    ensures never { IfErr result (λ e. (facts : Facts) (last : Option Change) →
+        AllShow (disk D.Sectors device) (MayStand facts last) → D.keeps_word e.1 → (e.0 ≡ Memory) ⊎ (e.0 ≡ Device)) }
     ensures device { IfErr result (λ e. e.0 ≡ Device → D.failed e.1 ≡ min (D.failed device + 1) (2 ^ 64 - 1)) }
     ensures unformatted { IfErr result (λ e. e.0 ≡ NotFormatted → D.keeps_word e.1 → HasNone (D.state device).reads) }
     ensures explained { IfErr result (λ e. e.0 ≢ BadLayout → D.keeps_word e.1 → Explains e.0 (D.state device).size (D.state device).reads) }
@@ -69,15 +68,15 @@ pub fn open<D: Sectors>(alloc: Global, device: D) -> Result<Session<D>, (Fault, 
 /// It reads the root and the dimensions, and no batch. It commits nothing: an upkeep that was cut off stays so.
 pub fn open_as_is<D: Sectors>(alloc: Global, device: D) -> Result<Session<D>, (Fault, D)>
     // Where every image at the start stands for batches that may be found, each at any moment stands for such.
-    ensures leaves { IfOk result (λ session. (rows : DimRows) (batches : List (List LineOrder)) (last : Option (List LineOrder)) →
-        AllShow (disk D.Sectors device) (MayStand rows batches last) → Leaves (disk D.Sectors device) (disk_of D.Sectors session) (MayStandSince (disk D.Sectors device) rows batches last)) }
-    ensures leaves_err { IfErr result (λ e. (rows : DimRows) (batches : List (List LineOrder)) (last : Option (List LineOrder)) →
-        AllShow (disk D.Sectors device) (MayStand rows batches last) → Leaves (disk D.Sectors device) (disk D.Sectors e.1) (MayStandSince (disk D.Sectors device) rows batches last)) }
+    ensures leaves { IfOk result (λ session. (facts : Facts) (last : Option Change) →
+        AllShow (disk D.Sectors device) (MayStand facts last) → Leaves (disk D.Sectors device) (disk_of D.Sectors session) (MayStandSince (disk D.Sectors device) facts last)) }
+    ensures leaves_err { IfErr result (λ e. (facts : Facts) (last : Option Change) →
+        AllShow (disk D.Sectors device) (MayStand facts last) → Leaves (disk D.Sectors device) (disk D.Sectors e.1) (MayStandSince (disk D.Sectors device) facts last)) }
 
     // Then it is at one of them, and every image stands for that one.
-    ensures ok { IfOk result (λ session. (rows : DimRows) (batches : List (List LineOrder)) (last : Option (List LineOrder)) →
-        AllShow (disk D.Sectors device) (MayStand rows batches last) → D.keeps_word (device_of session)
-        → (w : Warehouse) × MayBeFound rows batches last w × IsSince (disk D.Sectors device) w × IsAt D.Sectors session w) }
+    ensures ok { IfOk result (λ session. (facts : Facts) (last : Option Change) →
+        AllShow (disk D.Sectors device) (MayStand facts last) → D.keeps_word (device_of session)
+        → (w : Warehouse) × MayBeFound facts last w × IsSince (disk D.Sectors device) w × IsAt D.Sectors session w) }
 
     // It holds what an image at the start showed.
     ensures fine { IfOk result (λ session. has_failed session ≡ false) }
@@ -86,8 +85,8 @@ pub fn open_as_is<D: Sectors>(alloc: Global, device: D) -> Result<Session<D>, (F
     ensures failures { IfOk result (λ session. D.failed (device_of session) ≡ D.failed device) }
 
     // Where every image at the start stands for a warehouse, it never finds none: it refuses for memory or the device.
-    ensures never { IfErr result (λ e. (rows : DimRows) (batches : List (List LineOrder)) (last : Option (List LineOrder)) →
-        AllShow (disk D.Sectors device) (MayStand rows batches last) → D.keeps_word e.1 → (e.0 ≡ Memory) ⊎ (e.0 ≡ Device)) }
+    ensures never { IfErr result (λ e. (facts : Facts) (last : Option Change) →
+        AllShow (disk D.Sectors device) (MayStand facts last) → D.keeps_word e.1 → (e.0 ≡ Memory) ⊎ (e.0 ≡ Device)) }
     ensures device { IfErr result (λ e. e.0 ≡ Device → D.failed e.1 ≡ min (D.failed device + 1) (2 ^ 64 - 1)) }
     ensures unformatted { IfErr result (λ e. e.0 ≡ NotFormatted → D.keeps_word e.1 → HasNone (D.state device).reads) }
     ensures explained { IfErr result (λ e. e.0 ≢ BadLayout → D.keeps_word e.1 → Explains e.0 (D.state device).size (D.state device).reads) }

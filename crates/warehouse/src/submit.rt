@@ -2,9 +2,9 @@
 ghost use Rattle.std.specs.Prelude.{◌≡◌, ◌≢◌, ◌<◌, ◌⊎◌, ◌↔◌, true, false, List, length, IfOk, IfErr, OnOk, IsErrOf};
 ghost use Rattle.cube_model.specs.declared.fault.Fault.TheVariants.{Device, Failed};
 ghost use Rattle.cube_model.specs.declared.rows.LineOrder.{LineOrder};
-ghost use Rattle.cube_model.specs.Admission.{IsAdmissible};
 ghost use Rattle.wire.specs.Limits.{most_objects};
 ghost use Rattle.object_store.specs.Disk.{Leaves};
+ghost use Rattle.warehouse_objects.specs.Facts.{Admits};
 ghost use Rattle.warehouse_objects.specs.Warehouse.{Warehouse, loaded};
 ghost use Rattle.warehouse_objects.specs.Stands.{Stands};
 ghost use Rattle.warehouse.specs.Loaded.{Agrees};
@@ -27,11 +27,11 @@ impl<D: Sectors> Session<D> {
     pub fn submit(&mut self, alloc: Global, number: u32, rows: &[LineOrder]) -> Result<(), Fault>
         // A stop at any moment leaves the warehouse as it was, or with this batch if it is admissible.
         ensures leaves { (w : Warehouse) → IsAt D.Sectors self.old w → Leaves (disk_of D.Sectors self.old) (disk_of D.Sectors self.new)
-            (λ c. Stands c w ⊎ (IsAdmissible w.rows w.batches number rows.now × Stands c (loaded w rows.now))) }
+            (λ c. Stands c w ⊎ (Admits w number rows.now × Stands c (loaded w rows.now))) }
 
         // Then with it.
         ensures ok { OnOk result ((w : Warehouse) → IsAt D.Sectors self.old w → IsAt D.Sectors self.new (loaded w rows.now)
-            × (D.keeps_word (device_of self.new) → IsAdmissible w.rows w.batches number rows.now)) }
+            × (D.keeps_word (device_of self.new) → Admits w number rows.now)) }
 
         // After a refusal, unless the device failed, as it was at each moment.
         ensures refused { IfErr result (λ fault. fault ≢ Device → (w : Warehouse) → IsAt D.Sectors self.old w →
@@ -69,7 +69,7 @@ impl<D: Sectors> Session<D> {
         ensures leaves { (w : Warehouse) (rows : List LineOrder) → IsReady D.Sectors self.old w number rows prepared
             → Leaves (disk_of D.Sectors self.old) (disk_of D.Sectors self.new) (WithOrWithout w number rows) }
         ensures ok { OnOk result ((w : Warehouse) (rows : List LineOrder) → IsReady D.Sectors self.old w number rows prepared
-            → IsAt D.Sectors self.new (loaded w rows) × (D.keeps_word (device_of self.new) → IsAdmissible w.rows w.batches number rows)) }
+            → IsAt D.Sectors self.new (loaded w rows) × (D.keeps_word (device_of self.new) → Admits w number rows)) }
         ensures refused { IfErr result (λ fault. fault ≢ Device → (w : Warehouse) (rows : List LineOrder) → IsReady D.Sectors self.old w number rows prepared
             → IsAt D.Sectors self.new w × Leaves (disk_of D.Sectors self.old) (disk_of D.Sectors self.new) (λ c. Stands c w)) }
         ensures once { OnOk result (CommitsOnce D.Sectors self.old self.new) }

@@ -20,6 +20,7 @@ use Rattle.object_store.specs.Moments.{all_weaker}
 use Rattle.ssb_eval.specs.Evaluation.{facts_behind, facts_of}
 use Rattle.warehouse_objects.specs.Stands.{Stands}
 use Rattle.warehouse_objects.proofs.Batches.{get_within, some_one, take_next}
+use Rattle.warehouse_objects.specs.Facts.{facts_in}
 use Rattle.warehouse_objects.specs.Warehouse.{AreInOrder, Warehouse, loaded}
 use Rattle.warehouse.specs.declared.session.Session.{Session}
 use Rattle.warehouse.specs.Comparing.{numbered}
@@ -145,8 +146,8 @@ stopped_load {D} g shows_it w first size text old mid new before after result lo
       left = may.left;
       cut = may.cut;
       no_fewer = may.no_fewer;
-      stands = all_weaker (λ (c : Content). c ≡ shown.0) (MayStand v.rows v.batches None) (disk g device)
-          (λ word c is. (v, record { of_rows = refl; of_batches = inl refl }, subst (λ (x : Content). Stands x v) (sym is) may.stands)) one;
+      stands = all_weaker (λ (c : Content). c ≡ shown.0) (MayStand (facts_in v) None) (disk g device)
+          (λ word c is. (v, inl refl, subst (λ (x : Content). Stands x v) (sym is) may.stands)) one;
     }
 
 -- ---- a whole text

@@ -9,6 +9,7 @@ use Rattle.cube_model.specs.Answers.{answer_as_of}
 use Rattle.cube_model.specs.Limits.{most_batch_rows}
 use Rattle.object_store.specs.Disk.{disk, AllShow}
 use Rattle.ssb_eval.specs.Evaluation.{answer_of}
+use Rattle.warehouse_objects.specs.Facts.{facts_in}
 use Rattle.warehouse_objects.specs.Warehouse.{Warehouse}
 use Rattle.warehouse.specs.declared.session.Session.{Session}
 use Rattle.warehouse.specs.Comparing.{numbered}
@@ -37,7 +38,7 @@ pub record IsFoundWith {D : Type 0} (g : Ghosts D) (w : Warehouse) (first size :
   pub cut : AreCutFrom text size batches next left
   pub no_fewer : count ≤ length batches
   -- so the contract of opening holds of this one warehouse
-  pub stands : AllShow (disk g device) (MayStand (with_batches w first batches).rows (with_batches w first batches).batches None)
+  pub stands : AllShow (disk g device) (MayStand (facts_in (with_batches w first batches)) None)
 
 -- Whatever a crash leaves within a load after some of its lines were written: the restarted device has a warehouse with the batches of
 -- these lines, and maybe with more of the load's.

@@ -5,10 +5,10 @@ use Rattle.sector_device.specs.declared.device.Sectors.{Ghosts}
 use Rattle.cube_model.specs.declared.fault.Fault.{Fault}
 use Rattle.cube_model.specs.declared.fault.Fault.TheVariants.{Memory, Input, Output, Device, Repeated}
 use Rattle.cube_model.specs.declared.rows.LineOrder.{LineOrder}
-use Rattle.cube_model.specs.Admission.{IsAdmissible}
 use Rattle.object_store.specs.Content.{Content}
 use Rattle.object_store.specs.Disk.{Leaves}
 use Rattle.ssb_reports.specs.Writing.{AppendsBeginning}
+use Rattle.warehouse_objects.specs.Facts.{Admits}
 use Rattle.warehouse_objects.specs.Warehouse.{Warehouse, loaded}
 use Rattle.warehouse_objects.specs.Stands.{Stands}
 use Rattle.warehouse.specs.declared.session.Session.{Session}
@@ -49,7 +49,7 @@ lines_in w number (rows ∷ batches) = line_in w number rows ++ lines_in (with_b
 -- batch that is passed over has exactly the rows of the stored one, in the same order
 pub record TakesIn {D : Type 0} (g : Ghosts D) (w : Warehouse) (number : ℕ) (rows : List LineOrder) (old new : Session D g) (taken : Taken) : Type 0 where
   pub taken_is : taken ≡ taken_of w number
-  pub follows : length w.batches < number → IsAdmissible w.rows w.batches number rows
+  pub follows : length w.batches < number → Admits w number rows
   pub same : number ≤ length w.batches → numbered w.batches number ≡ Some rows
   pub at : IsAt g new (with_batch w number rows)
   pub leaves : Leaves (disk_of g old) (disk_of g new) (λ c. Stands c w ⊎ Stands c (with_batch w number rows))
@@ -64,7 +64,7 @@ BatchRefuses g session w number rows fault =
 -- A batch is refused. The warehouse stays, unless the device failed: it may then have the batch, where that is admissible
 pub record Refuses {D : Type 0} (g : Ghosts D) (w : Warehouse) (number : ℕ) (rows : List LineOrder) (old new : Session D g) (fault : Fault) : Type 0 where
   pub cause : ((fault ≡ Device) × (has_failed new ≡ true)) ⊎ (BatchRefuses g old w number rows fault × IsAt g new w)
-  pub leaves : Leaves (disk_of g old) (disk_of g new) (λ c. Stands c w ⊎ (IsAdmissible w.rows w.batches number rows × Stands c (loaded w rows)))
+  pub leaves : Leaves (disk_of g old) (disk_of g new) (λ c. Stands c w ⊎ (Admits w number rows × Stands c (loaded w rows)))
 
 -- One batch of a load did not end well: it is refused, and nothing is written. Or the device has it, and the writer fails
 -- in its line

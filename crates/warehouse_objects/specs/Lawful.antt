@@ -15,6 +15,7 @@ use Rattle.warehouse_root.specs.Limits.{most_cells, most_cuboids, most_runs}
 use Rattle.warehouse_root.specs.Layouts.{number_of}
 use Rattle.warehouse_root.specs.Objects.{run_id, segment_id}
 use Rattle.warehouse_root.specs.Root as roots
+use Rattle.warehouse_objects.specs.Facts.{Admits}
 use Rattle.warehouse_objects.specs.Warehouse.{Warehouse, AreStorable, Cuboid, StoredRun, aimed, cells_in, cuboid_at, dropped_ids, fresh, kept, loaded, with_views}
 use Rattle.warehouse_objects.specs.Stands.{HasRows, HoldsGroupings, Stands, dimension_of, root_of, run_bytes}
 
@@ -27,6 +28,10 @@ dimension_puts rows =
 abbrev pub batch_put : ℕ → List LineOrder → List (ℕ × List ℕ)
 batch_put number batch = (segment_id number, segment_of number batch) ∷ []
 
+-- all that a submit of a batch puts
+abbrev pub loading_puts : Warehouse → ℕ → List LineOrder → List (ℕ × List ℕ)
+loading_puts w number batch = batch_put number batch
+
 -- a content that was made of storable rows and the first root stands for the warehouse of no batch
 abbrev pub CreatingStands : Type 0
 CreatingStands = (rows : DimRows) → AreStorable rows
@@ -35,8 +40,8 @@ CreatingStands = (rows : DimRows) → AreStorable rows
 -- a commit of an admissible batch and of the root with it makes a content that stands for one batch more
 abbrev pub LoadingStands : Type 0
 LoadingStands = (c : Content) (w : Warehouse) (number : ℕ) (batch : List LineOrder)
-    → Stands c w → IsAdmissible w.rows w.batches number batch → FitColumns batch
-    → Stands (committed (batch_put number batch) [] (roots.root_of (root_of (loaded w batch))) (number_of w.layout) c) (loaded w batch)
+    → Stands c w → Admits w number batch → FitColumns batch
+    → Stands (committed (loading_puts w number batch) [] (roots.root_of (root_of (loaded w batch))) (number_of w.layout) c) (loaded w batch)
 
 -- a commit of the root with another target makes a content whose cuboids are to hold all batches
 abbrev pub AimingStands : Type 0

@@ -8,7 +8,7 @@ use Rattle.warehouse_objects.specs.Warehouse.{Warehouse}
 use Rattle.warehouse_objects.specs.Stands as stands
 use Rattle.warehouse_objects.specs.Stands.{Stands, said_of}
 use Rattle.warehouse_objects.proofs.Batches.{get_within}
-use Rattle.cuboid_commits.proofs.Turns.{AreReached, all_done, leaves_first, leaves_more, lower_reached, none_yet, one_more, same, still_reached, then_more}
+use Rattle.cuboid_commits.proofs.Turns.{AreReached, all_done, leaves_first, leaves_more, lower_reached, none_yet, one_more, rows_kept, same, still_reached, then_more}
 use Rattle.cuboid_commits.proofs.catching.catch_up.Goals as goal
 
 pub loop-place-init : goal.loop-place-init
@@ -43,7 +43,7 @@ loop-place-preserved g c =
       loaded = λ k rows is. c.bring_on.ensures.loaded c.in-Ok.ensures.fine k rows (so_far.loaded (c.bring_on.ensures.word k) rows is);
       at = λ w at dims.
           let was = so_far.at w at dims in
-          let known : g.D.Sectors.keeps_word (stores.device_of c.loop-place.store) → c.args.dims.now ≡ was.0.rows = λ k. dims (so_far.word k) ∙ sym was.1.kept.rows in
+          let known : g.D.Sectors.keeps_word (stores.device_of c.loop-place.store) → c.args.dims.now ≡ was.0.rows = λ k. dims (so_far.word k) ∙ sym (rows_kept w was.0 was.1.kept) in
           let now = c.in-Ok.ensures.stays (λ is. absurd cc) was.0 was.2 known in (
             now.0,
             then_more w was.0 now.0 was.1 now.1,
@@ -54,11 +54,11 @@ loop-place-preserved g c =
                 subst (λ f. AreReached (c.loop-place.place + 1) f now.0) (sym c.or-first.ensures)
                 (one_more now.0 c.loop-place.place c.loop-place.first c.in-Ok.passed there.0 there.1
                 (still_reached was.0 now.0 c.loop-place.place c.loop-place.first now.1 (was.3 (c.bring_on.ensures.word k)))
-                (c.in-Ok.ensures.reached now.0 now.2 k (known (c.bring_on.ensures.word k) ∙ sym now.1.kept.rows) there.0 there.1)),
+                (c.in-Ok.ensures.reached now.0 now.2 k (known (c.bring_on.ensures.word k) ∙ sym (rows_kept was.0 now.0 now.1.kept)) there.0 there.1)),
           );
       leaves = λ w at dims.
           let was = so_far.at w at dims in
-          let known : g.D.Sectors.keeps_word (stores.device_of c.loop-place.store) → c.args.dims.now ≡ was.0.rows = λ k. dims (so_far.word k) ∙ sym was.1.kept.rows in
+          let known : g.D.Sectors.keeps_word (stores.device_of c.loop-place.store) → c.args.dims.now ≡ was.0.rows = λ k. dims (so_far.word k) ∙ sym (rows_kept w was.0 was.1.kept) in
           leaves_more w was.0 (stores.disk_of g.D.Sectors start) (stores.disk_of g.D.Sectors mid) (stores.disk_of g.D.Sectors new) was.1 (so_far.leaves w at dims) (c.bring_on.ensures.leaves was.0 was.2 known);
     }
 
@@ -67,20 +67,20 @@ returns-in-Err-clause-leaves g c w at dims =
     let so_far = c.loop-place.invariant in
     let was = so_far.at w at dims in
     leaves_more w was.0 (stores.disk_of g.D.Sectors c.args.store.now) (stores.disk_of g.D.Sectors c.loop-place.store) (stores.disk_of g.D.Sectors c.bring_on.new.store) was.1 (so_far.leaves w at dims)
-    (c.bring_on.ensures.leaves was.0 was.2 (λ k. dims (so_far.word k) ∙ sym was.1.kept.rows))
+    (c.bring_on.ensures.leaves was.0 was.2 (λ k. dims (so_far.word k) ∙ sym (rows_kept w was.0 was.1.kept)))
 
 pub returns-in-Err-clause-stays : goal.returns-in-Err-clause-stays
 returns-in-Err-clause-stays g c other w at dims =
     let so_far = c.loop-place.invariant in
     let was = so_far.at w at dims in
-    let now = c.in-Err.ensures.stays other was.0 was.2 (λ k. dims (so_far.word k) ∙ sym was.1.kept.rows) in
+    let now = c.in-Err.ensures.stays other was.0 was.2 (λ k. dims (so_far.word k) ∙ sym (rows_kept w was.0 was.1.kept)) in
     (now.0, then_more w was.0 now.0 was.1 now.1, now.2)
 
 pub returns-in-Err-clause-reason : goal.returns-in-Err-clause-reason
 returns-in-Err-clause-reason g c no_device no_memory w at dims =
     let so_far = c.loop-place.invariant in
     let was = so_far.at w at dims in
-    let known : g.D.Sectors.keeps_word (stores.device_of c.loop-place.store) → c.args.dims.now ≡ was.0.rows = λ k. dims (so_far.word k) ∙ sym was.1.kept.rows in (
+    let known : g.D.Sectors.keeps_word (stores.device_of c.loop-place.store) → c.args.dims.now ≡ was.0.rows = λ k. dims (so_far.word k) ∙ sym (rows_kept w was.0 was.1.kept) in (
       was.0,
       was.1,
       c.in-Err.ensures.refused no_device was.0 was.2,
@@ -96,7 +96,7 @@ pub returns-in-Err-clause-readable : goal.returns-in-Err-clause-readable
 returns-in-Err-clause-readable g c is k w at dims =
     let so_far = c.loop-place.invariant in
     let was = so_far.at w at dims in
-    c.in-Err.ensures.readable is k was.0 was.2 (λ k. dims (so_far.word k) ∙ sym was.1.kept.rows)
+    c.in-Err.ensures.readable is k was.0 was.2 (λ k. dims (so_far.word k) ∙ sym (rows_kept w was.0 was.1.kept))
 
 pub returns-in-Err-clause-loaded : goal.returns-in-Err-clause-loaded
 returns-in-Err-clause-loaded g c fine k rows is =

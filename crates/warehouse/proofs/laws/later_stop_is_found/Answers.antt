@@ -3,6 +3,8 @@ use Rattle.warehouse.proofs.LaterStops.{ends_at}
 use Rattle.warehouse.proofs.laws.later_stop_is_found.Goals as goal
 
 pub returns : goal.returns
-returns g c old mid new w v earlier later told left after is before behind word image left_image device restarted =
-    let here = ends_at g.D.Sectors old mid w v earlier told is before in
-    (here.0, here.1, stopped_run g.D.Sectors g.met.D.Sectors.only_now mid new v later left after here.2 behind word image left_image device restarted)
+returns g c w v earlier later replies others device crash =
+    let here = ends_at g.D.Sectors crash.old crash.mid w v earlier replies crash.began crash.first in (
+      here.0,
+      stopped_run g.D.Sectors g.met.D.Sectors.only_now crash.mid crash.new v later others crash.after here.1 crash.then_ran crash.word crash.image crash.left device crash.restarted,
+    )

@@ -8,28 +8,28 @@ use Rattle.warehouse.proofs.Caught.{finish_leaves, found_caught, since_caught}
 use Rattle.warehouse.proofs.opening.open.Goals as goal
 
 pub returns-in-Ok-finish-clause-leaves : goal.returns-in-Ok-finish-clause-leaves
-returns-in-Ok-finish-clause-leaves g c rows batches last all =
-    finish_leaves (disk g.D.Sectors c.args.device) rows batches last g.D.Sectors c.in-Ok.session (disk_of g.D.Sectors c.finish.new.self)
-    (c.in-Ok.ensures.ok rows batches last all) (c.in-Ok.ensures.leaves rows batches last all) c.finish.ensures.word c.finish.ensures.leaves
+returns-in-Ok-finish-clause-leaves g c facts last all =
+    finish_leaves (disk g.D.Sectors c.args.device) facts last g.D.Sectors c.in-Ok.session (disk_of g.D.Sectors c.finish.new.self)
+    (c.in-Ok.ensures.ok facts last all) (c.in-Ok.ensures.leaves facts last all) c.finish.ensures.word c.finish.ensures.leaves
 
 pub returns-in-Err-finish-clause-leaves_err : goal.returns-in-Err-finish-clause-leaves_err
-returns-in-Err-finish-clause-leaves_err g c rows batches last all =
+returns-in-Err-finish-clause-leaves_err g c facts last all =
     let start = disk g.D.Sectors c.args.device in
-    subst (λ (d : g.row.D.Denot). Leaves start (disk g.D.Sectors d) (MayStandSince start rows batches last)) (sym c.close.ensures)
-    (finish_leaves start rows batches last g.D.Sectors c.in-Ok.session (disk_of g.D.Sectors c.finish.new.self)
-    (c.in-Ok.ensures.ok rows batches last all) (c.in-Ok.ensures.leaves rows batches last all) c.finish.ensures.word c.finish.ensures.leaves)
+    subst (λ (d : g.row.D.Denot). Leaves start (disk g.D.Sectors d) (MayStandSince start facts last)) (sym c.close.ensures)
+    (finish_leaves start facts last g.D.Sectors c.in-Ok.session (disk_of g.D.Sectors c.finish.new.self)
+    (c.in-Ok.ensures.ok facts last all) (c.in-Ok.ensures.leaves facts last all) c.finish.ensures.word c.finish.ensures.leaves)
 
 pub returns-in-Ok-finish-clause-ok : goal.returns-in-Ok-finish-clause-ok
-returns-in-Ok-finish-clause-ok g c rows batches last all k =
+returns-in-Ok-finish-clause-ok g c facts last all k =
     let start = disk g.D.Sectors c.args.device in
-    let found = c.in-Ok.ensures.ok rows batches last all (c.finish.ensures.word k) in
+    let found = c.in-Ok.ensures.ok facts last all (c.finish.ensures.word k) in
     let now = c.in-Ok-finish.ensures.ok found.0 found.3 in
-    (now.0, found_caught start rows batches last found.0 now.0 now.1 found.1, since_caught start rows batches last found.0 now.0 now.1 found.2, now.2, now.3 k)
+    (now.0, found_caught start facts last found.0 now.0 now.1 found.1, since_caught start facts last found.0 now.0 now.1 found.2, now.2, now.3 k)
 
 pub returns-in-Err-finish-clause-never : goal.returns-in-Err-finish-clause-never
-returns-in-Err-finish-clause-never g c rows batches last all k =
+returns-in-Err-finish-clause-never g c facts last all k =
     let word = subst (λ (d : g.row.D.Denot). g.D.Sectors.keeps_word d) c.close.ensures k in
-    let found = c.in-Ok.ensures.ok rows batches last all (c.finish.ensures.word word) in
+    let found = c.in-Ok.ensures.ok facts last all (c.finish.ensures.word word) in
     ⊎_elim (λ memory. inl memory)
     (⊎_elim (λ device. inr device) (λ bad. absurd (c.in-Err-finish.ensures.readable (ap (λ (f : Fault). Err f) bad) word found.0 found.3)))
     c.in-Err-finish.ensures.causes

@@ -10,29 +10,29 @@ use Rattle.warehouse.proofs.Finding.{only_since, read_leaves, session_may, never
 use Rattle.warehouse.proofs.opening.open_as_is.Goals as goal
 
 pub returns-in-Ok-load-clause-leaves : goal.returns-in-Ok-load-clause-leaves
-returns-in-Ok-load-clause-leaves g c rows batches last all =
-    read_leaves g.D.Sectors c.args.device c.in-Ok.store rows batches last all c.in-Ok.ensures.only c.in-Ok.ensures.found (disk_of g.D.Sectors c.in-Ok-load.session) c.in-Ok-load.ensures.leaves
+returns-in-Ok-load-clause-leaves g c facts last all =
+    read_leaves g.D.Sectors c.args.device c.in-Ok.store facts last all c.in-Ok.ensures.only c.in-Ok.ensures.found (disk_of g.D.Sectors c.in-Ok-load.session) c.in-Ok-load.ensures.leaves
 
 pub returns-in-Err-load-clause-leaves_err : goal.returns-in-Err-load-clause-leaves_err
-returns-in-Err-load-clause-leaves_err g c rows batches last all =
-    read_leaves g.D.Sectors c.args.device c.in-Ok.store rows batches last all c.in-Ok.ensures.only c.in-Ok.ensures.found (disk g.D.Sectors c.in-Err-load.e.1) c.in-Err-load.ensures.leaves_err
+returns-in-Err-load-clause-leaves_err g c facts last all =
+    read_leaves g.D.Sectors c.args.device c.in-Ok.store facts last all c.in-Ok.ensures.only c.in-Ok.ensures.found (disk g.D.Sectors c.in-Err-load.e.1) c.in-Err-load.ensures.leaves_err
 
 pub returns-in-Ok-load-clause-ok : goal.returns-in-Ok-load-clause-ok
-returns-in-Ok-load-clause-ok g c rows batches last all k =
-    session_may g.D.Sectors c.args.device c.in-Ok.store rows batches last all c.in-Ok.ensures.only c.in-Ok.ensures.found c.in-Ok-load.session c.in-Ok-load.ensures.fine c.in-Ok-load.ensures.content c.in-Ok-load.ensures.leaves k
+returns-in-Ok-load-clause-ok g c facts last all k =
+    session_may g.D.Sectors c.args.device c.in-Ok.store facts last all c.in-Ok.ensures.only c.in-Ok.ensures.found c.in-Ok-load.session c.in-Ok-load.ensures.fine c.in-Ok-load.ensures.content c.in-Ok-load.ensures.leaves k
 
 pub returns-in-Err-clause-never : goal.returns-in-Err-clause-never
-returns-in-Err-clause-never g c rows batches last all k =
+returns-in-Err-clause-never g c facts last all k =
     ⊎_elim (λ memory. inl memory)
     (⊎_elim (λ device. inr device)
-    (λ layout. absurd (never_none (disk g.D.Sectors c.args.device) (MayStand rows batches last) all (c.in-Err.ensures.only_err.word k) (c.in-Err.ensures.nothing layout k))))
+    (λ layout. absurd (never_none (disk g.D.Sectors c.args.device) (MayStand facts last) all (c.in-Err.ensures.only_err.word k) (c.in-Err.ensures.nothing layout k))))
     c.in-Err.ensures.causes
 
 pub returns-in-Err-load-clause-never : goal.returns-in-Err-load-clause-never
-returns-in-Err-load-clause-never g c rows batches last all k =
+returns-in-Err-load-clause-never g c facts last all k =
     ⊎_elim (λ memory. inl memory)
     (⊎_elim (λ device. inr device)
-    (λ bad. absurd (never_loaded g.D.Sectors c.args.device c.in-Ok.store rows batches last all c.in-Ok.ensures.only c.in-Ok.ensures.found (disk g.D.Sectors c.in-Err-load.e.1) c.in-Err-load.ensures.leaves_err k
+    (λ bad. absurd (never_loaded g.D.Sectors c.args.device c.in-Ok.store facts last all c.in-Ok.ensures.only c.in-Ok.ensures.found (disk g.D.Sectors c.in-Err-load.e.1) c.in-Err-load.ensures.leaves_err k
     (c.in-Err-load.ensures.readable bad k))))
     c.in-Err-load.ensures.causes
 
@@ -42,8 +42,8 @@ returns-in-Err-clause-unformatted g c is k =
     subst (λ (f : Fault). Explains f s.size s.reads) is (c.in-Err.ensures.explained k)
 
 pub returns-in-Err-clause-leaves_err : goal.returns-in-Err-clause-leaves_err
-returns-in-Err-clause-leaves_err g c rows batches last all =
-    only_since (disk g.D.Sectors c.args.device) (disk g.D.Sectors c.in-Err.e.1) rows batches last all c.in-Err.ensures.only_err
+returns-in-Err-clause-leaves_err g c facts last all =
+    only_since (disk g.D.Sectors c.args.device) (disk g.D.Sectors c.in-Err.e.1) facts last all c.in-Err.ensures.only_err
 
 pub returns-in-Err-load-clause-explained : goal.returns-in-Err-load-clause-explained
 returns-in-Err-load-clause-explained g c other k =
