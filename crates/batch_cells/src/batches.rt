@@ -10,14 +10,16 @@ ghost use Rattle.cuboid_upkeep.specs.Grouping.{StandFor};
 ghost use Rattle.cuboid_upkeep.specs.Steps.{HaveTooMany};
 ghost use Rattle.warehouse_objects.specs.Warehouse.{Warehouse, modes_of};
 ghost use Rattle.warehouse_objects.specs.Stands.{IsLaidOut, root_of, rows_in};
+ghost use Rattle.growing_cells.specs.Growing.{GrowOver, grown};
 ghost use Rattle.batch_cells.specs.Grouped.{GroupsBatch, GroupsMore, IsAddFaultOf, StandForSome};
 
 use column_segment::Segment;
 use cube_model::Fault;
 use cube_query::RowsWithModes;
 use cuboid_cells::{Cells, Span};
-use cuboid_upkeep::{add_rows, more_rows_have_no_fewer_cells, rows_have_cells, rows_in_range_fit};
+use cuboid_upkeep::{more_rows_have_no_fewer_cells, rows_have_cells, rows_in_range_fit};
 use dimensions::Dims;
+use growing_cells::GrowingCells;
 use lattice::View;
 use object_store::Store;
 use sector_device::Sectors;
@@ -64,12 +66,12 @@ pub fn cells_of_batches<D: Sectors>(
     let _usable = store.is_broken();
     let _layout = root.layout();
     let batches = root.batches();
-    let mut cells = Cells::empty(alloc, view);
+    let mut cells = GrowingCells::new(alloc, dims, view)?;
     for before in span.from..span.to {
         let count = batches[before as usize];
         add_batch(alloc, store, dims, &mut cells, before, count)?;
     }
-    Ok(cells)
+    cells.finish(alloc)
 }
 
 // Groups the rows of the batch after so many others into cells. There are to be so many rows.
@@ -77,22 +79,24 @@ fn add_batch<D: Sectors>(
     alloc: Global,
     store: &mut Store<D>,
     dims: &Dims,
-    cells: &mut Cells,
+    cells: &mut GrowingCells,
     before: u32,
     count: u32,
 ) -> Result<(), Fault>
     requires fine { has_failed store.old ≡ false }
     requires few { before < most_batches }
-    requires some { StandForSome dims.now cells.old }
-    ensures ok { OnOk result (GroupsBatch dims.now cells.old cells.new before (D.keeps_word (device_of store.new)) (content_of D.Sectors store.old)) }
-    ensures view { cells.new.view ≡ cells.old.view }
+    requires some { StandForSome dims.now (grown cells.old) }
+    requires over { GrowOver dims.now cells.old }
+    ensures ok { OnOk result (GroupsBatch dims.now (grown cells.old) (grown cells.new) before (D.keeps_word (device_of store.new)) (content_of D.Sectors store.old)) }
+    ensures over { OnOk result (GrowOver dims.now cells.new) }
+    ensures view { (grown cells.new).view ≡ (grown cells.old).view }
     ensures refused { IfErr result (λ fault. (fault ≡ Device → ⊥) → D.keeps_word (device_of store.new) → (w : Warehouse)
         → IsLaidOut (content_of D.Sectors store.old) w → (batch : List LineOrder) → slice_get w.batches before ≡ Some batch → count ≡ length batch
-        → IsAddFaultOf dims.now cells.old batch fault) }
+        → IsAddFaultOf dims.now (grown cells.old) batch fault) }
     ensures leaves { Leaves (disk_of D.Sectors store.old) (disk_of D.Sectors store.new) (λ c. c ≡ content_of D.Sectors store.old) }
     ensures stays { (IsErrOf result Device → ⊥) → IsStill D.Sectors store.old store.new }
     ensures device { IsErrOf result Device → Breaks D.Sectors store.old store.new }
-    ensures causes { IfErr result (λ fault. (fault ≡ Memory) ⊎ ((fault ≡ Device) ⊎ ((fault ≡ BadLayout) ⊎ (fault ≡ TooManyCells (index_of cells.old.view))))) }
+    ensures causes { IfErr result (λ fault. (fault ≡ Memory) ⊎ ((fault ≡ Device) ⊎ ((fault ≡ BadLayout) ⊎ (fault ≡ TooManyCells (index_of (grown cells.old).view))))) }
 {
     let number = before + 1;
     let bytes = read_object(alloc, store, segment_id(number))?;
@@ -101,12 +105,19 @@ fn add_batch<D: Sectors>(
 }
 
 // Groups the rows of a batch into cells.
-fn group_in(alloc: Global, dims: &Dims, cells: &mut Cells, segment: &Segment) -> Result<(), Fault>
+fn group_in(
+    alloc: Global,
+    dims: &Dims,
+    cells: &mut GrowingCells,
+    segment: &Segment,
+) -> Result<(), Fault>
+    requires over { GrowOver dims.now cells.old }
     requires few { length segment.now.rows ≤ most_batch_rows }
-    ensures ok { OnOk result (GroupsMore dims.now cells.old segment.now.rows cells.new) }
-    ensures view { cells.new.view ≡ cells.old.view }
-    ensures refused { IfErr result (IsAddFaultOf dims.now cells.old segment.now.rows) }
+    ensures ok { OnOk result (GroupsMore dims.now (grown cells.old) segment.now.rows (grown cells.new)) }
+    ensures over { OnOk result (GrowOver dims.now cells.new) }
+    ensures view { (grown cells.new).view ≡ (grown cells.old).view }
+    ensures refused { IfErr result (IsAddFaultOf dims.now (grown cells.old) segment.now.rows) }
 {
     let rows = RowsWithModes::of(segment);
-    add_rows(cells, alloc, dims, &rows, None)
+    cells.add_rows(alloc, dims, &rows)
 }

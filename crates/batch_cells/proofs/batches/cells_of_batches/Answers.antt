@@ -1,6 +1,6 @@
-use Rattle.std.proofs.Common.{rules, ◌≡◌, ◌⊎◌, ◌<◌, ◌≤◌, ◌+◌, ℕ, List, [], ◌++◌, Err, length, get_or, sym, ◌∙◌, ap, subst, add-one, arith}
+use Rattle.std.proofs.Common.{rules, ◌≡◌, ◌⊎◌, inl, ◌<◌, ◌≤◌, ◌+◌, ℕ, List, [], ◌++◌, Err, length, get_or, sym, ◌∙◌, ap, subst, add-one, arith}
 use Rattle.std.proofs.lemmas.List.{length-map}
-use Rattle.std.proofs.lemmas.Result.{err_from_is_err_and}
+use Rattle.std.proofs.lemmas.Result.{IfErr-weaker, IfOk-weaker, err_from_is_err_and}
 use Rattle.cube_model.specs.Admission.{all_rows}
 use Rattle.cube_model.specs.declared.fault.Fault.{Fault}
 use Rattle.cube_model.specs.declared.fault.Fault.TheVariants.{BadLayout, Device, Memory, TooManyCells}
@@ -15,8 +15,9 @@ use Rattle.cuboid_upkeep.specs.Grouping.{StandFor}
 use Rattle.cuboid_upkeep.specs.Steps.{AreUnfit, HaveTooMany, IsAddFault}
 use Rattle.warehouse_objects.specs.Stands.{IsLaidOut}
 use Rattle.warehouse_objects.proofs.Batches.{get_within}
-use Rattle.warehouse_objects.proofs.Folded.{err_fault}
+use Rattle.warehouse_objects.proofs.Folded.{err_fault, of_fault}
 use Rattle.warehouse_objects.proofs.OneMoreRead.{breaks_then, reads_more, still_then}
+use Rattle.growing_cells.specs.Growing.{grown}
 use Rattle.batch_cells.proofs.Faults.{too_many_of, unfit}
 use Rattle.batch_cells.proofs.Members.{many_then, never_bad, none_stand}
 use Rattle.batch_cells.proofs.Read.{count_here}
@@ -25,17 +26,24 @@ use Rattle.batch_cells.proofs.batches.cells_of_batches.Goals as goal
 
 pub loop-before-init : goal.loop-before-init
 loop-before-init g c =
-    let stand : StandFor c.args.dims.now [] [] c.empty-cells.result = none_stand c.args.dims.now c.args.view c.empty-cells.result c.empty-cells.ensures in record {
+    let stand : StandFor c.args.dims.now [] [] (grown c.in_ok-cells.cells) = none_stand c.args.dims.now c.args.view (grown c.in_ok-cells.cells) c.in_ok-cells.ensures.none in record {
       fine = c.requires.fine;
       still = search rules;
       leaves = c.is_broken-usable.ensures.leaves c.requires.fine;
-      view = ap (λ (cells : PlainCells). cells.view) c.empty-cells.ensures;
+      view = ap (λ (cells : PlainCells). cells.view) c.in_ok-cells.ensures.none;
       some = ([], stand);
-      own = λ k w laid. subst (λ (batches : List (List LineOrder)). StandFor c.args.dims.now [] (all_rows batches) c.empty-cells.result) (sym (none_between c.args.span.from w.batches)) stand;
+      own = λ k w laid. subst (λ (batches : List (List LineOrder)). StandFor c.args.dims.now [] (all_rows batches) (grown c.in_ok-cells.cells)) (sym (none_between c.args.span.from w.batches)) stand;
+      over = c.in_ok-cells.ensures.over;
     }
 
 pub add_batch-requires-clause-some : goal.add_batch-requires-clause-some
 add_batch-requires-clause-some g c = c.loop-before.invariant.some
+
+pub add_batch-requires-clause-over : goal.add_batch-requires-clause-over
+add_batch-requires-clause-over g c = c.loop-before.invariant.over
+
+pub finish-requires : goal.finish-requires
+finish-requires g c = (c.args.dims.now, c.loop-before.invariant.over)
 
 pub loop-before-preserved : goal.loop-before-preserved
 loop-before-preserved g c =
@@ -57,12 +65,13 @@ loop-before-preserved g c =
           let low : from ≤ before = omega arith in
           let more : between w.batches from (before + 1) ≡ between w.batches from before ++ here.0 =
           ap (λ (n : ℕ). between w.batches from n) (add-one before) ∙ one_more w.batches from before here.0 low here.1 in
-          subst (λ (rows : List LineOrder). StandFor c.args.dims.now [] rows c.add_batch.new.cells) (sym more) (here.2.stand (between w.batches from before) (so_far.own (still.word k) w laid));
+          subst (λ (rows : List LineOrder). StandFor c.args.dims.now [] rows (grown c.add_batch.new.cells)) (sym more) (here.2.stand (between w.batches from before) (so_far.own (still.word k) w laid));
+      over = c.in_ok-add_batch.ensures.over;
     }
 
 pub returns-in_err-add_batch-clause-large : goal.returns-in_err-add_batch-clause-large
 returns-in_err-add_batch-clause-large g c =
-    let p = err_from_is_err_and c.from_residual.result c.from_residual.ensures.1 in
+    let p = err_from_is_err_and c.from_residual-in_err-add_batch.result c.from_residual-in_err-add_batch.ensures.1 in
     rw (p.1, p.2) (λ is k w laid rooted same no_modes.
     let so_far = c.loop-before.invariant in
     let before : ℕ = c.loop-before.before in
@@ -88,7 +97,7 @@ returns-in_err-add_batch-clause-large g c =
 
 pub returns-in_err-add_batch-clause-refused : goal.returns-in_err-add_batch-clause-refused
 returns-in_err-add_batch-clause-refused g c =
-    let p = err_from_is_err_and c.from_residual.result c.from_residual.ensures.1 in
+    let p = err_from_is_err_and c.from_residual-in_err-add_batch.result c.from_residual-in_err-add_batch.ensures.1 in
     rw (p.1, p.2) (λ is k w laid rooted same no_modes.
     let so_far = c.loop-before.invariant in
     let before : ℕ = c.loop-before.before in
@@ -105,7 +114,7 @@ returns-in_err-add_batch-clause-refused g c =
     let many = ap (λ (l : List ℕ). get_or l before 0) (c.batches-batches.ensures ∙ ap (λ r. r.batches) rooted) ∙ count_here w.batches before got.0 got.1 in
     let why = c.in_err-add_batch.ensures.refused (λ device. let no_fault : Device ≡ BadLayout = sym device ∙ bad in cc) k w there got.0 got.1 many (between w.batches from before) (so_far.own word w laid) in
     let none : AreUnfit c.args.dims.now [] view (between w.batches from before ++ got.0) = subst (λ (v : View). AreUnfit c.args.dims.now [] v (between w.batches from before ++ got.0)) so_far.view
-    (unfit c.args.dims.now c.loop-before.cells.view (between w.batches from before ++ got.0) fault why bad) in
+    (unfit c.args.dims.now (grown c.loop-before.cells).view (between w.batches from before ++ got.0) fault why bad) in
     never_bad w.rows w.batches laid.batches view no_modes from (before + 1) (omega (arith, lt)) c.rows_in_range_fit.ensures before got.0 (sym (add-one before)) low got.1
     (subst (λ (rows : DimRows). AreUnfit rows [] view (between w.batches from before ++ got.0)) same none))
 
@@ -116,24 +125,77 @@ returns-in_err-add_batch-clause-leaves g c =
 
 pub returns-in_err-add_batch-clause-stays : goal.returns-in_err-add_batch-clause-stays
 returns-in_err-add_batch-clause-stays g c =
-    let p = err_from_is_err_and c.from_residual.result c.from_residual.ensures.1 in
+    let p = err_from_is_err_and c.from_residual-in_err-add_batch.result c.from_residual-in_err-add_batch.ensures.1 in
     rw (p.1, p.2) (λ other. still_then g.D.Sectors c.args.store.now c.loop-before.store c.add_batch.new.store c.loop-before.invariant.still
     (c.in_err-add_batch.ensures.stays (λ is. other (ap (λ (f : Fault). Err f) (err_fault c.in_err-add_batch.field-0.0 Device is)))))
 
 pub returns-in_err-add_batch-clause-device : goal.returns-in_err-add_batch-clause-device
 returns-in_err-add_batch-clause-device g c =
-    let p = err_from_is_err_and c.from_residual.result c.from_residual.ensures.1 in
+    let p = err_from_is_err_and c.from_residual-in_err-add_batch.result c.from_residual-in_err-add_batch.ensures.1 in
     rw (p.1, p.2) (λ is. breaks_then g.D.Sectors c.args.store.now c.loop-before.store c.add_batch.new.store c.loop-before.invariant.still c.requires.fine
     (c.in_err-add_batch.ensures.device (ap (λ (f : Fault). Err f) (err_fault c.in_err-add_batch.field-0.0 Device is))))
 
 pub returns-in_err-add_batch-clause-causes : goal.returns-in_err-add_batch-clause-causes
 returns-in_err-add_batch-clause-causes g c =
-    let p = err_from_is_err_and c.from_residual.result c.from_residual.ensures.1 in
+    let p = err_from_is_err_and c.from_residual-in_err-add_batch.result c.from_residual-in_err-add_batch.ensures.1 in
     rw (p.1, p.2) (subst (λ (v : View). (c.in_err-add_batch.field-0.0 ≡ Memory) ⊎ ((c.in_err-add_batch.field-0.0 ≡ Device) ⊎ ((c.in_err-add_batch.field-0.0 ≡ BadLayout) ⊎ (c.in_err-add_batch.field-0.0 ≡ TooManyCells (index_of v)))))
     c.loop-before.invariant.view c.in_err-add_batch.ensures.causes)
 
+pub returns-in_err-cells-clause-large : goal.returns-in_err-cells-clause-large
+returns-in_err-cells-clause-large g c =
+    let p = err_from_is_err_and c.from_residual.result c.from_residual.ensures.1 in
+    rw (p.1, p.2) (λ is k w laid rooted same no_modes.
+    let none : Memory ≡ TooManyCells (index_of c.args.view) = sym c.in_err-cells.ensures.memory ∙ err_fault c.in_err-cells.field-0.0 (TooManyCells (index_of c.args.view)) is in absurd cc)
+
+pub returns-in_err-cells-clause-refused : goal.returns-in_err-cells-clause-refused
+returns-in_err-cells-clause-refused g c =
+    let p = err_from_is_err_and c.from_residual.result c.from_residual.ensures.1 in
+    rw (p.1, p.2) (λ is k w laid rooted same no_modes.
+    let none : Memory ≡ BadLayout = sym c.in_err-cells.ensures.memory ∙ err_fault c.in_err-cells.field-0.0 BadLayout is in absurd cc)
+
+pub returns-in_err-cells-clause-leaves : goal.returns-in_err-cells-clause-leaves
+returns-in_err-cells-clause-leaves g c = c.is_broken-usable.ensures.leaves c.requires.fine
+
+pub returns-in_err-cells-clause-device : goal.returns-in_err-cells-clause-device
+returns-in_err-cells-clause-device g c =
+    let p = err_from_is_err_and c.from_residual.result c.from_residual.ensures.1 in
+    rw (p.1, p.2) (λ is. let none : Memory ≡ Device = sym c.in_err-cells.ensures.memory ∙ err_fault c.in_err-cells.field-0.0 Device is in absurd cc)
+
+pub returns-in_err-cells-clause-causes : goal.returns-in_err-cells-clause-causes
+returns-in_err-cells-clause-causes g c =
+    let p = err_from_is_err_and c.from_residual.result c.from_residual.ensures.1 in
+    rw (p.1, p.2) (inl c.in_err-cells.ensures.memory)
+
+pub returns-clause-large : goal.returns-clause-large
+returns-clause-large g c is =
+    let none : TooManyCells (index_of c.args.view) ≡ Memory = of_fault _ c.finish.result (TooManyCells (index_of c.args.view)) c.finish.ensures.memory is in absurd cc
+
+pub returns-clause-refused : goal.returns-clause-refused
+returns-clause-refused g c is =
+    let none : BadLayout ≡ Memory = of_fault _ c.finish.result BadLayout c.finish.ensures.memory is in absurd cc
+
+pub returns-clause-device : goal.returns-clause-device
+returns-clause-device g c is =
+    let none : Device ≡ Memory = of_fault _ c.finish.result Device c.finish.ensures.memory is in absurd cc
+
+pub returns-clause-causes : goal.returns-clause-causes
+returns-clause-causes g c = IfErr-weaker c.finish.result _ _ (λ fault memory. inl memory) c.finish.ensures.memory
+
+pub returns-clause-leaves : goal.returns-clause-leaves
+returns-clause-leaves g c = c.loop-before.invariant.leaves
+
+pub returns-clause-stays : goal.returns-clause-stays
+returns-clause-stays g c other = c.loop-before.invariant.still
+
 pub returns-clause-ok : goal.returns-clause-ok
-returns-clause-ok g c k w laid same =
+returns-clause-ok g c =
     let ends : c.loop-before.before ≡ c.args.span.to = omega (arith, c.loop-before-test.false, c.loop-before.auto.before-end, c.requires.order) in
-    subst (λ (rows : DimRows). StandFor rows [] (between w.batches c.args.span.from c.args.span.to) c.loop-before.cells) same
-    (subst (λ (n : ℕ). StandFor c.args.dims.now [] (between w.batches c.args.span.from n) c.loop-before.cells) ends (c.loop-before.invariant.own k w laid))
+    IfOk-weaker c.finish.result _ _ (λ cells is k w laid same.
+    subst (λ (plain : PlainCells). StandFor w.rows [] (between w.batches c.args.span.from c.args.span.to) plain) (sym is)
+    (subst (λ (rows : DimRows). StandFor rows [] (between w.batches c.args.span.from c.args.span.to) (grown c.loop-before.cells)) same
+    (subst (λ (n : ℕ). StandFor c.args.dims.now [] (between w.batches c.args.span.from n) (grown c.loop-before.cells)) ends (c.loop-before.invariant.own k w laid))))
+    c.finish.ensures.ok
+
+pub returns-clause-view : goal.returns-clause-view
+returns-clause-view g c =
+    IfOk-weaker c.finish.result _ _ (λ cells is. ap (λ (plain : PlainCells). plain.view) is ∙ c.loop-before.invariant.view) c.finish.ensures.ok

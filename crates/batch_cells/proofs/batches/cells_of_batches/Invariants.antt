@@ -4,6 +4,7 @@ use Rattle.object_store.specs.Store.{IsStill, content_of, device_of, disk_of, ha
 use Rattle.cuboid_upkeep.specs.Grouping.{StandFor}
 use Rattle.warehouse_objects.specs.Stands.{IsLaidOut}
 use Rattle.warehouse_objects.specs.Warehouse.{Warehouse}
+use Rattle.growing_cells.specs.Growing.{GrowOver, grown}
 use Rattle.batch_cells.specs.Grouped.{StandForSome}
 use Rattle.batch_cells.proofs.Spans.{between}
 use Rattle.batch_cells.proofs.batches.cells_of_batches.Given as goal
@@ -14,7 +15,8 @@ invariant-loop-before g l =
       fine : has_failed l.store ≡ false;
       still : IsStill g.D.Sectors l.initial.store l.store;
       leaves : Leaves (disk_of g.D.Sectors l.initial.store) (disk_of g.D.Sectors l.store) (λ c. c ≡ first);
-      view : l.cells.view ≡ l.fn.view;
-      some : StandForSome l.dims l.cells;
-      own : g.D.Sectors.keeps_word (device_of l.store) → (w : Warehouse) → IsLaidOut first w → StandFor l.dims [] (between w.batches l.fn.span.from l.before) l.cells;
+      view : (grown l.cells).view ≡ l.fn.view;
+      some : StandForSome l.dims (grown l.cells);
+      own : g.D.Sectors.keeps_word (device_of l.store) → (w : Warehouse) → IsLaidOut first w → StandFor l.dims [] (between w.batches l.fn.span.from l.before) (grown l.cells);
+      over : GrowOver l.dims l.cells;
     }

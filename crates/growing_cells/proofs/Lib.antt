@@ -1,0 +1,9 @@
+mod Ascending
+mod Coded
+mod Leading
+mod Found
+mod Rows
+mod Slots
+mod Taken
+mod Members
+mod Tables

@@ -1,0 +1,5 @@
+pub mod Growing
+pub mod Keys
+pub mod Members
+pub mod Numbers
+pub mod Slots
