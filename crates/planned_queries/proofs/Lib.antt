@@ -1,1 +1,2 @@
 pub mod Cuboids
+mod Steps

@@ -4,11 +4,13 @@ ghost use Rattle.cube_model.specs.declared.fault.Fault.TheVariants.{BadLayout, D
 ghost use Rattle.cube_model.specs.Admission.{all_rows};
 ghost use Rattle.cube_model.specs.Answers.{answer};
 ghost use Rattle.cube_model.specs.Proper.{IsProper};
-ghost use Rattle.cube_query.specs.Groups.{Begins};
+ghost use Rattle.cube_query.specs.Groups.{Begins, IsOver, StandsFor};
 ghost use Rattle.object_store.specs.Disk.{Leaves};
 ghost use Rattle.object_store.specs.Store.{Breaks, IsStill, content_of, device_of, disk_of, has_failed};
 ghost use Rattle.warehouse_objects.specs.Warehouse.{Warehouse};
 ghost use Rattle.warehouse_objects.specs.Stands.{Stands, root_of};
+ghost use Rattle.planner.specs.declared.price.Plan.{Plan};
+ghost use Rattle.planned_queries.specs.Planned.{IsPlanOf, mark_of};
 
 use crate::following::begin_by_plan;
 use crate::planning::plan_of;
@@ -78,9 +80,40 @@ fn answer_by<D: Sectors>(
     ensures device { IsErrOf result Device → Breaks D.Sectors store.old store.new }
     ensures causes { IfErr result (λ fault. (fault ≡ Memory) ⊎ ((fault ≡ Device) ⊎ (fault ≡ BadLayout))) }
 {
-    let _usable = store.is_broken();
-    let plan = plan_of(alloc, root, as_of, query)?;
-    let from = begin_by_plan(alloc, store, root, dims, fold, plan)?;
+    let from = begin_fold(alloc, store, root, dims, fold, as_of, query)?;
     fold_batches(alloc, store, root, dims, fold, from, as_of)?;
     fold.finish(dims)
+}
+
+/// Counts the cells of a query's plan into a fold of it that stands for no row yet. It answers how many of the first batches
+/// they hold.
+pub(crate) fn begin_fold<D: Sectors>(
+    alloc: Global,
+    store: &mut Store<D>,
+    root: &Root,
+    dims: &Dims,
+    fold: &mut Fold,
+    as_of: u32,
+    query: &Query,
+) -> Result<u32, Fault>
+    requires fine { has_failed store.old ≡ false }
+    requires begins { Begins dims.now query.now fold.old }
+    requires few { as_of ≤ length root.now.batches }
+    ensures begun { IfOk result (λ done. D.keeps_word (device_of store.new) → (w : Warehouse) → Stands (content_of D.Sectors store.old) w
+        → root.now ≡ root_of w → dims.now ≡ w.rows → (plan : Plan) × IsPlanOf w as_of query.now plan × (done ≡ mark_of plan)
+        × StandsFor dims.now fold.new (all_rows (take done w.batches))) }
+    ensures in_time { IfOk result (λ done. done ≤ as_of) }
+    ensures over { IsOver dims.now fold.new }
+    ensures query { fold.new.query ≡ query.now }
+    ensures refused { IsErrOf result BadLayout → D.keeps_word (device_of store.new) → (w : Warehouse) → Stands (content_of D.Sectors store.old) w
+        → root.now ≡ root_of w → dims.now ≡ w.rows → ⊥ }
+    ensures leaves { Leaves (disk_of D.Sectors store.old) (disk_of D.Sectors store.new) (λ c. c ≡ content_of D.Sectors store.old) }
+    ensures stays { (IsErrOf result Device → ⊥) → IsStill D.Sectors store.old store.new }
+    ensures device { IsErrOf result Device → Breaks D.Sectors store.old store.new }
+    ensures causes { IfErr result (λ fault. (fault ≡ Memory) ⊎ ((fault ≡ Device) ⊎ (fault ≡ BadLayout))) }
+{
+    let _usable = store.is_broken();
+    let plan = plan_of(alloc, root, as_of, query)?;
+    let done = begin_by_plan(alloc, store, root, dims, fold, plan)?;
+    Ok(done)
 }

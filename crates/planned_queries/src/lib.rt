@@ -4,6 +4,8 @@
 mod answering;
 mod following;
 mod planning;
+mod stepping;
 
 pub use answering::answer_by_plan;
 pub use planning::{plan_of, plans_of};
+pub use stepping::Running;

@@ -13,12 +13,13 @@ use Rattle.warehouse_objects.specs.Warehouse.{Warehouse, loaded, with_views}
 use Rattle.warehouse_objects.specs.Stands.{Stands}
 use Rattle.warehouse_objects.proofs.CallerLemmas.{next_number}
 use Rattle.warehouse.specs.declared.command.Command.{Command}
-use Rattle.warehouse.specs.declared.command.Command.TheVariants.{Submit, Query, Status, Choose, Upkeep, Audit}
+use Rattle.warehouse.specs.declared.command.Command.TheVariants.{Submit, Query, Status, Choose, Upkeep, Audit, Start, Step}
 use Rattle.warehouse.specs.declared.command.Reply.{Reply}
+use Rattle.warehouse.specs.declared.session.Session.{Session}
 use Rattle.warehouse.specs.Found.{MayBeFound, MayStand}
-use Rattle.warehouse.specs.Running.{During, FoundIn, acknowledged}
-use Rattle.warehouse.specs.Session.{device_of, disk_of}
-use Rattle.warehouse.specs.Headline.{acknowledged_all, submitted, IsRestarted, StoppedRunIsFound}
+use Rattle.warehouse.specs.Running.{Phase, Slots, amid, none_running, During, FoundIn, RanAll, acknowledged}
+use Rattle.warehouse.specs.Session.{IsAt, device_of, disk_of}
+use Rattle.warehouse.specs.Headline.{acknowledged_all, submitted, IsFoundAfter, IsRestarted, StoppedRunIsFound}
 use Rattle.warehouse.specs.Choosing.{views_of}
 use Rattle.warehouse.proofs.Whole.{same_facts, whole}
 
@@ -41,6 +42,8 @@ in_command w (Choose k) c during =
     (λ chosen. (with_views w (views_of chosen.0), inl refl, chosen.2)) during
 in_command w Upkeep c during = (during.0, inl during.1.facts, during.2)
 in_command w Audit c stands = (w, as_it_is w None, stands)
+in_command w (Start slot as_of query) c stands = (w, as_it_is w None, stands)
+in_command w (Step slot) c stands = (w, as_it_is w None, stands)
 
 -- stopped after some commands, in the next
 record IsStopped (w : Warehouse) (commands : List Command) (replies : List Reply) (c : Content) : Type 0 where
@@ -70,9 +73,15 @@ restarted_shows g size image device c restarted shows other is =
     subst (λ (n : ℕ). Shows n other c) (sym restarted.same_size)
     (shows.0, shows.1, shows_same size image other c shows.0 shows.1 shows.2 (λ i _. sym (restarted.one other is i)))
 
-pub stopped_run : {D : Type 0} (g : Ghosts D) → ((d : D) (image : Image) → g.keeps_word d → (g.state d).left_since (g.state d).moment image → IsImage (g.state d) image) → StoppedRunIsFound g
-stopped_run g only old new w commands replies after is ran word image left device restarted =
-    let leaves = whole g old new w after commands replies ran
+-- whatever runs in the slots
+pub stopped_amid : {D : Type 0} (g : Ghosts D) → ((d : D) (image : Image) → g.keeps_word d → (g.state d).left_since (g.state d).moment image → IsImage (g.state d) image)
+    → (old new : Session D g) (w : Warehouse) (slots : Slots) (commands : List Command) (replies : List Reply) (after : Phase)
+    → IsAt g old w → RanAll g old (amid w slots) commands replies new after → (disk_of g new).keeps_word
+    → (image : Image) → (g.state (device_of new)).left_since (g.state (device_of old)).moment image
+    → (device : D) → IsRestarted g (g.state (device_of old)).size image device
+    → IsFoundAfter g w commands replies device
+stopped_amid g only old new w slots commands replies after is ran word image left device restarted =
+    let leaves = whole g old new w slots after commands replies ran
     (begins (ShowsSome (λ (c : Content). Stands c w)) (disk_of g old) (λ k i. only (device_of old) i k) is.all) in
     let shown = (leaves.moments word).each image left in
     let stop = stopped w commands replies shown.0 shown.2 in record {
@@ -86,3 +95,6 @@ stopped_run g only old new w commands replies after is ran word image left devic
         (stop.found.0, as_it_is stop.found.0 None, stop.found.2),
       );
     }
+
+pub stopped_run : {D : Type 0} (g : Ghosts D) → ((d : D) (image : Image) → g.keeps_word d → (g.state d).left_since (g.state d).moment image → IsImage (g.state d) image) → StoppedRunIsFound g
+stopped_run g only old new w commands replies after = stopped_amid g only old new w none_running commands replies after

@@ -17,3 +17,4 @@ pub mod Outcomes
 pub mod Performing
 pub mod Whole
 pub mod Headlining
+pub mod Slotting

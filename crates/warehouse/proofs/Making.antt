@@ -120,3 +120,10 @@ no_memory g device rows fault now memory = record {
   full = λ other. let is : Memory ≡ Full = sym memory ∙ other in absurd cc;
   causes = inr (inr (inr (inr memory)));
 }
+
+-- the same of equal dimensions
+pub made_of : {D : Type 0} (g : Ghosts D) (device : D) (shared rows : DimRows) (root : PlainRoot) (store : Store D g) → shared ≡ rows → MakesStore g device shared root store → MakesStore g device rows root store
+made_of g device shared rows root store same made = subst (λ (dimensions : DimRows). MakesStore g device dimensions root store) same made
+
+pub refused_of : {D : Type 0} (g : Ghosts D) (device : D) (shared rows : DimRows) (fault : Fault) (back : D) → shared ≡ rows → RefusesToMake g device shared fault back → RefusesToMake g device rows fault back
+refused_of g device shared rows fault back same refused = subst (λ (dimensions : DimRows). RefusesToMake g device dimensions fault back) same refused

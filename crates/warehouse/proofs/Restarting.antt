@@ -14,8 +14,8 @@ use Rattle.warehouse_objects.specs.Stands.{Stands}
 use Rattle.warehouse_objects.specs.Lawful.{ContentIsOneWarehouse}
 use Rattle.warehouse.specs.declared.command.Command.{Command}
 use Rattle.warehouse.specs.declared.command.Reply.{Reply}
-use Rattle.warehouse.specs.declared.command.Command.TheVariants.{Submit, Query, Status, Choose, Upkeep, Audit}
-use Rattle.warehouse.specs.declared.command.Reply.TheVariants.{Done, Answer, Numbers, Chosen, Audited, Refused}
+use Rattle.warehouse.specs.declared.command.Command.TheVariants.{Submit, Query, Status, Choose, Upkeep, Audit, Start, Step}
+use Rattle.warehouse.specs.declared.command.Reply.TheVariants.{Done, More, Answer, Numbers, Chosen, Audited, Refused}
 use Rattle.warehouse.specs.Found.{MayBeFound}
 use Rattle.warehouse.specs.Headline.{FewerIsNotFound, IsRestarted, RestartedShows, StoppedCreateIsFound, StoppedOpenIsFound, acknowledged_all, submitted}
 use Rattle.warehouse.specs.Running.{acknowledged}
@@ -42,6 +42,7 @@ create_again g start end rows leaves word image left device restarted =
 -- there are no fewer acknowledged batches than before
 no_fewer : (facts : Facts) (command : Command) (reply : Reply) → length facts.batches ≤ length (acknowledged facts command reply).batches
 no_fewer facts (Submit number batch) Done = omega (arith, length-append facts.batches (batch ∷ []))
+no_fewer facts (Submit number batch) More = omega arith
 no_fewer facts (Submit number batch) (Answer found) = omega arith
 no_fewer facts (Submit number batch) (Numbers numbers) = omega arith
 no_fewer facts (Submit number batch) (Chosen chosen) = omega arith
@@ -52,6 +53,8 @@ no_fewer facts Status reply = omega arith
 no_fewer facts (Choose k) reply = omega arith
 no_fewer facts Upkeep reply = omega arith
 no_fewer facts Audit reply = omega arith
+no_fewer facts (Start slot as_of query) reply = omega arith
+no_fewer facts (Step slot) reply = omega arith
 
 none_fewer : (facts : Facts) (commands : List Command) (replies : List Reply) → length facts.batches ≤ length (acknowledged_all facts commands replies).batches
 none_fewer facts [] replies = omega arith

@@ -37,11 +37,11 @@ HasRoomFor dimensions root more batch =
 
 -- a batch of a session has some rows so far
 abbrev pub Grows : {D : Type 0} {g : Ghosts D} → Session D g → List LineOrder → GrowingBatch → Type 0
-Grows session rows batch = IsGrown session.dims session.root rows batch
+Grows session rows batch = IsGrown session.dims.value session.root rows batch
 
 -- and so many more are not too many
 abbrev pub CanGrow : {D : Type 0} {g : Ghosts D} → Session D g → ℕ → GrowingBatch → Type 0
-CanGrow session more batch = HasRoomFor session.dims session.root more batch
+CanGrow session more batch = HasRoomFor session.dims.value session.root more batch
 
 -- a batch is one of a session
 abbrev pub IsOfSession : {D : Type 0} {g : Ghosts D} → Session D g → GrowingBatch → Type 0

@@ -15,7 +15,7 @@ use Rattle.warehouse.specs.declared.command.Command.TheVariants as asks
 use Rattle.warehouse.specs.declared.command.Reply.{Reply}
 use Rattle.warehouse.specs.declared.session.Session.{Session}
 use Rattle.warehouse.specs.Found.{MayBeFound, MayStand, MayStandSince}
-use Rattle.warehouse.specs.Running.{Phase, at, RanAll, acknowledged}
+use Rattle.warehouse.specs.Running.{Phase, Slots, amid, at, RanAll, acknowledged}
 use Rattle.warehouse.specs.Session.{IsAt, device_of, disk_of}
 
 -- the facts that are acknowledged after commands with these replies
@@ -53,16 +53,16 @@ StoppedRunIsFound {D} g = (old new : Session D g) (w : Warehouse) (commands : Li
     → IsFoundAfter g w commands replies device
 
 -- A run crashed after some of its commands had replied: the device was restarted with an image that the crash may have left since.
-pub record IsCrashed {D : Type 0} (g : Ghosts D) (w v : Warehouse) (earlier later : List Command) (replies others : List Reply) (device : D) : Type 0 where
+pub record IsCrashed {D : Type 0} (g : Ghosts D) (w v : Warehouse) (slots : Slots) (earlier later : List Command) (replies others : List Reply) (device : D) : Type 0 where
   pub old : Session D g
   pub mid : Session D g
   pub new : Session D g
   pub after : Phase
   pub began : IsAt g old w
-  -- these commands had replied
-  pub first : RanAll g old (at w) earlier replies mid (at v)
+  -- these commands had replied, and queries ran in these slots
+  pub first : RanAll g old (at w) earlier replies mid (amid v slots)
   -- and these were being done
-  pub then_ran : RanAll g mid (at v) later others new after
+  pub then_ran : RanAll g mid (amid v slots) later others new after
   pub word : (disk_of g new).keeps_word
   pub image : Image
   pub left : (g.state (device_of new)).left_since (g.state (device_of mid)).moment image
@@ -71,8 +71,8 @@ pub record IsCrashed {D : Type 0} (g : Ghosts D) (w v : Warehouse) (earlier late
 -- The same after any of the commands: a crash later than some of them leaves all batches that these acknowledged. So no batch is
 -- lost that was acknowledged before the crash.
 abbrev pub LaterStopIsFound : {D : Type 0} → Ghosts D → Type 0
-LaterStopIsFound {D} g = (w v : Warehouse) (earlier later : List Command) (replies others : List Reply) (device : D)
-    → IsCrashed g w v earlier later replies others device
+LaterStopIsFound {D} g = (w v : Warehouse) (slots : Slots) (earlier later : List Command) (replies others : List Reply) (device : D)
+    → IsCrashed g w v slots earlier later replies others device
     → (facts_in v ≡ acknowledged_all (facts_in w) earlier replies) × IsFoundAfter g v later others device
 
 -- What a run leaves that crashed after some of its commands had replied: the facts that these acknowledged, then those that some of the

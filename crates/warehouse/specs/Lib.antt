@@ -14,3 +14,5 @@ pub mod Upkeep
 pub mod Running
 pub mod Headline
 pub mod Room
+pub mod Stepping
+pub mod Slots

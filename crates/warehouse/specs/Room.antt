@@ -1,5 +1,5 @@
 -- How many sectors a warehouse takes of its device. Our own.
-use Rattle.std.specs.Prelude.{ℕ, ◌+◌, Option, Some, None, List, length}
+use Rattle.std.specs.Prelude.{ℕ, ◌+◌, Option, Some, None, length}
 use Rattle.std.specs.List.{sum_by}
 use Rattle.std.specs.Option.{option_map}
 use Rattle.superblock.specs.Superblock.{sectors_of}

@@ -1,8 +1,9 @@
 -- Runs of commands: replies of the plain model, and what a crash leaves at each moment.
-use Rattle.std.specs.Prelude.{◌≡◌, ◌⊎◌, true, List, [], ◌∷◌}
+use Rattle.std.specs.Prelude.{◌≡◌, ◌⊎◌, ℕ, ◌+◌, ◌<◌, ◌≤◌, true, Option, Some, None, List, [], ◌∷◌, replicate, slice_set, slice_index_or}
 use Rattle.sector_device.specs.declared.device.Sectors.{Ghosts}
 use Rattle.cube_model.specs.declared.fault.Fault.{Fault}
-use Rattle.cube_model.specs.declared.fault.Fault.TheVariants.{Device, Failed, Memory}
+use Rattle.cube_model.specs.declared.fault.Fault.TheVariants.{Device, Failed, Memory, NotRunning}
+use Rattle.cube_model.specs.declared.query.Query.{Query}
 use Rattle.cube_model.specs.declared.rows.LineOrder.{LineOrder}
 use Rattle.cube_model.specs.Answers.{answer_as_of}
 use Rattle.object_store.specs.Content.{Content}
@@ -12,6 +13,7 @@ use Rattle.warehouse_objects.specs.Warehouse.{Warehouse, loaded, with_views}
 use Rattle.warehouse_objects.specs.Stands.{Stands}
 use Rattle.cuboid_commits.specs.Keeping.{IsKeptUp}
 use Rattle.cuboid_commits.specs.Upkeep.{AreWhole}
+use Rattle.planned_queries.specs.Stepping.{Started, Starts, answer_of, stepped}
 use Rattle.warehouse.specs.declared.chosen.Chosen.{Chosen}
 use Rattle.warehouse.specs.declared.command.Command.{Command}
 use Rattle.warehouse.specs.declared.command.Command.TheVariants as asks
@@ -24,44 +26,78 @@ use Rattle.warehouse.specs.Session.{IsAt, content_of, disk_of, has_failed, Commi
 use Rattle.warehouse.specs.Status.{IsStatus}
 use Rattle.warehouse.specs.Upkeep.{UpkeepRefuses}
 
--- a run is at a warehouse, or the device has failed
+-- the slots of a run, each with the query that runs in it, if there is one
+abbrev pub Slots : Type 0
+Slots = List (Option Started)
+
+-- how many slots a run has
+abbrev pub most_running : ℕ
+most_running = 16
+
+-- no query runs
+abbrev pub none_running : Slots
+none_running = replicate most_running None
+
+-- a run is amid a warehouse and the queries in its slots, or the device has failed
 pub data Phase : Type 0 where
-  at : Warehouse → Phase
+  amid : Warehouse → Slots → Phase
   broken : Phase
+
+-- at a warehouse, where no query runs
+abbrev pub at : Warehouse → Phase
+at w = amid w none_running
 
 -- what a session is at in a phase
 abbrev pub Holds : {D : Type 0} (g : Ghosts D) → Session D g → Phase → Type 0
-Holds g session (at w) = IsAt g session w
+Holds g session (amid w slots) = IsAt g session w
 Holds g session broken = has_failed session ≡ true
 
--- a reply, what holds where it is given, and the warehouse then
-abbrev pub Says : Reply → Type 0 → Warehouse → Reply → Phase → Type 0
-Says one holds w reply after = (reply ≡ one) × holds × (after ≡ at w)
+-- a reply, what holds where it is given, and the phase then
+abbrev pub Says : Reply → Type 0 → Phase → Reply → Phase → Type 0
+Says one holds next reply after = (reply ≡ one) × holds × (after ≡ next)
 
--- a refusal: the device failed, or there is a cause, and the warehouse is this one
-abbrev pub Refuses : (Fault → Type 0) → Warehouse → Reply → Phase → Type 0
-Refuses cause w reply after =
-    (fault : Fault) × (reply ≡ says.Refused fault) × (((fault ≡ Device) × (after ≡ broken)) ⊎ (cause fault × (after ≡ at w)))
+-- a refusal: the device failed, or there is a cause, and the phase is this one
+abbrev pub Refuses : (Fault → Type 0) → Phase → Reply → Phase → Type 0
+Refuses cause next reply after =
+    (fault : Fault) × (reply ≡ says.Refused fault) × (((fault ≡ Device) × (after ≡ broken)) ⊎ (cause fault × (after ≡ next)))
+
+-- the reply to a start in a slot: the query of then is in the slot, and a refusal leaves the slot
+abbrev pub StartReplies : {D : Type 0} (g : Ghosts D) → Session D g → Warehouse → Slots → ℕ → ℕ → Query → Reply → Session D g → Phase → Type 0
+StartReplies g old w slots slot as_of query reply new after =
+    Says (says.Refused NotRunning) ((most_running ≤ slot) × KeepsContent g old new) (amid w slots) reply after
+    ⊎ ((slot < most_running)
+    × (((s : Started) × Says says.Done (IsAsked w as_of query × Starts w as_of query s × KeepsContent g old new) (amid w (slice_set slots slot (Some s))) reply after)
+    ⊎ Refuses (λ fault. QueryRefuses w as_of query fault × KeepsContent g old new) (amid w slots) reply after))
+
+-- the reply to a step of the query in a slot, if there is one: after as many steps as there were to come its answer, which empties the slot
+abbrev pub StepReplies : {D : Type 0} (g : Ghosts D) → Session D g → Warehouse → Slots → ℕ → Option Started → Reply → Session D g → Phase → Type 0
+StepReplies g old w slots slot None reply new after = Says (says.Refused NotRunning) (KeepsContent g old new) (amid w slots) reply after
+StepReplies g old w slots slot (Some s) reply new after =
+    ((left : ℕ) × Says says.More ((s.left ≡ left + 1) × KeepsContent g old new) (amid w (slice_set slots slot (Some (stepped s left)))) reply after)
+    ⊎ (Says (says.Answer (answer_of s)) ((s.left ≡ 0) × KeepsContent g old new) (amid w (slice_set slots slot None)) reply after
+    ⊎ Refuses (λ fault. (fault ≡ Memory) × KeepsContent g old new) (amid w slots) reply after)
 
 -- The reply to a command, with the session then, and the phase after it. A batch is one commit, a choice of cuboids one; nothing
 -- else but upkeep commits.
-abbrev pub Replies : {D : Type 0} (g : Ghosts D) → Session D g → Warehouse → Command → Reply → Session D g → Phase → Type 0
-Replies g old w (asks.Submit number batch) reply new after =
-    Says says.Done (Admits w number batch × CommitsOnce g old new) (loaded w batch) reply after
-    ⊎ Refuses (λ fault. SubmitRefuses g old w number batch fault × KeepsContent g old new) w reply after
-Replies g old w (asks.Query as_of query) reply new after =
-    Says (says.Answer (answer_as_of query as_of w.rows w.batches)) (IsAsked w as_of query × KeepsContent g old new) w reply after
-    ⊎ Refuses (λ fault. QueryRefuses w as_of query fault × KeepsContent g old new) w reply after
-Replies g old w asks.Status reply new after =
-    (status : Status) × Says (says.Numbers status) (IsStatus w (content_of g old).generation status × KeepsContent g old new) w reply after
-Replies g old w (asks.Choose k) reply new after =
-    ((chosen : List Chosen) × Says (says.Chosen chosen) (IsChoice w k chosen × CommitsOnce g old new) (with_views w (views_of chosen)) reply after)
-    ⊎ Refuses (λ fault. ChooseRefuses g old w k fault × KeepsContent g old new) w reply after
-Replies g old w asks.Upkeep reply new after =
-    (v : Warehouse) × IsKeptUp w v × (Says says.Done (AreWhole v) v reply after ⊎ Refuses (UpkeepRefuses g new v) v reply after)
-Replies g old w asks.Audit reply new after =
-    Says (says.Audited true) (KeepsContent g old new) w reply after
-    ⊎ Refuses (λ fault. (fault ≡ Memory) × KeepsContent g old new) w reply after
+abbrev pub Replies : {D : Type 0} (g : Ghosts D) → Session D g → Warehouse → Slots → Command → Reply → Session D g → Phase → Type 0
+Replies g old w slots (asks.Submit number batch) reply new after =
+    Says says.Done (Admits w number batch × CommitsOnce g old new) (amid (loaded w batch) slots) reply after
+    ⊎ Refuses (λ fault. SubmitRefuses g old w number batch fault × KeepsContent g old new) (amid w slots) reply after
+Replies g old w slots (asks.Query as_of query) reply new after =
+    Says (says.Answer (answer_as_of query as_of w.rows w.batches)) (IsAsked w as_of query × KeepsContent g old new) (amid w slots) reply after
+    ⊎ Refuses (λ fault. QueryRefuses w as_of query fault × KeepsContent g old new) (amid w slots) reply after
+Replies g old w slots asks.Status reply new after =
+    (status : Status) × Says (says.Numbers status) (IsStatus w (content_of g old).generation status × KeepsContent g old new) (amid w slots) reply after
+Replies g old w slots (asks.Choose k) reply new after =
+    ((chosen : List Chosen) × Says (says.Chosen chosen) (IsChoice w k chosen × CommitsOnce g old new) (amid (with_views w (views_of chosen)) slots) reply after)
+    ⊎ Refuses (λ fault. ChooseRefuses g old w k fault × KeepsContent g old new) (amid w slots) reply after
+Replies g old w slots asks.Upkeep reply new after =
+    (v : Warehouse) × IsKeptUp w v × (Says says.Done (AreWhole v) (amid v slots) reply after ⊎ Refuses (UpkeepRefuses g new v) (amid v slots) reply after)
+Replies g old w slots asks.Audit reply new after =
+    Says (says.Audited true) (KeepsContent g old new) (amid w slots) reply after
+    ⊎ Refuses (λ fault. (fault ≡ Memory) × KeepsContent g old new) (amid w slots) reply after
+Replies g old w slots (asks.Start slot as_of query) reply new after = StartReplies g old w slots slot as_of query reply new after
+Replies g old w slots (asks.Step slot) reply new after = StepReplies g old w slots slot (slice_index_or slots slot None) reply new after
 
 -- what an image may be of while a command runs
 abbrev pub During : Warehouse → Command → Content → Type 0
@@ -71,17 +107,19 @@ During w asks.Status c = Stands c w
 During w (asks.Choose k) c = Stands c w ⊎ ((chosen : List Chosen) × IsChoice w k chosen × Stands c (with_views w (views_of chosen)))
 During w asks.Upkeep c = (v : Warehouse) × IsKeptUp w v × Stands c v
 During w asks.Audit c = Stands c w
+During w (asks.Start slot as_of query) c = Stands c w
+During w (asks.Step slot) c = Stands c w
 
 -- One command: its reply, what a crash leaves at each moment of it, and what the session is at then. After a failure there is no
 -- device call.
 abbrev pub Ran : {D : Type 0} (g : Ghosts D) → Session D g → Phase → Command → Reply → Session D g → Phase → Type 0
-Ran g old (at w) command reply new after =
-    Replies g old w command reply new after × Leaves (disk_of g old) (disk_of g new) (During w command) × Holds g new after
+Ran g old (amid w slots) command reply new after =
+    Replies g old w slots command reply new after × Leaves (disk_of g old) (disk_of g new) (During w command) × Holds g new after
 Ran g old broken command reply new after = (reply ≡ says.Refused Failed) × (new ≡ old) × (after ≡ broken)
 
 -- a command was done, and what the session is at then
-abbrev pub Does : {D : Type 0} (g : Ghosts D) → Session D g → Warehouse → Command → Reply → Session D g → Type 0
-Does g old w command reply new = (after : Phase) × Ran g old (at w) command reply new after × Holds g new after
+abbrev pub Does : {D : Type 0} (g : Ghosts D) → Session D g → Warehouse → Slots → Command → Reply → Session D g → Type 0
+Does g old w slots command reply new = (after : Phase) × Ran g old (amid w slots) command reply new after × Holds g new after
 
 -- A run of commands, with the session as each of them ended.
 abbrev pub RanAll : {D : Type 0} (g : Ghosts D) → Session D g → Phase → List Command → List Reply → Session D g → Phase → Type 0

@@ -18,14 +18,20 @@ pub enum Command {
     Upkeep,
     /// Asks whether each stored cuboid is what it is to be.
     Audit,
+    /// Starts a query in a slot from 0 to 15, over the first batches of then, so many of them. What ran there is dropped.
+    Start(u8, u32, Query),
+    /// Makes the next step of the query in a slot.
+    Step(u8),
 }
 
 /// The reply to a command.
 #[derive(Debug, PartialEq, Drop)]
 pub enum Reply {
-    /// The batch was added, or each stored cuboid holds all batches.
+    /// The batch was added, the query was started, or each stored cuboid holds all batches.
     Done,
-    /// The answer to the query.
+    /// A batch was counted in, and the query runs on.
+    More,
+    /// The answer to the query. It runs no more.
     Answer(Answer),
     /// The numbers of the warehouse.
     Numbers(Status),

@@ -15,12 +15,13 @@ ghost use Rattle.warehouse.specs.Session.{disk_of, IsAt};
 
 use crate::beginning::Beginning;
 use crate::prepared::kept_is_what_stands;
-use crate::session::Session;
+use crate::session::{Session, shared};
 use cube_model::Fault;
 use dimensions::Dims;
 use object_store::Store;
 use sector_device::Sectors;
 use std::alloc::Global;
+use std::rc::Rc;
 use warehouse_root::Layout;
 
 /// Makes a warehouse without batches on a device without one. A refusal hands the device back.
@@ -51,6 +52,10 @@ pub fn create<D: Sectors>(alloc: Global, device: D, dims: Dims) -> Result<Sessio
         Ok(beginning) => beginning,
         Err(fault) => return Err((fault, device)),
     };
+    let dims = match shared(alloc, dims) {
+        Ok(dims) => dims,
+        Err(fault) => return Err((fault, device)),
+    };
     match make_store(alloc, device, &dims, &beginning) {
         Ok(store) => Ok(Session {
             store,
@@ -65,12 +70,12 @@ pub fn create<D: Sectors>(alloc: Global, device: D, dims: Dims) -> Result<Sessio
 fn make_store<D: Sectors>(
     alloc: Global,
     device: D,
-    dims: &Dims,
+    dims: &Rc<Dims>,
     beginning: &Beginning,
 ) -> Result<Store<D>, (Fault, D)>
-    requires begins { IsBeginning dims.now beginning.now }
-    ensures ok { IfOk result (MakesStore D.Sectors device dims.now beginning.now.root) }
-    ensures refused { IfErr result (λ e. RefusesToMake D.Sectors device dims.now e.0 e.1) }
+    requires begins { IsBeginning dims.now.value beginning.now }
+    ensures ok { IfOk result (MakesStore D.Sectors device dims.now.value beginning.now.root) }
+    ensures refused { IfErr result (λ e. RefusesToMake D.Sectors device dims.now.value e.0 e.1) }
 {
     kept_is_what_stands(dims, &beginning.root);
     let puts = [

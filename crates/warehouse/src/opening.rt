@@ -15,12 +15,13 @@ ghost use Rattle.warehouse.specs.Found.{IsFinished, IsSince, MayBeFound, MayStan
 ghost use Rattle.warehouse_objects.specs.Loaded.{IsLoaded};
 ghost use Rattle.warehouse.specs.Session.{content_of, device_of, disk_of, has_failed, IsAt};
 
-use crate::session::Session;
+use crate::session::{Session, shared};
 use cube_model::Fault;
 use dimensions::Dims;
 use object_store::Store;
 use sector_device::Sectors;
 use std::alloc::Global;
+use std::rc::Rc;
 use warehouse_objects::{has_its_objects, read_dims, read_root};
 use warehouse_root::Root;
 
@@ -122,9 +123,9 @@ fn load<D: Sectors>(alloc: Global, mut store: Store<D>) -> Result<Session<D>, (F
 }
 
 // The dimensions and the root of the warehouse for which the content of a store stands.
-fn read<D: Sectors>(alloc: Global, store: &mut Store<D>) -> Result<(Dims, Root), Fault>
+fn read<D: Sectors>(alloc: Global, store: &mut Store<D>) -> Result<(Rc<Dims>, Root), Fault>
     requires fine { stores.has_failed store.old ≡ false }
-    ensures loaded { IfOk result (λ parts. D.keeps_word (stores.device_of store.new) → IsLoaded (stores.content_of D.Sectors store.old) parts.0 parts.1) }
+    ensures loaded { IfOk result (λ parts. D.keeps_word (stores.device_of store.new) → IsLoaded (stores.content_of D.Sectors store.old) parts.0.value parts.1) }
     ensures readable { IsErrOf result BadLayout → D.keeps_word (stores.device_of store.new)
         → (w : Warehouse) → Stands (stores.content_of D.Sectors store.old) w → ⊥ }
     ensures leaves { Leaves (stores.disk_of D.Sectors store.old) (stores.disk_of D.Sectors store.new) (λ c. c ≡ stores.content_of D.Sectors store.old) }
@@ -135,6 +136,7 @@ fn read<D: Sectors>(alloc: Global, store: &mut Store<D>) -> Result<(Dims, Root),
     let _broken = store.is_broken();
     let root = known_root(alloc, store)?;
     let dims = read_dims(alloc, store)?;
+    let dims = shared(alloc, dims)?;
     Ok((dims, root))
 }
 

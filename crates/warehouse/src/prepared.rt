@@ -19,6 +19,7 @@ use column_segment::encode;
 use cube_model::{Fault, LineOrder};
 use dimensions::Dims;
 use std::alloc::Global;
+use std::rc::Rc;
 use warehouse_objects::laws::{objects_are_storable, rows_are_one};
 use warehouse_objects::{numbers_fit, rows_are_storable};
 use warehouse_root::{Root, StoredTotals};
@@ -163,12 +164,12 @@ pub(crate) fn cause_of(fault: Fault) -> Fault
 }
 
 /// What is kept in memory is what the content stands for. It does nothing.
-pub(crate) fn kept_is_what_stands(dims: &Dims, root: &Root)
-    ensures dims { AreStorable dims.now }
-    ensures puts { ArePuts (dimension_puts dims.now) }
+pub(crate) fn kept_is_what_stands(dims: &Rc<Dims>, root: &Root)
+    ensures dims { AreStorable dims.now.value }
+    ensures puts { ArePuts (dimension_puts dims.now.value) }
     ensures root { IsProper root.now }
-    ensures agrees { (c : Content) (w : Warehouse) → IsLoaded c dims.now root.now → Stands c w → Agrees w dims.now root.now }
-    ensures laid { (c : Content) (w : Warehouse) → IsLoaded c dims.now root.now → IsLaidOut c w → Agrees w dims.now root.now }
+    ensures agrees { (c : Content) (w : Warehouse) → IsLoaded c dims.now.value root.now → Stands c w → Agrees w dims.now.value root.now }
+    ensures laid { (c : Content) (w : Warehouse) → IsLoaded c dims.now.value root.now → IsLaidOut c w → Agrees w dims.now.value root.now }
 {
     rows_are_one();
     objects_are_storable();

@@ -6,6 +6,7 @@ ghost use Rattle.warehouse_objects.specs.Warehouse.{Warehouse};
 ghost use Rattle.warehouse.specs.declared.command.Command.{Command};
 ghost use Rattle.warehouse.specs.declared.command.Reply.{Reply};
 ghost use Rattle.warehouse.specs.Headline.{IsCrashed, IsLeftByCrash};
+ghost use Rattle.warehouse.specs.Running.{Slots};
 ghost use Rattle.warehouse.specs.Session.{IsAsked, QueryRefuses, device_of};
 
 use crate::laws::later_stop_is_found;
@@ -26,12 +27,12 @@ pub fn open_and_query<D: Sectors>(
     as_of: u32,
     query: &Query,
 ) -> Result<(Session<D>, Answer), (Fault, D)>
-    ensures answers { IfOk result (λ found. (w v : Warehouse) (earlier later : List Command) (replies others : List Reply)
-        → IsCrashed D.Sectors w v earlier later replies others device → D.keeps_word (device_of found.0)
+    ensures answers { IfOk result (λ found. (w v : Warehouse) (slots : Slots) (earlier later : List Command) (replies others : List Reply)
+        → IsCrashed D.Sectors w v slots earlier later replies others device → D.keeps_word (device_of found.0)
         → (now : Warehouse) × IsLeftByCrash w earlier later replies others now × IsAsked now as_of query.now
         × (found.1 ≡ answer_as_of query.now as_of now.rows now.batches)) }
-    ensures refused { IfErr result (λ e. (w v : Warehouse) (earlier later : List Command) (replies others : List Reply)
-        → IsCrashed D.Sectors w v earlier later replies others device → D.keeps_word e.1
+    ensures refused { IfErr result (λ e. (w v : Warehouse) (slots : Slots) (earlier later : List Command) (replies others : List Reply)
+        → IsCrashed D.Sectors w v slots earlier later replies others device → D.keeps_word e.1
         → (e.0 ≡ Memory) ⊎ ((e.0 ≡ Device) ⊎ ((now : Warehouse) × IsLeftByCrash w earlier later replies others now × QueryRefuses now as_of query.now e.0))) }
 {
     later_stop_is_found::<D>();

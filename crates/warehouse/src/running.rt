@@ -5,16 +5,21 @@ ghost use Rattle.object_store.specs.Disk.{Leaves};
 ghost use Rattle.warehouse_objects.specs.Warehouse.{Warehouse};
 ghost use Rattle.warehouse.specs.Session.{has_failed, device_of, disk_of, IsAt};
 ghost use Rattle.warehouse.specs.declared.command.Command.TheVariants as asks;
-ghost use Rattle.warehouse.specs.Running.{Phase, at, broken, Does, Holds, Ran, RanAll, FoundIn};
+ghost use Rattle.warehouse.specs.Running.{Phase, Slots, at, broken, Does, Holds, Ran, RanAll, FoundIn};
+ghost use Rattle.warehouse.specs.Slots.{AreOf, AreRunning, DoesWith};
 
 use crate::command::{Command, Reply};
+use crate::query_slots::{MOST_RUNNING, QuerySlots};
 use crate::session::Session;
+use crate::stepping::Stepped;
 use cube_model::{Fault, Items, LineOrder, Query};
 use sector_device::Sectors;
 use std::alloc::Global;
 
 /// Does commands in order. The replies are those of the plain model, and while a command runs a stop leaves what that
-/// command may leave. Room for the replies is taken first: `Memory` comes before any command is done.
+/// command may leave. Up to sixteen queries run step by step between the other commands, each in a slot: all slots are empty
+/// where the run begins, and what runs at its end is dropped. `NotRunning` is refused above the last slot, and at a step of an
+/// empty one. Room for the replies is taken first: `Memory` comes before any command is done.
 pub fn run<D: Sectors>(
     alloc: Global,
     session: &mut Session<D>,
@@ -33,21 +38,31 @@ pub fn run<D: Sectors>(
         → RanAll D.Sectors session.old broken commands.now replies.items session.new broken) }
 {
     let _broken = session.is_broken();
+    let mut slots = match QuerySlots::new(alloc) {
+        Ok(slots) => slots,
+        Err(fault) => return Err(fault),
+    };
     let mut replies = match Vec::with_capacity(alloc, commands.len()) {
         Ok(replies) => replies,
         Err(_) => return Err(Fault::Memory),
     };
     for command in commands {
-        let reply = perform(alloc, session, command);
+        let reply = perform(alloc, session, &mut slots, command);
         let _ = replies.push(reply);
     }
     Ok(replies)
 }
 
 // Does one command.
-fn perform<D: Sectors>(alloc: Global, session: &mut Session<D>, command: &Command) -> Reply
+fn perform<D: Sectors>(
+    alloc: Global,
+    session: &mut Session<D>,
+    slots: &mut QuerySlots,
+    command: &Command,
+) -> Reply
     ensures word { D.keeps_word (device_of session.new) → D.keeps_word (device_of session.old) }
-    ensures ran { (w : Warehouse) → IsAt D.Sectors session.old w → D.keeps_word (device_of session.new) → Does D.Sectors session.old w command.now result session.new }
+    ensures ran { (w : Warehouse) (started : Slots) → IsAt D.Sectors session.old w → AreRunning slots.old.queries.items started → AreOf w started
+        → D.keeps_word (device_of session.new) → DoesWith D.Sectors session.old w started command.now result session.new slots.new.queries.items }
     ensures broken { has_failed session.old ≡ true → Ran D.Sectors session.old broken command.now result session.new broken }
 {
     if session.is_broken() {
@@ -60,6 +75,8 @@ fn perform<D: Sectors>(alloc: Global, session: &mut Session<D>, command: &Comman
         Command::Choose(k) => choose(alloc, session, *k),
         Command::Upkeep => keep_up(alloc, session),
         Command::Audit => audit(alloc, session),
+        Command::Start(slot, as_of, query) => start(alloc, session, slots, *slot, *as_of, query),
+        Command::Step(slot) => step(alloc, session, slots, *slot),
     }
 }
 
@@ -71,7 +88,7 @@ fn submit<D: Sectors>(
     rows: &Items<LineOrder>,
 ) -> Reply
     ensures word { D.keeps_word (device_of session.new) → D.keeps_word (device_of session.old) }
-    ensures ran { (w : Warehouse) → IsAt D.Sectors session.old w → D.keeps_word (device_of session.new) → Does D.Sectors session.old w (asks.Submit number rows.now) result session.new }
+    ensures ran { (w : Warehouse) (started : Slots) → IsAt D.Sectors session.old w → D.keeps_word (device_of session.new) → Does D.Sectors session.old w started (asks.Submit number rows.now) result session.new }
 {
     match session.submit(alloc, number, rows.as_slice()) {
         Ok(()) => Reply::Done,
@@ -82,7 +99,7 @@ fn submit<D: Sectors>(
 // Answers a query over the first batches.
 fn answer<D: Sectors>(alloc: Global, session: &mut Session<D>, as_of: u32, query: &Query) -> Reply
     ensures word { D.keeps_word (device_of session.new) → D.keeps_word (device_of session.old) }
-    ensures ran { (w : Warehouse) → IsAt D.Sectors session.old w → D.keeps_word (device_of session.new) → Does D.Sectors session.old w (asks.Query as_of query.now) result session.new }
+    ensures ran { (w : Warehouse) (started : Slots) → IsAt D.Sectors session.old w → D.keeps_word (device_of session.new) → Does D.Sectors session.old w started (asks.Query as_of query.now) result session.new }
 {
     match session.query(alloc, as_of, query) {
         Ok(found) => Reply::Answer(found),
@@ -93,7 +110,7 @@ fn answer<D: Sectors>(alloc: Global, session: &mut Session<D>, as_of: u32, query
 // Says the numbers of the warehouse.
 fn status<D: Sectors>(session: &mut Session<D>) -> Reply
     ensures word { D.keeps_word (device_of session.new) → D.keeps_word (device_of session.old) }
-    ensures ran { (w : Warehouse) → IsAt D.Sectors session.old w → D.keeps_word (device_of session.new) → Does D.Sectors session.old w asks.Status result session.new }
+    ensures ran { (w : Warehouse) (started : Slots) → IsAt D.Sectors session.old w → D.keeps_word (device_of session.new) → Does D.Sectors session.old w started asks.Status result session.new }
 {
     let _broken = session.is_broken();
     match session.status() {
@@ -105,7 +122,7 @@ fn status<D: Sectors>(session: &mut Session<D>) -> Reply
 // Stores the cuboids of a choice.
 fn choose<D: Sectors>(alloc: Global, session: &mut Session<D>, k: u8) -> Reply
     ensures word { D.keeps_word (device_of session.new) → D.keeps_word (device_of session.old) }
-    ensures ran { (w : Warehouse) → IsAt D.Sectors session.old w → D.keeps_word (device_of session.new) → Does D.Sectors session.old w (asks.Choose k) result session.new }
+    ensures ran { (w : Warehouse) (started : Slots) → IsAt D.Sectors session.old w → D.keeps_word (device_of session.new) → Does D.Sectors session.old w started (asks.Choose k) result session.new }
 {
     match session.choose(alloc, k) {
         Ok(chosen) => Reply::Chosen(Items::from_vec(chosen)),
@@ -116,7 +133,7 @@ fn choose<D: Sectors>(alloc: Global, session: &mut Session<D>, k: u8) -> Reply
 // Brings each stored cuboid to all batches.
 fn keep_up<D: Sectors>(alloc: Global, session: &mut Session<D>) -> Reply
     ensures word { D.keeps_word (device_of session.new) → D.keeps_word (device_of session.old) }
-    ensures ran { (w : Warehouse) → IsAt D.Sectors session.old w → D.keeps_word (device_of session.new) → Does D.Sectors session.old w asks.Upkeep result session.new }
+    ensures ran { (w : Warehouse) (started : Slots) → IsAt D.Sectors session.old w → D.keeps_word (device_of session.new) → Does D.Sectors session.old w started asks.Upkeep result session.new }
 {
     match session.upkeep(alloc) {
         Ok(()) => Reply::Done,
@@ -127,10 +144,64 @@ fn keep_up<D: Sectors>(alloc: Global, session: &mut Session<D>) -> Reply
 // Says whether each stored cuboid is what it is to be.
 fn audit<D: Sectors>(alloc: Global, session: &mut Session<D>) -> Reply
     ensures word { D.keeps_word (device_of session.new) → D.keeps_word (device_of session.old) }
-    ensures ran { (w : Warehouse) → IsAt D.Sectors session.old w → D.keeps_word (device_of session.new) → Does D.Sectors session.old w asks.Audit result session.new }
+    ensures ran { (w : Warehouse) (started : Slots) → IsAt D.Sectors session.old w → D.keeps_word (device_of session.new) → Does D.Sectors session.old w started asks.Audit result session.new }
 {
     match session.audit(alloc) {
         Ok(yes) => Reply::Audited(yes),
         Err(fault) => Reply::Refused(fault),
+    }
+}
+
+// Starts a query in a slot.
+fn start<D: Sectors>(
+    alloc: Global,
+    session: &mut Session<D>,
+    slots: &mut QuerySlots,
+    slot: u8,
+    as_of: u32,
+    query: &Query,
+) -> Reply
+    ensures word { D.keeps_word (device_of session.new) → D.keeps_word (device_of session.old) }
+    ensures ran { (w : Warehouse) (started : Slots) → IsAt D.Sectors session.old w → AreRunning slots.old.queries.items started → AreOf w started
+        → D.keeps_word (device_of session.new) → DoesWith D.Sectors session.old w started (asks.Start slot as_of query.now) result session.new slots.new.queries.items }
+{
+    let _broken = session.is_broken();
+    if usize::from(slot) >= MOST_RUNNING {
+        return Reply::Refused(Fault::NotRunning);
+    }
+    match session.start(alloc, as_of, query) {
+        Ok(running) => {
+            slots.put(slot, running);
+            Reply::Done
+        }
+        Err(fault) => Reply::Refused(fault),
+    }
+}
+
+// Makes the next step of the query in a slot.
+fn step<D: Sectors>(
+    alloc: Global,
+    session: &mut Session<D>,
+    slots: &mut QuerySlots,
+    slot: u8,
+) -> Reply
+    ensures word { D.keeps_word (device_of session.new) → D.keeps_word (device_of session.old) }
+    ensures ran { (w : Warehouse) (started : Slots) → IsAt D.Sectors session.old w → AreRunning slots.old.queries.items started → AreOf w started
+        → D.keeps_word (device_of session.new) → DoesWith D.Sectors session.old w started (asks.Step slot) result session.new slots.new.queries.items }
+{
+    let _broken = session.is_broken();
+    let Some(running) = slots.take(slot) else {
+        return Reply::Refused(Fault::NotRunning);
+    };
+    match session.step(alloc, running) {
+        Stepped::More(running) => {
+            slots.put(slot, running);
+            Reply::More
+        }
+        Stepped::Done(found) => Reply::Answer(found),
+        Stepped::Refused(back, fault) => {
+            slots.put(slot, back);
+            Reply::Refused(fault)
+        }
     }
 }

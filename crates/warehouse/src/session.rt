@@ -1,27 +1,32 @@
 //! A session of a warehouse.
-ghost use Rattle.std.specs.Prelude.{◌≡◌, false};
+ghost use Rattle.std.specs.Prelude.{◌≡◌, false, IfOk, IfErr};
 ghost use Rattle.std.proofs.Props.{props};
+ghost use Rattle.cube_model.specs.declared.fault.Fault.TheVariants.{Memory};
 ghost use Rattle.object_store.specs.Disk.{Leaves};
 ghost use Rattle.object_store.specs.Store as stores;
 ghost use Rattle.warehouse_objects.specs.Warehouse.{Warehouse};
 ghost use Rattle.warehouse_objects.specs.Stands.{Stands};
 ghost use Rattle.warehouse_objects.specs.Loaded.{IsLoaded};
 
+use cube_model::Fault;
 use dimensions::Dims;
 use object_store::Store;
 use sector_device::Sectors;
+use std::alloc::Global;
+use std::rc::Rc;
 use warehouse_root::Root;
 
-/// A warehouse on a device, open for calls. It keeps the dimensions and the root in memory, and no batch.
+/// A warehouse on a device, open for calls. It keeps the dimensions and the root in memory, and no batch. The queries that it
+/// starts share the dimensions.
 ///
 /// After `Device` it answers `Failed` to every call but `device` and `close`, and calls the device no more. It is to be
 /// opened again.
 #[derive(Drop)]
 pub struct Session<D: Sectors> {
     pub(crate) store: Store<D>,
-    pub(crate) dims: Dims,
+    pub(crate) dims: Rc<Dims>,
     pub(crate) root: Root,
-    ghost loaded: { stores.has_failed store ≡ false → D.keeps_word (stores.device_of store) → IsLoaded (stores.content_of D.Sectors store) dims root } by { Prim.hlevel props },
+    ghost loaded: { stores.has_failed store ≡ false → D.keeps_word (stores.device_of store) → IsLoaded (stores.content_of D.Sectors store) dims.value root } by { Prim.hlevel props },
 }
 
 impl<D: Sectors> Session<D> {
@@ -48,5 +53,16 @@ impl<D: Sectors> Session<D> {
             → Leaves (disk_of D.Sectors self.now) (disk_of D.Sectors self.now) (λ c. Stands c w) }
     {
         self.store.is_broken()
+    }
+}
+
+// Dimensions that running queries can share.
+pub(crate) fn shared(alloc: Global, dims: Dims) -> Result<Rc<Dims>, Fault>
+    ensures ok { IfOk result (λ shared. shared.value ≡ dims) }
+    ensures memory { IfErr result (λ fault. fault ≡ Memory) }
+{
+    match Rc::new(alloc, dims) {
+        Ok(shared) => Ok(shared),
+        Err(_) => Err(Fault::Memory),
     }
 }

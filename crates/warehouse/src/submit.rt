@@ -115,7 +115,7 @@ impl<D: Sectors> Session<D> {
     pub(crate) fn can_put(&self) -> Result<(), Fault>
         ensures fine { OnOk result (has_failed self.now ≡ false) }
         ensures few { OnOk result (length (content_of D.Sectors self.now).objects < most_objects) }
-        ensures agrees { (w : Warehouse) → IsAt D.Sectors self.now w → D.keeps_word (device_of self.now) → Agrees w self.now.dims self.now.root }
+        ensures agrees { (w : Warehouse) → IsAt D.Sectors self.now w → D.keeps_word (device_of self.now) → Agrees w self.now.dims.value self.now.root }
         ensures stands { IfErr result (λ _. (w : Warehouse) → IsAt D.Sectors self.now w → D.keeps_word (device_of self.now) → ⊥) }
         ensures failed { IsErrOf result Failed ↔ (has_failed self.now ≡ true) }
         ensures device { IsErrOf result Device → ⊥ }

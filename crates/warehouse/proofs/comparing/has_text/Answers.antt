@@ -1,4 +1,4 @@
-use Rattle.std.proofs.Common.{rules, ◌≡◌, length, length-take, take, drop, sym, ◌∙◌, subst, arith}
+use Rattle.std.proofs.Common.{rules, ◌≡◌, length, length-take, take, drop, ◌∙◌, subst, arith}
 use Rattle.wire.specs.Parts.{Gives}
 use Rattle.wire.specs.Runs.{HasRead}
 use Rattle.wire.proofs.CallerLemmas.{HasRead-then}

@@ -1,14 +1,19 @@
+use Rattle.std.proofs.Common.{subst}
 use Rattle.warehouse_root.specs.declared.layout.Layout.TheVariants.{First}
 use Rattle.warehouse_root.proofs.CallerLemmas.{IsRootOf-one}
 use Rattle.warehouse_objects.specs.Stands.{root_of}
+use Rattle.warehouse_objects.specs.Warehouse.{AreStorable}
 use Rattle.warehouse.proofs.prepared.kept_is_what_stands.Goals as goal
 
+pub returns-clause-dims : goal.returns-clause-dims
+returns-clause-dims c = subst AreStorable c.deref.ensures c.rows_are_storable.ensures
+
 pub returns-clause-puts : goal.returns-clause-puts
-returns-clause-puts c = c.objects_are_storable.ensures.0 c.args.dims.now c.rows_are_storable.ensures
+returns-clause-puts c = c.objects_are_storable.ensures.0 c.args.dims.now.value (subst AreStorable c.deref.ensures c.rows_are_storable.ensures)
 
 pub returns-clause-agrees : goal.returns-clause-agrees
 returns-clause-agrees c content w is stands = record {
-  rows_are = c.rows_are_one.ensures content w.rows c.args.dims.now stands.rows c.rows_are_storable.ensures
+  rows_are = c.rows_are_one.ensures content w.rows c.args.dims.now.value stands.rows (subst AreStorable c.deref.ensures c.rows_are_storable.ensures)
       (record { customers = stands.objects 1; suppliers = stands.objects 2; parts = stands.objects 3; dates = stands.objects 4 }) is.has_rows;
   root_is = IsRootOf-one First content.root (root_of w) c.args.root.now (record { of_layout = stands.first; is_root = stands.root })
       (record { of_layout = is.of_layout; is_root = record { spelled = is.root_bytes; proper = c.layout-layout.ensures.proper } });
@@ -16,7 +21,7 @@ returns-clause-agrees c content w is stands = record {
 
 pub returns-clause-laid : goal.returns-clause-laid
 returns-clause-laid c content w is stands = record {
-  rows_are = c.rows_are_one.ensures content w.rows c.args.dims.now stands.rows c.rows_are_storable.ensures
+  rows_are = c.rows_are_one.ensures content w.rows c.args.dims.now.value stands.rows (subst AreStorable c.deref.ensures c.rows_are_storable.ensures)
       (record { customers = stands.objects 1; suppliers = stands.objects 2; parts = stands.objects 3; dates = stands.objects 4 }) is.has_rows;
   root_is = IsRootOf-one First content.root (root_of w) c.args.root.now (record { of_layout = stands.first; is_root = stands.root })
       (record { of_layout = is.of_layout; is_root = record { spelled = is.root_bytes; proper = c.layout-layout.ensures.proper } });

@@ -4,17 +4,19 @@ use Rattle.std.proofs.lemmas.Option.{slice_get_read}
 use Rattle.warehouse.specs.declared.command.Command.{Command}
 use Rattle.warehouse.specs.declared.command.Reply.{Reply}
 use Rattle.warehouse.specs.Session.{has_failed}
-use Rattle.warehouse.specs.Running.{Phase, at, broken, Holds, RanAll}
+use Rattle.warehouse.specs.Running.{Phase, at, broken, none_running, RanAll}
+use Rattle.warehouse.specs.Slots.{HoldsWith}
 use Rattle.warehouse.proofs.Whole.{take_next, whole}
 use Rattle.warehouse.proofs.Performing.{ran_more, runs_on}
+use Rattle.warehouse.proofs.Slotting.{begins_with, session_holds}
 use Rattle.warehouse.proofs.running.run.Goals as goal
 
 pub loop-command-init : goal.loop-command-init
 loop-command-init g c = record {
-  count = c.in-Ok.ensures.len;
-  room = c.in-Ok.ensures.capacity;
-  ran = λ w holds k. (at w, subst (λ (replies : List Reply). RanAll g.D.Sectors c.args.session.now (at w) [] replies c.args.session.now (at w)) (sym c.in-Ok.ensures.items) (refl, refl), holds);
-  stuck = λ failed. (subst (λ (replies : List Reply). RanAll g.D.Sectors c.args.session.now broken [] replies c.args.session.now broken) (sym c.in-Ok.ensures.items) (refl, refl), failed);
+  count = c.in-Ok-with_capacity.ensures.len;
+  room = c.in-Ok-with_capacity.ensures.capacity;
+  ran = λ w holds k. (at w, subst (λ (replies : List Reply). RanAll g.D.Sectors c.args.session.now (at w) [] replies c.args.session.now (at w)) (sym c.in-Ok-with_capacity.ensures.items) (refl, refl), begins_with g.D.Sectors c.args.session.now w c.in-Ok.slots.queries.items c.in-Ok.ensures.ok holds);
+  stuck = λ failed. (subst (λ (replies : List Reply). RanAll g.D.Sectors c.args.session.now broken [] replies c.args.session.now broken) (sym c.in-Ok-with_capacity.ensures.items) (refl, refl), failed);
 }
 
 pub loop-command-preserved : goal.loop-command-preserved
@@ -38,10 +40,10 @@ loop-command-preserved g c =
       room = omega (arith, so_far.room, c.push.ensures.capacity);
       ran = λ w holds k.
           let was = so_far.ran w holds (c.perform-reply.ensures.word k) in
-          subst (λ (replies : List Reply). (after : Phase) × RanAll g.D.Sectors first (at w) (take (c.loop-command.command-index + 1) c.args.commands.now) replies new after × Holds g.D.Sectors new after) (sym items)
-          (subst (λ (commands : List Command). (after : Phase) × RanAll g.D.Sectors first (at w) commands (c.loop-command.replies.items ++ reply ∷ []) new after × Holds g.D.Sectors new after) (sym front)
-          (runs_on g.D.Sectors first mid new (at w) was.0 command reply (take c.loop-command.command-index c.args.commands.now) c.loop-command.replies.items was.2
-          (λ v here. c.perform-reply.ensures.ran v here k) c.perform-reply.ensures.broken was.1));
+          subst (λ (replies : List Reply). (after : Phase) × RanAll g.D.Sectors first (at w) (take (c.loop-command.command-index + 1) c.args.commands.now) replies new after × HoldsWith g.D.Sectors new c.perform-reply.new.slots.queries.items after) (sym items)
+          (subst (λ (commands : List Command). (after : Phase) × RanAll g.D.Sectors first (at w) commands (c.loop-command.replies.items ++ reply ∷ []) new after × HoldsWith g.D.Sectors new c.perform-reply.new.slots.queries.items after) (sym front)
+          (runs_on g.D.Sectors first mid new (at w) was.0 command reply (take c.loop-command.command-index c.args.commands.now) c.loop-command.replies.items c.loop-command.slots.queries.items c.perform-reply.new.slots.queries.items was.2
+          (λ v slots here are of. c.perform-reply.ensures.ran v slots here are of k) c.perform-reply.ensures.broken was.1));
       stuck = λ failed.
           let was = so_far.stuck failed in
           let one = c.perform-reply.ensures.broken was.1 in (
@@ -54,14 +56,19 @@ loop-command-preserved g c =
 
 pub returns-clause-ran : goal.returns-clause-ran
 returns-clause-ran g c w holds k =
-    subst (λ (commands : List Command). (after : Phase) × RanAll g.D.Sectors c.args.session.now (at w) commands c.loop-command.replies.items c.loop-command.session after × Holds g.D.Sectors c.loop-command.session after)
-    (take_all c.loop-command.command-index c.args.commands.now (omega (arith, c.loop-command-test.false))) (c.loop-command.invariant.ran w holds k)
+    let all = c.loop-command.invariant.ran w holds k in (
+      all.0,
+      subst (λ (commands : List Command). RanAll g.D.Sectors c.args.session.now (at w) commands c.loop-command.replies.items c.loop-command.session all.0)
+          (take_all c.loop-command.command-index c.args.commands.now (omega (arith, c.loop-command-test.false))) all.1,
+      session_holds g.D.Sectors c.loop-command.session c.loop-command.slots.queries.items all.0 all.2,
+    )
 
 pub returns-clause-found : goal.returns-clause-found
 returns-clause-found g c w holds k =
-    let all = subst (λ (commands : List Command). (after : Phase) × RanAll g.D.Sectors c.args.session.now (at w) commands c.loop-command.replies.items c.loop-command.session after × Holds g.D.Sectors c.loop-command.session after)
-    (take_all c.loop-command.command-index c.args.commands.now (omega (arith, c.loop-command-test.false))) (c.loop-command.invariant.ran w holds k) in
-    whole g.D.Sectors c.args.session.now c.loop-command.session w all.0 c.args.commands.now c.loop-command.replies.items all.1 (c.is_broken-broken.ensures.leaves w holds)
+    let all = c.loop-command.invariant.ran w holds k in
+    whole g.D.Sectors c.args.session.now c.loop-command.session w none_running all.0 c.args.commands.now c.loop-command.replies.items
+    (subst (λ (commands : List Command). RanAll g.D.Sectors c.args.session.now (at w) commands c.loop-command.replies.items c.loop-command.session all.0)
+    (take_all c.loop-command.command-index c.args.commands.now (omega (arith, c.loop-command-test.false))) all.1) (c.is_broken-broken.ensures.leaves w holds)
 
 pub returns-clause-failed : goal.returns-clause-failed
 returns-clause-failed g c failed =

@@ -1,4 +1,4 @@
-use Rattle.std.proofs.Common.{⊎_elim, Err, sym, ap}
+use Rattle.std.proofs.Common.{⊎_elim, Err, sym, ◌∙◌, ap}
 use Rattle.object_store.specs.Store as stores
 use Rattle.warehouse.proofs.Cuboids.{laid_at}
 use Rattle.warehouse.proofs.Standing.{store_at, session_at, still_at, content_leaves}
@@ -30,7 +30,7 @@ returns-in-Ok-clause-answer g c w at k =
     let word = c.audited.ensures.leaves.word in
     let laid = at.laid (word k) in
     let agree = c.kept_is_what_stands.ensures.laid (stores.content_of g.D.Sectors s.store) w (s.loaded at.fine (word k)) laid in
-    c.in-Ok.ensures.answer k w laid (sym agree.root_is) (sym agree.rows_are)
+    c.in-Ok.ensures.answer k w laid (sym agree.root_is) (c.deref.ensures ∙ sym agree.rows_are)
 
 pub returns-in-Ok-clause-yes : goal.returns-in-Ok-clause-yes
 returns-in-Ok-clause-yes g c w at k =
@@ -39,7 +39,7 @@ returns-in-Ok-clause-yes g c w at k =
     let word = c.audited.ensures.leaves.word in
     let laid = (laid_at g.D.Sectors w s at).laid (word k) in
     let agree = c.kept_is_what_stands.ensures.laid content w (s.loaded at.fine (word k)) laid in
-    (c.in-Ok.ensures.answer k w laid (sym agree.root_is) (sym agree.rows_are)).1 (c.kept_cuboids_are_sound.ensures content w (at.stands (word k)))
+    (c.in-Ok.ensures.answer k w laid (sym agree.root_is) (c.deref.ensures ∙ sym agree.rows_are)).1 (c.kept_cuboids_are_sound.ensures content w (at.stands (word k)))
 
 pub returns-in-Err-clause-refused : goal.returns-in-Err-clause-refused
 returns-in-Err-clause-refused g c cause w at k =
@@ -49,5 +49,5 @@ returns-in-Err-clause-refused g c cause w at k =
     let agree = c.kept_is_what_stands.ensures.laid (stores.content_of g.D.Sectors s.store) w (s.loaded at.fine (word k)) laid in
     ⊎_elim (λ memory. memory)
     (⊎_elim (λ device. absurd (cause device))
-    (λ bad. absurd (c.in-Err.ensures.refused (ap (λ f. Err f) bad) k w laid (sym agree.root_is) (sym agree.rows_are))))
+    (λ bad. absurd (c.in-Err.ensures.refused (ap (λ f. Err f) bad) k w laid (sym agree.root_is) (c.deref.ensures ∙ sym agree.rows_are))))
     c.in-Err.ensures.causes

@@ -26,7 +26,7 @@ returns-in-Ok-clause-ok g c w at k =
     let agree = c.kept_is_what_stands.ensures.agrees (content_of g.D.Sectors s) w (s.loaded at.fine k) (at.stands k) in
     let rows : c.row_total-rows.result ≡ length (all_rows w.batches)
     = c.row_total-rows.ensures ∙ ap (λ (l : List ℕ). sum_by (λ rows. rows) l) (c.batches.ensures ∙ ap (λ (root : PlainRoot). root.batches) (sym agree.root_is)) ∙ rows_together w.batches in
-    let counts : c.counts_of.result ≡ counts_of w.rows = c.counts_of.ensures ∙ ap (λ (r : DimRows). counts_of r) (sym agree.rows_are) in
+    let counts : c.counts_of.result ≡ counts_of w.rows = c.counts_of.ensures ∙ ap (λ (r : DimRows). counts_of r) (c.deref.ensures ∙ sym agree.rows_are) in
     let same : cuboids c.row_total-rows.result c.counts_of.result ≡ choices w
     = ap (λ (n : ℕ). cuboids n c.counts_of.result) rows ∙ ap (λ (m : Counts). cuboids (length (all_rows w.batches)) m) counts in record {
       greedy = subst (λ (l : Lattice View). IsGreedy l c.args.k (views_of choice.chosen.items)) same

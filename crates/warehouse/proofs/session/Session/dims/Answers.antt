@@ -1,4 +1,4 @@
-use Rattle.std.proofs.Common.{sym}
+use Rattle.std.proofs.Common.{sym, ◌∙◌}
 use Rattle.warehouse.specs.Session.{content_of}
 use Rattle.warehouse.proofs.session.Session.dims.Goals as goal
 
@@ -6,4 +6,4 @@ pub returns : goal.returns
 returns g c w at k =
     let s = c.args.self.now in
     let agree = c.kept_is_what_stands.ensures.agrees (content_of g.D.Sectors s) w (s.loaded at.fine k) (at.stands k) in
-    sym agree.rows_are
+    c.deref.ensures ∙ sym agree.rows_are

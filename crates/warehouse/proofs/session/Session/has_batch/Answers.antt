@@ -28,4 +28,4 @@ returns-in-Ok-clause-answer g c w rows at grown k =
     let s = c.args.self.now in
     let word = c.is_stored.ensures.leaves.word in
     let agree = c.kept_is_what_stands.ensures.agrees (stores.content_of g.D.Sectors s.store) w (s.loaded at.fine (word k)) (at.stands (word k)) in
-    c.in-Ok.ensures.answer k w s.dims rows (at.stands (word k)) (sym agree.root_is) grown
+    c.in-Ok.ensures.answer k w s.dims.value rows (at.stands (word k)) (sym agree.root_is) grown

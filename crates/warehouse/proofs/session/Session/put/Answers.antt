@@ -49,8 +49,8 @@ invariant_of-self g c =
           let bytes_are = c.as_slice-2.ensures.value ∙ ready.spelled.spelled in
           let before = c.in-Ok.ensures.fine.0 in
           let was = s.loaded before ((c.commit.ensures.leaves before).word k) in
-          subst (λ (x : Content). IsLoaded x s.dims p.root) (sym (c.in-Ok.ensures.ok k))
-          (loaded_after content puts c.as_slice-2.result.now c.number.result c.args.number c.requires.ready.0 p.root puts_are bytes_are c.number.ensures s.dims s.root was (ready.of_layout ∙ was.of_layout));
+          subst (λ (x : Content). IsLoaded x s.dims.value p.root) (sym (c.in-Ok.ensures.ok k))
+          (loaded_after content puts c.as_slice-2.result.now c.number.result c.args.number c.requires.ready.0 p.root puts_are bytes_are c.number.ensures s.dims.value s.root was (ready.of_layout ∙ was.of_layout));
     }
 
 pub returns-in-Ok-clause-leaves : goal.returns-in-Ok-clause-leaves

@@ -47,8 +47,11 @@ returns-in-Ok-clause-answer g c w at k =
     let word = c.answer_by_plan.ensures.leaves.word in
     let agree = c.kept_is_what_stands.ensures.agrees content w (s.loaded at.fine (word k)) (at.stands (word k)) in
     let many : length c.batches.result.now ≡ length w.batches = ap length c.batches.ensures ∙ ap (λ (root : PlainRoot). length root.batches) (sym agree.root_is) ∙ length-map w.batches (λ (batch : List LineOrder). length batch) in
-    let asked : IsAsked w c.args.as_of c.args.query.now = record { proper = c.in_default.ensures.ok.0; there = subst (λ (n : ℕ). c.args.as_of ≤ n) many c.in_default.ensures.ok.1 } in
-    (asked, c.in-Ok.ensures.answer k w (at.stands (word k)) (sym agree.root_is) (sym agree.rows_are) ∙ ap (λ (rows : DimRows). answer c.args.query.now rows (all_rows (take c.args.as_of w.batches))) (sym agree.rows_are))
+    let asked : IsAsked w c.args.as_of c.args.query.now = record { proper = c.in_default.ensures.ok.0; there = subst (λ (n : ℕ). c.args.as_of ≤ n) many c.in_default.ensures.ok.1 } in (
+      asked,
+      c.in-Ok.ensures.answer k w (at.stands (word k)) (sym agree.root_is) (c.deref.ensures ∙ sym agree.rows_are)
+          ∙ ap (λ (rows : DimRows). answer c.args.query.now rows (all_rows (take c.args.as_of w.batches))) (c.deref.ensures ∙ sym agree.rows_are),
+    )
 
 pub returns-in-Ok-clause-beyond : goal.returns-in-Ok-clause-beyond
 returns-in-Ok-clause-beyond g c w at k proper less =
@@ -78,5 +81,5 @@ returns-in-Err-answer_by_plan-clause-refused g c cause w at k =
     let asked : IsAsked w c.args.as_of c.args.query.now = record { proper = c.in_default.ensures.ok.0; there = subst (λ (n : ℕ). c.args.as_of ≤ n) many c.in_default.ensures.ok.1 } in
     ⊎_elim (λ memory. inr (inr (memory, asked)))
     (⊎_elim (λ device. absurd (cause device))
-    (λ bad. absurd (c.in-Err-answer_by_plan.ensures.refused (ap (λ f. Err f) bad) k w (at.stands (word k)) (sym agree.root_is) (sym agree.rows_are))))
+    (λ bad. absurd (c.in-Err-answer_by_plan.ensures.refused (ap (λ f. Err f) bad) k w (at.stands (word k)) (sym agree.root_is) (c.deref.ensures ∙ sym agree.rows_are))))
     c.in-Err-answer_by_plan.ensures.causes

@@ -1,0 +1,201 @@
+//! A query that runs batch by batch.
+ghost use Rattle.std.specs.Prelude.{◌≡◌, ◌⊎◌, ◌+◌, ◌<◌, ◌≤◌, false, Some, length, slice_get, take, IfErr, IfOk, IsErrOf, OnErr, OnOk};
+ghost use Rattle.cube_model.specs.declared.fault.Fault.TheVariants.{BadLayout, Device, Memory};
+ghost use Rattle.cube_model.specs.Admission.{all_rows};
+ghost use Rattle.cube_model.specs.Proper.{IsProper};
+ghost use Rattle.cube_query.specs.Groups.{IsOver, StandsFor};
+ghost use Rattle.object_store.specs.Disk.{Leaves};
+ghost use Rattle.object_store.specs.Store.{Breaks, IsStill, content_of, device_of, disk_of, has_failed};
+ghost use Rattle.warehouse_objects.specs.Warehouse.{Warehouse};
+ghost use Rattle.warehouse_objects.specs.Stands.{Stands, root_of};
+
+use crate::answering::begin_fold;
+use column_segment::Segment;
+use cube_model::{Answer, Fault, Query};
+use cube_query::Fold;
+use dimensions::Dims;
+use object_store::Store;
+use sector_device::Sectors;
+use std::alloc::Global;
+use std::marker::Model;
+use std::rc::Rc;
+use warehouse_objects::{decoded_batch, read_object};
+use warehouse_root::{Root, segment_id};
+
+/// A query that runs, batch by batch. It shares the dimensions with the session that began it, and needs no more of it: its
+/// answer is over the batches of its start, whatever is stored later.
+pub struct Running {
+    dims: Rc<Dims>,
+    fold: Fold,
+    done: u32,
+    as_of: u32,
+}
+
+// Written out, so that a proof has one call to follow where a running query is let go.
+impl Drop for Running {
+    fn drop(self) {
+        let Running {
+            dims: _,
+            fold: _,
+            done: _,
+            as_of: _,
+        } = self;
+    }
+}
+
+impl Model for Running {
+    ghost use Rattle.std.specs.Prelude.{◌≤◌};
+    ghost use Rattle.cube_query.specs.Groups.{IsOver};
+    ghost use Rattle.planned_queries.specs.Stepping.{RunningState};
+
+    ghost Value = { RunningState };
+
+    ghost view = { λ running. record {
+      rows = running.dims.value;
+      fold = running.fold;
+      done = running.done;
+      as_of = running.as_of;
+    } };
+
+    ghost invariant = { λ running. IsOver running.dims.value running.fold × (running.done ≤ running.as_of) };
+}
+
+impl Running {
+    ghost use Rattle.planned_queries.specs.Stepping.{Advances, Extends, IsRunning, Started, Starts};
+
+    /// Starts a proper query over the first `as_of` batches of a store. All cells of the plan that reads least are counted, and
+    /// no batch is read.
+    ///
+    /// `BadLayout` where a cuboid is not as the root says. It can also run out of memory, or fail because the device does.
+    pub fn begin<D: Sectors>(
+        alloc: Global,
+        store: &mut Store<D>,
+        root: &Root,
+        dims: &Rc<Dims>,
+        as_of: u32,
+        query: &Query,
+    ) -> Result<Running, Fault>
+        requires fine { has_failed store.old ≡ false }
+        requires proper { IsProper query.now }
+        requires few { as_of ≤ length root.now.batches }
+        ensures begun { IfOk result (λ running. D.keeps_word (device_of store.new) → (w : Warehouse) → Stands (content_of D.Sectors store.old) w
+            → root.now ≡ root_of w → dims.now.value ≡ w.rows → (s : Started) × Starts w as_of query.now s × IsRunning running s) }
+        ensures refused { IsErrOf result BadLayout → D.keeps_word (device_of store.new) → (w : Warehouse) → Stands (content_of D.Sectors store.old) w
+            → root.now ≡ root_of w → dims.now.value ≡ w.rows → ⊥ }
+
+        // The content stays, at each moment.
+        ensures leaves { Leaves (disk_of D.Sectors store.old) (disk_of D.Sectors store.new) (λ c. c ≡ content_of D.Sectors store.old) }
+        ensures stays { (IsErrOf result Device → ⊥) → IsStill D.Sectors store.old store.new }
+        ensures device { IsErrOf result Device → Breaks D.Sectors store.old store.new }
+        ensures causes { IfErr result (λ fault. (fault ≡ Memory) ⊎ ((fault ≡ Device) ⊎ (fault ≡ BadLayout))) }
+    {
+        let _usable = store.is_broken();
+        let rows: &Dims = dims;
+        match Fold::new(alloc, rows, query) {
+            Ok(mut fold) => {
+                let done = begin_fold(alloc, store, root, rows, &mut fold, as_of, query)?;
+                let dims = dims.clone()?;
+                Ok(Running {
+                    dims,
+                    fold,
+                    done,
+                    as_of,
+                })
+            }
+            Err(_) => Err(Fault::Memory), // the query is proper
+        }
+    }
+
+    /// Counts the next batch in, or answers after the last one. A refusal leaves the running query as it was.
+    ///
+    /// It asks nothing of the store and its root: `BadLayout` says that the next batch is not there as the root says, or cannot
+    /// be counted in.
+    pub fn advance<D: Sectors>(
+        &mut self,
+        alloc: Global,
+        store: &mut Store<D>,
+        root: &Root,
+    ) -> Result<Option<Answer>, Fault>
+        requires fine { has_failed store.old ≡ false }
+
+        // On a store that has what the query was started over, it goes on by a step.
+        ensures steps { IfOk result (λ found. D.keeps_word (device_of store.new) → (w : Warehouse) → Stands (content_of D.Sectors store.old) w
+            → root.now ≡ root_of w → (s : Started) → Extends s w → IsRunning self.old s → Advances s self.new found) }
+        ensures err { OnErr result (self.new ≡ self.old) }
+        ensures refused { IsErrOf result BadLayout → D.keeps_word (device_of store.new) → (w : Warehouse) → Stands (content_of D.Sectors store.old) w
+            → root.now ≡ root_of w → (s : Started) → Extends s w → IsRunning self.old s → ⊥ }
+
+        // The content stays, at each moment.
+        ensures leaves { Leaves (disk_of D.Sectors store.old) (disk_of D.Sectors store.new) (λ c. c ≡ content_of D.Sectors store.old) }
+        ensures stays { (IsErrOf result Device → ⊥) → IsStill D.Sectors store.old store.new }
+        ensures device { IsErrOf result Device → Breaks D.Sectors store.old store.new }
+        ensures causes { IfErr result (λ fault. (fault ≡ Memory) ⊎ ((fault ≡ Device) ⊎ (fault ≡ BadLayout))) }
+    {
+        let _usable = store.is_broken();
+        if self.done >= self.as_of {
+            let found = self.fold.finish(&self.dims)?;
+            return Ok(Some(found));
+        }
+        let before = self.done;
+        fold_batch(alloc, store, root, &self.dims, &mut self.fold, before)?;
+        self.done = before + 1;
+        Ok(None)
+    }
+}
+
+// Counts the batch after the first so many into a fold. A refusal leaves the fold as it was.
+fn fold_batch<D: Sectors>(
+    alloc: Global,
+    store: &mut Store<D>,
+    root: &Root,
+    dims: &Dims,
+    fold: &mut Fold,
+    before: u32,
+) -> Result<(), Fault>
+    requires fine { has_failed store.old ≡ false }
+    requires over { IsOver dims.now fold.old }
+    ensures ok { OnOk result (D.keeps_word (device_of store.new) → (w : Warehouse) → Stands (content_of D.Sectors store.old) w
+        → StandsFor dims.now fold.old (all_rows (take before w.batches)) → StandsFor dims.now fold.new (all_rows (take (before + 1) w.batches))) }
+    ensures err { OnErr result (fold.new ≡ fold.old) }
+    ensures over { IsOver dims.now fold.new }
+    ensures query { fold.new.query ≡ fold.old.query }
+    ensures refused { IsErrOf result BadLayout → D.keeps_word (device_of store.new) → (w : Warehouse) → Stands (content_of D.Sectors store.old) w
+        → root.now ≡ root_of w → dims.now ≡ w.rows → before < length w.batches → StandsFor dims.now fold.old (all_rows (take before w.batches)) → ⊥ }
+    ensures leaves { Leaves (disk_of D.Sectors store.old) (disk_of D.Sectors store.new) (λ c. c ≡ content_of D.Sectors store.old) }
+    ensures stays { (IsErrOf result Device → ⊥) → IsStill D.Sectors store.old store.new }
+    ensures device { IsErrOf result Device → Breaks D.Sectors store.old store.new }
+    ensures causes { IfErr result (λ fault. (fault ≡ Memory) ⊎ ((fault ≡ Device) ⊎ (fault ≡ BadLayout))) }
+{
+    let segment = batch_after(alloc, store, root, before)?;
+    fold.add_segment(dims, &segment)
+}
+
+// The batch after the first so many. `BadLayout` where it is not there as the root says.
+fn batch_after<D: Sectors>(
+    alloc: Global,
+    store: &mut Store<D>,
+    root: &Root,
+    before: u32,
+) -> Result<Segment, Fault>
+    requires fine { has_failed store.old ≡ false }
+    ensures found { IfOk result (λ segment. D.keeps_word (device_of store.new) → (w : Warehouse) → Stands (content_of D.Sectors store.old) w
+        → slice_get w.batches before ≡ Some segment.rows) }
+    ensures refused { IsErrOf result BadLayout → D.keeps_word (device_of store.new) → (w : Warehouse) → Stands (content_of D.Sectors store.old) w
+        → root.now ≡ root_of w → before < length w.batches → ⊥ }
+    ensures leaves { Leaves (disk_of D.Sectors store.old) (disk_of D.Sectors store.new) (λ c. c ≡ content_of D.Sectors store.old) }
+    ensures stays { (IsErrOf result Device → ⊥) → IsStill D.Sectors store.old store.new }
+    ensures device { IsErrOf result Device → Breaks D.Sectors store.old store.new }
+    ensures causes { IfErr result (λ fault. (fault ≡ Memory) ⊎ ((fault ≡ Device) ⊎ (fault ≡ BadLayout))) }
+{
+    let _usable = store.is_broken();
+    let _layout = root.layout();
+    let batches = root.batches();
+    if before as usize >= batches.len() {
+        return Err(Fault::BadLayout);
+    }
+    let count = batches[before as usize];
+    let number = before + 1;
+    let bytes = read_object(alloc, store, segment_id(number))?;
+    let segment = decoded_batch(alloc, bytes, number, count)?;
+    Ok(segment)
+}
