@@ -1,5 +1,5 @@
 //! What the beginning of a file shows.
-use std::fs;
+use crate::files::open_again;
 use std::io::Read;
 use std::rt::Files;
 use superblock::decode;
@@ -15,9 +15,9 @@ pub enum Contents {
     Other,
 }
 
-/// What the first two sectors of a file hold.
+/// What the first two sectors of a file hold. What is no regular file is not opened.
 pub fn contents_of<R: Files>(rt: &R, path: &str) -> Contents {
-    let Ok(mut file) = fs::open(rt, path) else {
+    let Some(mut file) = open_again(rt, path) else {
         return Contents::Other;
     };
     let mut sectors = [[0; 512], [0; 512]];

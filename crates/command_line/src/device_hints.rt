@@ -74,7 +74,11 @@ fn present_hint<R: Files + AllocGlobal>(
 ) -> Result<Option<String>, Fault> {
     let path = path_of(given);
     if contents_of(rt, path) == Contents::Warehouse {
-        return said(rt.alloc(), given, "a warehouse stands there already");
+        return said(
+            rt.alloc(),
+            given,
+            "a warehouse is there already; name another file",
+        );
     }
     let hint = format!(in rt.alloc();
         "{path} is no empty file: its first sectors hold something that is not a warehouse; --overwrite replaces it"
@@ -121,7 +125,9 @@ fn wanted_hint(
     let said = if file_device::sectors_of(wanted).is_err() {
         format!(in alloc; "--sectors {sectors}: a warehouse has 64 to 4294967295 sectors")?
     } else {
-        format!(in alloc; "{path}: has {bytes} bytes, and {sectors} sectors have {wanted}")?
+        format!(in alloc;
+            "{path}: has {bytes} bytes, and {sectors} sectors have {wanted}; name another file"
+        )?
     };
     Ok(Some(said))
 }

@@ -2,7 +2,7 @@
 use clap::ArgMatches;
 use cube_model::Fault;
 use std::alloc::Global;
-use std::fs::{self, OpenFile};
+use std::fs;
 use std::io::{self, Read};
 use std::rt::Files;
 use table_hints::{Table, TableFiles};
@@ -40,6 +40,16 @@ pub fn open<R: Files>(rt: &R, given: &ArgMatches<'_>, name: &str) -> Result<R::F
     }
 }
 
+/// Opens a file once more. Only a regular file is the same when it is read again, and another, such as a pipe, is not even opened:
+/// that might wait for a program that writes it.
+pub fn open_again<R: Files>(rt: &R, path: &str) -> Option<R::File> {
+    if fs::metadata(rt, path).ok()?.is_file() {
+        fs::open(rt, path).ok()
+    } else {
+        None
+    }
+}
+
 /// Whether a load reads standard input.
 pub fn is_standard_input(given: &ArgMatches<'_>) -> bool {
     given.get_str("device").is_some() && given.get_str("lineorder") == Some("-")
@@ -63,18 +73,11 @@ impl<R: Files> TableFiles for GivenFiles<'_, '_, '_, R> {
         }
     }
 
-    // Only a regular file is the same when it is read again.
     fn open(&self, table: Table) -> Option<R::File> {
         if is_standard_input(self.given) {
             return None;
         }
-        let path = self.given.get_str(table.name())?;
-        let file = fs::open(self.rt, path).ok()?;
-        if file.metadata().ok()?.is_file() {
-            Some(file)
-        } else {
-            None
-        }
+        open_again(self.rt, self.given.get_str(table.name())?)
     }
 }
 
@@ -95,19 +98,19 @@ impl<R: Files> GivenFiles<'_, '_, '_, R> {
     }
 }
 
-// Why a file cannot be opened, or its first byte not be read. What is neither a file nor a folder is only opened.
+// Why a file cannot be opened, or its first byte not be read. What is neither a file nor a folder is not opened.
 fn first_error<R: Files>(rt: &R, path: &str) -> Option<io::Error> {
-    let mut file = match fs::open(rt, path) {
-        Ok(file) => file,
-        Err(error) => return Some(error),
-    };
-    let kind = match file.metadata() {
+    let kind = match fs::metadata(rt, path) {
         Ok(metadata) => metadata,
         Err(error) => return Some(error),
     };
     if !kind.is_file() && !kind.is_dir() {
         return None;
     }
+    let mut file = match fs::open(rt, path) {
+        Ok(file) => file,
+        Err(error) => return Some(error),
+    };
     let mut byte = [0u8; 1];
     file.read(&mut byte).err()
 }

@@ -9,6 +9,7 @@ use crate::refusal::{Met, Refusal, explained};
 use crate::repeated::StoredBatch;
 use crate::report::swapped;
 use crate::space::{Room, note_room};
+use crate::unfinished::note_unfinished;
 use clap::ArgMatches;
 use cube_model::Fault;
 use file_device::LockFile;
@@ -51,12 +52,13 @@ where
     R::File: FileExt + LockFile,
 {
     let status = done_in(rt, given, session, job, io::empty())?;
+    note_unfinished(rt, given, session);
     note_conditions(rt, given, session.dims());
     Ok(status)
 }
 
-// The refusal of words that spell no query.
-fn unasked<R: Files + AllocGlobal>(rt: &R, given: &ArgMatches<'_>, fault: Fault) -> Refusal {
+/// The refusal of words that spell no query.
+pub fn unasked<R: Files + AllocGlobal>(rt: &R, given: &ArgMatches<'_>, fault: Fault) -> Refusal {
     match swapped(rt.alloc(), given) {
         Some(hint) => Refusal {
             fault,
@@ -78,12 +80,26 @@ where
     R::File: FileExt + LockFile,
 {
     match device::open(rt, given, access) {
-        Ok(mut session) => {
-            note_room(rt, given, &session);
-            done_in(rt, given, &mut session, job, lineorder)
-        }
+        Ok(mut session) => done_with_notes(rt, given, &mut session, job, lineorder),
         Err(met) => Err(explained(rt, given, met)),
     }
+}
+
+// Does a job to an open warehouse, with a note where a load has no room, and one where an upkeep is not finished.
+fn done_with_notes<R: Files + AllocGlobal + Print + Eprint, L: Read + Drop>(
+    rt: &R,
+    given: &ArgMatches<'_>,
+    session: &mut Session<Device<R::File>>,
+    job: Job,
+    lineorder: L,
+) -> Result<u8, Refusal>
+where
+    R::File: FileExt + LockFile,
+{
+    note_room(rt, given, session);
+    let status = done_in(rt, given, session, job, lineorder)?;
+    note_unfinished(rt, given, session);
+    Ok(status)
 }
 
 // Does a job to an open warehouse, and gives the status of the program.

@@ -15,6 +15,7 @@ mod job;
 mod load;
 mod notes;
 mod output;
+mod plans;
 mod progress;
 mod query;
 mod refusal;
@@ -24,6 +25,8 @@ mod running;
 mod screens;
 mod sizes;
 mod space;
+mod streams;
+mod unfinished;
 mod views;
 mod watched;
 

@@ -1,5 +1,5 @@
 //! Notes on conditions that select nothing.
-use crate::query::query_of;
+use crate::query::{benchmark_word, query_of};
 use clap::ArgMatches;
 use dimensions::Dims;
 use word_hints::write_notes;
@@ -9,7 +9,7 @@ use word_hints::write_notes;
 ///
 /// Of a query of the benchmark nothing is said: its conditions are not the user's.
 pub fn note_conditions<R: AllocGlobal + Eprint>(rt: &R, given: &ArgMatches<'_>, dims: &Dims) {
-    if given.get_str("query").is_some() {
+    if benchmark_word(given).is_some() {
         return;
     }
     if let Ok(query) = query_of(rt.alloc(), given) {

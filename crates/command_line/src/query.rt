@@ -32,12 +32,41 @@ pub fn query_hint(alloc: Global, given: &ArgMatches<'_>) -> Result<Option<String
     }
 }
 
+/// The word for a query of the benchmark, where a command has one.
+pub fn benchmark_word<'a>(given: &'a ArgMatches<'_>) -> Option<&'a str> {
+    words_of(given).q
+}
+
 fn words_of<'a>(given: &'a ArgMatches<'_>) -> QueryWords<'a> {
-    QueryWords {
+    let words = QueryWords {
         q: given.get_str("query"),
         set: given.get_str("set"),
         by: given.get_str("by"),
         agg: given.get_str("agg"),
         conditions: given.get_strs("condition").unwrap_or(&[]),
+    };
+    match given.get_strs("asked") {
+        Some(asked) => with_asked(words, asked),
+        None => words,
     }
+}
+
+// The words of a query of `explain`, whose words at a place are a query of the benchmark or conditions. One word alone that has no sign
+// of a condition is a query of the benchmark.
+fn with_asked<'a>(words: QueryWords<'a>, asked: &'a [&'a str]) -> QueryWords<'a> {
+    match asked {
+        [q] if is_alone(&words) && !q.contains('=') && !q.contains(':') => QueryWords {
+            q: Some(*q),
+            ..words
+        },
+        asked => QueryWords {
+            conditions: asked,
+            ..words
+        },
+    }
+}
+
+// Whether no option of a query of one's own is given.
+fn is_alone(words: &QueryWords<'_>) -> bool {
+    words.set.is_none() && words.by.is_none() && words.agg.is_none()
 }

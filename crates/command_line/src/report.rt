@@ -1,4 +1,5 @@
 //! The command `report`.
+use crate::query::benchmark_word;
 use clap::ArgMatches;
 use query_words::read_query;
 use std::alloc::Global;
@@ -6,7 +7,7 @@ use std::alloc::Global;
 /// What is said where the file and the query of a report were given in the other order.
 pub fn swapped(alloc: Global, given: &ArgMatches<'_>) -> Option<String> {
     let device = given.get_str("device")?;
-    let query = given.get_str("query")?;
+    let query = benchmark_word(given)?;
     let is_query = read_query(alloc, Some(device), None, None, None, &[]).is_ok();
     if !is_query {
         return None;

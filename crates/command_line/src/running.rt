@@ -3,7 +3,8 @@ use crate::device::Access;
 use crate::exit::{DONE, NO_COMMAND};
 use crate::refusal::Refusal;
 use crate::screens::Screens;
-use crate::{create, cuboids, demo, eval, job, load, views};
+use crate::streams::hold_streams;
+use crate::{create, cuboids, demo, eval, job, load, plans, views};
 use clap::ArgMatches;
 use clap::error::{Error, ErrorKind};
 use command_words::command;
@@ -27,6 +28,7 @@ pub fn run<R: Files + AllocGlobal + Print + Eprint + Clock + Input>(
 where
     R::File: FileExt + LockFile,
 {
+    let _held = hold_streams(rt);
     match matched(rt, words, screens) {
         Ok(status) => Ok(status),
         Err(refusal) => refuse(rt, refusal),
@@ -89,6 +91,7 @@ where
     match name {
         "report" => job::ask(rt, given),
         "cube" => job::ask(rt, given),
+        "explain" => plans::explain(rt, given),
         "status" => job::perform_job(rt, given, Access::Read, Job::Status, io::empty()),
         "choose" => cuboids::choose(rt, given),
         "upkeep" => job::perform_job(rt, given, Access::Commit, Job::Upkeep, io::empty()),

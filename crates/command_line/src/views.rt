@@ -8,6 +8,7 @@ use crate::exit::DONE;
 use crate::job::met_in;
 use crate::output::{cut_short, output};
 use crate::refusal::{Refusal, explained};
+use crate::unfinished::note_unfinished;
 use clap::ArgMatches;
 use cube_model::{Axis, Fault};
 use dimensions::Dims;
@@ -25,7 +26,10 @@ use warehouse::{MOST_CUBOIDS, Session, StoredCuboid};
 static AXES: [Axis; 4] = [Axis::Customer, Axis::Supplier, Axis::Part, Axis::Date];
 
 /// Lists the stored cuboids of a warehouse. Where views are named it stores theirs before, and no others.
-pub fn views<R: Files + AllocGlobal + Print>(rt: &R, given: &ArgMatches<'_>) -> Result<u8, Refusal>
+pub fn views<R: Files + AllocGlobal + Print + Eprint>(
+    rt: &R,
+    given: &ArgMatches<'_>,
+) -> Result<u8, Refusal>
 where
     R::File: FileExt + LockFile,
 {
@@ -43,7 +47,7 @@ where
 }
 
 // Stores the cuboids of some views, and lists them.
-fn store_views<R: Files + AllocGlobal + Print>(
+fn store_views<R: Files + AllocGlobal + Print + Eprint>(
     rt: &R,
     given: &ArgMatches<'_>,
     views: Vec<View>,
@@ -89,7 +93,7 @@ fn word_at<'w>(words: &[&'w str], place: usize) -> &'w str {
 }
 
 // Prints the stored cuboids of a warehouse.
-fn list<R: Files + AllocGlobal + Print>(
+fn list<R: Files + AllocGlobal + Print + Eprint>(
     rt: &R,
     given: &ArgMatches<'_>,
     session: &Session<Device<R::File>>,
@@ -99,7 +103,10 @@ where
 {
     let mut out = output(rt)?;
     match write_cuboids(session, &mut out) {
-        Ok(()) => Ok(DONE),
+        Ok(()) => {
+            note_unfinished(rt, given, session);
+            Ok(DONE)
+        }
         Err(Fault::Output) => cut_short(rt.alloc(), out.failure()),
         Err(fault) => Err(explained(rt, given, met_in(rt.alloc(), fault, session))),
     }

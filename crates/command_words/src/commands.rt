@@ -1,5 +1,5 @@
 //! The commands of the program.
-use crate::{create, cube, cuboids, demo, eval, load, report, status, views};
+use crate::{create, cube, cuboids, demo, eval, explain, load, report, status, views};
 use clap::Command;
 use std::alloc::{AllocError, Global};
 
@@ -48,6 +48,7 @@ fn push_loading<'a>(alloc: Global, commands: &mut Vec<Command<'a>>) -> Result<()
 fn push_asking<'a>(alloc: Global, commands: &mut Vec<Command<'a>>) -> Result<(), AllocError> {
     push(commands, report::words(alloc))?;
     push(commands, cube::words(alloc))?;
+    push(commands, explain::words(alloc))?;
     push(commands, status::words(alloc))
 }
 

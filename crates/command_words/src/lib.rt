@@ -7,6 +7,7 @@ mod cube;
 mod cuboids;
 mod demo;
 mod eval;
+mod explain;
 mod load;
 mod options;
 mod report;

@@ -74,8 +74,12 @@ pub fn dimension_tables<'a>(
 
 /// The words of a query of one's own, behind the other words of a command.
 pub fn cube_words<'a>(alloc: Global, command: Command<'a>) -> Result<Command<'a>, AllocError> {
-    let command = with_options(alloc, command, &CUBE_WORDS, false)?;
-    command.arg(conditions(alloc))
+    cube_options(alloc, command)?.arg(conditions(alloc))
+}
+
+/// The words of a query of one's own but the conditions, after the other words of a command.
+pub fn cube_options<'a>(alloc: Global, command: Command<'a>) -> Result<Command<'a>, AllocError> {
+    with_options(alloc, command, &CUBE_WORDS, false)
 }
 
 // Some options with their values and their help, behind the other words of a command.

@@ -1,0 +1,18 @@
+-- Lines that are written one after another.
+use Rattle.std.proofs.Common.{◌≡◌, ◌∙◌, ℕ, ◌+◌, ◌-◌, ◌<◌, ◌≤◌, List, [], ◌∷◌, ◌++◌, length, take, drop, get_or, ap, sym, arith, codes}
+use Rattle.std.proofs.lemmas.List.{get_or_default, take_rest}
+use Rattle.std.specs.List.{flat_map}
+use Rattle.planner.specs.declared.price.Priced.{Priced}
+use Rattle.ssb_reports.proofs.Rows.{flat_map-around}
+use Rattle.plan_report.specs.Printed.{other_line, plan_line, plans_text}
+
+pub next_text : {A : Type 0} (text : A → List ℕ) (items : List A) (i : ℕ) (d : A) → i < length items
+    → flat_map text items ≡ flat_map text (take i items) ++ (text (get_or items i d) ++ flat_map text (drop (i + 1) items))
+next_text text items i d within = flat_map-around text items i (get_or items i d) within (get_or_default items i d (get_or items i d) within)
+
+-- the line of the plan that is taken, and those of the others
+pub taken-first : (as_of : ℕ) (plans : List Priced) (d : Priced) → 1 ≤ length plans
+    → plans_text as_of plans ≡ plan_line (codes "plan ") as_of (get_or plans 0 d) ++ flat_map (other_line as_of) (take (length plans - 1) (drop 1 plans))
+taken-first as_of [] d some = absurd (omega arith)
+taken-first as_of (one ∷ others) d some =
+    ap (λ rest. plan_line (codes "plan ") as_of one ++ flat_map (other_line as_of) rest) (sym (take_rest (one ∷ others) 1))
