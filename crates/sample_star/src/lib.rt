@@ -16,7 +16,8 @@ pub use draw::Draw;
 pub use facts::{FACTS, FIRST_FACT, Fact, SECOND_FACT, THIRD_FACT, line_order, line_orders};
 pub use many_pairs::{pairs, rows_of_pairs};
 pub use queries::{
-    AVERAGES, Asked, CITIES, CUBE, Condition, DISCOUNTED, EVERY_ROW, PROFIT, ROLLUP, query,
+    ATTRIBUTES, AVERAGES, Asked, CITIES, CUBE, Condition, DISCOUNTED, EVERY_ROW, PROFIT, ROLLUP,
+    query,
 };
 pub use readers::{Pieces, byte_by_byte, in_pieces, in_sevens, whole};
 pub use stars::{

@@ -3,6 +3,24 @@
 use cube_model::{Agg, Attr, Cond, Fault, Items, Kind, Measure, Order, Query, Text};
 use std::alloc::Global;
 
+/// Each attribute.
+pub const ATTRIBUTES: [Attr; 14] = [
+    Attr::CustomerCity,
+    Attr::CustomerNation,
+    Attr::CustomerRegion,
+    Attr::SupplierCity,
+    Attr::SupplierNation,
+    Attr::SupplierRegion,
+    Attr::PartBrand1,
+    Attr::PartCategory,
+    Attr::PartMfgr,
+    Attr::DateKey,
+    Attr::DateYearmonthnum,
+    Attr::DateYear,
+    Attr::DateYearmonth,
+    Attr::DateWeeknuminyear,
+];
+
 /// A condition on a fact row.
 #[derive(Clone, Copy, Debug)]
 pub enum Condition<'a> {

@@ -1,6 +1,7 @@
 // A device over a file of the system.
 use crate::bytes::{get, put};
 use crate::fake_file::Torn;
+use crate::folders::fresh;
 use cube_model::Fault;
 use file_device::{Existing, FileDisk, Host, OpenError, Unread};
 use sector_device::Sectors;
@@ -9,12 +10,6 @@ use std::test::Fail;
 use std::{fs, io};
 
 type Disk = FileDisk<Host<File>, Unread>;
-
-// A folder of the test's own, empty.
-fn fresh(rt: &HostRuntime, folder: &str) -> io::Result<()> {
-    let _ = fs::remove_dir_all(rt, folder);
-    fs::create_dir(rt, folder)
-}
 
 // A file of so many sectors, each filled with its number modulo 200 and one more.
 fn filled(rt: &HostRuntime, path: &str, sectors: u32) -> Result<(), Fail> {
@@ -51,7 +46,7 @@ fn makes_and_opens_again(rt: HostRuntime) -> Result<(), Fail> {
     fresh(&rt, "makes")?;
     filled(&rt, "makes/disk", 300)?;
     assert_eq!(rt; opened(&rt, "makes/disk")?, (300, 0, (300, 0)));
-    Ok(())
+    Ok(fs::remove_dir_all(&rt, "makes")?)
 }
 
 // What a device takes of a file that was made before, and of one that is empty: its sectors, and what the first gives.
@@ -65,7 +60,7 @@ fn takes_a_file_of_its_length_as_it_is(rt: HostRuntime) -> Result<(), Fail> {
     fresh(&rt, "takes")?;
     filled(&rt, "takes/disk", 64)?;
     assert_eq!(rt; taken(&rt, "takes/disk", 64)?, (64, Some(1)));
-    Ok(())
+    Ok(fs::remove_dir_all(&rt, "takes")?)
 }
 
 #[test]
@@ -73,7 +68,7 @@ fn makes_a_file_of_zeros(rt: HostRuntime) -> Result<(), Fail> {
     fresh(&rt, "zeros")?;
     assert_eq!(rt; taken(&rt, "zeros/disk", 66)?, (66, Some(0)));
     assert_eq!(rt; fs::metadata(&rt, "zeros/disk")?.len(), 33_792);
-    Ok(())
+    Ok(fs::remove_dir_all(&rt, "zeros")?)
 }
 
 // The first sector, one in the middle and the last of a device of 2 GB.
@@ -147,7 +142,7 @@ fn refuses_other_lengths(rt: HostRuntime) -> Result<(), Fail> {
             "{length} bytes"
         );
     }
-    Ok(())
+    Ok(fs::remove_dir_all(&rt, "lengths")?)
 }
 
 #[test]
@@ -165,7 +160,7 @@ fn refuses_what_cannot_be_opened(rt: HostRuntime) -> Result<(), Fail> {
         ]
     );
     assert_eq!(rt; fs::metadata(&rt, "absent/disk").is_err(), true);
-    Ok(())
+    Ok(fs::remove_dir_all(&rt, "absent")?)
 }
 
 // Cuts a file to 100 sectors, as another program does.
@@ -198,7 +193,7 @@ fn reads_what_is_left_of_a_file_that_was_cut(rt: HostRuntime) -> Result<(), Fail
         );
         fs::remove_file(&rt, "cut/disk")?;
     }
-    Ok(())
+    Ok(fs::remove_dir_all(&rt, "cut")?)
 }
 
 // Whether a read, a write, a sync, a read and a write succeed where syncs fail, and the failures.

@@ -12,6 +12,8 @@ mod fake_file;
 #[cfg(test)]
 mod file;
 #[cfg(test)]
+mod folders;
+#[cfg(test)]
 mod fuse;
 #[cfg(test)]
 mod length;

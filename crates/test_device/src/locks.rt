@@ -1,18 +1,12 @@
 //! Which programs may have a file open at once, and what a device does that is only read.
 use crate::bytes::{get, put};
+use crate::folders::fresh;
 use file_device::{Existing, FileDisk, Host, OpenError, Unread};
 use sector_device::Sectors;
 use std::fs::{self, File};
-use std::io;
 use std::test::Fail;
 
 type Disk = FileDisk<Host<File>, Unread>;
-
-// A folder of the test's own, empty.
-fn fresh(rt: &HostRuntime, folder: &str) -> io::Result<()> {
-    let _ = fs::remove_dir_all(rt, folder);
-    fs::create_dir(rt, folder)
-}
 
 // What became of a try to open a file.
 #[derive(Clone, Copy, Debug, PartialEq, Eq)]
@@ -81,7 +75,7 @@ fn has_one_writer_or_some_readers(rt: HostRuntime) -> Result<(), Fail> {
             [Outcome::Opened, Outcome::Opened, Outcome::Opened]
         ]
     );
-    Ok(())
+    Ok(fs::remove_dir_all(&rt, "locks")?)
 }
 
 // A file whose first sector, or second, or third, is not all zero.
@@ -121,7 +115,7 @@ fn makes_over_two_sectors_of_zeros_alone(rt: HostRuntime) -> Result<(), Fail> {
         making(&rt, "over/disk", Existing::Blank),
         (Outcome::Opened, true)
     );
-    Ok(())
+    Ok(fs::remove_dir_all(&rt, "over")?)
 }
 
 #[test]
@@ -130,7 +124,7 @@ fn opens_regular_files_alone(rt: HostRuntime) -> Result<(), Fail> {
     for path in ["kinds", "/dev/null"] {
         assert_eq!(rt; tries(&rt, path), [Outcome::NotRegular; 3], "{path}");
     }
-    Ok(())
+    Ok(fs::remove_dir_all(&rt, "kinds")?)
 }
 
 // What a device that is only read gives of a sector, whether a sync, a write and a read after it succeed, and the failures.
@@ -144,6 +138,12 @@ fn read_only(rt: &HostRuntime, path: &str) -> Result<(Option<u8>, [bool; 3], u64
     Ok((byte, [sync, write, read], disk.failures()))
 }
 
+// What the sector gives to a device that may be written.
+fn kept(rt: &HostRuntime, path: &str) -> Result<Option<u8>, Fail> {
+    let mut disk = Disk::open(rt, path)?;
+    Ok(get(&mut disk, 5)?)
+}
+
 #[test]
 fn refuses_writes_where_it_only_reads(rt: HostRuntime) -> Result<(), Fail> {
     fresh(&rt, "reads")?;
@@ -151,7 +151,6 @@ fn refuses_writes_where_it_only_reads(rt: HostRuntime) -> Result<(), Fail> {
         read_only(&rt, "reads/disk")?,
         (Some(7), [true, false, false], 2)
     );
-    let mut disk = Disk::open(&rt, "reads/disk")?;
-    assert_eq!(rt; get(&mut disk, 5)?, Some(7));
-    Ok(())
+    assert_eq!(rt; kept(&rt, "reads/disk")?, Some(7));
+    Ok(fs::remove_dir_all(&rt, "reads")?)
 }

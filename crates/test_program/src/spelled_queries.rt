@@ -2,7 +2,7 @@
 use crate::words::{NO_WORDS, Words};
 use cube_model::{Agg, Attr, Fault, Kind, Measure};
 use query_words::read_query;
-use sample_star::{Asked, Condition, query};
+use sample_star::{ATTRIBUTES, Asked, Condition, query};
 use ssb_reports::{QNumber, query_of};
 use std::alloc::Global;
 use std::test::Fail;
@@ -121,22 +121,7 @@ static RIGHT: [(Words, Asked<'static>); 9] = [
         },
         Asked {
             kind: Kind::Plain,
-            columns: &[
-                Attr::CustomerCity,
-                Attr::CustomerNation,
-                Attr::CustomerRegion,
-                Attr::SupplierCity,
-                Attr::SupplierNation,
-                Attr::SupplierRegion,
-                Attr::PartBrand1,
-                Attr::PartCategory,
-                Attr::PartMfgr,
-                Attr::DateKey,
-                Attr::DateYearmonthnum,
-                Attr::DateYear,
-                Attr::DateYearmonth,
-                Attr::DateWeeknuminyear,
-            ],
+            columns: &ATTRIBUTES,
             conditions: &[],
             aggregates: &[Agg::Count],
             order: None,

@@ -4,28 +4,11 @@ ghost use Rattle.std.specs.Prelude.{◌<◌};
 use super::attributes::attribute;
 use super::tables::some_keys;
 use cube_model::{Agg, Attr, Cond, DimRows, Fault, Items, Kind, Measure, Order, Query, Text};
-use sample_star::Draw;
+use sample_star::{ATTRIBUTES, Draw};
 use std::alloc::Global;
 
-static COLUMNS: [Attr; 14] = [
-    Attr::CustomerCity,
-    Attr::CustomerNation,
-    Attr::CustomerRegion,
-    Attr::SupplierCity,
-    Attr::SupplierNation,
-    Attr::SupplierRegion,
-    Attr::PartBrand1,
-    Attr::PartCategory,
-    Attr::PartMfgr,
-    Attr::DateKey,
-    Attr::DateYearmonthnum,
-    Attr::DateYear,
-    Attr::DateYearmonth,
-    Attr::DateWeeknuminyear,
-];
-
 fn column(draw: &mut Draw) -> Attr {
-    match draw.pick(&COLUMNS) {
+    match draw.pick(&ATTRIBUTES) {
         Some(column) => *column,
         None => Attr::DateKey,
     }

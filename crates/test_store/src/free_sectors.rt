@@ -1,6 +1,5 @@
 //! Free sectors: the first fit, many extents, and memory that is refused.
-ghost use Rattle.std.specs.Prelude.{◌≡◌, ℕ, ◌≤◌, ◌<◌, IfSome};
-ghost use Rattle.std.specs.Bool.{OnTrue};
+ghost use Rattle.std.specs.Prelude.{◌≡◌, ℕ, ◌<◌, IfSome};
 ghost use Rattle.extents.specs.Extents.{Holds, IsInRange};
 ghost use Rattle.extents.specs.Runs.{IsFree};
 

@@ -1,0 +1,6 @@
+//! Tests of the jobs on a warehouse: what each writes, and what is stored when a reader, a writer or the device fails.
+mod answers;
+mod failures;
+mod given;
+mod loads;
+mod stops;

@@ -1,0 +1,68 @@
+//! As many batches as a small device takes.
+use cube_model::Fault;
+use sample_sessions::{first_other, loaded, opened, status, submit};
+use sample_star::FACTS;
+use sector_device::MemDisk;
+use ssb_reports::QNumber;
+use std::alloc::Global;
+use warehouse::{Session, Status};
+
+/// How many batches of the three sample rows 64 sectors take.
+const MOST: u32 = 51;
+
+/// How a batch too many was refused, the first of the benchmark's queries that is answered otherwise then, and the
+/// status.
+type Told = (Option<Fault>, Option<QNumber>, Status);
+
+/// What is to be told.
+fn wanted() -> Told {
+    (Some(Fault::Full), None, status(MOST, 153))
+}
+
+/// How a full session refuses a batch too many.
+fn refusal(alloc: Global, session: &mut Session<MemDisk>) -> Option<Fault> {
+    submit(alloc, session, MOST + 1, &FACTS).err()
+}
+
+/// What is told of a session that refused a batch.
+fn told(
+    alloc: Global,
+    session: &mut Session<MemDisk>,
+    refused: Option<Fault>,
+) -> Result<Told, Fault> {
+    let other = first_other(alloc, session, MOST)?;
+    Ok((refused, other, session.status()?))
+}
+
+/// What is told of a full session after a first and a second refusal.
+fn told_twice(alloc: Global) -> Result<(Told, Told), Fault> {
+    let mut session = loaded(alloc, MOST)?;
+    let refused = refusal(alloc, &mut session);
+    let first = told(alloc, &mut session, refused)?;
+    let refused = refusal(alloc, &mut session);
+    Ok((first, told(alloc, &mut session, refused)?))
+}
+
+#[test]
+fn one_batch_too_many_leaves_each_answer(rt: HostRuntime) {
+    assert_eq!(rt; told_twice(rt.alloc()), Ok((wanted(), wanted())));
+}
+
+/// A full session that was opened again, and how it refused a batch before.
+fn opened_again(alloc: Global) -> Result<(Option<Fault>, Session<MemDisk>), Fault> {
+    let mut session = loaded(alloc, MOST)?;
+    let refused = refusal(alloc, &mut session);
+    let disk = session.close().crash(&[]);
+    Ok((refused, opened(alloc, disk)?))
+}
+
+/// What is told of it.
+fn told_again(alloc: Global) -> Result<Told, Fault> {
+    let (refused, mut session) = opened_again(alloc)?;
+    told(alloc, &mut session, refused)
+}
+
+#[test]
+fn a_full_device_is_opened_again(rt: HostRuntime) {
+    assert_eq!(rt; told_again(rt.alloc()), Ok(wanted()));
+}

@@ -1,0 +1,122 @@
+//! Devices with one batch that keep not all rules of the layout.
+use cube_model::{Attr, Fault};
+use sample_sessions::{Change, ask, changed, opened, refused_opening, status};
+use sample_star::{Asked, EVERY_ROW};
+use sector_device::MemDisk;
+use std::alloc::Global;
+use warehouse::{Session, Status};
+
+/// The sectors of the dimensions, the segment, the catalogue, and the superblock that stands.
+const CUSTOMERS: u32 = 2;
+
+const SEGMENT: u32 = 7;
+
+const CATALOGUE: u32 = 8;
+
+const SUPERBLOCK: u32 = 0;
+
+const BY_REGION: Asked<'static> = Asked {
+    columns: &[Attr::CustomerRegion],
+    ..EVERY_ROW
+};
+
+/// Changes after which nothing is opened.
+static UNOPENED: [Change; 12] = [
+    // The first object lies on the second, in the catalogue, past the end, and in a superblock.
+    (CATALOGUE, 16, b"\x03\x00\x00\x00"),
+    (CATALOGUE, 16, b"\x08\x00\x00\x00"),
+    (CATALOGUE, 16, b"\x40\x00\x00\x00"),
+    (CATALOGUE, 16, b"\x01\x00\x00\x00"),
+    // The root is longer than what is left of the catalogue.
+    (CATALOGUE, 8, b"\x45\x00\x00\x00"),
+    // The code of a city is out of range.
+    (CUSTOMERS, 108, b"\x02\x00"),
+    // The segment is that of batch 2.
+    (CATALOGUE, 76, b"\x02\x00\x01\x00"),
+    // The root tells of two batches, of a target past them, of 4,097 additions, and of a cuboid.
+    (CATALOGUE, 92, b"\x02\x00\x00\x00"),
+    (CATALOGUE, 96, b"\x02\x00\x00\x00"),
+    (CATALOGUE, 100, b"\x01\x10\x00\x00"),
+    (CATALOGUE, 104, b"\x01\x00\x00\x00"),
+    // A sum of quantities past the limit.
+    (CATALOGUE, 115, b"\x80"),
+];
+
+#[test]
+fn nothing_is_opened(rt: HostRuntime) {
+    for change in &UNOPENED {
+        assert_eq!(rt;
+            refused_opening(rt.alloc(), 1, *change),
+            Ok(Some(Fault::BadLayout)),
+            "{} at {}",
+            change.0,
+            change.1
+        );
+    }
+}
+
+/// Changes of the segment, which no opening reads, and of what the root tells of it.
+static UNREAD: [Change; 9] = [
+    // Another name, another batch, a row more and one fewer.
+    (SEGMENT, 0, b"seg1"),
+    (SEGMENT, 4, b"\x02\x00\x00\x00"),
+    (SEGMENT, 8, b"\x04\x00\x00\x00"),
+    (SEGMENT, 8, b"\x02\x00\x00\x00"),
+    // A code out of range, and texts that are not in the order of their first use.
+    (SEGMENT, 279, b"\x02\x00"),
+    (SEGMENT, 279, b"\x01\x00"),
+    // An orderkey out of range.
+    (SEGMENT, 12, b"\xff\xff\xff\xff\xff\xff\xff\xff"),
+    // A customer that there is not.
+    (SEGMENT, 48, b"\x09\x00\x00\x00"),
+    // The root tells of four rows.
+    (CATALOGUE, 156, b"\x04\x00\x00\x00"),
+];
+
+/// How a session refuses a query over its first batch, if it does.
+fn refusal_over_one(alloc: Global, session: &mut Session<MemDisk>) -> Option<Fault> {
+    ask(alloc, session, 1, &BY_REGION).err()
+}
+
+/// Whether its answer over no batch has no line.
+fn has_no_line(alloc: Global, session: &mut Session<MemDisk>) -> Result<bool, Fault> {
+    let answer = ask(alloc, session, 0, &BY_REGION)?;
+    Ok(answer.lines.is_empty())
+}
+
+/// The status of a disk with a change, how a query over its first batch is refused, and whether one over none has no
+/// line.
+fn told(alloc: Global, change: Change) -> Result<(Status, Option<Fault>, bool), Fault> {
+    let disk = changed(alloc, 1, change)?;
+    let mut session = opened(alloc, disk)?;
+    let refused = refusal_over_one(alloc, &mut session);
+    let empty = has_no_line(alloc, &mut session)?;
+    Ok((session.status()?, refused, empty))
+}
+
+/// The same with how many batches there are in place of the status.
+fn outcome(alloc: Global, change: Change) -> Result<(u32, Option<Fault>, bool), Fault> {
+    let (status, refused, empty) = told(alloc, change)?;
+    Ok((status.batches, refused, empty))
+}
+
+#[test]
+fn an_opened_segment_is_refused_where_it_is_read(rt: HostRuntime) {
+    for change in &UNREAD {
+        assert_eq!(rt;
+            outcome(rt.alloc(), *change),
+            Ok((1, Some(Fault::BadLayout), true)),
+            "{} at {}",
+            change.0,
+            change.1
+        );
+    }
+}
+
+#[test]
+fn the_generation_before_is_found(rt: HostRuntime) {
+    assert_eq!(rt;
+        told(rt.alloc(), (SUPERBLOCK, 32, b"\x01")),
+        Ok((status(0, 0), Some(Fault::NoSuchPrefix), true))
+    );
+}
