@@ -1,8 +1,12 @@
 -- Neighbouring sectors that are read or written at once. Our own.
-use Rattle.std.specs.Prelude.{◌≡◌, ◌≢◌, ◌⊎◌, ℕ, suc, ◌+◌, ◌<◌, Bool, List, [], ◌∷◌, length, slice_index_or}
-use Rattle.sector_device.specs.Device.{Image}
+use Rattle.std.specs.Prelude.{ℕ, suc, ◌/◌, Bool, List, [], ◌∷◌, length}
+use Rattle.std.specs.Simd.{first_chunks}
 use Rattle.file_device.specs.declared.event.Event.{Event}
 use Rattle.file_device.specs.declared.event.Event.TheVariants.{Read, Written}
+
+-- the whole sectors that bytes are, end to end
+abbrev pub sectors_in : List ℕ → List (List ℕ)
+sectors_in bytes = first_chunks 512 (length bytes / 512) bytes
 
 -- the record with a read of each sector, the first of them at a number
 abbrev pub with_reads : ℕ → List (List ℕ) → List Event → List Event
@@ -13,15 +17,3 @@ with_reads first (bytes ∷ others) events = with_reads (suc first) others (Read
 abbrev pub with_writes : ℕ → List (List ℕ) → Bool → List Event → List Event
 with_writes first [] ok events = events
 with_writes first (bytes ∷ others) ok events = with_writes (suc first) others ok (Written first bytes ok ∷ events)
-
--- a sector may be put behind some that begin at a number: there are none, or it is the next
-abbrev pub IsNext : ℕ → List (List ℕ) → ℕ → Type 0
-IsNext first sectors i = (length sectors ≡ 0) ⊎ (first + length sectors ≡ i)
-
--- the sectors from a first one on are what reads give
-abbrev pub AreReads : Image → ℕ → List (List ℕ) → Type 0
-AreReads reads first sectors = (k : ℕ) → k < length sectors → slice_index_or sectors k [] ≡ reads (first + k)
-
--- a number is none of so many from a first one on
-abbrev pub IsOutside : ℕ → ℕ → ℕ → Type 0
-IsOutside first count i = (k : ℕ) → k < count → first + k ≢ i

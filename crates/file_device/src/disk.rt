@@ -1,32 +1,23 @@
 // A device over an open file.
-ghost use Rattle.std.specs.Prelude.{◌≡◌, ◌+◌, ◌<◌, ◌-◌, ◌^◌, length, true, false, min, is_ok, IsTrue, IsErr, OnOk, OnErr};
-ghost use Rattle.file_device.specs.Runs.{IsNext};
-ghost use Rattle.sector_device.specs.Device.{IsSettled, Stays, Writes, Syncs, CountsFailure};
+ghost use Rattle.std.specs.Prelude.{◌≡◌, ◌+◌, ◌/◌, ◌%◌, ◌<◌, ◌≤◌, ◌-◌, ◌^◌, length, true, false, min, is_ok, IsTrue, IsErr, OnOk, OnErr};
+ghost use Rattle.sector_device.specs.Device.{HasRun, IsInRun, IsSettled, Stays, Writes, WritesWithin, Syncs, CountsFailure};
 
-use crate::behind::Behind;
-use crate::direct::Direct;
 use crate::{RawFile, Start};
 use sector_device::{DeviceError, Sectors};
-use std::alloc::Global;
 use std::io;
+use std::marker::PhantomData;
 
 /// A file of whole sectors. It keeps its word as long as the record of its calls is that of an honest file:
 /// each read gave what was written there last. After a failed write or sync it fails each call until it is
 /// opened anew.
 ///
-/// Where a sector is read behind the one that was read last, those that follow are read with it in one call, and
-/// given from memory when they are asked for. It takes memory for them then; where there is none, and where the
-/// call fails, it reads one sector at a time.
-///
-/// A sector that is written is kept in memory as long as those that follow are written behind it, up to 512 of them, and
-/// they are written in one call: before any other sector is written or read, and before a sync. Where that call
-/// fails, it is the later write, read or sync that fails. Where there is no memory, a sector is written at once.
+/// Each read, write or sync makes one call of the file, also one of neighbouring sectors, and takes no memory.
 ///
 /// A device that was opened to read fails each write, and each call after one.
 #[derive(Drop)]
 pub struct FileDisk<F: RawFile, S: Start> {
-    direct: Direct<F, S>,
-    behind: Behind,
+    file: F,
+    start: PhantomData<S>,
     count: u32,
     failures: u64,
     is_broken: bool,
@@ -34,10 +25,10 @@ pub struct FileDisk<F: RawFile, S: Start> {
 }
 
 impl<F: RawFile, S: Start> FileDisk<F, S> {
-    ghost use Rattle.file_device.specs.FileDisk.{file_of, count_of, failures_of, has_broken, is_read_only, IsUnseen, TakesSector, Settles};
+    ghost use Rattle.file_device.specs.FileDisk.{file_of, count_of, failures_of, has_broken, is_read_only};
 
     /// A device over an open file of so many sectors.
-    pub fn over(alloc: Global, file: F, count: u32) -> FileDisk<F, S>
+    pub fn over(file: F, count: u32) -> FileDisk<F, S>
         ensures file { file_of result ≡ file }
         ensures count { count_of result ≡ count }
         ensures failures { failures_of result ≡ 0 }
@@ -45,8 +36,8 @@ impl<F: RawFile, S: Start> FileDisk<F, S> {
         ensures writable { is_read_only result ≡ false }
     {
         FileDisk {
-            direct: Direct::new(alloc, file),
-            behind: Behind::new(alloc),
+            file,
+            start: PhantomData,
             count,
             failures: 0,
             is_broken: false,
@@ -55,7 +46,7 @@ impl<F: RawFile, S: Start> FileDisk<F, S> {
     }
 
     /// Such a device that is read alone: a write fails, and makes no call of the file.
-    pub fn over_to_read(alloc: Global, file: F, count: u32) -> FileDisk<F, S>
+    pub fn over_to_read(file: F, count: u32) -> FileDisk<F, S>
         ensures file { file_of result ≡ file }
         ensures count { count_of result ≡ count }
         ensures failures { failures_of result ≡ 0 }
@@ -64,7 +55,7 @@ impl<F: RawFile, S: Start> FileDisk<F, S> {
     {
         FileDisk {
             is_read_only: true,
-            ..FileDisk::over(alloc, file, count)
+            ..FileDisk::over(file, count)
         }
     }
 
@@ -72,56 +63,7 @@ impl<F: RawFile, S: Start> FileDisk<F, S> {
     pub fn file(&self) -> &F
         ensures { result.now ≡ file_of self.now }
     {
-        &self.direct.file
-    }
-
-    // Writes what is still to be written. Where that fails, it is so still.
-    fn flush(&mut self) -> io::Result<()>
-        ensures none { OnOk result (length self.new.behind.sectors.items ≡ 0) }
-        ensures unseen { IsUnseen F.RawFile S.Start self.old self.new }
-    {
-        if self.behind.is_empty() {
-            return Ok(());
-        }
-        self.behind.write(&mut self.direct)
-    }
-
-    // Takes a sector to be written. Where that fails, it may have been written or not.
-    fn take(&mut self, i: u32, from: &[u8; 512]) -> io::Result<()>
-        ensures { TakesSector F.RawFile S.Start i from.now result self.old self.new }
-    {
-        self.make_way(i)?;
-        if self.behind.put(i, from) {
-            return Ok(());
-        }
-        self.write_now(i, from)
-    }
-
-    // Writes what is still to be written, unless a sector can be put behind it.
-    fn make_way(&mut self, i: u32) -> io::Result<()>
-        ensures next { OnOk result (IsNext self.new.behind.first self.new.behind.sectors.items i) }
-        ensures unseen { IsUnseen F.RawFile S.Start self.old self.new }
-    {
-        if self.behind.takes(i) {
-            return Ok(());
-        }
-        self.flush()
-    }
-
-    // Writes a sector behind all that is still to be written.
-    fn write_now(&mut self, i: u32, from: &[u8; 512]) -> io::Result<()>
-        ensures { TakesSector F.RawFile S.Start i from.now result self.old self.new }
-    {
-        self.flush()?;
-        self.direct.write(i, from)
-    }
-
-    // Makes all that was written lasting.
-    fn settle(&mut self) -> io::Result<()>
-        ensures { Settles F.RawFile S.Start result self.old self.new }
-    {
-        self.flush()?;
-        self.direct.sync()
+        &self.file
     }
 }
 
@@ -186,10 +128,7 @@ impl<F: RawFile, S: Start> Sectors for FileDisk<F, S> {
         if self.is_broken {
             return Err(refused(&mut self.failures));
         }
-        if self.flush().is_err() {
-            return Err(refused(&mut self.failures));
-        }
-        let outcome = self.direct.read(self.count, i, to);
+        let outcome = self.file.read_sector(i, to);
         counted(outcome, &mut self.failures)
     }
 
@@ -209,7 +148,51 @@ impl<F: RawFile, S: Start> Sectors for FileDisk<F, S> {
             self.is_broken = true;
             return Err(refused(&mut self.failures));
         }
-        let outcome = self.take(i, from);
+        let outcome = self.file.write_sector(i, from);
+        self.is_broken = outcome.is_err();
+        counted(outcome, &mut self.failures)
+    }
+
+    fn read_run(&mut self, first: u32, to: &mut [u8]) -> Result<(), DeviceError>
+        requires whole { length to.old % 512 ≡ 0 }
+        requires in_range { first + length to.old / 512 ≤ (state_of F.RawFile S.Start self.old).size }
+        requires few { first + length to.old / 512 ≤ 2 ^ 32 }
+        ensures size { (state_of F.RawFile S.Start self.new).size ≡ (state_of F.RawFile S.Start self.old).size }
+        ensures failures { CountsFailure result (failures_of self.old) (failures_of self.new) }
+        ensures word { KeepsWord F.RawFile S.Start self.new → KeepsWord F.RawFile S.Start self.old }
+        ensures bytes { OnOk result (KeepsWord F.RawFile S.Start self.new → HasRun (state_of F.RawFile S.Start self.old).reads first to.new) }
+        ensures stays { KeepsWord F.RawFile S.Start self.new → Stays (state_of F.RawFile S.Start self.old) (state_of F.RawFile S.Start self.new) }
+
+        ensures refuses { IsTrue (has_broken self.old) → IsErr result }
+        ensures broken { has_broken self.new ≡ has_broken self.old }
+        ensures read_only { is_read_only self.new ≡ is_read_only self.old }
+    {
+        if self.is_broken {
+            return Err(refused(&mut self.failures));
+        }
+        let outcome = self.file.read_run(first, to);
+        counted(outcome, &mut self.failures)
+    }
+
+    fn write_run(&mut self, first: u32, from: &[u8]) -> Result<(), DeviceError>
+        requires whole { length from.now % 512 ≡ 0 }
+        requires in_range { first + length from.now / 512 ≤ (state_of F.RawFile S.Start self.old).size }
+        requires few { first + length from.now / 512 ≤ 2 ^ 32 }
+        ensures size { (state_of F.RawFile S.Start self.new).size ≡ (state_of F.RawFile S.Start self.old).size }
+        ensures failures { CountsFailure result (failures_of self.old) (failures_of self.new) }
+        ensures word { KeepsWord F.RawFile S.Start self.new → KeepsWord F.RawFile S.Start self.old }
+        ensures written { OnOk result (KeepsWord F.RawFile S.Start self.new → HasRun (state_of F.RawFile S.Start self.new).reads first from.now) }
+        ensures within { KeepsWord F.RawFile S.Start self.new → WritesWithin (IsInRun first (length from.now / 512)) (state_of F.RawFile S.Start self.old) (state_of F.RawFile S.Start self.new) }
+
+        ensures breaks { Breaks result self.old self.new }
+        ensures read_only { is_read_only self.new ≡ is_read_only self.old }
+        ensures no_call { IsTrue (is_read_only self.old) → IsErr result × (calls_of F.RawFile S.Start self.new ≡ calls_of F.RawFile S.Start self.old) }
+    {
+        if self.is_read_only || self.is_broken {
+            self.is_broken = true;
+            return Err(refused(&mut self.failures));
+        }
+        let outcome = self.file.write_run(first, from);
         self.is_broken = outcome.is_err();
         counted(outcome, &mut self.failures)
     }
@@ -228,7 +211,7 @@ impl<F: RawFile, S: Start> Sectors for FileDisk<F, S> {
         if self.is_broken {
             return Err(refused(&mut self.failures));
         }
-        let outcome = self.settle();
+        let outcome = self.file.sync();
         self.is_broken = outcome.is_err();
         counted(outcome, &mut self.failures)
     }

@@ -95,12 +95,12 @@ impl<F: FileExt + OpenFile + Drop> RawFile for Host<F> {
         Ok(())
     }
 
-    fn read_run(&mut self, first: u32, to: &mut [[u8; 512]]) -> io::Result<()> {
-        let offset = u64::from(first) * 512;
-        let answer = self.file.read_exact_at(to.as_flattened_mut(), offset);
+    fn read_run(&mut self, first: u32, to: &mut [u8]) -> io::Result<()> {
+        let answer = self.file.read_exact_at(to, u64::from(first) * 512);
         noted(answer, &mut self.failure)?;
-        for k in 0..to.len() {
-            self.calls = self.calls.then(&Event::Read(first + k as u32, to[k]));
+        let (sectors, _) = to.as_chunks::<512>();
+        for k in 0..sectors.len() {
+            self.calls = self.calls.then(&Event::Read(first + k as u32, sectors[k]));
         }
         Ok(())
     }
@@ -111,14 +111,14 @@ impl<F: FileExt + OpenFile + Drop> RawFile for Host<F> {
         noted(answer, &mut self.failure)
     }
 
-    fn write_run(&mut self, first: u32, from: &[[u8; 512]]) -> io::Result<()> {
-        let offset = u64::from(first) * 512;
-        let answer = self.file.write_all_at(from.as_flattened(), offset);
+    fn write_run(&mut self, first: u32, from: &[u8]) -> io::Result<()> {
+        let answer = self.file.write_all_at(from, u64::from(first) * 512);
         let ok = answer.is_ok();
-        for k in 0..from.len() {
+        let (sectors, _) = from.as_chunks::<512>();
+        for k in 0..sectors.len() {
             self.calls = self
                 .calls
-                .then(&Event::Written(first + k as u32, from[k], ok));
+                .then(&Event::Written(first + k as u32, sectors[k], ok));
         }
         noted(answer, &mut self.failure)
     }

@@ -30,7 +30,7 @@ impl<F: FileExt + OpenFile + LockFile + Drop, S: Start> FileDisk<Host<F>, S> {
     /// `Length` for fewer than 64 sectors, before any file is made, and for another length; `NotBlank` where its first two
     /// sectors are not all zero and it may hold nothing; `Locked` where another program holds a lock; `NotRegular`; and
     /// `System` where a call fails. At a refusal a file that was made is removed again.
-    pub fn make<R: Files<File = F> + AllocGlobal>(
+    pub fn make<R: Files<File = F>>(
         rt: &R,
         path: &str,
         sectors: u32,
@@ -58,7 +58,7 @@ impl<F: FileExt + OpenFile + LockFile + Drop, S: Start> FileDisk<Host<F>, S> {
             }
             return Err(error);
         }
-        let disk = FileDisk::over(rt.alloc(), host, sectors);
+        let disk = FileDisk::over(host, sectors);
         Ok(Made { disk, is_new })
     }
 
@@ -66,10 +66,7 @@ impl<F: FileExt + OpenFile + LockFile + Drop, S: Start> FileDisk<Host<F>, S> {
     /// programs first, until the device is dropped.
     ///
     /// `Length` for another length; `Locked` where another program holds a lock; `NotRegular`; `System` where a call fails.
-    pub fn open<R: Files<File = F> + AllocGlobal>(
-        rt: &R,
-        path: &str,
-    ) -> Result<FileDisk<Host<F>, S>, OpenError>
+    pub fn open<R: Files<File = F>>(rt: &R, path: &str) -> Result<FileDisk<Host<F>, S>, OpenError>
         ensures count { IfOk result (λ d. 64 ≤ count_of d) }
         ensures measured { IfOk result (λ d. events_of (file_of d) ≡ Event.Measured (count_of d * 512) ∷ Event.Locked LockKind.Exclusive ∷ []) }
         ensures fresh { IfOk result (λ d. (failures_of d ≡ 0) × (has_broken d ≡ false)) }
@@ -80,7 +77,7 @@ impl<F: FileExt + OpenFile + LockFile + Drop, S: Start> FileDisk<Host<F>, S> {
         let file = opened(rt, path, how.read(true).write(true))?;
         let mut host = locked(file, LockKind::Exclusive)?;
         let sectors = measure(&mut host)?;
-        Ok(FileDisk::over(rt.alloc(), host, sectors))
+        Ok(FileDisk::over(host, sectors))
     }
 
     /// Takes such a file for reading alone, which needs no right to write it. It is locked first against programs that
@@ -88,7 +85,7 @@ impl<F: FileExt + OpenFile + LockFile + Drop, S: Start> FileDisk<Host<F>, S> {
     ///
     /// `Length` for another length; `Locked` where another program holds a lock that excludes readers; `NotRegular`;
     /// `System` where a call fails.
-    pub fn open_to_read<R: Files<File = F> + AllocGlobal>(
+    pub fn open_to_read<R: Files<File = F>>(
         rt: &R,
         path: &str,
     ) -> Result<FileDisk<Host<F>, S>, OpenError>
@@ -102,7 +99,7 @@ impl<F: FileExt + OpenFile + LockFile + Drop, S: Start> FileDisk<Host<F>, S> {
         let file = opened(rt, path, how.read(true))?;
         let mut host = locked(file, LockKind::Shared)?;
         let sectors = measure(&mut host)?;
-        Ok(FileDisk::over_to_read(rt.alloc(), host, sectors))
+        Ok(FileDisk::over_to_read(host, sectors))
     }
 }
 

@@ -12,6 +12,7 @@ use Rattle.superblock.specs.Superblock.{sectors_of}
 use Rattle.catalogue.specs.declared.entry.Entry.{Entry}
 use Rattle.object_store.specs.Content.{Content, look_up}
 use Rattle.object_store.specs.Commit.{find_by}
+use Rattle.object_store.proofs.Pieces.{length_run}
 use Rattle.object_store.specs.Places.{run_bytes, bytes_at, extent_of, extents_of, objects_at, used_by}
 use Rattle.object_store.specs.Shows.{ShowsBy}
 use Rattle.object_store.specs.Disk.{Disk, Leaves}
@@ -47,14 +48,6 @@ found_range size id super entries e is laid =
     (All-unmap (IsInRange size) (λ (x : Entry). extent_of x.first x.bytes) entries (All-tail (IsInRange size) (extent_of super.catalogue super.bytes) (extents_of entries) laid.in_range))
 
 -- so many bytes stand there
-length_run : (image : Image) (first n : ℕ) → ((k : ℕ) → k < n → length (image (first + k)) ≡ 512) → length (run_bytes image first n) ≡ n * 512
-length_run image first zero whole = refl
-length_run image first (suc n) whole =
-    let here : first + 0 ≡ first = omega arith in
-    let long : length (image first) ≡ 512 = sym (ap (λ (i : ℕ). length (image i)) here) ∙ whole 0 (omega arith) in
-    let rest : length (run_bytes image (suc first) n) ≡ n * 512 = length_run image (suc first) n (λ k lt. let at : suc first + k ≡ first + suc k = omega arith in ap (λ (i : ℕ). length (image i)) at ∙ whole (suc k) (omega (arith, lt))) in
-    omega (arith, long, rest, length-append (image first) (run_bytes image (suc first) n))
-
 pub length_bytes_at : (image : Image) (first bytes size : ℕ) → IsInRange size (extent_of first bytes) → ((i : ℕ) → i < size → length (image i) ≡ 512) → length (bytes_at image first bytes) ≡ bytes
 length_bytes_at image first bytes size in_range whole =
     let ends = in_range.ends in

@@ -1,6 +1,5 @@
 pub mod Lists
 pub mod Extents
-pub mod Spelled
 pub mod Written
 pub mod Frame
 pub mod After

@@ -1,7 +1,7 @@
 // Reading bytes that stand from a sector on.
 ghost use Rattle.std.specs.Prelude.{◌≡◌, ◌+◌, ◌-◌, ◌*◌, ◌/◌, ◌%◌, ◌<◌, ◌≤◌, ◌^◌, ◌++◌, ℕ, length, take, drop, min, IfOk, OnOk};
 ghost use Rattle.std.specs.Vec.{vec_capacity};
-ghost use Rattle.sector_device.specs.Device.{CountsFailure, Stays};
+ghost use Rattle.sector_device.specs.Device.{CountsFailure};
 ghost use Rattle.superblock.specs.Superblock.{sectors_of};
 ghost use Rattle.object_store.specs.Places.{bytes_at, run_bytes};
 ghost use Rattle.object_store.specs.Reading.{IsOnlyRead};
@@ -26,9 +26,50 @@ pub(crate) fn read_range<D: Sectors>(
 {
     let mut done: usize = 0;
     while done < to.len() {
-        done += read_piece(device, first, at + done as u64, &mut to[done..])?;
+        done += read_some(device, first, at + done as u64, &mut to[done..])?;
     }
     Ok(())
+}
+
+// Reads from a place on: whole sectors where one begins there, or up to the end of the sector. It answers how many bytes.
+fn read_some<D: Sectors>(
+    device: &mut D,
+    first: u32,
+    place: u64,
+    to: &mut [u8],
+) -> Result<usize, DeviceError>
+    requires some { 0 < length to.old }
+    requires in_range { first + sectors_of (place + length to.old) ≤ (D.state device.old).size }
+    requires few { (D.state device.old).size < 2 ^ 32 }
+    ensures size { (D.state device.new).size ≡ (D.state device.old).size }
+    ensures failures { CountsFailure result (D.failed device.old) (D.failed device.new) }
+    ensures word { D.keeps_word device.new → D.keeps_word device.old }
+    ensures only { D.keeps_word device.new → IsOnlyRead (D.state device.old) (D.state device.new) }
+    ensures many { IfOk result (λ n. (0 < n) × (n ≤ length to.old)) }
+    ensures bytes { IfOk result (λ n. D.keeps_word device.new → (total : ℕ) → place + length to.old ≤ total
+        → to.new ≡ take n (drop place (bytes_at (D.state device.old).reads first total)) ++ drop n to.old) }
+{
+    if place % 512 == 0 && to.len() >= 512 {
+        return read_whole(device, first + (place / 512) as u32, to);
+    }
+    read_piece(device, first, place, to)
+}
+
+// Reads whole sectors, from a first one on, as many as there is room for. It answers how many bytes.
+fn read_whole<D: Sectors>(device: &mut D, first: u32, to: &mut [u8]) -> Result<usize, DeviceError>
+    requires in_range { first + length to.old / 512 ≤ (D.state device.old).size }
+    requires few { (D.state device.old).size < 2 ^ 32 }
+    ensures size { (D.state device.new).size ≡ (D.state device.old).size }
+    ensures failures { CountsFailure result (D.failed device.old) (D.failed device.new) }
+    ensures word { D.keeps_word device.new → D.keeps_word device.old }
+    ensures only { D.keeps_word device.new → IsOnlyRead (D.state device.old) (D.state device.new) }
+    ensures many { IfOk result (λ n. n ≡ length to.old / 512 * 512) }
+    ensures bytes { IfOk result (λ n. D.keeps_word device.new
+        → to.new ≡ run_bytes (D.state device.old).reads first (length to.old / 512) ++ drop n to.old) }
+{
+    let n = to.len() / 512 * 512;
+    device.read_run(first, &mut to[..n])?;
+    Ok(n)
 }
 
 // Reads from a place on, up to the end of its sector. It answers how many bytes.
@@ -73,31 +114,7 @@ pub(crate) fn push_sectors<D: Sectors>(
     ensures bytes { OnOk result (D.keeps_word device.new
         → to.new.items ≡ to.old.items ++ run_bytes (D.state device.old).reads first n) }
 {
-    let mut block = [0; 512];
-    for k in 0..n {
-        push_sector(device, first + k, &mut block, to)?;
-    }
-    Ok(())
-}
-
-// Puts the bytes of a sector behind others.
-fn push_sector<D: Sectors>(
-    device: &mut D,
-    i: u32,
-    block: &mut [u8; 512],
-    to: &mut Vec<u8>,
-) -> Result<(), DeviceError>
-    requires in_range { i < (D.state device.old).size }
-    requires room { length to.old.items + 512 ≤ vec_capacity to.old }
-    ensures size { (D.state device.new).size ≡ (D.state device.old).size }
-    ensures failures { CountsFailure result (D.failed device.old) (D.failed device.new) }
-    ensures word { D.keeps_word device.new → D.keeps_word device.old }
-    ensures stays { D.keeps_word device.new → Stays (D.state device.old) (D.state device.new) }
-    ensures bytes { OnOk result (D.keeps_word device.new → to.new.items ≡ to.old.items ++ (D.state device.old).reads i) }
-    ensures long { OnOk result (length to.new.items ≡ length to.old.items + 512) }
-    ensures room { vec_capacity to.old ≤ vec_capacity to.new }
-{
-    device.read(i, block)?;
-    to.extend_from_slice(block).unwrap();
-    Ok(())
+    let at = to.len();
+    to.resize(at + n as usize * 512, 0).unwrap();
+    device.read_run(first, &mut to[at..])
 }

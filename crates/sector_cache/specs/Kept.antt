@@ -1,7 +1,7 @@
 -- What a cache keeps of a device: the bytes of some of its sectors. Our own.
 use Rattle.std.specs.Prelude.{◌≡◌, ◌≢◌, ℕ, List, Option, Some, None, IsSome, IfSome, nat_eq}
 use Rattle.std.specs.Map.{lookup}
-use Rattle.sector_device.specs.Device.{Image}
+use Rattle.sector_device.specs.Device.{Image, IsInRun}
 
 -- numbers of sectors with their bytes, the one used last first
 abbrev pub Kept : Type 0
@@ -29,3 +29,8 @@ pub record Keeps (at : ℕ) (bytes : List ℕ) (old new : Kept) : Type 0 where
 pub record Forgets (at : ℕ) (old new : Kept) : Type 0 where
   pub here : kept_at new at ≡ None
   pub others : (i : ℕ) → i ≢ at → kept_at new i ≡ kept_at old i
+
+-- of so many neighbouring sectors from a first one on nothing is kept, and of the others what was
+pub record ForgetsRun (first count : ℕ) (old new : Kept) : Type 0 where
+  pub here : (i : ℕ) → IsInRun first count i → kept_at new i ≡ None
+  pub others : (i : ℕ) → (IsInRun first count i → ⊥) → kept_at new i ≡ kept_at old i

@@ -1,10 +1,9 @@
 // A device behind a cache of some of its sectors.
-ghost use Rattle.std.specs.Prelude.{◌≡◌, ◌+◌, ◌-◌, ◌^◌, ◌<◌, ℕ, List, min, Some, None, IsSome, OnOk, OnErr, IfOk, IfErr};
-ghost use Rattle.sector_device.specs.Device.{CountsFailure, IsSettled, Stays, Writes, Syncs};
+ghost use Rattle.std.specs.Prelude.{◌≡◌, ◌+◌, ◌-◌, ◌/◌, ◌%◌, ◌^◌, ◌<◌, ◌≤◌, ℕ, List, length, min, Some, None, IsSome, OnOk, OnErr, IfOk, IfErr};
+ghost use Rattle.sector_device.specs.Device.{CountsFailure, HasRun, IsInRun, Stays, Writes, WritesWithin};
 ghost use Rattle.sector_cache.specs.Kept.{Agrees};
 
-use crate::kept::{Kept, copy_kept, forget, keep, renew};
-use crate::run::Run;
+use crate::kept::{Kept, copy_kept, forget, forget_run, keep};
 use cube_model::Fault;
 use lru::LruCache;
 use sector_device::{DeviceError, Sectors};
@@ -13,16 +12,12 @@ use std::num::NonZeroUsize;
 
 /// A device with a cache of the sectors used last. It shows what its inner device shows, at each moment.
 ///
-/// Reads fill the cache, and a write goes through to the device. Where there is no memory for a sector, it is
-/// not kept. Of sectors read one behind the other the first 64 that were not kept are, and those behind them
-/// pass by the cache until a read is not the next. It is the same with sectors written one behind the other, but
-/// one that is kept is kept with what was written.
+/// A sector that is read or written alone is kept, and a write goes through to the device. Where there is no memory
+/// for a sector, it is not kept. Neighbouring sectors that are read or written at once pass by the cache.
 #[derive(Drop)]
 pub struct Cached<D: Sectors> {
     inner: D,
     kept: Kept,
-    run: Run,
-    written: Run,
     ghost agrees: { D.keeps_word inner → Agrees (D.state inner).reads kept.entries },
 }
 
@@ -42,12 +37,7 @@ impl<D: Sectors> Cached<D> {
             unreachable!()
         };
         match LruCache::sparse(alloc, room) {
-            Ok(kept) => Ok(Cached {
-                inner,
-                kept,
-                run: Run::new(),
-                written: Run::new(),
-            }),
+            Ok(kept) => Ok(Cached { inner, kept }),
             Err(_) => Err((Fault::Memory, inner)),
         }
     }
@@ -106,14 +96,11 @@ impl<D: Sectors> Sectors for Cached<D> {
 
         ensures served { (bytes : List ℕ) → kept_in self.old i ≡ Some bytes → IsServed bytes result to.new self.old self.new }
     {
-        self.run.follow(i);
         if copy_kept(&mut self.kept, i, to) {
             return Ok(());
         }
         self.inner.read(i, to)?;
-        if self.run.miss() {
-            keep(&mut self.kept, i, to);
-        }
+        keep(&mut self.kept, i, to);
         Ok(())
     }
 
@@ -133,13 +120,42 @@ impl<D: Sectors> Sectors for Cached<D> {
             forget(&mut self.kept, i);
             return Err(DeviceError);
         }
-        self.written.follow(i);
-        if self.written.miss() {
-            keep(&mut self.kept, i, from);
-        } else {
-            renew(&mut self.kept, i, from);
-        }
+        keep(&mut self.kept, i, from);
         Ok(())
+    }
+
+    fn read_run(&mut self, first: u32, to: &mut [u8]) -> Result<(), DeviceError>
+        requires whole { length to.old % 512 ≡ 0 }
+        requires in_range { first + length to.old / 512 ≤ (state_of self.old).size }
+        requires few { first + length to.old / 512 ≤ 2 ^ 32 }
+        ensures size { (state_of self.new).size ≡ (state_of self.old).size }
+        ensures failures { CountsFailure result (failures_of self.old) (failures_of self.new) }
+        ensures word { KeepsWord self.new → KeepsWord self.old }
+        ensures goes_on { D.Sectors.always_keeps → KeepsWord self.old → KeepsWord self.new }
+        ensures bytes { OnOk result (KeepsWord self.new → HasRun (state_of self.old).reads first to.new) }
+        ensures stays { KeepsWord self.new → Stays (state_of self.old) (state_of self.new) }
+
+        ensures unkept { (i : ℕ) → kept_in self.new i ≡ kept_in self.old i }
+    {
+        self.inner.read_run(first, to)
+    }
+
+    fn write_run(&mut self, first: u32, from: &[u8]) -> Result<(), DeviceError>
+        requires whole { length from.now % 512 ≡ 0 }
+        requires in_range { first + length from.now / 512 ≤ (state_of self.old).size }
+        requires few { first + length from.now / 512 ≤ 2 ^ 32 }
+        ensures size { (state_of self.new).size ≡ (state_of self.old).size }
+        ensures failures { CountsFailure result (failures_of self.old) (failures_of self.new) }
+        ensures word { KeepsWord self.new → KeepsWord self.old }
+        ensures goes_on { D.Sectors.always_keeps → KeepsWord self.old → KeepsWord self.new }
+        ensures written { OnOk result (KeepsWord self.new → HasRun (state_of self.new).reads first from.now) }
+        ensures within { KeepsWord self.new → WritesWithin (IsInRun first (length from.now / 512)) (state_of self.old) (state_of self.new) }
+
+        ensures dropped { (i : ℕ) → IsInRun first (length from.now / 512) i → kept_in self.new i ≡ None }
+    {
+        let outcome = self.inner.write_run(first, from);
+        forget_run(&mut self.kept, first, from.len() / 512);
+        outcome
     }
 
     fn sync(&mut self) -> Result<(), DeviceError> {

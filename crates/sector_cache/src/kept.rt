@@ -1,7 +1,7 @@
 // The sectors that a cache keeps, as a list of the least recently used last.
-ghost use Rattle.std.specs.Prelude.{◌≡◌, Some, None};
+ghost use Rattle.std.specs.Prelude.{◌≡◌, ◌+◌, ◌≤◌, ◌^◌, Some, None};
 ghost use Rattle.std.specs.Bool.{OnTrue, OnFalse};
-ghost use Rattle.sector_cache.specs.Kept.{kept_at, Keeps, Forgets, IsSameKept};
+ghost use Rattle.sector_cache.specs.Kept.{kept_at, Keeps, Forgets, ForgetsRun, IsSameKept};
 
 use lru::LruCache;
 
@@ -33,30 +33,21 @@ pub(crate) fn keep(kept: &mut Kept, i: u32, bytes: &[u8; 512])
     }
 }
 
-/// Keeps the bytes of a sector of which something is kept, and nothing of another.
-pub(crate) fn renew(kept: &mut Kept, i: u32, bytes: &[u8; 512])
-    ensures { Keeps i bytes.now kept.old.entries kept.new.entries }
-{
-    if is_kept(kept, i) {
-        keep(kept, i, bytes);
-    }
-}
-
-// Whether something is kept of a sector.
-fn is_kept(kept: &Kept, i: u32) -> bool
-    ensures { OnFalse result (kept_at kept.now.entries i ≡ None) }
-{
-    match kept.peek(&i) {
-        Some(_) => true,
-        None => false,
-    }
-}
-
 /// Keeps nothing of a sector.
 pub(crate) fn forget(kept: &mut Kept, i: u32)
     ensures { Forgets i kept.old.entries kept.new.entries }
 {
     if kept.len() > 0 {
         kept.pop(&i);
+    }
+}
+
+/// Keeps nothing of so many neighbouring sectors, the first of them at a number.
+pub(crate) fn forget_run(kept: &mut Kept, first: u32, count: usize)
+    requires few { first + count ≤ 2 ^ 32 }
+    ensures { ForgetsRun first count kept.old.entries kept.new.entries }
+{
+    for k in 0..count {
+        forget(kept, first + k as u32);
     }
 }

@@ -3,6 +3,5 @@
 
 mod cached;
 mod kept;
-mod run;
 
 pub use cached::Cached;

@@ -1,3 +1,5 @@
+pub mod CallerLemmas
 pub mod Lists
 pub mod MemorySteps
 pub mod PickSteps
+pub mod Runs

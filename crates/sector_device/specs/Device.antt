@@ -1,5 +1,5 @@
 -- A device as its candidates, and the images that a stop at each moment may leave. Our own model of a disk.
-use Rattle.std.specs.Prelude.{◌≡◌, ◌≢◌, ◌⊎◌, ℕ, ◌+◌, ◌-◌, ◌^◌, ◌≤◌, min, List, Result, MatchResult}
+use Rattle.std.specs.Prelude.{◌≡◌, ◌≢◌, ◌⊎◌, ℕ, ◌+◌, ◌-◌, ◌*◌, ◌/◌, ◌^◌, ◌≤◌, ◌<◌, min, List, length, take, drop, Result, MatchResult}
 
 -- what stands in each sector: a list of 512 bytes for each number of a sector
 abbrev pub Image : Type 0
@@ -68,3 +68,11 @@ pub record WritesWithin (Within : ℕ → Type 0) (old new : DeviceState) : Type
   pub others : (i : ℕ) → (Within i → ⊥) → new.reads i ≡ old.reads i
   pub no_more : (i : ℕ) (b : List ℕ) → (Within i → ⊥) → new.may_hold i b → old.may_hold i b
   pub leaves : LeavesOnly old new (λ image. (i : ℕ) → (Within i → ⊥) → old.may_hold i (image i))
+
+-- a sector is one of so many neighbours from a first one on
+abbrev pub IsInRun : ℕ → ℕ → ℕ → Type 0
+IsInRun first count i = (first ≤ i) × (i < first + count)
+
+-- so many whole sectors from a first one on have these bytes, end to end
+abbrev pub HasRun : Image → ℕ → List ℕ → Type 0
+HasRun reads first bytes = (k : ℕ) → k < length bytes / 512 → take 512 (drop (k * 512) bytes) ≡ reads (first + k)

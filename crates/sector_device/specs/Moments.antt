@@ -1,7 +1,7 @@
 -- How a run of device calls goes on, from one moment to the next. Our own.
 use Rattle.std.specs.Prelude.{◌≢◌, ℕ, List, refl}
 use Rattle.std.proofs.Common.{inl, inr, ⊎_elim, sym, ◌∙◌, subst, arith}
-use Rattle.sector_device.specs.Device.{Image, DeviceState, IsImage, Elapses, Writes, Syncs, LeavesOnly, WritesWithin}
+use Rattle.sector_device.specs.Device.{Image, DeviceState, IsImage, Elapses, Stays, Writes, Syncs, LeavesOnly, WritesWithin}
 
 -- before the first call
 pub started : (s : DeviceState) (P : Image → Type 0) → ((image : Image) → s.left_since s.moment image → IsImage s image) → ((image : Image) → IsImage s image → P image) → LeavesOnly s s P
@@ -73,3 +73,17 @@ within_then Within Part old mid new so first second = record {
   leaves = and_then old mid new _ first.leaves
       (leaves_also mid new _ _ (λ image held i out. first.no_more i (image i) out (held i (λ p. out (so i p)))) second.leaves);
 }
+
+-- nothing changed, twice
+pub stays_then : (old mid new : DeviceState) → Stays old mid → Stays mid new → Stays old new
+stays_then old mid new one two =
+    let images : (image : Image) → IsImage mid image → IsImage new image = λ image is i. two.no_fewer i (image i) (is i) in record {
+      reads = λ i. two.reads i ∙ one.reads i;
+      no_more = λ i b may. one.no_more i b (two.no_more i b may);
+      no_fewer = λ i b may. two.no_fewer i b (one.no_fewer i b may);
+      time = record {
+        later = omega (arith, one.time.later, two.time.later);
+        nothing_else = λ t image le left. ⊎_elim (λ was. ⊎_elim (λ old. inl old) (λ is. inr (images image is)) (one.time.nothing_else t image le was)) (λ is. inr is) (two.time.nothing_else t image (omega (arith, le, one.time.later)) left);
+        keeps = λ t image le left. two.time.keeps t image (omega (arith, le, one.time.later)) (one.time.keeps t image le left);
+      };
+    }

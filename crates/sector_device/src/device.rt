@@ -1,6 +1,8 @@
 // What generic code knows of a device. What is said of its contents holds where it keeps its word.
-ghost use Rattle.std.specs.Prelude.{◌≡◌, ◌≤◌, ◌<◌, List, ℕ, length, OnOk, OnErr};
-ghost use Rattle.sector_device.specs.Device.{DeviceState, Image, IsImage, IsSettled, Stays, Writes, Syncs, CountsFailure};
+ghost use Rattle.std.specs.Prelude.{◌≡◌, ◌+◌, ◌/◌, ◌%◌, ◌^◌, ◌≤◌, ◌<◌, List, ℕ, length, OnOk, OnErr};
+ghost use Rattle.sector_device.specs.Device.{DeviceState, Image, IsImage, IsSettled, Stays, Writes, WritesWithin, HasRun, IsInRun, Syncs, CountsFailure};
+
+use crate::run::{put_sector, sector_at};
 
 /// The device failed in this call.
 #[derive(Clone, Copy, Debug, PartialEq, Eq)]
@@ -50,6 +52,45 @@ pub trait Sectors {
         ensures goes_on { always_keeps → keeps_word self.old → keeps_word self.new }
         ensures written { OnOk result (keeps_word self.new → (state self.new).reads i ≡ from.now) }
         ensures writes { keeps_word self.new → Writes i from.now (state self.old) (state self.new) };
+
+    /// Reads neighbouring sectors, from a first one on, to bytes end to end. After an error these may hold anything.
+    fn read_run(&mut self, first: u32, to: &mut [u8]) -> Result<(), DeviceError>
+        requires whole { length to.old % 512 ≡ 0 }
+        requires in_range { first + length to.old / 512 ≤ (state self.old).size }
+        requires few { first + length to.old / 512 ≤ 2 ^ 32 }
+        ensures size { (state self.new).size ≡ (state self.old).size }
+        ensures failures { CountsFailure result (failed self.old) (failed self.new) }
+        ensures word { keeps_word self.new → keeps_word self.old }
+        ensures goes_on { always_keeps → keeps_word self.old → keeps_word self.new }
+        ensures bytes { OnOk result (keeps_word self.new → HasRun (state self.old).reads first to.new) }
+        ensures stays { keeps_word self.new → Stays (state self.old) (state self.new) }
+    {
+        let mut sector = [0; 512];
+        for k in 0..to.len() / 512 {
+            self.read(first + k as u32, &mut sector)?;
+            put_sector(to, k, &sector);
+        }
+        Ok(())
+    }
+
+    /// Writes neighbouring sectors, from a first one on, whose bytes are given end to end. After an error each may have been
+    /// written or not.
+    fn write_run(&mut self, first: u32, from: &[u8]) -> Result<(), DeviceError>
+        requires whole { length from.now % 512 ≡ 0 }
+        requires in_range { first + length from.now / 512 ≤ (state self.old).size }
+        requires few { first + length from.now / 512 ≤ 2 ^ 32 }
+        ensures size { (state self.new).size ≡ (state self.old).size }
+        ensures failures { CountsFailure result (failed self.old) (failed self.new) }
+        ensures word { keeps_word self.new → keeps_word self.old }
+        ensures goes_on { always_keeps → keeps_word self.old → keeps_word self.new }
+        ensures written { OnOk result (keeps_word self.new → HasRun (state self.new).reads first from.now) }
+        ensures within { keeps_word self.new → WritesWithin (IsInRun first (length from.now / 512)) (state self.old) (state self.new) }
+    {
+        for k in 0..from.len() / 512 {
+            self.write(first + k as u32, sector_at(from, k))?;
+        }
+        Ok(())
+    }
 
     /// Makes what was written lasting. After an error nothing has changed.
     fn sync(&mut self) -> Result<(), DeviceError>

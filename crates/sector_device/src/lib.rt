@@ -6,6 +6,7 @@ mod crash;
 mod device;
 mod fuse;
 mod memory;
+mod run;
 
 pub use device::{DeviceError, Sectors};
 pub use fuse::Fuse;

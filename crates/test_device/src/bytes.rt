@@ -16,12 +16,65 @@ pub(crate) fn get<D: Sectors>(disk: &mut D, i: u32) -> Result<Option<u8>, Device
     }
     let mut sector = [0; 512];
     disk.read(i, &mut sector)?;
+    Ok(only(&sector))
+}
+
+// The byte that all of a sector are, if they are one.
+fn only(sector: &[u8; 512]) -> Option<u8> {
     let byte = sector[0];
-    if sector == [byte; 512] {
-        Ok(Some(byte))
+    if *sector == [byte; 512] {
+        Some(byte)
     } else {
-        Ok(None)
+        None
     }
+}
+
+/// Fills four neighbouring sectors, the first of them at a number, with a byte each, at once.
+pub(crate) fn put_four<D: Sectors>(
+    disk: &mut D,
+    first: u32,
+    bytes: [u8; 4],
+) -> Result<(), DeviceError> {
+    if disk.count() < 4 || first > disk.count() - 4 {
+        return Err(DeviceError);
+    }
+    let sectors = [
+        [bytes[0]; 512],
+        [bytes[1]; 512],
+        [bytes[2]; 512],
+        [bytes[3]; 512],
+    ];
+    disk.write_run(first, sectors.as_flattened())
+}
+
+/// The byte of which each of four neighbouring sectors consists, read at once.
+pub(crate) fn get_four<D: Sectors>(
+    disk: &mut D,
+    first: u32,
+) -> Result<[Option<u8>; 4], DeviceError> {
+    if disk.count() < 4 || first > disk.count() - 4 {
+        return Err(DeviceError);
+    }
+    let mut bytes = [0; 2048];
+    disk.read_run(first, &mut bytes)?;
+    let (sectors, _) = bytes.as_chunks::<512>();
+    match sectors {
+        [one, two, three, four] => Ok([only(one), only(two), only(three), only(four)]),
+        _ => Err(DeviceError),
+    }
+}
+
+/// The same, read one by one.
+pub(crate) fn get_each<D: Sectors>(
+    disk: &mut D,
+    first: u32,
+) -> Result<[Option<u8>; 4], DeviceError> {
+    if first > u32::MAX - 3 {
+        return Err(DeviceError);
+    }
+    let one = get(disk, first)?;
+    let two = get(disk, first + 1)?;
+    Ok([one, two, get(disk, first + 2)?, get(disk, first + 3)?])
 }
 
 /// The bytes of the first three sectors.

@@ -1,5 +1,5 @@
 // What a cache reads of its device, and what it keeps over writes.
-use crate::bytes::{get, put};
+use crate::bytes::{get, get_each, get_four, put, put_four};
 use crate::calls::answers;
 use cube_model::Fault;
 use sample_star::Turning;
@@ -34,10 +34,10 @@ const LOOPS: [(u32, u32, u32, u64); 10] = [
     (2, 3, 2, 6),
     (3, 3, 4, 3),
     (64, 64, 2, 64),
-    (100, 65, 2, 66),
-    (128, 100, 2, 136),
-    (128, 100, 3, 136),
-    (256, 200, 3, 408),
+    (100, 65, 2, 65),
+    (128, 100, 2, 100),
+    (99, 100, 2, 200),
+    (256, 200, 3, 200),
 ];
 
 fn reads_of_rounds(rt: &HostRuntime, room: u32, sectors: u32, rounds: u32) -> Result<u64, Fail> {
@@ -62,21 +62,54 @@ fn reads_a_sector_of_the_disk_once_where_there_is_room(rt: HostRuntime) -> Resul
     Ok(())
 }
 
-// A sector is read, then all below 200 in order, and then it once more.
-fn reads_around_a_scan(rt: &HostRuntime, sector: u32) -> Result<u64, Fail> {
-    let mut disk = cached(rt, 65, 0, false)?;
-    get(&mut disk, sector)?;
-    for i in 0..200 {
-        get(&mut disk, i)?;
-    }
-    get(&mut disk, sector)?;
+// Sectors are read, then four at once, and then those once more.
+fn reads_around_a_run(rt: &HostRuntime, first: u32) -> Result<u64, Fail> {
+    let mut disk = cached(rt, 4, 0, false)?;
+    get_each(&mut disk, 8)?;
+    get_four(&mut disk, first)?;
+    get_each(&mut disk, 8)?;
     Ok(reads(disk))
 }
 
 #[test]
-fn keeps_a_sector_over_a_long_scan(rt: HostRuntime) -> Result<(), Fail> {
-    for (sector, read) in [(10, 200), (150, 200), (250, 201)] {
-        assert_eq!(rt; reads_around_a_scan(&rt, sector)?, read, "sector {sector}");
+fn keeps_its_sectors_over_a_run(rt: HostRuntime) -> Result<(), Fail> {
+    for first in [0, 6, 8, 252] {
+        assert_eq!(rt; reads_around_a_run(&rt, first)?, 8, "from {first} on");
+    }
+    Ok(())
+}
+
+// Sectors are read, four are written at once by calls of which the n-th fails or not, and they are read again. Whether
+// the writes succeed, the sectors then, and how often the disk was read.
+fn rewritten(
+    rt: &HostRuntime,
+    n: u64,
+    reaches: bool,
+) -> Result<(bool, [Option<u8>; 4], u64), Fail> {
+    let mut disk = cached(rt, 8, n, reaches)?;
+    get_each(&mut disk, 8)?;
+    let write = put_four(&mut disk, 9, [1, 2, 3, 4]).is_ok();
+    let sectors = get_each(&mut disk, 8)?;
+    Ok((write, sectors, reads(disk)))
+}
+
+// Which call fails, whether it reaches the disk, whether the writes succeed, and what is read then.
+const REWRITES: [(u64, bool, bool, [u8; 4]); 4] = [
+    (0, false, true, [0, 1, 2, 3]),
+    (5, false, false, [0, 0, 0, 0]),
+    (6, false, false, [0, 1, 0, 0]),
+    (6, true, false, [0, 1, 2, 0]),
+];
+
+#[test]
+fn drops_the_sectors_of_a_run_that_is_written(rt: HostRuntime) -> Result<(), Fail> {
+    for (n, reaches, write, bytes) in REWRITES {
+        let sectors = bytes.map(|byte| Some(byte));
+        assert_eq!(rt;
+            rewritten(&rt, n, reaches)?,
+            (write, sectors, 7),
+            "call {n}, reaches {reaches}"
+        );
     }
     Ok(())
 }

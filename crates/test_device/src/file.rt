@@ -181,11 +181,10 @@ fn cut_after(rt: &HostRuntime, path: &str, read: u32) -> Result<(u32, u32), Fail
     Ok(right_from(&mut disk, read))
 }
 
-// Behind the first sector there is a run of 128, which was read before the cut where two were read.
 #[test]
 fn reads_what_is_left_of_a_file_that_was_cut(rt: HostRuntime) -> Result<(), Fail> {
     fresh(&rt, "cut")?;
-    for (read, right) in [(0, (100, 200)), (1, (99, 200)), (2, (127, 171))] {
+    for (read, right) in [(0, (100, 200)), (1, (99, 200)), (100, (0, 200))] {
         assert_eq!(rt;
             cut_after(&rt, "cut/disk", read)?,
             right,
@@ -197,12 +196,8 @@ fn reads_what_is_left_of_a_file_that_was_cut(rt: HostRuntime) -> Result<(), Fail
 }
 
 // Whether a read, a write, a sync, a read and a write succeed where syncs fail, and the failures.
-fn torn(rt: &HostRuntime, writes: bool) -> ([bool; 5], u64) {
-    let mut disk: FileDisk<Host<Torn>, Unread> = FileDisk::over(
-        rt.alloc(),
-        Host::new(Torn { writes }),
-        64,
-    );
+fn torn(writes: bool) -> ([bool; 5], u64) {
+    let mut disk: FileDisk<Host<Torn>, Unread> = FileDisk::over(Host::new(Torn { writes }), 64);
     let read = get(&mut disk, 0).is_ok();
     let write = put(&mut disk, 0, 1).is_ok();
     let sync = disk.sync().is_ok();
@@ -213,6 +208,6 @@ fn torn(rt: &HostRuntime, writes: bool) -> ([bool; 5], u64) {
 
 #[test]
 fn fails_each_call_after_a_failed_write_or_sync(rt: HostRuntime) {
-    assert_eq!(rt; torn(&rt, false), ([true, true, false, false, false], 3));
-    assert_eq!(rt; torn(&rt, true), ([true, true, false, false, false], 3));
+    assert_eq!(rt; torn(false), ([true, false, false, false, false], 4));
+    assert_eq!(rt; torn(true), ([true, true, false, false, false], 3));
 }

@@ -1,5 +1,5 @@
 // Which calls of a fuse fail, and what a failing write leaves.
-use crate::bytes::{first_three, get, put};
+use crate::bytes::{first_three, get, get_each, get_four, put, put_four};
 use crate::calls::answers;
 use sample_star::Turning;
 use sector_device::{DeviceError, Fuse, MemDisk, Sectors};
@@ -83,6 +83,58 @@ fn lets_failing_writes_reach_the_disk(rt: HostRuntime) -> Result<(), Fail> {
             found,
             expected(calls, failures, [1, 0, 2]),
             "call {n}, all {all}"
+        );
+    }
+    Ok(())
+}
+
+// What four sectors that are written at once, and then read at once, do where the n-th call fails.
+#[derive(Clone, Copy, Debug, PartialEq)]
+struct OfRun {
+    write: bool,
+    read: bool,
+    failures: u64,
+    left: [Option<u8>; 4],
+}
+
+fn run(rt: &HostRuntime, n: u64, reaches: bool) -> Result<OfRun, Fail> {
+    let mut fuse = Fuse::new(MemDisk::new(rt.alloc(), 4)?, n, false, reaches);
+    let write = put_four(&mut fuse, 0, [1, 2, 3, 4]).is_ok();
+    let read = get_four(&mut fuse, 0).is_ok();
+    let failures = fuse.failures();
+    Ok(OfRun {
+        write,
+        read,
+        failures,
+        left: get_each(&mut fuse.close(), 0)?,
+    })
+}
+
+// Each sector is a call. Which one fails, whether it reaches the disk, whether the write and the read succeed, and what
+// is left.
+const RUNS: [(u64, bool, bool, bool, [u8; 4]); 7] = [
+    (0, false, true, true, [1, 2, 3, 4]),
+    (1, false, false, true, [0, 0, 0, 0]),
+    (3, false, false, true, [1, 2, 0, 0]),
+    (3, true, false, true, [1, 2, 3, 0]),
+    (4, true, false, true, [1, 2, 3, 4]),
+    (5, false, true, false, [1, 2, 3, 4]),
+    (8, false, true, false, [1, 2, 3, 4]),
+];
+
+#[test]
+fn fails_at_a_sector_of_a_run(rt: HostRuntime) -> Result<(), Fail> {
+    for (n, reaches, write, read, left) in RUNS {
+        let expected = OfRun {
+            write,
+            read,
+            failures: u64::from(n > 0),
+            left: left.map(|byte| Some(byte)),
+        };
+        assert_eq!(rt;
+            run(&rt, n, reaches)?,
+            expected,
+            "call {n}, reaches {reaches}"
         );
     }
     Ok(())

@@ -6,9 +6,8 @@ use sector_device::Sectors;
 use std::io;
 
 // What the system said of the last call that failed: before a call, and after a write and a sync that failed.
-fn said(rt: &HostRuntime) -> [Option<io::ErrorKind>; 2] {
+fn said() -> [Option<io::ErrorKind>; 2] {
     let mut disk: FileDisk<Host<Torn>, Unread> = FileDisk::over(
-        rt.alloc(),
         Host::new(Torn { writes: false }),
         64,
     );
@@ -20,5 +19,5 @@ fn said(rt: &HostRuntime) -> [Option<io::ErrorKind>; 2] {
 
 #[test]
 fn keeps_what_the_system_said(rt: HostRuntime) {
-    assert_eq!(rt; said(&rt), [None, Some(io::ErrorKind::Other)]);
+    assert_eq!(rt; said(), [None, Some(io::ErrorKind::Other)]);
 }

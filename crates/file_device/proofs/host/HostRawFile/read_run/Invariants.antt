@@ -3,4 +3,4 @@ use Rattle.file_device.specs.Runs.{with_reads}
 use Rattle.file_device.proofs.host.HostRawFile.read_run.Given as goal
 
 abbrev pub invariant-loop-k : goal.invariant-loop-k
-invariant-loop-k g l = l.self.calls.made ≡ with_reads l.first (take l.k l.to) l.initial.self.calls.made
+invariant-loop-k g l = l.self.calls.made ≡ with_reads l.first (take l.k l.sectors) l.initial.self.calls.made

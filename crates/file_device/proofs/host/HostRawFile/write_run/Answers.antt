@@ -1,5 +1,5 @@
 use Rattle.std.proofs.Common.{◌∙◌}
-use Rattle.file_device.proofs.PutOff.{noted_write}
+use Rattle.file_device.proofs.Written.{noted_write}
 use Rattle.file_device.proofs.host.HostRawFile.write_run.Goals as goal
 
 pub loop-k-preserved : goal.loop-k-preserved

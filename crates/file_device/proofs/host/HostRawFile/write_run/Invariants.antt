@@ -3,4 +3,4 @@ use Rattle.file_device.specs.Runs.{with_writes}
 use Rattle.file_device.proofs.host.HostRawFile.write_run.Given as goal
 
 abbrev pub invariant-loop-k : goal.invariant-loop-k
-invariant-loop-k g l = l.self.calls.made ≡ with_writes l.first (take l.k l.from) l.ok l.initial.self.calls.made
+invariant-loop-k g l = l.self.calls.made ≡ with_writes l.first (take l.k l.sectors) l.ok l.initial.self.calls.made
