@@ -90,6 +90,9 @@ back_8 chunk many are = le_bytes_8 chunk (from_le_bytes w64 chunk) many are refl
 pub below_4 : (chunk : List ℕ) → AreBytes chunk → from_le_bytes w32 chunk < 2 ^ 32
 below_4 chunk are = omega (arith, are 0, are 1, are 2, are 3)
 
+pub below_8 : (chunk : List ℕ) → AreBytes chunk → from_le_bytes w64 chunk < 2 ^ 64
+below_8 chunk are = omega (arith, are 0, are 1, are 2, are 3, are 4, are 5, are 6, are 7)
+
 pub read_2 : (x : ℕ) → x < 2 ^ 16 → from_le_bytes w16 (spelling 2 x) ≡ x
 unfolding spelling
 read_2 x fits = from_le_bytes-to_le_bytes_2 x fits

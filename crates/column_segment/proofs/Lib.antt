@@ -4,6 +4,7 @@ mod Gathered
 mod Chunked
 mod Coded
 mod Extremal
+mod Front
 mod Header
 mod Parts
 mod Passes

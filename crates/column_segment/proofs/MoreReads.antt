@@ -1,7 +1,7 @@
 -- Columns that are read one behind the other. Our own.
-use Rattle.std.proofs.Common.{◌≡◌, ◌⊎◌, ℕ, zero, suc, ◌<◌, List, [], ◌∷◌, Result, Ok, Err, inl, inr, get_or, length, take, sym, subst, arith}
+use Rattle.std.proofs.Common.{◌≡◌, ◌⊎◌, ℕ, zero, suc, ◌<◌, List, [], ◌∷◌, Result, Ok, Err, inl, inr, get_or, length, take, sym, ap, subst, ◌∙◌, arith}
 use Rattle.std.specs.List.{AllByRecursion}
-use Rattle.std.specs.Result.{IsErrAnd, MatchResult}
+use Rattle.std.specs.Result.{IsErrAnd, IsErrOf, MatchResult}
 use Rattle.cube_model.specs.declared.fault.Fault.{Fault}
 use Rattle.cube_model.specs.declared.fault.Fault.TheVariants.{BadLayout}
 use Rattle.wire.specs.declared.source.Source.{Ghosts}
@@ -23,6 +23,14 @@ module _ {S : Type 0} (g : Ghosts S) (join : (a b c : S) → g.reads a b → g.r
   pub ends_later : {T : Type 0} (result : Result T Fault) (fault : Fault) → IsErrAnd result (λ own. own ≡ fault) → Ends g mid new fault → MatchResult result (λ _. HasRead g old new) (Ends g old new)
   ends_later (Ok value) fault is ends = absurd is
   ends_later (Err own) fault is ends = subst (λ (f : Fault). Ends g old new f) (sym is) (ends_behind fault ends)
+
+pub ends_word : {S : Type 0} (g : Ghosts S) (mid new : S) (fault : Fault) → Ends g mid new fault → g.keeps_word new → g.keeps_word mid
+ends_word g mid new fault (inl bad) = bad.1.stays.word
+ends_word g mid new fault (inr refused) = refused.stays.word
+
+pub err_later : {T U : Type 0} (result : Result T Fault) (fault : Fault) → IsErrAnd result (λ own. own ≡ fault) → IsErrOf result BadLayout → IsErrOf {T = U} (Err fault) BadLayout
+err_later (Ok value) fault is err = absurd is
+err_later (Err own) fault is err = let same : own ≡ BadLayout = cc in ap (λ (f : Fault). Err f) (sym is ∙ same)
 
 -- ---- what holds of one more
 

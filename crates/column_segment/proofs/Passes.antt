@@ -30,7 +30,7 @@ use Rattle.column_segment.proofs.Whole.{column_many, column_short, column_stands
 
 -- ---- the header
 
-length-header : (number rows : ℕ) → length (header_of number rows) ≡ 12
+pub length-header : (number rows : ℕ) → length (header_of number rows) ≡ 12
 length-header number rows =
     omega (arith, length-append (codes "SEG1") (spelling 4 number ++ spelling 4 rows), length-append (spelling 4 number) (spelling 4 rows), length-spelling 4 number, length-spelling 4 rows)
 

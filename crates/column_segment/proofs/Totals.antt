@@ -18,29 +18,16 @@ use Rattle.column_segment.specs.declared.columns.AmountColumn.TheVariants.{Order
 use Rattle.column_segment.specs.declared.columns.ByteColumn.{ByteColumn}
 use Rattle.column_segment.specs.declared.columns.ByteColumn.TheVariants.{Quantity, Discount, Tax}
 use Rattle.column_segment.specs.declared.layout.Layout.{Layout}
-use Rattle.column_segment.specs.Columns.{FitsColumn, amount_of, amounts, byte_of, bytes}
-use Rattle.column_segment.specs.Decoded.{IsDecoded, amount_place, byte_place, column_bytes, rows_in}
-use Rattle.column_segment.specs.Segment.{FitColumns}
-use Rattle.column_segment.proofs.Values.{amount_values, byte_values}
+use Rattle.column_segment.specs.Columns.{amount_of, byte_of}
+use Rattle.column_segment.specs.Decoded.{HoldsColumns, amount_place, byte_place, column_bytes, rows_in}
+use Rattle.column_segment.proofs.Chunked.{AreBytes}
+use Rattle.column_segment.proofs.Values.{amount_values, amounts_small, byte_values, bytes_fit, rows_many}
 use Rattle.column_segment.proofs.Whole.{sum_times}
 
 -- what is made of two columns of rows is made of the rows
 pub zip2-maps : {X A B C : Type 0} (f : A → B → C) (g : X → A) (h : X → B) (xs : List X) → zip2 f (map g xs) (map h xs) ≡ map (λ x. f (g x) (h x)) xs
 zip2-maps f g h [] = refl
 zip2-maps f g h (x ∷ xs) = ap (λ l. f (g x) (h x) ∷ l) (zip2-maps f g h xs)
-
--- numbers of rows are in their ranges
-pub amount_fits : (column : AmountColumn) (rows : List LineOrder) → FitColumns rows → All (FitsColumn (amounts column)) rows
-amount_fits OrderKey rows f = f.0
-amount_fits ExtendedPrice rows f = f.1.1.1.1.1.1.1.0
-amount_fits OrdTotalPrice rows f = f.1.1.1.1.1.1.1.1.0
-amount_fits Revenue rows f = f.1.1.1.1.1.1.1.1.1.1.0
-amount_fits SupplyCost rows f = f.1.1.1.1.1.1.1.1.1.1.1.0
-
-pub byte_fits : (column : ByteColumn) (rows : List LineOrder) → FitColumns rows → All (FitsColumn (bytes column)) rows
-byte_fits Quantity rows f = f.1.1.1.1.1.1.0
-byte_fits Discount rows f = f.1.1.1.1.1.1.1.1.1.0
-byte_fits Tax rows f = f.1.1.1.1.1.1.1.1.1.1.1.1.0
 
 -- a sum of small numbers of few rows is small
 pub sum_small : (value : LineOrder → ℕ) (limit : ℕ) (marks : List Bool) (rows : List LineOrder) → All (λ row. value row < limit) rows → sum (selected marks (map value rows)) ≤ limit * length rows
@@ -70,62 +57,63 @@ times_small a b p lt small =
     let turned : a * b ≡ b * a = omega arith in
     omega (arith, most, sum_times b k a, turned, lt)
 
--- a price times a discount
-pub products_fit : (rows : List LineOrder) → FitColumns rows → All (λ row. row.extendedprice * row.discount < 2 ^ 63 * 256) rows
-products_fit rows f = λ i d lt. times_small _ _ (2 ^ 63) (amount_fits ExtendedPrice rows f i d lt) (byte_fits Discount rows f i d lt)
-
 -- the truth values of two columns are those of the rows
-pub marks_are : (text : List ℕ) (layout : Layout) → IsDecoded text layout → (quantity discount : ℕ × ℕ) (quantities discounts : List ℕ)
+pub marks_are : (text : List ℕ) (layout : Layout) → HoldsColumns text layout.rows → (quantity discount : ℕ × ℕ) (quantities discounts : List ℕ)
     → quantities ≡ column_bytes (byte_place Quantity) 1 layout.rows text → discounts ≡ column_bytes (byte_place Discount) 1 layout.rows text
     → zip2 (lies_in quantity discount) quantities discounts ≡ map (λ row. lies_in quantity discount row.quantity row.discount) (rows_in text layout)
-marks_are text layout decoded quantity discount quantities discounts is also =
-    let first : quantities ≡ map (byte_of Quantity) (rows_in text layout) = is ∙ sym (byte_values text layout decoded.readable.room Quantity) in
-    let second : discounts ≡ map (byte_of Discount) (rows_in text layout) = also ∙ sym (byte_values text layout decoded.readable.room Discount) in
+marks_are text layout has quantity discount quantities discounts is also =
+    let first : quantities ≡ map (byte_of Quantity) (rows_in text layout) = is ∙ sym (byte_values text layout has.room Quantity) in
+    let second : discounts ≡ map (byte_of Discount) (rows_in text layout) = also ∙ sym (byte_values text layout has.room Discount) in
     (λ i. zip2 (lies_in quantity discount) (first i) (second i)) ∙ zip2-maps (lies_in quantity discount) (byte_of Quantity) (byte_of Discount) (rows_in text layout)
 
 -- ---- the sums that are taken
 
-module _ (text : List ℕ) (layout : Layout) (decoded : IsDecoded text layout) (marks : List Bool) where
+module _ (text : List ℕ) (layout : Layout) (has : HoldsColumns text layout.rows) (marks : List Bool) where
   few : length (rows_in text layout) ≤ most_batch_rows
-  few = decoded.segment.batch.few
+  few = omega (arith, rows_many text layout, has.few)
 
   pub amounts_are : (column : AmountColumn) (chunks : List (List ℕ)) → chunks ≡ first_chunks 8 layout.rows (column_bytes (amount_place column) 8 layout.rows text)
       → numbers_of chunks ≡ map (amount_of column) (rows_in text layout)
   amounts_are column chunks is = ap (map (from_le_bytes w64)) is ∙ sym (amount_values text layout column)
 
   pub bytes_are : (column : ByteColumn) (part : List ℕ) → part ≡ column_bytes (byte_place column) 1 layout.rows text → part ≡ map (byte_of column) (rows_in text layout)
-  bytes_are column part is = is ∙ sym (byte_values text layout decoded.readable.room column)
+  bytes_are column part is = is ∙ sym (byte_values text layout has.room column)
+
+  -- a price times a discount
+  products_small : AreBytes text → All (λ row. row.extendedprice * row.discount < 2 ^ 64 * 256) (rows_in text layout)
+  products_small are = λ i d lt.
+      times_small _ _ (2 ^ 64) (amounts_small text layout has.room are ExtendedPrice i d lt) (bytes_fit text layout has.room are Discount i d lt)
 
   -- what is summed up, which is small, and its total
   abbrev pub Sums : ℕ → (LineOrder → ℕ) → Type 0
   Sums found value = (found < 2 ^ 127) × (pos found ≡ total (map (λ row. pos (value row)) (selected marks (rows_in text layout))))
 
-  pub amount_sum : (column : AmountColumn) (chunks : List (List ℕ)) (found : ℕ) → chunks ≡ first_chunks 8 layout.rows (column_bytes (amount_place column) 8 layout.rows text)
+  pub amount_sum : AreBytes text → (column : AmountColumn) (chunks : List (List ℕ)) (found : ℕ) → chunks ≡ first_chunks 8 layout.rows (column_bytes (amount_place column) 8 layout.rows text)
       → found ≡ sum (selected marks (numbers_of chunks)) → Sums found (amount_of column)
-  amount_sum column chunks found is summed =
+  amount_sum are column chunks found is summed =
       let same : found ≡ sum (selected marks (map (amount_of column) (rows_in text layout))) = summed ∙ ap (λ (l : List ℕ). sum (selected marks l)) (amounts_are column chunks is) in
-      let small = sum_small (amount_of column) (2 ^ 63) marks (rows_in text layout) (amount_fits column (rows_in text layout) decoded.segment.fits) in
+      let small = sum_small (amount_of column) (2 ^ 64) marks (rows_in text layout) (amounts_small text layout has.room are column) in
       (omega (arith, same, small, few), ap (λ (n : ℕ). pos n) same ∙ total_is (amount_of column) marks (rows_in text layout))
 
-  pub byte_sum : (column : ByteColumn) (part : List ℕ) (found : ℕ) → part ≡ column_bytes (byte_place column) 1 layout.rows text
+  pub byte_sum : AreBytes text → (column : ByteColumn) (part : List ℕ) (found : ℕ) → part ≡ column_bytes (byte_place column) 1 layout.rows text
       → found ≡ sum (selected marks part) → Sums found (byte_of column)
-  byte_sum column part found is summed =
+  byte_sum are column part found is summed =
       let same : found ≡ sum (selected marks (map (byte_of column) (rows_in text layout))) = summed ∙ ap (λ (l : List ℕ). sum (selected marks l)) (bytes_are column part is) in
-      let small = sum_small (byte_of column) (2 ^ 8) marks (rows_in text layout) (byte_fits column (rows_in text layout) decoded.segment.fits) in
+      let small = sum_small (byte_of column) (2 ^ 8) marks (rows_in text layout) (bytes_fit text layout has.room are column) in
       (omega (arith, same, small, few), ap (λ (n : ℕ). pos n) same ∙ total_is (byte_of column) marks (rows_in text layout))
 
   abbrev pub discounted : LineOrder → ℕ
   discounted row = row.extendedprice * row.discount
 
-  pub discounted_sum : (chunks : List (List ℕ)) (part : List ℕ) (found : ℕ) → chunks ≡ first_chunks 8 layout.rows (column_bytes (amount_place ExtendedPrice) 8 layout.rows text)
+  pub discounted_sum : AreBytes text → (chunks : List (List ℕ)) (part : List ℕ) (found : ℕ) → chunks ≡ first_chunks 8 layout.rows (column_bytes (amount_place ExtendedPrice) 8 layout.rows text)
       → part ≡ column_bytes (byte_place Discount) 1 layout.rows text → found ≡ sum (selected marks (products (numbers_of chunks) part)) → Sums found discounted
-  discounted_sum chunks part found is part_is summed =
+  discounted_sum are chunks part found is part_is summed =
       let prices = amounts_are ExtendedPrice chunks is in
       let discounts = bytes_are Discount part part_is in
       let both : products (numbers_of chunks) part ≡ map discounted (rows_in text layout) =
       (λ i. products (prices i) (discounts i)) ∙ zip2-maps (λ (number factor : ℕ). number * factor) (amount_of ExtendedPrice) (byte_of Discount) (rows_in text layout) in
       let same : found ≡ sum (selected marks (map discounted (rows_in text layout))) = summed ∙ ap (λ (l : List ℕ). sum (selected marks l)) both in
-      let small = sum_small discounted (2 ^ 63 * 256) marks (rows_in text layout) (products_fit (rows_in text layout) decoded.segment.fits) in
+      let small = sum_small discounted (2 ^ 64 * 256) marks (rows_in text layout) (products_small are) in
       (omega (arith, same, small, few), ap (λ (n : ℕ). pos n) same ∙ total_is discounted marks (rows_in text layout))
 
   abbrev pub profit : LineOrder → ℤ

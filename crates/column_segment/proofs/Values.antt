@@ -23,7 +23,7 @@ use Rattle.column_segment.specs.declared.layout.Layout.{Layout}
 use Rattle.column_segment.specs.Columns.{FitsColumn, amount_of, amounts, byte_of, bytes, number_of, numbers, text_of}
 use Rattle.column_segment.specs.Decoded.{amount_place, amounts_in, byte_place, codes_in, coded_of, column_bytes, figures_in, number_place, numbers_in, row_in, rows_in, texts_in}
 use Rattle.column_segment.specs.Segment.{number_column}
-use Rattle.column_segment.proofs.Chunked.{AreBytes, AreBytes-drop, AreBytes-take, back_4, back_8, below_4, bytes_back, bytes_below, chunks_back, length-read, read_below, within_rows}
+use Rattle.column_segment.proofs.Chunked.{AreBytes, AreBytes-drop, AreBytes-take, back_4, back_8, below_4, below_8, bytes_back, bytes_below, chunks_back, length-read, read_below, within_rows}
 
 -- what holds of each image holds of what it is the image of
 pub All-unmap : {X Y : Type 0} (P : Y → Type 0) (f : X → Y) (xs : List X) → All P (map f xs) → All (λ x. P (f x)) xs
@@ -127,3 +127,9 @@ module _ (text : List ℕ) (layout : Layout) where
 
       pub amounts_fit : (column : AmountColumn) → AllByRecursion (λ x. x < 2 ^ 63) (amounts_in text layout.rows column) → All (FitsColumn (amounts column)) (rows_in text layout)
       amounts_fit column below = fit (2 ^ 63) (amount_of column) (amounts_in text layout.rows column) (amount_values column) below
+
+      -- amounts of any bytes
+      pub amounts_small : (column : AmountColumn) → All (λ row. amount_of column row < 2 ^ 64) (rows_in text layout)
+      amounts_small column =
+          fit (2 ^ 64) (amount_of column) (amounts_in text layout.rows column) (amount_values column)
+          (read_below 8 (from_le_bytes w64) (2 ^ 64) below_8 layout.rows (column_bytes (amount_place column) 8 layout.rows text) (column_are (amount_place column) 8))

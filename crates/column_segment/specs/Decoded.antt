@@ -93,6 +93,11 @@ row_in bytes layout row =
 abbrev pub rows_in : List ℕ → Layout → List LineOrder
 rows_in bytes layout = map (row_in bytes layout) (range_with_len 0 layout.rows)
 
+-- there is room for the columns of numbers of so many rows
+pub record HoldsColumns (bytes : List ℕ) (rows : ℕ) : Type 0 where
+  pub few : rows ≤ most_batch_rows
+  pub room : 12 + 63 * rows ≤ length bytes
+
 -- the codes of a column are there, each of them that of a text
 pub record HasCodes (bytes : List ℕ) (rows : ℕ) (coded : Coded) : Type 0 where
   pub room : coded.at + 2 * rows ≤ length bytes

@@ -3,7 +3,7 @@ pub mod Coding
 pub mod Columns
 pub mod Decoded
 pub mod Encoding
+pub mod Projected
 pub mod Reading
-pub mod Replaced
 pub mod Rows
 pub mod Segment

@@ -4,7 +4,7 @@ ghost use Rattle.cube_model.specs.Measures.{measure_of};
 ghost use Rattle.column_kernels.specs.Extremes.{extremes_of};
 ghost use Rattle.column_kernels.specs.Masks.{selected};
 ghost use Rattle.column_segment.specs.Columns.{amount_of, byte_of};
-ghost use Rattle.column_segment.specs.Decoded.{IsDecoded, rows_in};
+ghost use Rattle.column_segment.specs.Decoded.{HoldsColumns, rows_in};
 
 use crate::columns::{AmountColumn, ByteColumn};
 use crate::layout::{Layout, amount_chunks, byte_part};
@@ -18,7 +18,7 @@ pub(crate) fn selected_extremes(
     measure: Measure,
     mask: &Mask,
 ) -> Option<(i128, i128)>
-    requires decoded { IsDecoded bytes.now layout.now }
+    requires columns { HoldsColumns bytes.now layout.now.rows }
     requires rows { length mask.now ≡ layout.now.rows }
     ensures { result ≡ extremes_of (map (measure_of measure) (selected mask.now (rows_in bytes.now layout.now))) }
 {
@@ -41,7 +41,7 @@ fn extremes_of_bytes(
     column: ByteColumn,
     mask: &Mask,
 ) -> Option<(i128, i128)>
-    requires decoded { IsDecoded bytes.now layout.now }
+    requires columns { HoldsColumns bytes.now layout.now.rows }
     requires rows { length mask.now ≡ layout.now.rows }
     ensures { result ≡ extremes_of (map (λ row. pos (byte_of column row)) (selected mask.now (rows_in bytes.now layout.now))) }
 {
@@ -55,7 +55,7 @@ fn extremes_of_amounts(
     column: AmountColumn,
     mask: &Mask,
 ) -> Option<(i128, i128)>
-    requires decoded { IsDecoded bytes.now layout.now }
+    requires columns { HoldsColumns bytes.now layout.now.rows }
     requires rows { length mask.now ≡ layout.now.rows }
     ensures { result ≡ extremes_of (map (λ row. pos (amount_of column row)) (selected mask.now (rows_in bytes.now layout.now))) }
 {
@@ -64,7 +64,7 @@ fn extremes_of_amounts(
 
 // The same of the extended prices, each times its discount.
 fn extremes_of_discounted(bytes: &[u8], layout: &Layout, mask: &Mask) -> Option<(i128, i128)>
-    requires decoded { IsDecoded bytes.now layout.now }
+    requires columns { HoldsColumns bytes.now layout.now.rows }
     requires rows { length mask.now ≡ layout.now.rows }
     ensures { result ≡ extremes_of (map (λ row. pos (row.extendedprice * row.discount)) (selected mask.now (rows_in bytes.now layout.now))) }
 {
@@ -75,7 +75,7 @@ fn extremes_of_discounted(bytes: &[u8], layout: &Layout, mask: &Mask) -> Option<
 
 // The same of the revenues, each less its supply cost.
 fn extremes_of_profit(bytes: &[u8], layout: &Layout, mask: &Mask) -> Option<(i128, i128)>
-    requires decoded { IsDecoded bytes.now layout.now }
+    requires columns { HoldsColumns bytes.now layout.now.rows }
     requires rows { length mask.now ≡ layout.now.rows }
     ensures { result ≡ extremes_of (map (λ row. pos row.revenue -ℤ pos row.supplycost) (selected mask.now (rows_in bytes.now layout.now))) }
 {

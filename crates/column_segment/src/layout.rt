@@ -4,10 +4,11 @@ ghost use Rattle.std.specs.Int.{from_le_bytes, w16};
 ghost use Rattle.std.specs.Simd.{first_chunks};
 ghost use Rattle.cube_model.specs.Limits.{most_batch_rows};
 ghost use Rattle.column_segment.specs.Decoded.{amount_place, byte_place, codes_in, coded_of, column_bytes, number_place};
-ghost use Rattle.column_segment.specs.Replaced.{place_of, width_of};
+ghost use Rattle.column_segment.specs.Projected.{place_of, width_of};
 
 use crate::columns::{AmountColumn, ByteColumn, FactColumn, NumberColumn, TextColumn};
 use dictionary::Dictionary;
+use std::alloc::Global;
 
 /// How many bytes stand before the columns: the name, the batch's number, how many rows.
 pub(crate) const HEADER_BYTES: usize = 12;
@@ -25,6 +26,16 @@ pub(crate) struct Coded {
 impl Drop for Coded {
     fn drop(self) {
         let Coded { texts: _, at: _ } = self;
+    }
+}
+
+impl Coded {
+    // A column of no text.
+    fn none(alloc: Global) -> Coded {
+        Coded {
+            texts: Dictionary::new(alloc, 0),
+            at: 0,
+        }
     }
 }
 
@@ -67,6 +78,24 @@ pub(crate) struct Layout {
     pub(crate) number: u32,
     pub(crate) rows: usize,
     pub(crate) texts: CodedTexts,
+}
+
+impl Layout {
+    // That of no row, with no texts.
+    pub(crate) fn without_texts(alloc: Global) -> Layout
+        ensures { result.rows ≡ 0 }
+    {
+        Layout {
+            number: 0,
+            rows: 0,
+            texts: CodedTexts {
+                orderpriority: Coded::none(alloc),
+                shippriority: Coded::none(alloc),
+                commitdate: Coded::none(alloc),
+                shipmode: Coded::none(alloc),
+            },
+        }
+    }
 }
 
 /// A column of amounts, of bytes that have room for all columns of numbers.

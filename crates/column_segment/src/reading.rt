@@ -6,7 +6,6 @@ ghost use Rattle.cube_model.specs.declared.rows.LineOrder.{LineOrder};
 ghost use Rattle.column_kernels.specs.Checks.{all_below};
 ghost use Rattle.column_segment.specs.Decoded.{IsDecoded, amounts_in};
 ghost use Rattle.column_segment.specs.Reading.{BeginsWithCodes, BeginsWithNoColumn, HasColumn, HasHeader, HasLast, HasNumbers, HasTexts, SpellNoTexts, SpellNone};
-ghost use Rattle.column_segment.specs.Replaced.{IsChecked};
 ghost use Rattle.column_segment.specs.declared.columns.TextColumn.TheVariants.{CommitDate, ShipMode};
 ghost use Rattle.column_segment.specs.Segment.{IsSegment};
 
@@ -30,7 +29,6 @@ pub(crate) struct Header {
 // How the bytes of a batch are laid out.
 pub(crate) fn read_layout(alloc: Global, bytes: &[u8]) -> Result<Layout, Fault>
     ensures ok { IfOk result (IsDecoded bytes.now) }
-    ensures checked { IfOk result (IsChecked bytes.now) }
     ensures refused { IfErr result (λ fault. (fault ≡ Fault.Memory) ⊎ ((fault ≡ Fault.BadLayout)
         × ((number : ℕ) (rows : List LineOrder) → ¬ IsSegment bytes.now number rows))) }
 {
@@ -45,12 +43,6 @@ pub(crate) fn read_layout(alloc: Global, bytes: &[u8]) -> Result<Layout, Fault>
         texts,
     })
 }
-
-/// What was checked of bytes makes them a batch. It does nothing.
-pub(crate) fn checked_is_decoded(bytes: &[u8], layout: &Layout)
-    requires { IsChecked bytes.now layout.now }
-    ensures { IsDecoded bytes.now layout.now }
-{}
 
 // What stands before the columns.
 pub(crate) fn read_header(bytes: &[u8]) -> Result<Header, Fault>

@@ -1,32 +1,21 @@
 //! A batch as the bytes that it was read from, which are kept and looked at as columns.
-ghost use Rattle.std.specs.Prelude.{◌≡◌, ◌↔◌, ◌⊎◌, ◌++◌, ◌<◌, ℕ, List, All, length, map, take, drop, IsTrue, IfErr, IfOk, IsOkUnless, IsSomeAnd, MatchResult, OnOk};
+ghost use Rattle.std.specs.Prelude.{◌≡◌, ◌↔◌, ◌⊎◌, ◌++◌, ◌<◌, ℕ, List, All, length, map, take, drop, IsTrue, IfErr, IfOk, IsOkUnless, OnOk};
 ghost use Rattle.cube_model.specs.declared.fault.Fault.{Fault};
 ghost use Rattle.cube_model.specs.declared.rows.LineOrder.{LineOrder};
-ghost use Rattle.std.specs.Int.{from_le_bytes, w16, w32};
-ghost use Rattle.cube_model.specs.Aggregates.{total};
-ghost use Rattle.cube_model.specs.Measures.{measure_of};
-ghost use Rattle.column_kernels.specs.Extremes.{extremes_of};
+ghost use Rattle.std.specs.Int.{from_le_bytes, w16};
 ghost use Rattle.dictionary.specs.Columns.{text_at};
-ghost use Rattle.column_kernels.specs.Masks.{lies_in, selected};
-ghost use Rattle.column_kernels.specs.Sums.{numbers_of};
-ghost use Rattle.column_segment.specs.Columns.{amount_of, byte_of, number_of, text_of};
-ghost use Rattle.column_segment.specs.Replaced.{AgreeOn};
+ghost use Rattle.column_segment.specs.Columns.{text_of};
 ghost use Rattle.column_segment.specs.Segment.{FitColumns, IsBatch, IsSegment};
-ghost use Rattle.wire.specs.Runs.{HasRead, IsRefused};
 
-use crate::columns::{AmountColumn, ByteColumn, FactColumn, NumberColumn, TextColumn};
-use crate::extremes::selected_extremes;
-use crate::layout::{Layout, amount_chunks, byte_part, code_chunks, number_chunks};
-use crate::reading::{checked_is_decoded, read_layout};
-use crate::replacing::replace_columns;
+use crate::columns::TextColumn;
+use crate::fact_columns::FactColumns;
+use crate::layout::{Layout, code_chunks};
+use crate::reading::read_layout;
 use crate::rows::push_each;
-use crate::sums::selected_sum;
-use column_kernels::Mask;
-use cube_model::{Fault, LineOrder, Measure};
+use cube_model::{Fault, LineOrder};
 use dictionary::Dictionary;
 use std::alloc::Global;
 use std::marker::Model;
-use wire::Source;
 
 /// A batch whose bytes were checked: its number, and its rows in order.
 pub struct Segment {
@@ -50,11 +39,10 @@ impl Model for Segment {
     ghost Value = { Batch };
 
     ghost use Rattle.column_segment.specs.Decoded.{IsDecoded, rows_in};
-    ghost use Rattle.column_segment.specs.Replaced.{IsChecked};
 
     ghost view = { λ s. record { number = s.layout.number; rows = rows_in s.bytes.items s.layout } };
 
-    ghost invariant = { λ s. IsDecoded s.bytes.items s.layout × IsChecked s.bytes.items s.layout };
+    ghost invariant = { λ s. IsDecoded s.bytes.items s.layout };
 }
 
 /// The batch that has these bytes.
@@ -110,48 +98,11 @@ impl Segment {
         push_each(alloc, &self.bytes, &self.layout, from, most.min(left), to)
     }
 
-    /// The batch with some columns replaced by those of another batch, of a number and of as many rows, which a source has at
-    /// an id. Of the other batch nothing is read but its header and these columns.
-    ///
-    /// `BadLayout` where the header is another, where the text ends before the columns do, or where an amount is none. What is
-    /// not read is not checked.
-    pub fn with_columns_from<S: Source>(
-        self,
-        source: &mut S,
-        id: u32,
-        number: u32,
-        columns: &[FactColumn],
-    ) -> Result<Segment, Fault>
-        ensures ok { IfOk result (λ segment. S.keeps_word source.new → IsSomeAnd (S.texts source.old id) (λ bytes.
-            (other : ℕ) (rows : List LineOrder) → IsSegment bytes other rows → (other ≡ number) × AgreeOn columns.now segment.rows rows)) }
-        ensures run { MatchResult result (λ _. HasRead S.Source source.old source.new)
-            (λ fault. ((fault ≡ Fault.BadLayout) × HasRead S.Source source.old source.new) ⊎ IsRefused S.Source fault source.old source.new) }
+    /// The columns of numbers.
+    pub fn columns(&self) -> FactColumns<'_>
+        ensures { result ≡ self.now.rows }
     {
-        let Segment { mut bytes, layout } = self;
-        replace_columns(source, id, number, bytes.as_mut_slice(), &layout, columns)?;
-        checked_is_decoded(bytes.as_slice(), &layout);
-        Ok(Segment { bytes, layout })
-    }
-
-    /// A column of amounts, eight bytes a row, the lowest byte first.
-    pub fn amounts(&self, column: AmountColumn) -> &[[u8; 8]]
-        ensures { numbers_of result.now ≡ map (amount_of column) self.now.rows }
-    {
-        amount_chunks(&self.bytes, self.layout.rows, column)
-    }
-
-    /// A column of numbers, four bytes a row, the lowest byte first.
-    pub fn numbers(&self, column: NumberColumn) -> &[[u8; 4]]
-        ensures { map (from_le_bytes w32) result.now ≡ map (number_of column) self.now.rows }
-    {
-        number_chunks(&self.bytes, self.layout.rows, column)
-    }
-
-    /// A column of small numbers, a byte a row.
-    pub fn figures(&self, column: ByteColumn) -> &[u8]
-        ensures { result.now ≡ map (byte_of column) self.now.rows }
-    {
-        byte_part(&self.bytes, self.layout.rows, column)
+        FactColumns::of(&self.bytes, &self.layout)
     }
 
     /// A column of texts: the texts that stand in it, and for each row the code of its text, which is a place among them, in
@@ -165,31 +116,5 @@ impl Segment {
             &coded.texts,
             code_chunks(&self.bytes, self.layout.rows, coded.at),
         )
-    }
-
-    /// The rows whose quantity and discount lie in their ranges, ends included. `Memory` where there is none.
-    pub fn mask(&self, alloc: Global, quantity: (u8, u8), discount: (u8, u8)) -> Result<Mask, Fault>
-        ensures ok { IfOk result (λ mask. mask ≡ map (λ row. lies_in quantity discount row.quantity row.discount) self.now.rows) }
-        ensures memory { IfErr result (λ fault. fault ≡ Fault.Memory) }
-    {
-        let quantities = byte_part(&self.bytes, self.layout.rows, ByteColumn::Quantity);
-        let discounts = byte_part(&self.bytes, self.layout.rows, ByteColumn::Discount);
-        Mask::of_ranges(alloc, quantities, discounts, quantity, discount)
-    }
-
-    /// The sum of a measure over the rows that a mask of as many rows selects.
-    pub fn selected_sum(&self, measure: Measure, mask: &Mask) -> i128
-        requires rows { length mask.now ≡ length self.now.rows }
-        ensures { result ≡ total (map (measure_of measure) (selected mask.now self.now.rows)) }
-    {
-        selected_sum(&self.bytes, &self.layout, measure, mask)
-    }
-
-    /// The least and the greatest of a measure over the rows that a mask of as many rows selects, if there are any.
-    pub fn selected_extremes(&self, measure: Measure, mask: &Mask) -> Option<(i128, i128)>
-        requires rows { length mask.now ≡ length self.now.rows }
-        ensures { result ≡ extremes_of (map (measure_of measure) (selected mask.now self.now.rows)) }
-    {
-        selected_extremes(&self.bytes, &self.layout, measure, mask)
     }
 }

@@ -4,7 +4,7 @@ ghost use Rattle.cube_model.specs.Aggregates.{total};
 ghost use Rattle.cube_model.specs.Measures.{measure_of};
 ghost use Rattle.column_kernels.specs.Masks.{selected};
 ghost use Rattle.column_segment.specs.Columns.{amount_of, byte_of};
-ghost use Rattle.column_segment.specs.Decoded.{IsDecoded, rows_in};
+ghost use Rattle.column_segment.specs.Decoded.{HoldsColumns, rows_in};
 
 use crate::columns::{AmountColumn, ByteColumn};
 use crate::layout::{Layout, amount_chunks, byte_part};
@@ -13,7 +13,7 @@ use cube_model::Measure;
 
 // The sum of a measure over the selected rows.
 pub(crate) fn selected_sum(bytes: &[u8], layout: &Layout, measure: Measure, mask: &Mask) -> i128
-    requires decoded { IsDecoded bytes.now layout.now }
+    requires columns { HoldsColumns bytes.now layout.now.rows }
     requires rows { length mask.now ≡ layout.now.rows }
     ensures { result ≡ total (map (measure_of measure) (selected mask.now (rows_in bytes.now layout.now))) }
 {
@@ -29,7 +29,7 @@ pub(crate) fn selected_sum(bytes: &[u8], layout: &Layout, measure: Measure, mask
 
 // The sum of a column of small numbers.
 fn sum_of_bytes(bytes: &[u8], layout: &Layout, column: ByteColumn, mask: &Mask) -> i128
-    requires decoded { IsDecoded bytes.now layout.now }
+    requires columns { HoldsColumns bytes.now layout.now.rows }
     requires rows { length mask.now ≡ layout.now.rows }
     ensures { result ≡ total (map (λ row. pos (byte_of column row)) (selected mask.now (rows_in bytes.now layout.now))) }
 {
@@ -38,7 +38,7 @@ fn sum_of_bytes(bytes: &[u8], layout: &Layout, column: ByteColumn, mask: &Mask) 
 
 // The sum of a column of amounts.
 fn sum_of_amounts(bytes: &[u8], layout: &Layout, column: AmountColumn, mask: &Mask) -> i128
-    requires decoded { IsDecoded bytes.now layout.now }
+    requires columns { HoldsColumns bytes.now layout.now.rows }
     requires rows { length mask.now ≡ layout.now.rows }
     ensures { result ≡ total (map (λ row. pos (amount_of column row)) (selected mask.now (rows_in bytes.now layout.now))) }
 {
@@ -47,7 +47,7 @@ fn sum_of_amounts(bytes: &[u8], layout: &Layout, column: AmountColumn, mask: &Ma
 
 // The sum of the extended prices, each times its discount.
 fn sum_of_discounted(bytes: &[u8], layout: &Layout, mask: &Mask) -> i128
-    requires decoded { IsDecoded bytes.now layout.now }
+    requires columns { HoldsColumns bytes.now layout.now.rows }
     requires rows { length mask.now ≡ layout.now.rows }
     ensures { result ≡ total (map (λ row. pos (row.extendedprice * row.discount)) (selected mask.now (rows_in bytes.now layout.now))) }
 {
@@ -58,7 +58,7 @@ fn sum_of_discounted(bytes: &[u8], layout: &Layout, mask: &Mask) -> i128
 
 // The sum of the revenues, each less its supply cost.
 fn sum_of_profit(bytes: &[u8], layout: &Layout, mask: &Mask) -> i128
-    requires decoded { IsDecoded bytes.now layout.now }
+    requires columns { HoldsColumns bytes.now layout.now.rows }
     requires rows { length mask.now ≡ layout.now.rows }
     ensures { result ≡ total (map (λ row. pos row.revenue -ℤ pos row.supplycost) (selected mask.now (rows_in bytes.now layout.now))) }
 {

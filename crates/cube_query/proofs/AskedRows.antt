@@ -1,5 +1,5 @@
 -- Fact rows that agree in the columns at which a query looks are the same to a fold of it.
-use Rattle.std.proofs.Common.{◌≡◌, ℕ, ℤ, pos, ◌-ℤ◌, ◌*◌, Bool, true, false, ◌||◌, ◌&&◌, cond, nat_le, List, [], ◌∷◌, ◌++◌, length, map, refl, sym, ap, subst, ◌∙◌, arith}
+use Rattle.std.proofs.Common.{◌≡◌, Result, Ok, Err, OnErr, OnOk, ℕ, ℤ, pos, ◌-ℤ◌, ◌*◌, Bool, true, false, ◌||◌, ◌&&◌, cond, nat_le, List, [], ◌∷◌, ◌++◌, length, map, refl, sym, ap, subst, ◌∙◌, arith}
 use Rattle.std.specs.List.{AllByRecursion, filter, list_any}
 use Rattle.std.specs.Ordering.{eq_by_cmp}
 use Rattle.cube_model.specs.declared.answer.Member.{Member}
@@ -28,29 +28,25 @@ use Rattle.column_segment.specs.declared.columns.ByteColumn.TheVariants as figur
 use Rattle.column_segment.specs.declared.columns.FactColumn.{FactColumn}
 use Rattle.column_segment.specs.declared.columns.FactColumn.TheVariants.{Amount, Number, Figure}
 use Rattle.column_segment.specs.declared.columns.NumberColumn.TheVariants.{LineNumber, CustKey, PartKey, SuppKey, OrderDate}
-use Rattle.column_segment.specs.Replaced.{AgreeOn, value_of}
-use Rattle.cube_query.specs.Asked.{aggregate_asks, asked_columns, condition_asks, fact_columns, has_keys_of, is_asked, is_made_of}
+use Rattle.column_segment.specs.Projected.{AgreeOn, value_of}
+use Rattle.cube_query.specs.Asked.{AreSame, SameIn, aggregate_asks, asked_columns, condition_asks, fact_columns, has_keys_of, is_asked, is_made_of}
 use Rattle.cube_query.specs.Groups.{FoldState, StandsFor, Takes, finest, rows_at}
 use Rattle.cube_query.specs.Tallies.{number_of, tallies_of, tally_of}
 use Rattle.cube_query.proofs.OneRow.{plain_key, rows_at-skip, rows_at-take}
 
 -- ---- tests
 
-or_left : (a b : Bool) → a ≡ true → (a || b) ≡ true
+pub or_left : (a b : Bool) → a ≡ true → (a || b) ≡ true
 or_left true b is = refl
 or_left false b is = absurd cc
 
-or_right : (a b : Bool) → b ≡ true → (a || b) ≡ true
+pub or_right : (a b : Bool) → b ≡ true → (a || b) ≡ true
 or_right true b is = refl
 or_right false b is = is
 
--- rows have the same in the columns that pass a test
-abbrev SameIn : (FactColumn → Bool) → LineOrder → LineOrder → Type 0
-SameIn asks row other = (column : FactColumn) → asks column ≡ true → value_of column row ≡ value_of column other
-
 -- ---- one row
 
-key_same : (axis : Axis) (row other : LineOrder) → SameIn (has_keys_of axis) row other → key_on axis row ≡ key_on axis other
+pub key_same : (axis : Axis) (row other : LineOrder) → SameIn (has_keys_of axis) row other → key_on axis row ≡ key_on axis other
 key_same Customer row other same = same (Number CustKey) refl
 key_same Supplier row other same = same (Number SuppKey) refl
 key_same Part row other same = same (Number PartKey) refl
@@ -70,7 +66,7 @@ measure_same measures.Profit row other same =
     let cost = same (Amount SupplyCost) refl in
     λ i. pos (revenue i) -ℤ pos (cost i)
 
-number_same : (agg : Agg) (row other : LineOrder) → SameIn (λ column. aggregate_asks column agg) row other → number_of agg row ≡ number_of agg other
+pub number_same : (agg : Agg) (row other : LineOrder) → SameIn (λ column. aggregate_asks column agg) row other → number_of agg row ≡ number_of agg other
 number_same Count row other same = refl
 number_same (Sum measure) row other same = measure_same measure row other same
 number_same (Min measure) row other same = measure_same measure row other same
@@ -103,12 +99,6 @@ module _ (dimensions : DimRows) where
       λ i. Text (own i) ∷ rest i
 
 -- ---- rows one by one
-
-abbrev AreSame : (FactColumn → Bool) → List LineOrder → List LineOrder → Type 0
-AreSame asks [] [] = Unit {0}
-AreSame asks [] (other ∷ others) = ⊥
-AreSame asks (row ∷ rows) [] = ⊥
-AreSame asks (row ∷ rows) (other ∷ others) = SameIn asks row other × AreSame asks rows others
 
 are_same_with : (asks : FactColumn → Bool) (so_far rows others : List LineOrder) → AreSame asks rows others → AreSame asks (so_far ++ rows) (so_far ++ others)
 are_same_with asks [] rows others same = same
@@ -149,11 +139,11 @@ no_items f [] none = refl
 no_items f (x ∷ xs) none = absurd cc
 
 module _ (dimensions : DimRows) (query : Query) where
-  same_selected : (row other : LineOrder) → SameIn (is_asked query) row other → is_selected dimensions query.conditions row ≡ is_selected dimensions query.conditions other
+  pub same_selected : (row other : LineOrder) → SameIn (is_asked query) row other → is_selected dimensions query.conditions row ≡ is_selected dimensions query.conditions other
   same_selected row other same = selected_same dimensions query.conditions row other (λ column asks.
       same column (or_right (list_any (λ attr. has_keys_of (axis_of attr) column) query.columns) _ (or_left _ (list_any (aggregate_asks column) query.aggregates) asks)))
 
-  same_key : (row other : LineOrder) → SameIn (is_asked query) row other → plain_key dimensions (finest query) row ≡ plain_key dimensions (finest query) other
+  pub same_key : (row other : LineOrder) → SameIn (is_asked query) row other → plain_key dimensions (finest query) row ≡ plain_key dimensions (finest query) other
   same_key row other same = plain_key_same dimensions query.columns row other (λ column asks. same column (or_left _ (list_any (condition_asks column) query.conditions || list_any (aggregate_asks column) query.aggregates) asks))
 
   module _ (rows others : List LineOrder) (same : AreSame (is_asked query) rows others) (key : List Member) where
@@ -211,7 +201,7 @@ module _ (dimensions : DimRows) (query : Query) where
       split : (a b : ℕ) (xs ys : List ℕ) → a ∷ xs ≡ b ∷ ys → (a ≡ b) × (xs ≡ ys)
       split a b xs ys e = (cc, cc)
 
-  agreeing_same : (rows others : List LineOrder) → AgreeOn (asked_columns query) rows others → AreSame (is_asked query) rows others
+  pub agreeing_same : (rows others : List LineOrder) → AgreeOn (asked_columns query) rows others → AreSame (is_asked query) rows others
   agreeing_same rows others agree =
       row_by_row rows others agree.count
       (each_column (λ column. is_asked query column ≡ true → map (value_of column) rows ≡ map (value_of column) others)
@@ -234,3 +224,7 @@ takes_both dimensions old new rows others agree takes = record {
       (are_same_with (is_asked old.query) so_far rows others (agreeing_same dimensions old.query rows others agree)) in
       stands_for_both dimensions new (so_far ++ rows) (so_far ++ others) same (takes.stands so_far stands);
 }
+
+pub query_stays : {T E : Type 0} (dimensions : DimRows) (old new : FoldState) (rows : List LineOrder) (result : Result T E) → OnOk result (Takes dimensions old rows new) → OnErr result (new ≡ old) → new.query ≡ old.query
+query_stays dimensions old new rows (Ok value) takes same = takes.query
+query_stays dimensions old new rows (Err error) takes same = ap (λ (fold : FoldState). fold.query) same

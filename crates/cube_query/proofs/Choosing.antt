@@ -19,7 +19,8 @@ use Rattle.cube_model.specs.Causes.{first_cause, cause_if}
 use Rattle.cube_model.specs.Measures.{measure_of}
 use Rattle.cube_model.specs.Selection.{is_selected, selected as selected_by}
 use Rattle.column_kernels.specs.Masks.{selected}
-use Rattle.column_segment.specs.Segment.{FitColumns}
+use Rattle.column_segment.specs.declared.columns.ByteColumn.TheVariants as figures
+use Rattle.column_segment.specs.Projected.{HaveFigures}
 use Rattle.group_plan.specs.Kept.{ArePlaces, KeepPlaces}
 use Rattle.group_plan.specs.Numbers.{Asked, key_at}
 use Rattle.group_plan.specs.Plans.{AreBounds, is_within}
@@ -119,7 +120,7 @@ keeps bounds rows quantities discounts dimensions conditions are = record {
       (λ row fine out. out_of dimensions conditions bounds are row fine.0 fine.1 out) rows (λ k d h. (quantities k d h, discounts k d h));
 }
 
-pub chosen_keep : (bounds : Bounds) (rows kept : List LineOrder) (marks : List Bool) (places : List ℕ) → FitColumns rows → kept ≡ rows → marks ≡ map (lies_within bounds) rows
+pub chosen_keep : (bounds : Bounds) (rows kept : List LineOrder) (marks : List Bool) (places : List ℕ) → HaveFigures rows → kept ≡ rows → marks ≡ map (lies_within bounds) rows
     → places ≡ places_from 0 marks → (dimensions : DimRows) (conditions : List Cond) → AreBounds conditions bounds
     → KeepSelected dimensions conditions (map (row_at kept) places) rows
 chosen_keep bounds rows kept marks places fit own tell are dimensions conditions bound =
@@ -128,7 +129,7 @@ chosen_keep bounds rows kept marks places fit own tell are dimensions conditions
     rows_at_places (row_at rows) 0 (map (lies_within bounds) rows) rows many (λ k h. ap (row_at rows) (from_nought k)) in
     let same : map (row_at kept) places ≡ selected (map (lies_within bounds) rows) rows =
     ap (λ (l : List LineOrder). map (row_at l) places) own ∙ ap (map (row_at rows)) (are ∙ ap (places_from 0) tell) ∙ chosen in
-    subst (λ (l : List LineOrder). KeepSelected dimensions conditions l rows) (sym same) (keeps bounds rows fit.1.1.1.1.1.1.0 fit.1.1.1.1.1.1.1.1.1.0 dimensions conditions bound)
+    subst (λ (l : List LineOrder). KeepSelected dimensions conditions l rows) (sym same) (keeps bounds rows (fit figures.Quantity) (fit figures.Discount) dimensions conditions bound)
 
 -- ---- all rows
 pub range_more : (place count : ℕ) → range_with_len place (count + 1) ≡ range_with_len place count ++ (place + count) ∷ []
@@ -350,7 +351,5 @@ foldable_some dimensions so_far marks rows foldable = record {
       omega (arith, foldable.in_range measure, sum_by-append size so_far rows, sum_by-append size so_far (selected marks rows), smaller size marks rows);
 }
 
-pub can_take_some : (dimensions : DimRows) (old : FoldState) (some all : List LineOrder) → KeepSelected dimensions old.query.conditions some all → CanTake dimensions old all → CanTake dimensions old some
-can_take_some dimensions old some all keep can =
-    let so_far = can.0 in
-    (so_far, (can.1.0, subst (λ (rows : List LineOrder). AreFoldable dimensions (so_far ++ rows)) (sym keep.part.1) (foldable_some dimensions so_far keep.part.0 all can.1.1)))
+pub can_take_marked : (dimensions : DimRows) (old : FoldState) (marks : List Bool) (all : List LineOrder) → CanTake dimensions old all → CanTake dimensions old (selected marks all)
+can_take_marked dimensions old marks all can = (can.0, (can.1.0, foldable_some dimensions can.0 marks all can.1.1))

@@ -36,3 +36,4 @@ mod CellGroups
 mod CellFolds
 mod WholeBatches
 mod AskedRows
+mod AskedRefusals

@@ -1,5 +1,5 @@
 -- The columns of fact rows at which a query looks. Our own.
-use Rattle.std.specs.Prelude.{◌||◌, Bool, true, false, List, [], ◌∷◌}
+use Rattle.std.specs.Prelude.{◌≡◌, ◌||◌, Bool, true, false, List, [], ◌∷◌}
 use Rattle.std.specs.List.{filter, list_any}
 use Rattle.cube_model.specs.declared.attr.Axis.{Axis}
 use Rattle.cube_model.specs.declared.attr.Axis.TheVariants.{Customer, Supplier, Part, Date}
@@ -10,12 +10,14 @@ use Rattle.cube_model.specs.declared.measure.Measure.TheVariants as measures
 use Rattle.cube_model.specs.declared.query.Cond.{Cond}
 use Rattle.cube_model.specs.declared.query.Cond.TheVariants.{OneOf, Between, Quantity, Discount}
 use Rattle.cube_model.specs.declared.query.Query.{Query}
+use Rattle.cube_model.specs.declared.rows.LineOrder.{LineOrder}
 use Rattle.cube_model.specs.Attributes.{axis_of}
 use Rattle.column_segment.specs.declared.columns.AmountColumn.TheVariants.{OrderKey, ExtendedPrice, OrdTotalPrice, Revenue, SupplyCost}
 use Rattle.column_segment.specs.declared.columns.ByteColumn.TheVariants as figures
 use Rattle.column_segment.specs.declared.columns.FactColumn.{FactColumn}
 use Rattle.column_segment.specs.declared.columns.FactColumn.TheVariants.{Amount, Number, Figure}
 use Rattle.column_segment.specs.declared.columns.NumberColumn.TheVariants.{LineNumber, CustKey, PartKey, SuppKey, OrderDate}
+use Rattle.column_segment.specs.Projected.{value_of}
 
 -- a column has the keys of a dimension
 abbrev pub has_keys_of : Axis → FactColumn → Bool
@@ -66,3 +68,14 @@ fact_columns = Amount OrderKey ∷ Number LineNumber ∷ Number CustKey ∷ Numb
 -- those at which a query looks
 abbrev pub asked_columns : Query → List FactColumn
 asked_columns query = filter (is_asked query) fact_columns
+
+-- rows have the same in the columns that pass a test
+abbrev pub SameIn : (FactColumn → Bool) → LineOrder → LineOrder → Type 0
+SameIn asks row other = (column : FactColumn) → asks column ≡ true → value_of column row ≡ value_of column other
+
+-- so have those of two lists, one by one
+abbrev pub AreSame : (FactColumn → Bool) → List LineOrder → List LineOrder → Type 0
+AreSame asks [] [] = Unit {0}
+AreSame asks [] (other ∷ others) = ⊥
+AreSame asks (row ∷ rows) [] = ⊥
+AreSame asks (row ∷ rows) (other ∷ others) = SameIn asks row other × AreSame asks rows others

@@ -3,6 +3,7 @@ pub mod CellSlots
 pub mod CellTallies
 pub mod Chosen
 pub mod Coarser
+pub mod ColumnRows
 pub mod Columns
 pub mod FoldInvariant
 pub mod Groups
@@ -11,7 +12,6 @@ pub mod Numbered
 pub mod PlaceTables
 pub mod Ranks
 pub mod Room
-pub mod SegmentRows
 pub mod Slots
 pub mod Tallies
 pub mod WholeBatch

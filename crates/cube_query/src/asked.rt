@@ -1,12 +1,8 @@
 //! The columns of fact rows at which a query looks.
 ghost use Rattle.std.specs.Prelude.{◌≡◌, ◌++◌, ◌∷◌, [], List, cond, IfOk, OnOk};
 ghost use Rattle.std.specs.List.{list_any};
-ghost use Rattle.cube_model.specs.declared.rows.DimRows.{DimRows};
-ghost use Rattle.cube_model.specs.declared.rows.LineOrder.{LineOrder};
 ghost use Rattle.cube_model.specs.Attributes.{axis_of};
-ghost use Rattle.column_segment.specs.Replaced.{AgreeOn};
 ghost use Rattle.cube_query.specs.Asked.{aggregate_asks, asked_columns, condition_asks, has_keys_of, is_asked, is_made_of};
-ghost use Rattle.cube_query.specs.Groups.{FoldState, Takes};
 
 use column_segment::{AmountColumn, ByteColumn, FactColumn, NumberColumn};
 use cube_model::{Agg, Attr, Axis, Cond, Measure, Query};
@@ -27,12 +23,6 @@ const FACT_COLUMNS: [FactColumn; 13] = [
     FactColumn::Amount(AmountColumn::SupplyCost),
     FactColumn::Figure(ByteColumn::Tax),
 ];
-
-/// Fact rows that agree in the columns at which a query looks are the same to a fold of it. No program has to call it.
-pub fn agreeing_rows_are_the_same()
-    ensures { (dimensions : DimRows) (old new : FoldState) (rows others : List LineOrder) → AgreeOn (asked_columns old.query) rows others
-        → Takes dimensions old rows new → Takes dimensions old others new }
-{}
 
 /// The columns at which a query looks, in the order of their places.
 pub(crate) fn asked_columns(alloc: Global, query: &Query) -> Result<Vec<FactColumn>, AllocError>

@@ -7,9 +7,9 @@ ghost use Rattle.cube_model.specs.declared.rows.DimRows.{DimRows};
 ghost use Rattle.group_plan.specs.Plans.{AreBounds};
 ghost use Rattle.cube_query.specs.Chosen.{KeepSelected, places_from};
 
-use crate::segment_rows::SegmentRows;
+use crate::column_rows::ColumnRows;
 use column_kernels::Mask;
-use column_segment::Segment;
+use column_segment::FactColumns;
 use cube_model::{Axis, Fault, Measure};
 use group_plan::{Bounds, FactRows, PlanOver};
 use std::alloc::{AllocError, Global};
@@ -18,7 +18,7 @@ use std::marker::Model;
 /// Some rows of a batch, of which no row is made, by their places there. Contracts see the list of the rows.
 #[derive(Drop)]
 pub struct ChosenRows<'a> {
-    rows: SegmentRows<'a>,
+    rows: ColumnRows<'a>,
     places: Vec<u32>,
 }
 
@@ -38,11 +38,15 @@ impl<'a> Model for ChosenRows<'a> {
 impl<'a> ChosenRows<'a> {
     /// Rows of a batch, and among them all that a query selects: those whose quantity and discount lie within its bounds
     /// and whose keys pass its tables. It can only fail for want of memory.
-    pub fn of(alloc: Global, plan: &PlanOver, segment: &'a Segment) -> Result<ChosenRows<'a>, Fault>
-        ensures ok { IfOk result (λ chosen. KeepSelected plan.now.dimensions plan.now.query.conditions chosen segment.now.rows) }
+    pub fn of(
+        alloc: Global,
+        plan: &PlanOver,
+        batch: FactColumns<'a>,
+    ) -> Result<ChosenRows<'a>, Fault>
+        ensures ok { IfOk result (λ chosen. KeepSelected plan.now.dimensions plan.now.query.conditions chosen batch.entry) }
         ensures memory { IfErr result (λ fault. fault ≡ Fault.Memory) }
     {
-        let chosen = ChosenRows::bounded(alloc, segment, plan.bounds())?;
+        let chosen = ChosenRows::bounded(alloc, batch, plan.bounds())?;
         let chosen = chosen.without(plan, Axis::Supplier);
         let chosen = chosen.without(plan, Axis::Customer);
         let chosen = chosen.without(plan, Axis::Part);
@@ -50,41 +54,49 @@ impl<'a> ChosenRows<'a> {
     }
 
     // The rows of a batch whose quantity and discount lie within bounds.
-    fn bounded(alloc: Global, segment: &'a Segment, bounds: Bounds) -> Result<ChosenRows<'a>, Fault>
+    fn bounded(
+        alloc: Global,
+        batch: FactColumns<'a>,
+        bounds: Bounds,
+    ) -> Result<ChosenRows<'a>, Fault>
         ensures ok { IfOk result (λ chosen. (dimensions : DimRows) (conditions : List Cond) → AreBounds conditions bounds
-            → KeepSelected dimensions conditions chosen segment.now.rows) }
+            → KeepSelected dimensions conditions chosen batch.entry) }
         ensures memory { IfErr result (λ fault. fault ≡ Fault.Memory) }
     {
         if are_open(bounds) {
-            return ChosenRows::all(alloc, segment);
+            return ChosenRows::all(alloc, batch);
         }
-        ChosenRows::within(alloc, segment, bounds)
+        ChosenRows::within(alloc, batch, bounds)
     }
 
     // All rows of a batch.
-    fn all(alloc: Global, segment: &'a Segment) -> Result<ChosenRows<'a>, Fault>
-        ensures ok { IfOk result (λ chosen. chosen ≡ segment.now.rows) }
+    fn all(alloc: Global, batch: FactColumns<'a>) -> Result<ChosenRows<'a>, Fault>
+        ensures ok { IfOk result (λ chosen. chosen ≡ batch.entry) }
         ensures memory { IfErr result (λ fault. fault ≡ Fault.Memory) }
     {
-        let places = all_places(alloc, segment.len())?;
+        let places = all_places(alloc, batch.len())?;
         Ok(ChosenRows {
-            rows: SegmentRows::of(segment),
+            rows: ColumnRows::of(batch),
             places,
         })
     }
 
     // The rows of a batch whose quantity and discount lie within bounds, by the mask of these columns.
-    fn within(alloc: Global, segment: &'a Segment, bounds: Bounds) -> Result<ChosenRows<'a>, Fault>
+    fn within(
+        alloc: Global,
+        batch: FactColumns<'a>,
+        bounds: Bounds,
+    ) -> Result<ChosenRows<'a>, Fault>
         ensures ok { IfOk result (λ chosen. (dimensions : DimRows) (conditions : List Cond) → AreBounds conditions bounds
-            → KeepSelected dimensions conditions chosen segment.now.rows) }
+            → KeepSelected dimensions conditions chosen batch.entry) }
         ensures memory { IfErr result (λ fault. fault ≡ Fault.Memory) }
     {
         let quantity = (bounds.least_quantity, bounds.greatest_quantity);
         let discount = (bounds.least_discount, bounds.greatest_discount);
-        let mask = segment.mask(alloc, quantity, discount)?;
-        let places = chosen_places(alloc, &mask, segment.len())?;
+        let mask = batch.mask(alloc, quantity, discount)?;
+        let places = chosen_places(alloc, &mask, batch.len())?;
         Ok(ChosenRows {
-            rows: SegmentRows::of(segment),
+            rows: ColumnRows::of(batch),
             places,
         })
     }

@@ -1,7 +1,8 @@
 //! The slots of the groups of fact rows.
 ghost use Rattle.std.specs.Prelude.{◌≡◌, ◌⊎◌, ◌<◌, ℕ, List, length, Some, Err, IfOk, IfErr};
 ghost use Rattle.std.specs.List.{All};
-ghost use Rattle.group_plan.specs.Numbers.{group_count, IsKnown};
+ghost use Rattle.group_plan.specs.Numbers.{group_count};
+ghost use Rattle.group_plan.specs.Parts.{IsKnownFor};
 ghost use Rattle.group_plan.specs.Rows.{row_at};
 ghost use Rattle.cube_query.specs.Slots.{entries_of, slot_of, AreSlots, Cover, Grow};
 ghost use Rattle.cube_query.specs.FoldInvariant.{IsGroupSlot, AreGroupSlots};
@@ -22,7 +23,7 @@ fn group_slot_of<F: FactRows>(
     requires cover { Cover (group_count plan.now.dimensions plan.now.query.columns) slots.old }
     ensures group_slot { IfOk result (λ group_slot. IsGroupSlot plan.now.dimensions plan.now.query
         (entries_of slots.new) (row_at (F.rows rows.now) place) group_slot) }
-    ensures refused { result ≡ Err Fault.BadLayout → IsKnown plan.now.dimensions (row_at (F.rows rows.now) place) → ⊥ }
+    ensures refused { result ≡ Err Fault.BadLayout → IsKnownFor plan.now.dimensions plan.now.query (row_at (F.rows rows.now) place) → ⊥ }
     ensures only { IfErr result (λ fault. (fault ≡ Fault.Memory) ⊎ (fault ≡ Fault.BadLayout)) }
     ensures cover { Cover (group_count plan.now.dimensions plan.now.query.columns) slots.new }
     ensures keep { (number slot : ℕ) → slot_of (entries_of slots.old) number ≡ Some slot
@@ -54,7 +55,7 @@ pub fn group_slots_of<F: FactRows>(
     requires cover { Cover (group_count plan.now.dimensions plan.now.query.columns) slots.old }
     ensures group_slots { IfOk result (λ group_slots.
         AreGroupSlots plan.now.dimensions plan.now.query (entries_of slots.new) (F.rows rows.now) group_slots.items) }
-    ensures refused { result ≡ Err Fault.BadLayout → All (IsKnown plan.now.dimensions) (F.rows rows.now) → ⊥ }
+    ensures refused { result ≡ Err Fault.BadLayout → All (IsKnownFor plan.now.dimensions plan.now.query) (F.rows rows.now) → ⊥ }
     ensures only { IfErr result (λ fault. (fault ≡ Fault.Memory) ⊎ (fault ≡ Fault.BadLayout)) }
     ensures cover { Cover (group_count plan.now.dimensions plan.now.query.columns) slots.new }
     ensures grow { Grow (group_count plan.now.dimensions plan.now.query.columns) (entries_of slots.old)

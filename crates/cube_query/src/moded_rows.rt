@@ -3,7 +3,7 @@ ghost use Rattle.std.specs.Prelude.{◌≡◌, ◌<◌, length, map, slice_index
 ghost use Rattle.std.specs.Int.{from_le_bytes, w16};
 ghost use Rattle.dictionary.specs.Columns.{text_at};
 
-use crate::segment_rows::SegmentRows;
+use crate::column_rows::ColumnRows;
 use column_segment::{Segment, TextColumn};
 use cube_model::{Axis, Measure};
 use dictionary::Dictionary;
@@ -14,13 +14,13 @@ use std::marker::Model;
 /// texts of the codes.
 #[derive(Drop)]
 pub struct RowsWithModes<'a> {
-    rows: SegmentRows<'a>,
+    rows: ColumnRows<'a>,
     modes: &'a Dictionary,
     codes: &'a [[u8; 2]],
 }
 
 impl<'a> Model for RowsWithModes<'a> {
-    ghost use Rattle.cube_query.specs.SegmentRows.{HaveModes, ModedRows};
+    ghost use Rattle.cube_query.specs.ColumnRows.{HaveModes, ModedRows};
 
     ghost Value = { ModedRows };
 
@@ -36,7 +36,7 @@ impl<'a> RowsWithModes<'a> {
     {
         let (modes, codes) = segment.coded(TextColumn::ShipMode);
         RowsWithModes {
-            rows: SegmentRows::of(segment),
+            rows: ColumnRows::of(segment.columns()),
             modes,
             codes,
         }

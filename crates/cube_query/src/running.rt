@@ -7,12 +7,14 @@ ghost use Rattle.cube_model.specs.Proper.{IsProper};
 ghost use Rattle.cube_model.specs.Selection.{is_selected};
 ghost use Rattle.cube_model.specs.declared.rows.DimRows.{DimRows};
 ghost use Rattle.cube_model.specs.declared.rows.LineOrder.{LineOrder};
-ghost use Rattle.cube_query.specs.Asked.{asked_columns};
+ghost use Rattle.column_segment.specs.Projected.{AgreeOn};
+ghost use Rattle.cube_query.specs.Asked.{AreSame, asked_columns, is_asked};
 ghost use Rattle.cube_query.specs.CellSlots.{AreMergedIn, asked_of};
 ghost use Rattle.cube_query.specs.CellTallies.{GroupsHaveRoomFor};
 ghost use Rattle.cube_query.specs.Columns.{tallies_at};
 ghost use Rattle.cube_query.specs.Groups.{StandsFor, Begins, CanTake, IsFoldable, IsOver, Takes};
 ghost use Rattle.group_plan.specs.Numbers.{group_count, IsKnown};
+ghost use Rattle.group_plan.specs.Parts.{IsKnownFor};
 ghost use Rattle.group_plan.specs.Plans.{IsPlanOver, query_of};
 ghost use Rattle.cube_query.specs.Slots.{entries_of, slot_of, AreSlots, CanPlace, Cover, Grow};
 ghost use Rattle.cube_query.specs.WholeBatch.{has_one_group};
@@ -24,16 +26,16 @@ ghost use Rattle.lattice.specs.Determined.{Serves};
 use crate::asked::asked_columns;
 use crate::cell_slots::with_cells;
 use crate::chosen_rows::ChosenRows;
+use crate::column_rows::ColumnRows;
 use crate::columns::{count_in_all, make_room, no_columns};
 use crate::finish::answer_lines;
 use crate::group_slots::group_slots_of;
 use crate::room::have_room;
-use crate::segment_rows::SegmentRows;
 use crate::slots::Slots;
 use crate::tally::Tally;
 use crate::whole_batch::{has_one_group, selected_rows, with_batch};
 use column_kernels::Mask;
-use column_segment::{FactColumn, Segment};
+use column_segment::{FactColumn, FactColumns, Segment};
 use cube_model::{Answer, Fault, LineOrder, Query};
 use cuboid_cells::Cells;
 use cuboid_upkeep::{CellNumbers, one_key_one_group};
@@ -124,9 +126,7 @@ impl Fold {
 
     /// Counts the rows of a batch in. A refusal leaves the fold as it was.
     ///
-    /// It asks nothing of the rows, and refuses them as `add_rows` does. Rows that fail a condition are left out column by
-    /// column, and only the others are looked at further: one by one, or where the query has one group and no condition on
-    /// a dimension, all at once, by sums over the columns.
+    /// It asks nothing of the rows, and refuses them as `add_rows` does.
     pub fn add_segment(&mut self, dims: &Dims, segment: &Segment) -> Result<(), Fault>
         requires { IsOver dims.now self.old }
         ensures over { IsOver dims.now self.new }
@@ -135,14 +135,27 @@ impl Fold {
         ensures refused { result ≡ Err Fault.BadLayout → CanTake dims.now self.old segment.now.rows → ⊥ }
         ensures only { IfErr result (λ fault. (fault ≡ Fault.Memory) ⊎ (fault ≡ Fault.BadLayout)) }
     {
-        if has_one_group(self.plan.query()) {
-            return self.add_whole(dims, segment);
-        }
-        if self.plan.query().conditions.is_empty() {
-            return self.add(dims, &SegmentRows::of(segment));
-        }
-        let rows = ChosenRows::of(self.alloc, &self.plan.over(dims), segment)?;
-        self.add(dims, &rows)
+        self.add_batch(dims, segment.columns())
+    }
+
+    /// Counts the rows of a batch in by its columns, of which only those matter at which the query looks. A refusal leaves
+    /// the fold as it was.
+    ///
+    /// It refuses rows as `add_rows` does. Those that fail a condition are left out column by column, and only the others are
+    /// looked at further: one by one, or where the query has one group and no condition on a dimension, all at once, by sums
+    /// over the columns.
+    pub fn add_columns(&mut self, dims: &Dims, batch: FactColumns) -> Result<(), Fault>
+        requires { IsOver dims.now self.old }
+        ensures over { IsOver dims.now self.new }
+        ensures query { self.new.query ≡ self.old.query }
+        ensures ok { OnOk result ((rows : List LineOrder) → AgreeOn (asked_columns self.old.query) batch.entry rows
+            → Takes dims.now self.old rows self.new) }
+        ensures err { OnErr result (self.new ≡ self.old) }
+        ensures refused { result ≡ Err Fault.BadLayout → (rows : List LineOrder) → AgreeOn (asked_columns self.old.query) batch.entry rows
+            → CanTake dims.now self.old rows → ⊥ }
+        ensures only { IfErr result (λ fault. (fault ≡ Fault.Memory) ⊎ (fault ≡ Fault.BadLayout)) }
+    {
+        self.add_batch(dims, batch)
     }
 
     /// Counts the cells of a view in, in place of the rows that they stand for. A refusal leaves the fold as it was.
@@ -180,29 +193,51 @@ impl Fold {
         Ok(())
     }
 
+    // Counts the rows of a batch in by its columns. A refusal leaves the fold as it was.
+    fn add_batch(&mut self, dims: &Dims, batch: FactColumns) -> Result<(), Fault>
+        requires { IsOver dims.now self.old }
+        ensures over { IsOver dims.now self.new }
+        ensures ok { OnOk result (Takes dims.now self.old batch.entry self.new) }
+        ensures err { OnErr result (self.new ≡ self.old) }
+        ensures refused { result ≡ Err Fault.BadLayout → (rows : List LineOrder) → AreSame (is_asked self.old.query) batch.entry rows
+            → CanTake dims.now self.old rows → ⊥ }
+        ensures only { IfErr result (λ fault. (fault ≡ Fault.Memory) ⊎ (fault ≡ Fault.BadLayout)) }
+    {
+        if has_one_group(self.plan.query()) {
+            return self.add_whole(dims, &batch);
+        }
+        if self.plan.query().conditions.is_empty() {
+            return self.add(dims, &ColumnRows::of(batch));
+        }
+        let rows = ChosenRows::of(self.alloc, &self.plan.over(dims), batch)?;
+        self.add(dims, &rows)
+    }
+
     // Counts the selected rows of a batch in, all at once. A refusal leaves the fold as it was.
-    fn add_whole(&mut self, dims: &Dims, segment: &Segment) -> Result<(), Fault>
+    fn add_whole(&mut self, dims: &Dims, batch: &FactColumns) -> Result<(), Fault>
         requires over { IsOver dims.now self.old }
         requires one_group { has_one_group self.old.query ≡ true }
         ensures over { IsOver dims.now self.new }
-        ensures ok { OnOk result (Takes dims.now self.old segment.now.rows self.new) }
+        ensures ok { OnOk result (Takes dims.now self.old batch.now self.new) }
         ensures err { OnErr result (self.new ≡ self.old) }
-        ensures refused { result ≡ Err Fault.BadLayout → CanTake dims.now self.old segment.now.rows → ⊥ }
+        ensures refused { result ≡ Err Fault.BadLayout → (rows : List LineOrder) → AreSame (is_asked self.old.query) batch.now rows
+            → CanTake dims.now self.old rows → ⊥ }
         ensures only { IfErr result (λ fault. (fault ≡ Fault.Memory) ⊎ (fault ≡ Fault.BadLayout)) }
     {
-        let mask = selected_rows(self.alloc, &self.plan.over(dims), segment)?;
-        self.add_masked(dims, segment, &mask)
+        let mask = selected_rows(self.alloc, &self.plan.over(dims), batch)?;
+        self.add_masked(dims, batch, &mask)
     }
 
     // The same by the mask of the selected rows.
-    fn add_masked(&mut self, dims: &Dims, segment: &Segment, mask: &Mask) -> Result<(), Fault>
+    fn add_masked(&mut self, dims: &Dims, batch: &FactColumns, mask: &Mask) -> Result<(), Fault>
         requires over { IsOver dims.now self.old }
         requires one_group { has_one_group self.old.query ≡ true }
-        requires mask { mask.now ≡ map (is_selected dims.now self.old.query.conditions) segment.now.rows }
+        requires mask { mask.now ≡ map (is_selected dims.now self.old.query.conditions) batch.now }
         ensures over { IsOver dims.now self.new }
-        ensures ok { OnOk result (Takes dims.now self.old segment.now.rows self.new) }
+        ensures ok { OnOk result (Takes dims.now self.old batch.now self.new) }
         ensures err { OnErr result (self.new ≡ self.old) }
-        ensures refused { result ≡ Err Fault.BadLayout → CanTake dims.now self.old segment.now.rows → ⊥ }
+        ensures refused { result ≡ Err Fault.BadLayout → (rows : List LineOrder) → AreSame (is_asked self.old.query) batch.now rows
+            → CanTake dims.now self.old rows → ⊥ }
         ensures only { IfErr result (λ fault. (fault ≡ Fault.Memory) ⊎ (fault ≡ Fault.BadLayout)) }
     {
         if mask.count() == 0 {
@@ -217,7 +252,7 @@ impl Fold {
             columns.as_slice(),
             aggregates,
             slot,
-            segment,
+            batch,
             mask,
         )?;
         self.columns = merged;
@@ -230,7 +265,8 @@ impl Fold {
         ensures over { IsOver dims.now self.new }
         ensures ok { OnOk result (Takes dims.now self.old (F.rows rows.now) self.new) }
         ensures err { OnErr result (self.new ≡ self.old) }
-        ensures refused { result ≡ Err Fault.BadLayout → CanTake dims.now self.old (F.rows rows.now) → ⊥ }
+        ensures refused { result ≡ Err Fault.BadLayout → (others : List LineOrder) → AreSame (is_asked self.old.query) (F.rows rows.now) others
+            → CanTake dims.now self.old others → ⊥ }
         ensures only { IfErr result (λ fault. (fault ≡ Fault.Memory) ⊎ (fault ≡ Fault.BadLayout)) }
     {
         let columns = &mut self.columns;
@@ -308,7 +344,7 @@ fn ready<F: FactRows>(
     requires cover { Cover (group_count dims.now (query_of plan.now).columns) slots.old }
     ensures group_slots { IfOk result (λ group_slots.
         AreGroupSlots dims.now (query_of plan.now) (entries_of slots.new) (F.rows rows.now) group_slots.items) }
-    ensures refused { result ≡ Err Fault.BadLayout → All (IsKnown dims.now) (F.rows rows.now) → ⊥ }
+    ensures refused { result ≡ Err Fault.BadLayout → All (IsKnownFor dims.now (query_of plan.now)) (F.rows rows.now) → ⊥ }
     ensures only { IfErr result (λ fault. (fault ≡ Fault.Memory) ⊎ (fault ≡ Fault.BadLayout)) }
     ensures long { OnOk result (AllByRecursion (λ column. length (entries_of slots.new) ≤ length column.items)
         columns.new.items) }

@@ -13,7 +13,7 @@ ghost use Rattle.cube_query.specs.WholeBatch.{HaveRoomAt, has_one_group, is_on_r
 
 use crate::tally::{Tally, TooLarge};
 use column_kernels::Mask;
-use column_segment::Segment;
+use column_segment::FactColumns;
 use cube_model::{Agg, Amount, Cond, Fault, Measure, Query};
 use group_plan::PlanOver;
 use std::alloc::Global;
@@ -44,16 +44,16 @@ fn is_on_row(condition: &Cond) -> bool
 
 /// The rows of a batch that a query selects, where it has no condition on a dimension. It can only fail for want of
 /// memory.
-pub fn selected_rows(alloc: Global, plan: &PlanOver, segment: &Segment) -> Result<Mask, Fault>
+pub fn selected_rows(alloc: Global, plan: &PlanOver, batch: &FactColumns) -> Result<Mask, Fault>
     requires { list_all is_on_row plan.now.query.conditions ≡ true }
-    ensures ok { IfOk result (λ mask. mask ≡ map (is_selected plan.now.dimensions plan.now.query.conditions) segment.now.rows) }
+    ensures ok { IfOk result (λ mask. mask ≡ map (is_selected plan.now.dimensions plan.now.query.conditions) batch.now) }
     ensures memory { IfErr result (λ fault. fault ≡ Fault.Memory) }
 {
     let limits = plan.bounds();
     let quantity = (limits.least_quantity, limits.greatest_quantity);
     let discount = (limits.least_discount, limits.greatest_discount);
-    let mask = segment.mask(alloc, quantity, discount)?;
-    prove!(mask.rows() == segment.len());
+    let mask = batch.mask(alloc, quantity, discount)?;
+    prove!(mask.rows() == batch.len());
     Ok(mask)
 }
 
@@ -64,21 +64,21 @@ pub fn with_batch(
     columns: &[Vec<Tally>],
     aggs: &[Agg],
     slot: u32,
-    segment: &Segment,
+    batch: &FactColumns,
     mask: &Mask,
 ) -> Result<Vec<Vec<Tally>>, Fault>
     requires columns { length columns.now ≡ length aggs.now }
-    requires rows { length mask.now ≡ length segment.now.rows }
+    requires rows { length mask.now ≡ length batch.now }
     requires within { AllByRecursion (λ column. slot < length column.items) columns.now }
     ensures ok { IfOk result (λ new. (other : ℕ) → tallies_at new.items other
-        ≡ with_rows aggs.now (selected mask.now segment.now.rows) slot other (tallies_at columns.now other)) }
+        ≡ with_rows aggs.now (selected mask.now batch.now) slot other (tallies_at columns.now other)) }
     ensures refused { IfErr result (λ fault. (fault ≡ Fault.Memory)
-        ⊎ ((fault ≡ Fault.BadLayout) × (HaveRoomAt aggs.now columns.now slot (selected mask.now segment.now.rows) → ⊥))) }
+        ⊎ ((fault ≡ Fault.BadLayout) × (HaveRoomAt aggs.now columns.now slot (selected mask.now batch.now) → ⊥))) }
 {
     let mut merged = Vec::with_capacity(alloc, columns.len())?;
     for place in 0..columns.len() {
         let mut column = Vec::from_slice(alloc, columns[place].as_slice())?;
-        match merge_batch(column.as_mut_slice(), aggs[place], slot, segment, mask) {
+        match merge_batch(column.as_mut_slice(), aggs[place], slot, batch, mask) {
             Ok(()) => {}
             Err(_) => return Err(Fault::BadLayout),
         }
@@ -92,40 +92,40 @@ fn merge_batch(
     column: &mut [Tally],
     agg: Agg,
     slot: u32,
-    segment: &Segment,
+    batch: &FactColumns,
     mask: &Mask,
 ) -> Result<(), TooLarge>
-    requires rows { length mask.now ≡ length segment.now.rows }
+    requires rows { length mask.now ≡ length batch.now }
     requires within { slot < length column.old }
     ensures ok { OnOk result (column.new ≡ slice_set column.old slot (merged (tally_at column.old slot)
-        (tally_of (map (number_of agg) (selected mask.now segment.now.rows))))) }
-    ensures err { OnErr result (can_add (tally_at column.old slot) (length (selected mask.now segment.now.rows))
-        (size_of agg (selected mask.now segment.now.rows)) ≡ true → ⊥) }
+        (tally_of (map (number_of agg) (selected mask.now batch.now))))) }
+    ensures err { OnErr result (can_add (tally_at column.old slot) (length (selected mask.now batch.now))
+        (size_of agg (selected mask.now batch.now)) ≡ true → ⊥) }
     ensures length { length column.new ≡ length column.old }
 {
-    let tally = batch_tally(agg, segment, mask)?;
+    let tally = batch_tally(agg, batch, mask)?;
     column[slot as usize] = column[slot as usize].merge(tally)?;
     Ok(())
 }
 
 // The tally of the selected rows of a batch.
-fn batch_tally(agg: Agg, segment: &Segment, mask: &Mask) -> Result<Tally, TooLarge>
-    requires { length mask.now ≡ length segment.now.rows }
-    ensures ok { IfOk result (λ tally. tally ≡ tally_of (map (number_of agg) (selected mask.now segment.now.rows))) }
-    ensures err { OnErr result (size_of agg (selected mask.now segment.now.rows) < 2 ^ 63 → ⊥) }
+fn batch_tally(agg: Agg, batch: &FactColumns, mask: &Mask) -> Result<Tally, TooLarge>
+    requires { length mask.now ≡ length batch.now }
+    ensures ok { IfOk result (λ tally. tally ≡ tally_of (map (number_of agg) (selected mask.now batch.now))) }
+    ensures err { OnErr result (size_of agg (selected mask.now batch.now) < 2 ^ 63 → ⊥) }
 {
     match agg {
-        Agg::Count => Ok(count_tally(segment, mask)),
+        Agg::Count => Ok(count_tally(batch, mask)),
         Agg::Sum(measure) | Agg::Min(measure) | Agg::Max(measure) | Agg::Avg(measure) => {
-            measure_tally(measure, segment, mask)
+            measure_tally(measure, batch, mask)
         }
     }
 }
 
 // The tally of which the selected rows of a batch are counted.
-fn count_tally(segment: &Segment, mask: &Mask) -> Tally
-    requires { length mask.now ≡ length segment.now.rows }
-    ensures { result ≡ tally_of (map (number_of Count) (selected mask.now segment.now.rows)) }
+fn count_tally(batch: &FactColumns, mask: &Mask) -> Tally
+    requires { length mask.now ≡ length batch.now }
+    ensures { result ≡ tally_of (map (number_of Count) (selected mask.now batch.now)) }
 {
     Tally {
         count: count_of(mask),
@@ -136,15 +136,15 @@ fn count_tally(segment: &Segment, mask: &Mask) -> Tally
 }
 
 // The tally of a measure over the selected rows of a batch.
-fn measure_tally(measure: Measure, segment: &Segment, mask: &Mask) -> Result<Tally, TooLarge>
-    requires { length mask.now ≡ length segment.now.rows }
-    ensures ok { IfOk result (λ tally. tally ≡ tally_of (map (measure_of measure) (selected mask.now segment.now.rows))) }
-    ensures err { OnErr result (sum_by (λ row. nat_abs (measure_of measure row)) (selected mask.now segment.now.rows) < 2 ^ 63 → ⊥) }
+fn measure_tally(measure: Measure, batch: &FactColumns, mask: &Mask) -> Result<Tally, TooLarge>
+    requires { length mask.now ≡ length batch.now }
+    ensures ok { IfOk result (λ tally. tally ≡ tally_of (map (measure_of measure) (selected mask.now batch.now))) }
+    ensures err { OnErr result (sum_by (λ row. nat_abs (measure_of measure row)) (selected mask.now batch.now) < 2 ^ 63 → ⊥) }
 {
-    match segment.selected_extremes(measure, mask) {
+    match batch.selected_extremes(measure, mask) {
         None => Ok(Tally::none()),
         Some(ends) => {
-            let sum = segment.selected_sum(measure, mask);
+            let sum = batch.selected_sum(measure, mask);
             tally_by_parts(count_of(mask), sum, ends.0, ends.1)
         }
     }

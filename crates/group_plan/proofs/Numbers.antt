@@ -22,7 +22,7 @@ use Rattle.cube_model.specs.Keys.{key_cmp, key_under, member_cmp}
 use Rattle.cube_model.specs.Order.{member_cmp_total}
 use Rattle.cube_model.specs.Places.{attr_members, row_count_of, texts_of, text_at}
 use Rattle.group_plan.specs.Numbers.{digit_count, group_count, member_at, key_at, KeysRise, IsKnownOn}
-use Rattle.group_plan.specs.Parts.{is_on, is_same, is_used, rank_at, part_at}
+use Rattle.group_plan.specs.Parts.{IsKnownFor, is_on, is_same, is_used, rank_at, part_at}
 use Rattle.std.specs.Fmt.{decimal}
 use Rattle.std.proofs.lemmas.List.{length-map}
 use Rattle.std.proofs.lemmas.List.Folds.{list_any_at}
@@ -149,15 +149,22 @@ same_axis Supplier = refl
 same_axis Part = refl
 same_axis Date = refl
 
--- the keys of a fact row are known in the dimensions that a query uses
-abbrev pub KnownWhereUsed : DimRows → Query → LineOrder → Type 0
-KnownWhereUsed dimensions query row = (axis : Axis) → is_used query axis ≡ true → IsKnownOn dimensions row axis
-
 -- so they are in those of its columns
-pub known_in_columns : (dimensions : DimRows) (query : Query) (row : LineOrder) → KnownWhereUsed dimensions query row
+pub known_in_columns : (dimensions : DimRows) (query : Query) (row : LineOrder) → IsKnownFor dimensions query row
     → (axis : Axis) → list_any (λ column. is_same (axis_of column) axis) query.columns ≡ true → IsKnownOn dimensions row axis
 known_in_columns dimensions query row known axis is =
     known axis (ap (λ columns. columns || list_any (is_on axis) query.conditions) is)
+
+-- a dimension that is not left unused is used
+pub used_else : (query : Query) (axis : Axis) → (is_used query axis ≡ false → ⊥) → is_used query axis ≡ true
+used_else query axis none = by (is_used query axis) refl
+  where
+    by : (b : Bool) → is_used query axis ≡ b → is_used query axis ≡ true
+    by true is = is
+    by false is = absurd (none is)
+
+pub not_true : (b : Bool) → b ≡ true → b ≡ false → ⊥
+not_true b one other = true≢false (sym one ∙ other)
 
 -- nothing is asked of a key in a dimension that a query does not use
 pub not_used : {Known : Type 0} (query : Query) (axis : Axis) → is_used query axis ≡ false → is_used query axis ≡ true → Known

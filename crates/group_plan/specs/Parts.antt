@@ -1,6 +1,6 @@
 -- What the row at a place of a dimension says of a query: whether its conditions hold there, and what it adds to the
 -- number of a group. Our own.
-use Rattle.std.specs.Prelude.{ℕ, ◌+◌, ◌*◌, ◌&&◌, ◌||◌, nat_le, Bool, true, false, if◌then◌else◌, Option, Some, None, List, [], ◌∷◌}
+use Rattle.std.specs.Prelude.{◌≡◌, ℕ, ◌+◌, ◌*◌, ◌&&◌, ◌||◌, nat_le, Bool, true, false, if◌then◌else◌, Option, Some, None, List, [], ◌∷◌}
 use Rattle.std.specs.List.{list_any, list_all, position_or_len, sum_by}
 use Rattle.std.specs.Str.{bytes_eq}
 use Rattle.cube_model.specs.declared.attr.Attr.{Attr}
@@ -14,7 +14,7 @@ use Rattle.cube_model.specs.declared.rows.LineOrder.{LineOrder}
 use Rattle.cube_model.specs.Attributes.{axis_of, key_on}
 use Rattle.cube_model.specs.Places.{attr_members, row_index_of, text_at}
 use Rattle.cube_model.specs.Selection.{text_le}
-use Rattle.group_plan.specs.Numbers.{group_count}
+use Rattle.group_plan.specs.Numbers.{IsKnownOn, group_count}
 use Rattle.group_plan.specs.declared.digits.Digit.{Digit}
 
 -- two dimensions are one
@@ -83,6 +83,10 @@ is_on axis (Discount low high) = false
 -- a column or a condition of a query is on a dimension
 abbrev pub is_used : Query → Axis → Bool
 is_used query axis = list_any (λ column. is_same (axis_of column) axis) query.columns || list_any (is_on axis) query.conditions
+
+-- the keys of a fact row are known in the dimensions that a query uses
+abbrev pub IsKnownFor : DimRows → Query → LineOrder → Type 0
+IsKnownFor dimensions query row = (axis : Axis) → is_used query axis ≡ true → IsKnownOn dimensions row axis
 
 -- room for the numbers of groups by some columns, at 65,536 for each
 abbrev pub room_of : List Attr → ℕ

@@ -69,10 +69,11 @@ side_in sides Supplier = sides.suppliers
 side_in sides Part = sides.parts
 side_in sides Date = sides.dates
 
--- what is kept of each dimension is what its rows give, and one that is not looked at is not used
+-- what is kept of each dimension is what its rows give, and those that are not looked at are those that are not used
 pub record AreSides (dimensions : DimRows) (query : Query) (sides : Sides) : Type 0 where
   pub each : (axis : Axis) → IsSide dimensions query axis (side_in sides axis)
   pub unused : (axis : Axis) → side_in sides axis ≡ Unused → is_used query axis ≡ false
+  pub used : (axis : Axis) → is_used query axis ≡ false → side_in sides axis ≡ Unused
 
 -- what a plan keeps of a dimension
 abbrev pub side_of : Plan → Axis → Side

@@ -8,7 +8,7 @@ ghost use Rattle.cube_model.specs.Places.{row_count_of, row_index_of};
 ghost use Rattle.group_plan.specs.Columns.{attr_at, is_all};
 ghost use Rattle.group_plan.specs.Kept.{ArePlaces, KeepPlaces};
 ghost use Rattle.group_plan.specs.Numbers.{IsKnown, IsKnownOn, IsNumber, digit_count, group_count, key_at, member_at};
-ghost use Rattle.group_plan.specs.Parts.{given_at, given_on, holds_in, is_used};
+ghost use Rattle.group_plan.specs.Parts.{IsKnownFor, given_at, given_on, holds_in, is_used};
 ghost use Rattle.group_plan.specs.Plans.{AreBounds, IsPlanOf, query_of};
 ghost use Rattle.group_plan.specs.Rows.{row_at};
 
@@ -56,7 +56,7 @@ impl<'a> PlanOver<'a> {
     pub fn number<F: FactRows>(&self, rows: &F, place: usize) -> Result<Option<u128>, UnknownKey>
         requires { place < length (F.rows rows.now) }
         ensures ok { IfOk result (IsNumber self.now.dimensions self.now.query (row_at (F.rows rows.now) place)) }
-        ensures unknown { OnErr result (IsKnown self.now.dimensions (row_at (F.rows rows.now) place) → ⊥) }
+        ensures unknown { OnErr result (IsKnownFor self.now.dimensions self.now.query (row_at (F.rows rows.now) place) → ⊥) }
     {
         let quantity = rows.quantity(place);
         let discount = rows.discount(place);
@@ -72,7 +72,7 @@ impl<'a> PlanOver<'a> {
         requires within { list_all (holds_in (row_at (F.rows rows.now) place)) self.now.query.conditions ≡ true }
         requires fits { group_count self.now.dimensions self.now.query.columns < 2 ^ 128 }
         ensures ok { IfOk result (IsNumber self.now.dimensions self.now.query (row_at (F.rows rows.now) place)) }
-        ensures unknown { OnErr result (IsKnown self.now.dimensions (row_at (F.rows rows.now) place) → ⊥) }
+        ensures unknown { OnErr result (IsKnownFor self.now.dimensions self.now.query (row_at (F.rows rows.now) place) → ⊥) }
     {
         let customer = match self.given(rows, place, Axis::Customer) {
             Ok(Some(customer)) => customer,
@@ -176,7 +176,8 @@ impl<'a> PlanOver<'a> {
         ensures ok { IfOk result (λ part. part ≡ given_on self.now.dimensions self.now.query (row_at (F.rows rows.now) place) axis) }
         ensures known { OnOk result (is_used self.now.query axis ≡ true
             → IsKnownOn self.now.dimensions (row_at (F.rows rows.now) place) axis) }
-        ensures unknown { OnErr result (IsKnownOn self.now.dimensions (row_at (F.rows rows.now) place) axis → ⊥) }
+        ensures unknown { OnErr result ((is_used self.now.query axis ≡ true
+            → IsKnownOn self.now.dimensions (row_at (F.rows rows.now) place) axis) → ⊥) }
     {
         let side = self.plan.side(axis);
         if side.is_unused() {

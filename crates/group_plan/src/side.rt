@@ -46,6 +46,7 @@ impl Side {
         requires count { count ≡ group_count dims.now query.now.columns }
         ensures side { IfOk result (IsSide dims.now query.now axis) }
         ensures unused { IfOk result (λ side. side ≡ Side.Unused → is_used query.now axis ≡ false) }
+        ensures used { IfOk result (λ side. is_used query.now axis ≡ false → side ≡ Side.Unused) }
     {
         if !is_used(query, axis) {
             return Ok(Side::Unused);

@@ -1,16 +1,13 @@
 //! A query that runs batch by batch.
-ghost use Rattle.std.specs.Prelude.{◌≡◌, ◌⊎◌, ◌+◌, ◌<◌, ◌≤◌, false, Some, length, slice_get, take, IfErr, IfOk, IsErrOf, OnErr, OnOk};
+ghost use Rattle.std.specs.Prelude.{◌≡◌, ◌⊎◌, ◌≤◌, false, length, IfErr, IfOk, IsErrOf, OnErr};
 ghost use Rattle.cube_model.specs.declared.fault.Fault.TheVariants.{BadLayout, Device, Memory};
-ghost use Rattle.cube_model.specs.Admission.{all_rows};
 ghost use Rattle.cube_model.specs.Proper.{IsProper};
-ghost use Rattle.cube_query.specs.Groups.{IsOver, StandsFor};
 ghost use Rattle.object_store.specs.Disk.{Leaves};
 ghost use Rattle.object_store.specs.Store.{Breaks, IsStill, content_of, device_of, disk_of, has_failed};
 ghost use Rattle.warehouse_objects.specs.Warehouse.{Warehouse};
 ghost use Rattle.warehouse_objects.specs.Stands.{Stands, root_of};
 
 use crate::answering::begin_fold;
-use column_segment::Segment;
 use cube_model::{Answer, Fault, Query};
 use cube_query::Fold;
 use dimensions::Dims;
@@ -19,8 +16,8 @@ use sector_device::Sectors;
 use std::alloc::Global;
 use std::marker::Model;
 use std::rc::Rc;
-use warehouse_objects::{decoded_batch, read_object};
-use warehouse_root::{Root, segment_id};
+use warehouse_objects::fold_batch;
+use warehouse_root::Root;
 
 /// A query that runs, batch by batch. It shares the dimensions with the session that began it, and needs no more of it: its
 /// answer is over the batches of its start, whatever is stored later.
@@ -141,61 +138,4 @@ impl Running {
         self.done = before + 1;
         Ok(None)
     }
-}
-
-// Counts the batch after the first so many into a fold. A refusal leaves the fold as it was.
-fn fold_batch<D: Sectors>(
-    alloc: Global,
-    store: &mut Store<D>,
-    root: &Root,
-    dims: &Dims,
-    fold: &mut Fold,
-    before: u32,
-) -> Result<(), Fault>
-    requires fine { has_failed store.old ≡ false }
-    requires over { IsOver dims.now fold.old }
-    ensures ok { OnOk result (D.keeps_word (device_of store.new) → (w : Warehouse) → Stands (content_of D.Sectors store.old) w
-        → StandsFor dims.now fold.old (all_rows (take before w.batches)) → StandsFor dims.now fold.new (all_rows (take (before + 1) w.batches))) }
-    ensures err { OnErr result (fold.new ≡ fold.old) }
-    ensures over { IsOver dims.now fold.new }
-    ensures query { fold.new.query ≡ fold.old.query }
-    ensures refused { IsErrOf result BadLayout → D.keeps_word (device_of store.new) → (w : Warehouse) → Stands (content_of D.Sectors store.old) w
-        → root.now ≡ root_of w → dims.now ≡ w.rows → before < length w.batches → StandsFor dims.now fold.old (all_rows (take before w.batches)) → ⊥ }
-    ensures leaves { Leaves (disk_of D.Sectors store.old) (disk_of D.Sectors store.new) (λ c. c ≡ content_of D.Sectors store.old) }
-    ensures stays { (IsErrOf result Device → ⊥) → IsStill D.Sectors store.old store.new }
-    ensures device { IsErrOf result Device → Breaks D.Sectors store.old store.new }
-    ensures causes { IfErr result (λ fault. (fault ≡ Memory) ⊎ ((fault ≡ Device) ⊎ (fault ≡ BadLayout))) }
-{
-    let segment = batch_after(alloc, store, root, before)?;
-    fold.add_segment(dims, &segment)
-}
-
-// The batch after the first so many. `BadLayout` where it is not there as the root says.
-fn batch_after<D: Sectors>(
-    alloc: Global,
-    store: &mut Store<D>,
-    root: &Root,
-    before: u32,
-) -> Result<Segment, Fault>
-    requires fine { has_failed store.old ≡ false }
-    ensures found { IfOk result (λ segment. D.keeps_word (device_of store.new) → (w : Warehouse) → Stands (content_of D.Sectors store.old) w
-        → slice_get w.batches before ≡ Some segment.rows) }
-    ensures refused { IsErrOf result BadLayout → D.keeps_word (device_of store.new) → (w : Warehouse) → Stands (content_of D.Sectors store.old) w
-        → root.now ≡ root_of w → before < length w.batches → ⊥ }
-    ensures leaves { Leaves (disk_of D.Sectors store.old) (disk_of D.Sectors store.new) (λ c. c ≡ content_of D.Sectors store.old) }
-    ensures stays { (IsErrOf result Device → ⊥) → IsStill D.Sectors store.old store.new }
-    ensures device { IsErrOf result Device → Breaks D.Sectors store.old store.new }
-    ensures causes { IfErr result (λ fault. (fault ≡ Memory) ⊎ ((fault ≡ Device) ⊎ (fault ≡ BadLayout))) }
-{
-    let _usable = store.is_broken();
-    let _layout = root.layout();
-    let batches = root.batches();
-    if before as usize >= batches.len() {
-        return Err(Fault::BadLayout);
-    }
-    let count = batches[before as usize];
-    let number = before + 1;
-    let bytes = read_object(alloc, store, segment_id(number))?;
-    let segment = decoded_batch(alloc, bytes, number, count)?;
-    Ok(segment)
 }

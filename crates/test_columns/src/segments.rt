@@ -4,6 +4,6 @@ mod decoding;
 mod dictionaries;
 mod hostile;
 mod lengths;
-mod replaced;
+mod projected;
 mod sources;
 mod sums;

@@ -55,22 +55,26 @@ fn nothing_is_opened(rt: HostRuntime) {
     }
 }
 
-/// Changes of the segment, which no opening reads, and of what the root tells of it.
-static UNREAD: [Change; 9] = [
+/// Changes of the segment, which no opening reads, and of what the root tells of it, and how a query by customers is refused
+/// then. It looks at no text and no order key.
+static UNREAD: [(Change, Option<Fault>); 9] = [
     // Another name, another batch, a row more and one fewer.
-    (SEGMENT, 0, b"seg1"),
-    (SEGMENT, 4, b"\x02\x00\x00\x00"),
-    (SEGMENT, 8, b"\x04\x00\x00\x00"),
-    (SEGMENT, 8, b"\x02\x00\x00\x00"),
+    ((SEGMENT, 0, b"seg1"), Some(Fault::BadLayout)),
+    ((SEGMENT, 4, b"\x02\x00\x00\x00"), Some(Fault::BadLayout)),
+    ((SEGMENT, 8, b"\x04\x00\x00\x00"), Some(Fault::BadLayout)),
+    ((SEGMENT, 8, b"\x02\x00\x00\x00"), Some(Fault::BadLayout)),
     // A code out of range, and texts that are not in the order of their first use.
-    (SEGMENT, 279, b"\x02\x00"),
-    (SEGMENT, 279, b"\x01\x00"),
+    ((SEGMENT, 279, b"\x02\x00"), None),
+    ((SEGMENT, 279, b"\x01\x00"), None),
     // An orderkey out of range.
-    (SEGMENT, 12, b"\xff\xff\xff\xff\xff\xff\xff\xff"),
+    ((SEGMENT, 12, b"\xff\xff\xff\xff\xff\xff\xff\xff"), None),
     // A customer that there is not.
-    (SEGMENT, 48, b"\x09\x00\x00\x00"),
+    ((SEGMENT, 48, b"\x09\x00\x00\x00"), Some(Fault::BadLayout)),
     // The root tells of four rows.
-    (CATALOGUE, 156, b"\x04\x00\x00\x00"),
+    (
+        (CATALOGUE, 156, b"\x04\x00\x00\x00"),
+        Some(Fault::BadLayout),
+    ),
 ];
 
 /// How a session refuses a query over its first batch, if it does.
@@ -102,10 +106,10 @@ fn outcome(alloc: Global, change: Change) -> Result<(u32, Option<Fault>, bool), 
 
 #[test]
 fn an_opened_segment_is_refused_where_it_is_read(rt: HostRuntime) {
-    for change in &UNREAD {
+    for (change, refused) in &UNREAD {
         assert_eq!(rt;
             outcome(rt.alloc(), *change),
-            Ok((1, Some(Fault::BadLayout), true)),
+            Ok((1, *refused, true)),
             "{} at {}",
             change.0,
             change.1

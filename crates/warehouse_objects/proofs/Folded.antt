@@ -1,6 +1,6 @@
 -- Batches that are read and counted one after another.
-use Rattle.std.proofs.Common.{◌≡◌, ◌⊎◌, ⊎_elim, get_or, map, ◌+◌, ◌<◌, ◌≤◌, suc, ℕ, List, ◌++◌, Option, Some, None, length, take, slice_get, Result, Ok, Err, IfErr, IfOk, IsErrOf, OnOk, refl, sym, ◌∙◌, ap, subst, arith}
-use Rattle.std.specs.Option.{IfSome, IsSomeAnd, MatchOption, option_map}
+use Rattle.std.proofs.Common.{◌≡◌, ◌⊎◌, inl, inr, ⊎_elim, get_or, map, ◌+◌, ◌<◌, ◌≤◌, suc, ℕ, List, ◌++◌, Option, Some, None, length, take, slice_get, Result, Ok, Err, IfErr, IsErrOf, OnOk, refl, sym, ◌∙◌, ap, subst, arith}
+use Rattle.std.specs.Option.{IfSome, IsSomeAnd, option_map}
 use Rattle.std.proofs.lemmas.Option.{get_or_from_slice_get, slice_get-map, slice_get_within}
 use Rattle.cube_model.specs.Admission.{all_rows}
 use Rattle.cube_model.specs.declared.fault.Fault.{Fault}
@@ -9,7 +9,7 @@ use Rattle.cube_model.specs.declared.rows.DimRows.{DimRows}
 use Rattle.cube_model.specs.declared.rows.LineOrder.{LineOrder}
 use Rattle.object_store.specs.Content.{Content, bytes_of}
 use Rattle.column_segment.specs.declared.columns.FactColumn.{FactColumn}
-use Rattle.column_segment.specs.Replaced.{AgreeOn}
+use Rattle.column_segment.specs.Projected.{AgreeOn, HoldsNoneOf}
 use Rattle.column_segment.specs.Segment.{IsSegment, segment_of}
 use Rattle.column_segment.proofs.CallerLemmas.{IsSegment-one}
 use Rattle.cube_query.specs.Groups.{CanTake, FoldState, StandsFor}
@@ -48,17 +48,15 @@ module _ (c : Content) (w : Warehouse) (stands : Stands c w) where
     found_at bytes rows at segment = batch_found before bytes number rows low (at_id ∙ at) segment
 
     module _ (batch : List LineOrder) (here : slice_get w.batches before ≡ Some batch) where
-      pub same_at : (bytes : List ℕ) (rows : List LineOrder) → bytes_of c id ≡ Some bytes → IsSegment bytes number rows → rows ≡ batch
-      same_at bytes rows at segment = (same_batch before batch bytes number rows low here (at_id ∙ at) segment).1
-
-      pub segment_there : (bytes : List ℕ) → bytes_of c id ≡ Some bytes → IsSegment bytes number batch
+      segment_there : (bytes : List ℕ) → bytes_of c id ≡ Some bytes → IsSegment bytes number batch
       segment_there bytes at =
           let own = segment_at w.rows w.batches stands.batches before batch here in
           let bytes_are : bytes ≡ segment_of (before + 1) batch = some_one bytes (segment_of (before + 1) batch) (sym at ∙ sym at_id ∙ batch_bytes before batch low here) in
           subst (λ (n : ℕ). IsSegment bytes n batch) (sym numbered) (record { spelled = bytes_are; number_fits = own.number_fits; batch = own.batch; fits = own.fits })
 
-      pub never_missing : bytes_of c id ≡ None → ⊥
-      never_missing none = let both : None ≡ Some (segment_of (before + 1) batch) = sym none ∙ sym at_id ∙ batch_bytes before batch low here in cc
+      -- so the text there is that of a batch of the number, and of as many rows
+      pub none_there : HoldsNoneOf (bytes_of c id) number (length batch) → ⊥
+      none_there none = let at = sym at_id ∙ batch_bytes before batch low here in none (segment_of (before + 1) batch) batch at refl (segment_there (segment_of (before + 1) batch) at)
 
     -- the batch there agrees with rows, if what was read of its bytes does
     pub batch_agrees : (columns : List FactColumn) (rows : List LineOrder)
@@ -81,15 +79,13 @@ module _ (c : Content) (w : Warehouse) (stands : Stands c w) where
         by (Some bytes) at agree = by_batch bytes at agree (slice_get w.batches before) refl
 
   -- a batch can be taken behind those before it
-  pub can_take_there : (dims : DimRows) (fold : FoldState) (before : ℕ) (batch rows : List LineOrder) → dims ≡ w.rows → slice_get w.batches before ≡ Some batch
-      → rows ≡ batch → StandsFor dims fold (all_rows (take before w.batches)) → CanTake dims fold rows
-  can_take_there dims fold before batch rows same here rows_are so_far =
+  pub can_take_there : (dims : DimRows) (fold : FoldState) (before : ℕ) (batch : List LineOrder) → dims ≡ w.rows → slice_get w.batches before ≡ Some batch
+      → StandsFor dims fold (all_rows (take before w.batches)) → CanTake dims fold batch
+  can_take_there dims fold before batch same here so_far =
       let within : suc before ≤ length w.batches = omega (arith, slice_get_within w.batches before batch here) in
-      let more : all_rows (take (suc before) w.batches) ≡ all_rows (take before w.batches) ++ rows =
-      rows_next w.batches before batch here ∙ ap (λ (l : List LineOrder). all_rows (take before w.batches) ++ l) (sym rows_are) in
       let all : AreFoldable dims (all_rows (take (suc before) w.batches)) =
       subst (λ (d : DimRows). AreFoldable d (all_rows (take (suc before) w.batches))) (sym same) (foldable w.rows w.batches stands.batches (suc before) within) in
-      (all_rows (take before w.batches), (so_far, subst (λ (l : List LineOrder). AreFoldable dims l) more all))
+      (all_rows (take before w.batches), (so_far, subst (λ (l : List LineOrder). AreFoldable dims l) (rows_next w.batches before batch here) all))
 
   -- how many rows the root says it has
   pub count_there : (before : ℕ) (batch : List LineOrder) → slice_get w.batches before ≡ Some batch → get_or (map length w.batches) before 0 ≡ length batch
@@ -113,11 +109,10 @@ pub ok_so : {X : Type 0} (A B : Type 0) (result : Result X Fault) → (A → B) 
 ok_so A B (Ok x) so a = so a
 ok_so A B (Err fault) so a = tt
 
--- what was found, said of less
-pub found_so : {X : Type 0} (A B C : Type 0) (result : Result (Option X) Fault) → (B → C) → IfOk result (λ found. MatchOption found A (λ _. B)) → IfOk result (λ found. MatchOption found A (λ _. C))
-found_so A B C (Ok None) so known = known
-found_so A B C (Ok (Some x)) so known = so known
-found_so A B C (Err fault) so known = tt
+-- the causes for which a fold refuses rows
+pub of_counts : (fault : Fault) → (fault ≡ Memory) ⊎ (fault ≡ BadLayout) → (fault ≡ Memory) ⊎ ((fault ≡ Device) ⊎ (fault ≡ BadLayout))
+of_counts fault (inl memory) = inl memory
+of_counts fault (inr bad) = inr (inr bad)
 
 pub of_fault : {X : Type 0} (P : Fault → Type 0) (result : Result X Fault) (fault : Fault) → IfErr result P → IsErrOf result fault → P fault
 of_fault {X} P result fault all is = subst (λ (r : Result X Fault). IfErr r P) is all
@@ -135,6 +130,3 @@ err_fault one other is = cc
 
 pub some_of : {X : Type 0} (P : X → Type 0) (found : Option X) (x : X) → found ≡ Some x → IfSome found P → P x
 some_of {X} P found x is holds = subst (λ (o : Option X). IfSome o P) is holds
-
-pub none_of : {X : Type 0} (A : Type 0) (B : X → Type 0) (found : Option X) → found ≡ None → MatchOption found A B → A
-none_of {X} A B found is holds = subst (λ (o : Option X). MatchOption o A B) is holds

@@ -7,7 +7,7 @@ mod objects;
 mod reading;
 mod storable;
 
-pub use folding::{decoded_batch, fold_batches};
+pub use folding::{decoded_batch, fold_batch, fold_batches};
 pub use objects::has_its_objects;
 pub use reading::{read_dims, read_object, read_root};
 pub use storable::{numbers_fit, rows_are_storable};

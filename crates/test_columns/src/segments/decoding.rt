@@ -59,7 +59,8 @@ static NUMBERS: [(NumberColumn, [[u8; 4]; 3]); 2] = [
 ];
 
 fn shows_numbers(segment: &Segment) -> bool {
-    NUMBERS.iter().all(|(column, numbers)| segment.numbers(*column) == numbers.as_slice())
+    let columns = segment.columns();
+    NUMBERS.iter().all(|(column, numbers)| columns.numbers(*column) == numbers.as_slice())
 }
 
 // What it has in each column of small numbers.
@@ -70,7 +71,8 @@ static FIGURES: [(ByteColumn, [u8; 3]); 3] = [
 ];
 
 fn shows_figures(segment: &Segment) -> bool {
-    FIGURES.iter().all(|(column, figures)| segment.figures(*column) == figures.as_slice())
+    let columns = segment.columns();
+    FIGURES.iter().all(|(column, figures)| columns.figures(*column) == figures.as_slice())
 }
 
 // What it has in each column of amounts.
@@ -83,7 +85,8 @@ static AMOUNTS: [(AmountColumn, [u64; 3]); 5] = [
 ];
 
 fn shows_amounts(segment: &Segment) -> bool {
-    AMOUNTS.iter().all(|(column, amounts)| are_spelled(segment.amounts(*column), amounts))
+    let columns = segment.columns();
+    AMOUNTS.iter().all(|(column, amounts)| are_spelled(columns.amounts(*column), amounts))
 }
 
 // Whether chunks are amounts, the lowest byte first.

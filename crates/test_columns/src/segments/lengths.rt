@@ -123,11 +123,12 @@ fn wrong_sums(
     rows: &[LineOrder],
     ranges: Ranges,
 ) -> Result<u32, Fault> {
-    let mask = segment.mask(alloc, ranges.0, ranges.1)?;
+    let columns = segment.columns();
+    let mask = columns.mask(alloc, ranges.0, ranges.1)?;
     let mut wrong: u32 = 0;
     for measure in MEASURES {
-        let sum = segment.selected_sum(measure, &mask);
-        let extremes = segment.selected_extremes(measure, &mask);
+        let sum = columns.selected_sum(measure, &mask);
+        let extremes = columns.selected_extremes(measure, &mask);
         if sum != sum_by_rows(rows, measure, ranges)
             || extremes != extremes_by_rows(rows, measure, ranges)
         {
@@ -144,7 +145,7 @@ fn wrong_rows(
     rows: &[LineOrder],
     ranges: Ranges,
 ) -> Result<u32, Fault> {
-    let mask = segment.mask(alloc, ranges.0, ranges.1)?;
+    let mask = segment.columns().mask(alloc, ranges.0, ranges.1)?;
     let mut wrong: u32 = 0;
     for (place, row) in rows.iter().enumerate() {
         if mask.get(place) != Some(lies_in(row, ranges)) {

@@ -14,8 +14,9 @@ fn sum_of(
     quantity: (u8, u8),
     discount: (u8, u8),
 ) -> Result<i128, Fault> {
-    let mask = segment.mask(alloc, quantity, discount)?;
-    Ok(segment.selected_sum(measure, &mask))
+    let columns = segment.columns();
+    let mask = columns.mask(alloc, quantity, discount)?;
+    Ok(columns.selected_sum(measure, &mask))
 }
 
 // A measure, the greatest quantity and discount, and the sum over the sample's rows up to these.

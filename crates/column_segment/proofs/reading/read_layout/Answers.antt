@@ -24,10 +24,3 @@ pub returns-clause-ok : goal.returns-clause-ok
 returns-clause-ok c =
     whole c.args.bytes.now (record { number = c.in_ok-header.header.number; rows = c.in_ok-header.header.rows; texts = c.in_ok-texts.texts })
     (λ k. (c.type_inv.bytes k).fits) c.in_ok-header.ensures.ok (c.has_numbers.ensures.0 c.if-not-has_numbers.false) c.in_ok-texts.ensures.ok
-
-pub returns-clause-checked : goal.returns-clause-checked
-returns-clause-checked c = record {
-  header = c.in_ok-header.ensures.ok;
-  numbers = c.has_numbers.ensures.0 c.if-not-has_numbers.false;
-  texts = c.in_ok-texts.ensures.ok;
-}

@@ -8,7 +8,7 @@ use Rattle.cube_query.proofs.whole_batch.count_tally.Goals as goal
 pub returns : goal.returns
 returns c =
     let mask = c.args.mask.now in
-    let rows = c.args.segment.now.rows in
+    let rows = c.args.batch.now in
     let all : Tally = record { count = c.count_of.result; sum = pos 0; least = pos 0; greatest = pos 0 } in
     let same : _ ≡ all = search rules in
     same ∙ tally_noughts (selected mask rows) c.count_of.result (c.count_of.ensures ∙ count_selected mask rows c.requires)

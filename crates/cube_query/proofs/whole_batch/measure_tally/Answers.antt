@@ -11,19 +11,19 @@ use Rattle.cube_query.proofs.whole_batch.measure_tally.Goals as goal
 
 pub returns-in-None-clause-ok : goal.returns-in-None-clause-ok
 returns-in-None-clause-ok c =
-    let rows : List LineOrder = selected c.args.mask.now c.args.segment.now.rows in
+    let rows : List LineOrder = selected c.args.mask.now c.args.batch.now in
     c.none.ensures ∙ tally_none (map (measure_of c.args.measure) rows) c.in-None.ensures
 
 pub returns-in-Some-clause-ok : goal.returns-in-Some-clause-ok
 returns-in-Some-clause-ok c =
     let measure = c.args.measure in
-    let rows : List LineOrder = selected c.args.mask.now c.args.segment.now.rows in
+    let rows : List LineOrder = selected c.args.mask.now c.args.batch.now in
     let numbers : List ℤ = map (measure_of measure) rows in
     let ends = c.in-Some.ends in
     let sum : to_z w128 (of_z w128 c.selected_sum-sum.result) ≡ c.selected_sum-sum.result = search rules in
     let low : to_z w128 (of_z w128 ends.0) ≡ ends.0 = search rules in
     let high : to_z w128 (of_z w128 ends.1) ≡ ends.1 = search rules in
-    let count = c.count_of.ensures ∙ count_selected c.args.mask.now c.args.segment.now.rows c.requires ∙ sym (length-map rows (measure_of measure)) in
+    let count = c.count_of.ensures ∙ count_selected c.args.mask.now c.args.batch.now c.requires ∙ sym (length-map rows (measure_of measure)) in
     ok_same c.tally_by_parts.result _ (tally_of numbers)
     (tally_some numbers c.count_of.result (to_z w128 (of_z w128 c.selected_sum-sum.result)) (to_z w128 (of_z w128 ends.0)) (to_z w128 (of_z w128 ends.1)) count (sum ∙ c.selected_sum-sum.ensures)
     ((λ i. Some (low i, high i)) ∙ c.in-Some.ensures)) c.tally_by_parts.ensures.ok
@@ -31,7 +31,7 @@ returns-in-Some-clause-ok c =
 pub returns-in-Some-clause-err : goal.returns-in-Some-clause-err
 returns-in-Some-clause-err c =
     let measure = c.args.measure in
-    let rows : List LineOrder = selected c.args.mask.now c.args.segment.now.rows in
+    let rows : List LineOrder = selected c.args.mask.now c.args.batch.now in
     let ends = c.in-Some.ends in
     let sum : to_z w128 (of_z w128 c.selected_sum-sum.result) ≡ c.selected_sum-sum.result = search rules in
     let low : to_z w128 (of_z w128 ends.0) ≡ ends.0 = search rules in

@@ -13,14 +13,14 @@ use Rattle.cube_query.proofs.whole_batch.merge_batch.Goals as goal
 
 pub returns-in_err-tally-clause-err : goal.returns-in_err-tally-clause-err
 returns-in_err-tally-clause-err c =
-    let rows : List LineOrder = selected c.args.mask.now c.args.segment.now.rows in
+    let rows : List LineOrder = selected c.args.mask.now c.args.batch.now in
     let refused : can_add (tally_at c.args.column.now c.args.slot) (length rows) (size_of c.args.agg rows) ≡ true → ⊥ = λ can.
     c.in_err-tally.ensures.err (omega (arith, (can_add_parts (tally_at c.args.column.now c.args.slot) (length rows) (size_of c.args.agg rows) can).1)) in
     on_err _ _ refused
 
 pub returns-in_err-column-clause-err : goal.returns-in_err-column-clause-err
 returns-in_err-column-clause-err c =
-    let rows : List LineOrder = selected c.args.mask.now c.args.segment.now.rows in
+    let rows : List LineOrder = selected c.args.mask.now c.args.batch.now in
     let agg = c.args.agg in
     let before : Tally = tally_at c.args.column.now c.args.slot in
     let here : c.index-column-slot.result ≡ before = c.index-column-slot.is ∙ same_at c.args.column.now c.args.slot c.index-column-slot.result no_tally c.requires.within in

@@ -26,7 +26,7 @@ pub loop-place-preserved : goal.loop-place-preserved
 loop-place-preserved c = λ other.
     let i = c.loop-place.place in
     let aggs = c.args.aggs.now in
-    let rows = selected c.args.mask.now c.args.segment.now.rows in
+    let rows = selected c.args.mask.now c.args.batch.now in
     let slot = c.args.slot in
     let column = get_or c.args.columns.now i c.index-columns-place.result in
     let new = c.merge_batch.new.column in
@@ -47,7 +47,7 @@ pub returns-in-Err-clause-refused : goal.returns-in-Err-clause-refused
 returns-in-Err-clause-refused c =
     let i = c.loop-place.place in
     let aggs = c.args.aggs.now in
-    let rows = selected c.args.mask.now c.args.segment.now.rows in
+    let rows = selected c.args.mask.now c.args.batch.now in
     let column = get_or c.args.columns.now i c.index-columns-place.result in
     let old : c.as_mut_slice.result.now ≡ column.items =
     c.as_mut_slice.ensures.value ∙ c.in_ok-column.ensures.items ∙ c.as_slice.ensures.value ∙ ap (λ (v : Vec Tally Global). v.items) c.index-columns-place.is in

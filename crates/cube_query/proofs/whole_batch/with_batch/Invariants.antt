@@ -6,4 +6,4 @@ use Rattle.cube_query.proofs.whole_batch.with_batch.Given as goal
 
 abbrev pub invariant-loop-place : goal.invariant-loop-place
 invariant-loop-place l = (other : ℕ) → tallies_at l.merged.items other
-    ≡ with_rows (take l.place l.aggs) (selected l.mask l.segment.rows) l.slot other (tallies_at (take l.place l.columns) other)
+    ≡ with_rows (take l.place l.aggs) (selected l.mask l.batch) l.slot other (tallies_at (take l.place l.columns) other)

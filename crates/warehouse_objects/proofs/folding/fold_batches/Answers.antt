@@ -1,5 +1,79 @@
-use Rattle.std.proofs.Common.{◌∙◌}
+use Rattle.std.proofs.Common.{Err, ◌≡◌, ◌+◌, ◌<◌, ℕ, List, ◌++◌, length, take, get_or, sym, ◌∙◌, ap, subst, add-one, arith}
+use Rattle.std.proofs.lemmas.List.{length-map}
+use Rattle.std.proofs.lemmas.Result.{err_from_is_err_and}
+use Rattle.cube_model.specs.Admission.{all_rows}
+use Rattle.cube_model.specs.declared.fault.Fault.{Fault}
+use Rattle.cube_model.specs.declared.fault.Fault.TheVariants.{BadLayout, Device}
+use Rattle.cube_model.specs.declared.rows.LineOrder.{LineOrder}
+use Rattle.object_store.specs.Content.{Content}
+use Rattle.object_store.specs.Store.{IsStill, content_of}
+use Rattle.cube_query.specs.Asked.{asked_columns}
+use Rattle.cube_query.specs.Groups.{StandsFor}
+use Rattle.warehouse_objects.specs.Stands.{Stands}
+use Rattle.warehouse_objects.proofs.Batches.{get_within, rows_next}
+use Rattle.warehouse_objects.proofs.Folded.{count_there, err_fault}
+use Rattle.warehouse_objects.proofs.OneMoreRead.{breaks_then, reads_more, still_then}
 use Rattle.warehouse_objects.proofs.folding.fold_batches.Goals as goal
 
-pub add_batches-requires-clause-asked : goal.add_batches-requires-clause-asked
-add_batches-requires-clause-asked g c = c.as_slice-columns.ensures.value ∙ c.in_ok-columns.ensures.ok
+pub add_batch-requires-clause-over : goal.add_batch-requires-clause-over
+add_batch-requires-clause-over g c = c.loop-before.invariant.over
+
+pub add_batch-requires-clause-asked : goal.add_batch-requires-clause-asked
+add_batch-requires-clause-asked g c = c.deref.ensures.value ∙ c.in_ok-columns.ensures.ok ∙ ap asked_columns (sym c.loop-before.invariant.query)
+
+pub loop-before-preserved : goal.loop-before-preserved
+loop-before-preserved g c =
+    let first = c.args.store.now in
+    let was = c.loop-before.store in
+    let now = c.add_batch.new.store in
+    let so_far = c.loop-before.invariant in
+    let still : IsStill g.D.Sectors c.loop-before.store c.add_batch.new.store = c.in_ok-add_batch.ensures.stays (λ is. cc) in
+    let next = c.in_ok-add_batch.ensures.ok in
+    let before : ℕ = c.loop-before.before in record {
+      fine = still.failed ∙ so_far.fine;
+      still = still_then g.D.Sectors first was now so_far.still still;
+      leaves = reads_more g.D.Sectors first was now so_far.still so_far.leaves c.in_ok-add_batch.ensures.leaves;
+      query = c.in_ok-add_batch.ensures.query ∙ so_far.query;
+      over = c.in_ok-add_batch.ensures.over;
+      own = λ k w stands begun.
+          let here = next k w (subst (λ (x : Content). Stands x w) (sym (so_far.still.content (still.word k))) stands) in
+          let more : all_rows (take (before + 1) w.batches) ≡ all_rows (take before w.batches) ++ here.0 =
+          ap (λ (n : ℕ). all_rows (take n w.batches)) (add-one before) ∙ rows_next w.batches before here.0 here.1 in
+          subst (λ (l : List LineOrder). StandsFor c.args.dims.now c.add_batch.new.fold l) (sym more) (here.2.stands (all_rows (take before w.batches)) (so_far.own (still.word k) w stands begun));
+    }
+
+pub returns-in_err-add_batch-clause-refused : goal.returns-in_err-add_batch-clause-refused
+returns-in_err-add_batch-clause-refused g c =
+    let p = err_from_is_err_and c.from_residual-in_err-add_batch.result c.from_residual-in_err-add_batch.ensures.1 in
+    rw (p.1, p.2) (λ is k w stands rooted same begun.
+    let so_far = c.loop-before.invariant in
+    let word = c.in_err-add_batch.ensures.leaves.word k in
+    let lengths : length c.args.root.now.batches ≡ length w.batches = ap (λ r. length r.batches) rooted ∙ length-map w.batches length in
+    let lt : c.loop-before.before < length w.batches = omega (arith, c.loop-before-test.true, c.requires.few, lengths) in
+    let got = get_within w.batches c.loop-before.before lt in
+    let many = ap (λ (l : List ℕ). get_or l c.loop-before.before 0) (c.batches-batches.ensures ∙ ap (λ r. r.batches) rooted)
+    ∙ count_there (content_of g.D.Sectors c.args.store.now) w stands c.loop-before.before got.0 got.1 in
+    c.in_err-add_batch.ensures.refused (ap (λ (f : Fault). Err f) (err_fault c.in_err-add_batch.field-0.0 BadLayout is)) k w (subst (λ (x : Content). Stands x w) (sym (so_far.still.content word)) stands) same got.0 got.1 many
+    (so_far.own word w stands begun))
+
+pub returns-in_err-add_batch-clause-leaves : goal.returns-in_err-add_batch-clause-leaves
+returns-in_err-add_batch-clause-leaves g c =
+    let so_far = c.loop-before.invariant in
+    reads_more g.D.Sectors c.args.store.now c.loop-before.store c.add_batch.new.store so_far.still so_far.leaves c.in_err-add_batch.ensures.leaves
+
+pub returns-clause-ok : goal.returns-clause-ok
+returns-clause-ok g c k w stands begun =
+    let ends : c.loop-before.before ≡ c.args.as_of = omega (arith, c.loop-before-test.false, c.loop-before.auto.before-end) in
+    subst (λ (n : ℕ). StandsFor c.args.dims.now c.loop-before.fold (all_rows (take n w.batches))) ends (c.loop-before.invariant.own k w stands begun)
+
+pub returns-in_err-add_batch-clause-stays : goal.returns-in_err-add_batch-clause-stays
+returns-in_err-add_batch-clause-stays g c =
+    let p = err_from_is_err_and c.from_residual-in_err-add_batch.result c.from_residual-in_err-add_batch.ensures.1 in
+    rw (p.1, p.2) (λ other. still_then g.D.Sectors c.args.store.now c.loop-before.store c.add_batch.new.store c.loop-before.invariant.still
+    (c.in_err-add_batch.ensures.stays (λ is. other (ap (λ (f : Fault). Err f) (err_fault c.in_err-add_batch.field-0.0 Device is)))))
+
+pub returns-in_err-add_batch-clause-device : goal.returns-in_err-add_batch-clause-device
+returns-in_err-add_batch-clause-device g c =
+    let p = err_from_is_err_and c.from_residual-in_err-add_batch.result c.from_residual-in_err-add_batch.ensures.1 in
+    rw (p.1, p.2) (λ is. breaks_then g.D.Sectors c.args.store.now c.loop-before.store c.add_batch.new.store c.loop-before.invariant.still c.requires.fine
+    (c.in_err-add_batch.ensures.device (ap (λ (f : Fault). Err f) (err_fault c.in_err-add_batch.field-0.0 Device is))))

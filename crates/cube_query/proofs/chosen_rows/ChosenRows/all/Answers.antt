@@ -9,4 +9,4 @@ invariant_of-result c =
     subst (λ n. All (λ place. place < n) c.in_ok-places.places.items) many (all_places_below _ _ c.in_ok-places.ensures)
 
 pub returns-clause-ok : goal.returns-clause-ok
-returns-clause-ok c = all_rows c.args.segment.now.rows _ _ _ c.of.ensures c.len.ensures.count c.in_ok-places.ensures
+returns-clause-ok c = all_rows c.args.batch _ _ _ c.of.ensures c.len.ensures.count c.in_ok-places.ensures

@@ -4,11 +4,13 @@ use Rattle.std.proofs.Common.{◌≡◌, ◌∙◌, Err, List, [], ◌++◌, len
 use Rattle.std.proofs.lemmas.List.{with_items_is}
 use Rattle.std.specs.declared.alloc.Global.{Global}
 use Rattle.std.specs.declared.vec.Vec.{Vec}
+use Rattle.cube_query.specs.Asked.{AreSame, is_asked}
 use Rattle.cube_query.specs.FoldInvariant.{HaveRoom, CountIn, IsKept}
 use Rattle.cube_query.specs.Groups.{CanTake, FoldState, IsOver, StandsFor}
 use Rattle.cube_query.specs.Slots.{entries_of}
 use Rattle.cube_query.specs.declared.tally.Tally.{Tally}
 use Rattle.group_plan.specs.Plans.{query_of}
+use Rattle.cube_query.proofs.AskedRefusals.{known_for, room_same, slots_same}
 use Rattle.cube_query.proofs.Columnwise.{tallies-length}
 use Rattle.cube_query.proofs.Folds.{HaveRoom-ready, kept_count, kept_ready, shown, shown_ready, stands_count}
 use Rattle.cube_query.proofs.Known.{known_behind}
@@ -31,10 +33,11 @@ returns-in_err-group_slots-clause-refused g c =
     let rows = g.F.FactRows.rows c.args.rows.now in
     let over = subst (λ (state : FoldState). IsOver dims state) (sym c.self.view_is) c.requires in
     let p = err_from_is_err_and c.from_residual.result c.from_residual.ensures.1 in
-    rw (p.1, p.2) (λ bad can.
-    let given = subst (λ (state : FoldState). CanTake dims state rows) (sym c.self.view_is) can in
+    rw (p.1, p.2) (λ bad others same can.
+    let given = subst (λ (state : FoldState). CanTake dims state others) (sym c.self.view_is) can in
+    let alike = subst (λ (state : FoldState). AreSame (is_asked state.query) rows others) (sym c.self.view_is) same in
     let is : c.in_err-group_slots.field-0.0 ≡ BadLayout = cc bad in
-    c.in_err-group_slots.ensures.refused (ap (λ fault. Err fault) is) (known_behind dims 1 given.0 rows given.1.1.known))
+    c.in_err-group_slots.ensures.refused (ap (λ fault. Err fault) is) (known_for dims (query_of inside.plan) rows others alike (known_behind dims 1 given.0 others given.1.1.known)))
 
 pub have_room-requires-clause-columns : goal.have_room-requires-clause-columns
 have_room-requires-clause-columns g c =
@@ -73,10 +76,13 @@ returns-then-not-have_room-clause-refused g c =
     let longer = c.ready.new.columns.items in
     let group_slots = c.in_ok-group_slots.group_slots.items in
     let aggregates : c.as_slice-aggregates.result.now ≡ (query_of inside.plan).aggregates = c.as_slice-aggregates.ensures ∙ ap (λ q. q.aggregates) c.query.ensures in
-    λ bad can.
-    let given = subst (λ (state : FoldState). CanTake dims state rows) (sym c.self.view_is) can in
-    let room = HaveRoom-ready dims inside.plan over inside.slots inside.columns.items c.self.invariant c.ready.new.slots c.ready.new.columns.items c.ready.ensures.cover c.ready.ensures.grow c.ready.ensures.same
-    rows group_slots c.in_ok-group_slots.ensures.group_slots given.0 given.1.0 given.1.1 c.in_ok-group_slots.ensures.long in
+    λ bad others same can.
+    let given = subst (λ (state : FoldState). CanTake dims state others) (sym c.self.view_is) can in
+    let alike = subst (λ (state : FoldState). AreSame (is_asked state.query) rows others) (sym c.self.view_is) same in
+    let slots = slots_same dims (query_of inside.plan) (entries_of c.ready.new.slots) rows others group_slots alike c.in_ok-group_slots.ensures.group_slots in
+    let room = room_same (query_of inside.plan) longer rows others group_slots alike
+    (HaveRoom-ready dims inside.plan over inside.slots inside.columns.items c.self.invariant c.ready.new.slots c.ready.new.columns.items c.ready.ensures.cover c.ready.ensures.grow c.ready.ensures.same
+    others group_slots slots given.0 given.1.0 given.1.1 c.in_ok-group_slots.ensures.long) in
     let there = subst (λ ms. HaveRoom c.as_slice-aggregates.result.now c.as_slice.result.now rows ms) (sym c.as_slice-2.ensures.value)
     (subst (λ (columns : List (Vec Tally Global)). HaveRoom c.as_slice-aggregates.result.now columns rows group_slots) (sym c.as_slice.ensures.value)
     (subst (λ aggs. HaveRoom aggs longer rows group_slots) (sym aggregates) room)) in

@@ -9,13 +9,15 @@ use Rattle.cube_model.specs.declared.fault.Fault.TheVariants.{BadLayout}
 use Rattle.cube_model.specs.declared.measure.Agg.{Agg}
 use Rattle.column_kernels.specs.Masks.{selected}
 use Rattle.group_plan.specs.Plans.{query_of}
+use Rattle.cube_query.specs.Asked.{AreSame, is_asked}
 use Rattle.cube_query.specs.Columns.{tallies_at}
 use Rattle.cube_query.specs.Groups.{CanTake, FoldState, IsOver, StandsFor, Takes}
 use Rattle.cube_query.specs.Slots.{entries_of}
 use Rattle.cube_query.specs.WholeBatch.{HaveRoomAt, has_one_group, with_rows}
 use Rattle.cube_query.specs.declared.tally.Tally.{Tally}
+use Rattle.cube_query.proofs.AskedRefusals.{marks_same, masked_same, room_at_same}
 use Rattle.cube_query.proofs.BatchFolds.{kept_batch, kept_one, place_first, room_one, shown_one, slot_within, stands_batch, takes_none}
-use Rattle.cube_query.proofs.Choosing.{can_take_some, takes_all}
+use Rattle.cube_query.proofs.Choosing.{can_take_marked, takes_all}
 use Rattle.cube_query.proofs.Columnwise.{tallies-length}
 use Rattle.cube_query.proofs.WholeBatches.{mask_keeps, none_selected, some_selected}
 use Rattle.cube_query.proofs.running.Fold.add_masked.Goals as goal
@@ -24,7 +26,7 @@ pub returns-then-count-eq0-clause-ok : goal.returns-then-count-eq0-clause-ok
 returns-then-count-eq0-clause-ok c =
     let dims = c.args.dims.now in
     let old = c.args.self.now in
-    let rows = c.args.segment.now.rows in
+    let rows = c.args.batch.now in
     let mask = c.args.mask.now in
     let none = none_selected mask rows (ap length c.requires.mask ∙ length-map rows (is_selected dims old.query.conditions)) (sym c.count.ensures ∙ c.if-count-eq0.true) in
     takes_all (Ok (tt {0})) dims old (selected mask rows) rows old (mask_keeps dims old.query.conditions mask rows c.requires.mask)
@@ -61,7 +63,7 @@ with_batch-requires-clause-columns c =
     ∙ sym (ap length (c.as_slice-aggregates.ensures ∙ ap (λ q. q.aggregates) c.query.ensures))
 
 pub with_batch-requires-clause-rows : goal.with_batch-requires-clause-rows
-with_batch-requires-clause-rows c = ap length c.requires.mask ∙ length-map c.args.segment.now.rows _
+with_batch-requires-clause-rows c = ap length c.requires.mask ∙ length-map c.args.batch.now _
 
 pub with_batch-requires-clause-within : goal.with_batch-requires-clause-within
 with_batch-requires-clause-within c =
@@ -77,7 +79,7 @@ pub invariant_of-self-2 : goal.invariant_of-self-2
 invariant_of-self-2 c =
     let inside = c.self.inside in
     let dims = c.args.dims.now in
-    let rows = c.args.segment.now.rows in
+    let rows = c.args.batch.now in
     let over = subst (λ (state : FoldState). IsOver dims state) (sym c.self.view_is) c.requires.over in
     let one = subst (λ (state : FoldState). has_one_group state.query ≡ true) (sym c.self.view_is) c.requires.one_group in
     let found = c.ready_for_one.ensures in
@@ -93,7 +95,7 @@ returns-clause-ok c =
     let inside = c.self.inside in
     let dims = c.args.dims.now in
     let old = c.args.self.now in
-    let rows = c.args.segment.now.rows in
+    let rows = c.args.batch.now in
     let mask = c.args.mask.now in
     let over = subst (λ (state : FoldState). IsOver dims state) (sym c.self.view_is) c.requires.over in
     let one = subst (λ (state : FoldState). has_one_group state.query ≡ true) (sym c.self.view_is) c.requires.one_group in
@@ -123,23 +125,24 @@ returns-in_err-merged-clause-err c =
 pub returns-in_err-merged-clause-refused : goal.returns-in_err-merged-clause-refused
 returns-in_err-merged-clause-refused c =
     let p = err_from_is_err_and c.from_residual-in_err-merged.result c.from_residual-in_err-merged.ensures.1 in
-    rw (p.1, p.2) (λ bad can.
+    rw (p.1, p.2) (λ bad others same can.
     let inside = c.self.inside in
     let dims = c.args.dims.now in
     let old = c.args.self.now in
-    let rows = c.args.segment.now.rows in
+    let rows = c.args.batch.now in
     let mask = c.args.mask.now in
     let over = subst (λ (state : FoldState). IsOver dims state) (sym c.self.view_is) c.requires.over in
     let one = subst (λ (state : FoldState). has_one_group state.query ≡ true) (sym c.self.view_is) c.requires.one_group in
+    let alike = subst (λ (state : FoldState). AreSame (is_asked state.query) rows others) (sym c.self.view_is) same in
     let found = c.ready_for_one.ensures in
     let aggregates : c.as_slice-aggregates.result.now ≡ (query_of inside.plan).aggregates = c.as_slice-aggregates.ensures ∙ ap (λ q. q.aggregates) c.query.ensures in
-    let marks = c.requires.mask ∙ ap (λ (state : FoldState). map (is_selected dims state.query.conditions) rows) (sym c.self.view_is) in
-    let own = c.requires.mask in
-    let fewer = can_take_some dims old (selected mask rows) rows (mask_keeps dims old.query.conditions mask rows own) can in
-    let given = subst (λ (state : FoldState). CanTake dims state (selected mask rows)) (sym c.self.view_is) fewer in
-    let any = some_selected mask rows (ap length own ∙ length-map rows (is_selected dims old.query.conditions)) (λ none. c.if-count-eq0.false (c.count.ensures ∙ none)) in
-    let room = room_one dims inside.plan over inside.slots inside.columns.items c.self.invariant one c.ready_for_one.new.slots c.ready_for_one.new.columns.items found.cover found.grow found.same
-    c.in_ok-slot.slot c.in_ok-slot.ensures.slot mask rows marks given.0 given.1.0 given.1.1 c.in_ok-slot.ensures.long any in
+    let marks = c.requires.mask ∙ ap (λ (state : FoldState). map (is_selected dims state.query.conditions) rows) (sym c.self.view_is) ∙ marks_same dims (query_of inside.plan) rows others alike in
+    let given = subst (λ (state : FoldState). CanTake dims state (selected mask others)) (sym c.self.view_is) (can_take_marked dims old mask others can) in
+    let long = ap length marks ∙ length-map others (is_selected dims (query_of inside.plan).conditions) in
+    let any = some_selected mask others long (λ none. c.if-count-eq0.false (c.count.ensures ∙ none)) in
+    let room = room_at_same (query_of inside.plan) c.ready_for_one.new.columns.items c.in_ok-slot.slot (selected mask rows) (selected mask others) (masked_same (is_asked (query_of inside.plan)) mask rows others alike)
+    (room_one dims inside.plan over inside.slots inside.columns.items c.self.invariant one c.ready_for_one.new.slots c.ready_for_one.new.columns.items found.cover found.grow found.same
+    c.in_ok-slot.slot c.in_ok-slot.ensures.slot mask others marks given.0 given.1.0 given.1.1 c.in_ok-slot.ensures.long any) in
     let there : HaveRoomAt c.as_slice-aggregates.result.now c.as_slice.result.now c.in_ok-slot.slot (selected mask rows) =
     subst (λ (aggs : List Agg). HaveRoomAt aggs c.as_slice.result.now c.in_ok-slot.slot (selected mask rows)) (sym aggregates)
     (subst (λ (columns : List (Vec Tally Global)). HaveRoomAt (query_of inside.plan).aggregates columns c.in_ok-slot.slot (selected mask rows)) (sym c.as_slice.ensures.value) room) in

@@ -1,22 +1,17 @@
-use Rattle.std.proofs.Common.{◌≡◌, ◌∙◌, sym, ap}
-use Rattle.group_plan.specs.Plans.{query_of}
-use Rattle.cube_query.specs.Groups.{FoldState}
-use Rattle.cube_query.specs.WholeBatch.{has_one_group}
-use Rattle.cube_query.proofs.Choosing.{can_take_some, keep_over, takes_all}
+use Rattle.std.proofs.Common.{◌≡◌, List, sym, subst}
+use Rattle.std.proofs.lemmas.Result.{on_ok_weaker}
+use Rattle.cube_model.specs.declared.rows.LineOrder.{LineOrder}
+use Rattle.cube_query.specs.Asked.{AreSame, is_asked}
+use Rattle.cube_query.specs.Groups.{Takes}
+use Rattle.cube_query.proofs.AskedRefusals.{same_self}
 use Rattle.cube_query.proofs.running.Fold.add_segment.Goals as goal
-
-pub add_whole-requires-clause-one_group : goal.add_whole-requires-clause-one_group
-add_whole-requires-clause-one_group c =
-    ap (λ (state : FoldState). has_one_group state.query) (sym c.self.view_is) ∙ ap has_one_group (sym c.query.ensures) ∙ sym c.has_one_group.ensures ∙ c.if-has_one_group.true
 
 pub returns-clause-ok : goal.returns-clause-ok
 returns-clause-ok c =
-    let own : (query_of c.self.inside.plan).conditions ≡ c.args.self.now.query.conditions = ap (λ f. f.query.conditions) c.self.view_is in
-    let keep = keep_over c.over.result c.args.dims.now (query_of c.self.inside.plan) c.args.self.now.query _ _ c.over.ensures own c.in_ok-rows.ensures.ok in
-    takes_all c.add-2.result c.args.dims.now c.args.self.now _ c.args.segment.now.rows c.add-2.new.self keep c.add-2.ensures.ok
+    on_ok_weaker c.add_batch.result (λ takes. subst (λ (rows : List LineOrder). Takes c.args.dims.now c.args.self.now rows c.add_batch.new.self) c.columns.ensures takes) c.add_batch.ensures.ok
 
 pub returns-clause-refused : goal.returns-clause-refused
-returns-clause-refused c = λ err can.
-    let own : (query_of c.self.inside.plan).conditions ≡ c.args.self.now.query.conditions = ap (λ f. f.query.conditions) c.self.view_is in
-    let keep = keep_over c.over.result c.args.dims.now (query_of c.self.inside.plan) c.args.self.now.query _ _ c.over.ensures own c.in_ok-rows.ensures.ok in
-    c.add-2.ensures.refused err (can_take_some c.args.dims.now c.args.self.now _ c.args.segment.now.rows keep can)
+returns-clause-refused c = λ bad can.
+    let rows = c.args.segment.now.rows in
+    let asks = is_asked c.args.self.now.query in
+    c.add_batch.ensures.refused bad rows (subst (λ (own : List LineOrder). AreSame asks own rows) (sym c.columns.ensures) (same_self asks rows)) can

@@ -14,6 +14,6 @@ selected_rows-requires c =
 
 pub add_masked-requires-clause-mask : goal.add_masked-requires-clause-mask
 add_masked-requires-clause-mask c =
-    let rows = c.args.segment.now.rows in
+    let rows = c.args.batch.now in
     c.in_ok-mask.ensures.ok ∙ ap (λ asked. map (is_selected asked.dimensions asked.query.conditions) rows) c.over.ensures
     ∙ ap (λ (state : FoldState). map (is_selected c.args.dims.now state.query.conditions) rows) c.self.view_is

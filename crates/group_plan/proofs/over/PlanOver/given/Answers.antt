@@ -1,11 +1,12 @@
-use Rattle.std.proofs.Common.{◌≡◌, ◌∙◌, sym, ap, false}
+use Rattle.std.proofs.Common.{◌≡◌, ◌∙◌, sym, ap, arith, false}
+use Rattle.std.proofs.lemmas.Result.{on_err_weaker}
 use Rattle.cube_model.specs.Attributes.{key_on}
 use Rattle.cube_model.specs.Places.{row_index_of}
 use Rattle.group_plan.specs.Parts.{given_at, is_used}
 use Rattle.group_plan.specs.Plans.{gives}
 use Rattle.group_plan.specs.Rows.{row_at}
 use Rattle.group_plan.proofs.Outcomes.{given_is, given_unused}
-use Rattle.group_plan.proofs.Numbers.{not_used}
+use Rattle.group_plan.proofs.Numbers.{not_true, not_used, used_else}
 use Rattle.group_plan.proofs.over.PlanOver.given.Goals as goal
 
 pub returns-then-is_unused-clause-ok : goal.returns-then-is_unused-clause-ok
@@ -35,3 +36,12 @@ returns-clause-ok g c =
     (given_is c.given.result _ _ _ c.given.ensures.ok c.given.ensures.known (λ known.
     ap (λ side. gives side (row_index_of dims axis c.key-key.result)) c.side-side.ensures ∙ c.self.invariant.sides.each axis _ known
     ∙ ap (given_at dims c.self.inside.plan.now.query axis) key))
+
+pub returns-clause-unknown : goal.returns-clause-unknown
+returns-clause-unknown g c =
+    let dims = c.self.inside.dims.now in
+    let query = c.self.inside.plan.now.query in
+    let axis = c.args.axis in
+    let key = ap (row_index_of dims axis) c.key-key.ensures in
+    let used = used_else query axis (λ off. not_true _ (c.is_unused.ensures.1 (c.side-side.ensures ∙ c.self.invariant.sides.used axis off)) c.if-is_unused.false) in
+    rw (← c.self.view_is) (on_err_weaker c.given.result (λ past known. let low = known used in absurd (omega (arith, past, low, key))) c.given.ensures.unknown)

@@ -2,9 +2,9 @@ use Rattle.std.proofs.Common.{◌≡◌, ◌∙◌, sym, ap, subst, arith, ◌<�
 use Rattle.std.specs.List.{list_all}
 use Rattle.cube_model.specs.declared.attr.Axis.TheVariants.{Customer, Supplier, Part, Date}
 use Rattle.group_plan.specs.Numbers.{group_count, key_at}
-use Rattle.group_plan.specs.Parts.{holds_in}
+use Rattle.group_plan.specs.Parts.{IsKnownFor, holds_in}
 use Rattle.group_plan.specs.Rows.{row_at}
-use Rattle.group_plan.proofs.Numbers.{KnownWhereUsed, known_in_columns, number_is}
+use Rattle.group_plan.proofs.Numbers.{known_in_columns, number_is}
 use Rattle.group_plan.proofs.Outcomes.{no_customer, no_supplier, no_part, no_date, numbered}
 use Rattle.group_plan.proofs.over.PlanOver.number_within.Goals as goal
 
@@ -65,7 +65,7 @@ sum_of-requires g c =
     let supplier = sym c.in-Ok-Some-given.ensures.ok ∙ c.in-Ok-Some-given.field-0-is in
     let part = sym c.in-Ok-Some-given-2.ensures.ok ∙ c.in-Ok-Some-given-2.field-0-is in
     let date = sym c.in-Ok-Some-given-3.ensures.ok ∙ c.in-Ok-Some-given-3.field-0-is in
-    let known : KnownWhereUsed dims query row = elim [
+    let known : IsKnownFor dims query row = elim [
       | Customer ↦ c.in-Ok-Some.ensures.known
       | Supplier ↦ c.in-Ok-Some-given.ensures.known
       | Part ↦ c.in-Ok-Some-given-2.ensures.known
@@ -85,7 +85,7 @@ returns-clause-ok g c =
     let supplier = sym c.in-Ok-Some-given.ensures.ok ∙ c.in-Ok-Some-given.field-0-is in
     let part = sym c.in-Ok-Some-given-2.ensures.ok ∙ c.in-Ok-Some-given-2.field-0-is in
     let date = sym c.in-Ok-Some-given-3.ensures.ok ∙ c.in-Ok-Some-given-3.field-0-is in
-    let known : KnownWhereUsed dims query row = elim [
+    let known : IsKnownFor dims query row = elim [
       | Customer ↦ c.in-Ok-Some.ensures.known
       | Supplier ↦ c.in-Ok-Some-given.ensures.known
       | Part ↦ c.in-Ok-Some-given-2.ensures.known

@@ -15,4 +15,10 @@ returns c = record {
     | Part ↦ c.in_ok-of-3.ensures.unused
     | Date ↦ c.in_ok-of-4.ensures.unused
   ];
+  used = elim [
+    | Customer ↦ c.in_ok-of.ensures.used
+    | Supplier ↦ c.in_ok-of-2.ensures.used
+    | Part ↦ c.in_ok-of-3.ensures.used
+    | Date ↦ c.in_ok-of-4.ensures.used
+  ];
 }

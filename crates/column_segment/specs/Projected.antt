@@ -1,0 +1,63 @@
+-- Some columns of a batch, read without the others. Our own.
+use Rattle.std.specs.Prelude.{◌≡◌, ℕ, ◌+◌, ◌*◌, ◌^◌, ◌<◌, ◌≤◌, true, Option, Some, List, All, map, length, slice_index}
+use Rattle.std.specs.List.{AllByRecursion}
+use Rattle.column_kernels.specs.Checks.{all_below}
+use Rattle.cube_model.specs.declared.rows.LineOrder.{LineOrder}
+use Rattle.column_segment.specs.declared.columns.AmountColumn.{AmountColumn}
+use Rattle.column_segment.specs.declared.columns.ByteColumn.{ByteColumn}
+use Rattle.column_segment.specs.declared.columns.FactColumn.{FactColumn}
+use Rattle.column_segment.specs.declared.columns.FactColumn.TheVariants.{Amount, Number, Figure}
+use Rattle.column_segment.specs.Columns.{FitsColumn, amount_of, byte_of, bytes, number_of}
+use Rattle.column_segment.specs.Decoded.{amount_place, amounts_in, byte_place, column_bytes, number_place}
+use Rattle.column_segment.specs.Reading.{HasHeader}
+use Rattle.column_segment.specs.Segment.{IsSegment}
+
+-- what a row has in a column of numbers
+abbrev pub value_of : FactColumn → LineOrder → ℕ
+value_of (Amount column) = amount_of column
+value_of (Number column) = number_of column
+value_of (Figure column) = byte_of column
+
+-- two batches have as many rows as each other, and the same numbers in some columns
+pub record AgreeOn (columns : List FactColumn) (rows others : List LineOrder) : Type 0 where
+  pub count : length rows ≡ length others
+  pub each : AllByRecursion (λ column. map (value_of column) rows ≡ map (value_of column) others) columns
+
+-- how many bytes of a row stand in the columns before one, and in it
+abbrev pub place_of : FactColumn → ℕ
+place_of (Amount column) = amount_place column
+place_of (Number column) = number_place column
+place_of (Figure column) = byte_place column
+
+abbrev pub width_of : FactColumn → ℕ
+width_of (Amount column) = 8
+width_of (Number column) = 4
+width_of (Figure column) = 1
+
+-- the bytes have the same numbers in a column
+abbrev pub ShareColumn : ℕ → List ℕ → List ℕ → FactColumn → Type 0
+ShareColumn rows bytes others column =
+    column_bytes (place_of column) (width_of column) rows bytes ≡ column_bytes (place_of column) (width_of column) rows others
+
+-- what stands outside of so many bytes from a place on stays
+pub record StaysOutside (at count : ℕ) (old new : List ℕ) : Type 0 where
+  pub long : length new ≡ length old
+  pub front : (place : ℕ) → place < at → slice_index new place ≡ slice_index old place
+  pub back : (place : ℕ) → at + count ≤ place → slice_index new place ≡ slice_index old place
+
+-- a text begins with the header of a batch, and has room behind it for the columns of numbers
+pub record HasColumns (text : List ℕ) (number rows : ℕ) : Type 0 where
+  pub header : HasHeader text number rows
+  pub room : 12 + 63 * rows ≤ length text
+
+-- the small numbers of rows are those of bytes
+abbrev pub HaveFigures : List LineOrder → Type 0
+HaveFigures rows = (column : ByteColumn) → All (FitsColumn (bytes column)) rows
+
+-- there is no text, or it is that of no batch of a number and of so many rows
+abbrev pub HoldsNoneOf : Option (List ℕ) → ℕ → ℕ → Type 0
+HoldsNoneOf text number count = (bytes : List ℕ) (rows : List LineOrder) → text ≡ Some bytes → length rows ≡ count → IsSegment bytes number rows → ⊥
+
+-- each number of a column is one: those of all but the amounts are
+abbrev pub FitsColumnIn : List ℕ → ℕ → FactColumn → Type 0
+FitsColumnIn bytes rows column = (amount : AmountColumn) → column ≡ Amount amount → all_below (2 ^ 63) (amounts_in bytes rows amount) ≡ true

@@ -1,0 +1,115 @@
+//! The columns of numbers of a batch, as they stand in its bytes.
+ghost use Rattle.std.specs.Prelude.{◌≡◌, ◌≤◌, ◌<◌, ◌*◌, ◌+◌, ℕ, List, All, length, map, IfErr, IfOk};
+ghost use Rattle.cube_model.specs.declared.fault.Fault.{Fault};
+ghost use Rattle.cube_model.specs.declared.rows.LineOrder.{LineOrder};
+ghost use Rattle.cube_model.specs.Aggregates.{total};
+ghost use Rattle.cube_model.specs.Limits.{most_batch_rows};
+ghost use Rattle.cube_model.specs.Measures.{measure_of};
+ghost use Rattle.std.specs.Int.{from_le_bytes, w32};
+ghost use Rattle.column_kernels.specs.Extremes.{extremes_of};
+ghost use Rattle.column_kernels.specs.Masks.{lies_in, selected};
+ghost use Rattle.column_kernels.specs.Sums.{numbers_of};
+ghost use Rattle.column_segment.specs.Columns.{amount_of, byte_of, number_of};
+ghost use Rattle.column_segment.specs.Decoded.{HoldsColumns, rows_in};
+ghost use Rattle.column_segment.specs.Projected.{HaveFigures};
+
+use crate::columns::{AmountColumn, ByteColumn, NumberColumn};
+use crate::extremes::selected_extremes;
+use crate::layout::{Layout, amount_chunks, byte_part, number_chunks};
+use crate::sums::selected_sum;
+use column_kernels::Mask;
+use cube_model::{Fault, Measure};
+use std::alloc::Global;
+use std::marker::Model;
+
+/// The columns of numbers of a batch, of which no row is made. Contracts see the list of the rows.
+#[derive(Drop)]
+pub struct FactColumns<'a> {
+    bytes: &'a [u8],
+    layout: &'a Layout,
+}
+
+impl<'a> Model for FactColumns<'a> {
+    ghost use Rattle.std.specs.Prelude.{List};
+    ghost use Rattle.cube_model.specs.declared.rows.LineOrder.{LineOrder};
+    ghost use Rattle.column_segment.specs.Decoded.{HoldsColumns, rows_in};
+
+    ghost Value = { List LineOrder };
+
+    ghost view = { λ c. rows_in c.bytes.now c.layout.now };
+
+    ghost invariant = { λ c. HoldsColumns c.bytes.now c.layout.now.rows };
+}
+
+impl<'a> FactColumns<'a> {
+    // Those of bytes that are laid out in a way.
+    pub(crate) fn of(bytes: &'a [u8], layout: &'a Layout) -> FactColumns<'a>
+        requires { HoldsColumns bytes.now layout.now.rows }
+        ensures { result ≡ rows_in bytes.now layout.now }
+    {
+        FactColumns { bytes, layout }
+    }
+
+    /// How many rows there are: at most 65,536.
+    pub fn len(&self) -> usize
+        ensures count { result ≡ length self.now }
+        ensures few { length self.now ≤ most_batch_rows }
+        ensures figures { HaveFigures self.now }
+    {
+        figures_are_bytes(self.bytes, self.layout);
+        self.layout.rows
+    }
+
+    /// A column of amounts, eight bytes a row, the lowest byte first.
+    pub fn amounts(&self, column: AmountColumn) -> &'a [[u8; 8]]
+        ensures { numbers_of result.now ≡ map (amount_of column) self.now }
+    {
+        amount_chunks(self.bytes, self.layout.rows, column)
+    }
+
+    /// A column of numbers, four bytes a row, the lowest byte first.
+    pub fn numbers(&self, column: NumberColumn) -> &'a [[u8; 4]]
+        ensures { map (from_le_bytes w32) result.now ≡ map (number_of column) self.now }
+    {
+        number_chunks(self.bytes, self.layout.rows, column)
+    }
+
+    /// A column of small numbers, a byte a row.
+    pub fn figures(&self, column: ByteColumn) -> &'a [u8]
+        ensures { result.now ≡ map (byte_of column) self.now }
+    {
+        byte_part(self.bytes, self.layout.rows, column)
+    }
+
+    /// The rows whose quantity and discount lie in their ranges, ends included. `Memory` where there is none.
+    pub fn mask(&self, alloc: Global, quantity: (u8, u8), discount: (u8, u8)) -> Result<Mask, Fault>
+        ensures ok { IfOk result (λ mask. mask ≡ map (λ row. lies_in quantity discount row.quantity row.discount) self.now) }
+        ensures memory { IfErr result (λ fault. fault ≡ Fault.Memory) }
+    {
+        let quantities = byte_part(self.bytes, self.layout.rows, ByteColumn::Quantity);
+        let discounts = byte_part(self.bytes, self.layout.rows, ByteColumn::Discount);
+        Mask::of_ranges(alloc, quantities, discounts, quantity, discount)
+    }
+
+    /// The sum of a measure over the rows that a mask of as many rows selects.
+    pub fn selected_sum(&self, measure: Measure, mask: &Mask) -> i128
+        requires rows { length mask.now ≡ length self.now }
+        ensures { result ≡ total (map (measure_of measure) (selected mask.now self.now)) }
+    {
+        selected_sum(self.bytes, self.layout, measure, mask)
+    }
+
+    /// The least and the greatest of a measure over the rows that a mask of as many rows selects, if there are any.
+    pub fn selected_extremes(&self, measure: Measure, mask: &Mask) -> Option<(i128, i128)>
+        requires rows { length mask.now ≡ length self.now }
+        ensures { result ≡ extremes_of (map (measure_of measure) (selected mask.now self.now)) }
+    {
+        selected_extremes(self.bytes, self.layout, measure, mask)
+    }
+}
+
+// Each small number in the columns of bytes is that of a byte. It does nothing.
+fn figures_are_bytes(bytes: &[u8], layout: &Layout)
+    requires { HoldsColumns bytes.now layout.now.rows }
+    ensures { HaveFigures (rows_in bytes.now layout.now) }
+{}
