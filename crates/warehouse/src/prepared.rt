@@ -15,13 +15,12 @@ ghost use Rattle.warehouse.specs.Loaded.{Agrees};
 ghost use Rattle.warehouse.specs.Refusing.{is_of_device};
 
 use batch_admission::{Admission, Totals};
-use column_segment::encode;
-use cube_model::{Fault, LineOrder};
+use cube_model::Fault;
 use dimensions::Dims;
 use std::alloc::Global;
 use std::rc::Rc;
 use warehouse_objects::laws::{objects_are_storable, rows_are_one};
-use warehouse_objects::{numbers_fit, rows_are_storable};
+use warehouse_objects::rows_are_storable;
 use warehouse_root::{Root, StoredTotals};
 
 /// The segment of a further batch, and the root with it.
@@ -34,43 +33,6 @@ pub(crate) struct Prepared {
 
 impl Prepared {
     ghost use Rattle.warehouse_root.specs.Root.{IsRoot, with_batch};
-    ghost use Rattle.column_segment.specs.Segment.{segment_of};
-    ghost use Rattle.warehouse.specs.Prepared.{IsPrepared, MayFollow, Admitted, Prepares};
-
-    /// Makes a batch ready behind those of a root, or answers the first cause to refuse it, or `Memory`.
-    pub(crate) fn of(
-        alloc: Global,
-        dims: &Dims,
-        root: &Root,
-        number: u32,
-        rows: &[LineOrder],
-    ) -> Result<Prepared, Fault>
-        ensures ready { IfOk result (IsPrepared root.now number rows.now) }
-        ensures model { (w : Warehouse) → w.rows ≡ dims.now → root_of w ≡ root.now → Prepares w number rows.now result }
-        ensures apart { IfErr result (λ fault. is_of_device fault ≡ false) }
-    {
-        let totals = Prepared::admitted(dims, root, number, rows)?;
-        Prepared::with_totals(alloc, root, number, rows, totals)
-    }
-
-    // The segment of a batch, and the root with it and its totals.
-    fn with_totals(
-        alloc: Global,
-        root: &Root,
-        number: u32,
-        rows: &[LineOrder],
-        totals: StoredTotals,
-    ) -> Result<Prepared, Fault>
-        requires follows { MayFollow (length root.now.batches) number rows.now }
-        requires totals { AreProperTotals totals }
-        ensures ready { IfOk result (IsPrepared root.now number rows.now) }
-        ensures root { IfOk result (λ p. p.root ≡ with_batch (length rows.now) totals root.now) }
-        ensures memory { IfErr result (λ fault. fault ≡ Memory) }
-    {
-        numbers_fit(rows);
-        let segment = encode(alloc, number, rows)?;
-        Prepared::with_segment(alloc, root, segment, rows.len() as u32, totals)
-    }
 
     // A segment of so many rows, and the root with them and their totals.
     pub(crate) fn with_segment(
@@ -95,24 +57,6 @@ impl Prepared {
             root,
             root_bytes,
         })
-    }
-
-    // The totals with those of a further batch, or the first cause to refuse it.
-    fn admitted(
-        dims: &Dims,
-        root: &Root,
-        number: u32,
-        rows: &[LineOrder],
-    ) -> Result<StoredTotals, Fault>
-        ensures follows { IfOk result (λ totals. MayFollow (length root.now.batches) number rows.now × AreProperTotals totals) }
-        ensures model { (w : Warehouse) → w.rows ≡ dims.now → root_of w ≡ root.now → Admitted w number rows.now result }
-        ensures apart { IfErr result (λ fault. is_of_device fault ≡ false) }
-    {
-        let mut admission = admission_of(root);
-        match admission.admit(dims, number, rows) {
-            Ok(()) => Ok(stored_of(admission.totals())),
-            Err(fault) => Err(cause_of(fault)),
-        }
     }
 }
 

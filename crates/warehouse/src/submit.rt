@@ -1,23 +1,27 @@
 //! Adding a batch to a warehouse.
-ghost use Rattle.std.specs.Prelude.{◌≡◌, ◌≢◌, ◌<◌, ◌⊎◌, ◌↔◌, true, false, List, length, IfOk, IfErr, OnOk, IsErrOf};
-ghost use Rattle.cube_model.specs.declared.fault.Fault.TheVariants.{Device, Failed};
+ghost use Rattle.std.specs.Prelude.{◌≡◌, ◌≢◌, ◌<◌, ◌⊎◌, ◌↔◌, true, false, Some, List, length, IfOk, IfErr, MatchResult, OnOk, IsErrOf};
+ghost use Rattle.cube_model.specs.declared.fault.Fault.TheVariants.{Device, Failed, Memory};
 ghost use Rattle.cube_model.specs.declared.rows.LineOrder.{LineOrder};
 ghost use Rattle.wire.specs.Limits.{most_objects};
 ghost use Rattle.object_store.specs.Disk.{Leaves};
-ghost use Rattle.warehouse_objects.specs.Facts.{Admits};
+ghost use Rattle.warehouse_objects.specs.Facts.{Admits, refusal_of};
 ghost use Rattle.warehouse_objects.specs.Warehouse.{Warehouse, loaded};
-ghost use Rattle.warehouse_objects.specs.Stands.{Stands};
+ghost use Rattle.warehouse_objects.specs.Stands.{Stands, root_of};
+ghost use Rattle.warehouse.specs.Growing.{Grows};
 ghost use Rattle.warehouse.specs.Loaded.{Agrees};
-ghost use Rattle.warehouse.specs.Prepared.{IsPrepared, Prepares};
+ghost use Rattle.warehouse.specs.Prepared.{IsPrepared, MayFollow};
+ghost use Rattle.warehouse.specs.Refusing.{is_of_device};
 ghost use Rattle.warehouse.specs.Session.{has_failed, content_of, device_of, disk_of, IsAt, Breaks, CommitsOnce, KeepsContent, SubmitRefuses};
 ghost use Rattle.warehouse.specs.Submitting.{IsReady, WithOrWithout};
 
-use crate::prepared::{Prepared, kept_is_what_stands};
+use crate::growing::GrowingBatch;
+use crate::prepared::{Prepared, admission_of, cause_of, kept_is_what_stands};
 use crate::session::Session;
 use cube_model::{Fault, LineOrder};
+use dimensions::Dims;
 use sector_device::Sectors;
 use std::alloc::Global;
-use warehouse_root::{Layout, segment_id};
+use warehouse_root::{Layout, Root, segment_id};
 use wire::limits::MOST_OBJECTS;
 
 impl<D: Sectors> Session<D> {
@@ -49,11 +53,11 @@ impl<D: Sectors> Session<D> {
         ensures device { IsErrOf result Device → Breaks D.Sectors self.old self.new }
         ensures word { D.keeps_word (device_of self.new) → D.keeps_word (device_of self.old) }
     {
-        let prepared = match self.prepared(alloc, number, rows) {
-            Ok(prepared) => prepared,
+        let batch = match self.grown(alloc, number, rows) {
+            Ok(batch) => batch,
             Err(fault) => return Err(fault),
         };
-        self.put(alloc, number, prepared)
+        self.submit_batch(alloc, number, &batch)
     }
 
     // Puts a batch that was made ready.
@@ -96,19 +100,23 @@ impl<D: Sectors> Session<D> {
         }
     }
 
-    // What a further batch puts on the device, or the first cause to refuse it. No device call is made.
-    fn prepared(&self, alloc: Global, number: u32, rows: &[LineOrder]) -> Result<Prepared, Fault>
+    // Rows that may follow the batches that are there, as a batch that has grown, or the first cause to refuse them, for which no
+    // memory is taken. No device call is made.
+    fn grown(&self, alloc: Global, number: u32, rows: &[LineOrder]) -> Result<GrowingBatch, Fault>
         ensures fine { IfOk result (λ _. has_failed self.now ≡ false) }
-        ensures few { IfOk result (λ _. length (content_of D.Sectors self.now).objects < most_objects) }
-        ensures ready { IfOk result (IsPrepared self.now.root number rows.now) }
-        ensures model { (w : Warehouse) → IsAt D.Sectors self.now w → D.keeps_word (device_of self.now) → Prepares w number rows.now result }
+        ensures grows { IfOk result (Grows self.now rows.now) }
+        ensures refused { IfErr result (λ fault. (w : Warehouse) → IsAt D.Sectors self.now w → D.keeps_word (device_of self.now)
+            → (refusal_of w number rows.now ≡ Some fault) ⊎ (Admits w number rows.now × (fault ≡ Memory))) }
         ensures failed { IsErrOf result Failed ↔ (has_failed self.now ≡ true) }
         ensures device { IsErrOf result Device → ⊥ }
         ensures leaves { (w : Warehouse) → IsAt D.Sectors self.now w
             → Leaves (disk_of D.Sectors self.now) (disk_of D.Sectors self.now) (λ c. Stands c w) }
     {
         self.can_put()?;
-        Prepared::of(alloc, &self.dims, &self.root, number, rows)
+        check(&self.dims, &self.root, number, rows)?;
+        let mut batch = self.begin_batch(alloc, rows.len())?;
+        self.add_rows(alloc, &mut batch, rows)?;
+        Ok(batch)
     }
 
     // Whether a further batch may be put, as far as that does not depend on the batch. No device call is made.
@@ -130,5 +138,18 @@ impl<D: Sectors> Session<D> {
             return Err(Fault::BadLayout); // more than a warehouse has
         }
         Ok(())
+    }
+}
+
+// Looks for the first cause to refuse rows as a further batch. It takes no memory.
+fn check(dims: &Dims, root: &Root, number: u32, rows: &[LineOrder]) -> Result<(), Fault>
+    ensures follows { OnOk result (MayFollow (length root.now.batches) number rows.now) }
+    ensures model { (w : Warehouse) → w.rows ≡ dims.now → root_of w ≡ root.now
+        → MatchResult result (λ _. Admits w number rows.now) (λ fault. refusal_of w number rows.now ≡ Some fault) }
+    ensures apart { IfErr result (λ fault. is_of_device fault ≡ false) }
+{
+    match admission_of(root).admit(dims, number, rows) {
+        Ok(()) => Ok(()),
+        Err(fault) => Err(cause_of(fault)),
     }
 }
