@@ -8,13 +8,17 @@ record. After each call of the record a crash may leave, of each sector, what wa
 it since. Four of these choices are made into a file: all of the old, all of the new, and the two in turn over the sectors that were
 written, beginning with either.
 
-Of each image has to hold: the program finds a warehouse; its batches are those before the command, those whose lines were printed before
-the crash, and at most one more; it has their rows; its cuboids are those of before or after the command, with no lower mark; audit
-says yes; each of the thirteen reports is that of as many batches; none of these commands changed the file; and once the command was
-given again, and an upkeep after it, all is as after a run that was not cut off.
+Of each image has to hold, while another program has the file open for reading, so that none can write it: the program finds a
+warehouse; its batches are those before the command, those whose lines were printed before the crash, and at most one more; it has their
+rows; its cuboids are those of before or after the command, with no lower mark; audit says yes; each of the thirteen reports is that of
+as many batches; a note says where an upkeep was cut off; and the file is as it was. Then, alone: a report finishes an upkeep that was
+cut off, is the same, and changes the file only for that; and once the command was given again, and an upkeep after it, all is as
+after a run that was not cut off.
 
 Then commands are started with standard input, output and error closed, by themselves and together: the warehouse has to stay whole.
 """
+import contextlib
+import fcntl
 import re
 import shutil
 import subprocess
@@ -38,8 +42,21 @@ def complain(what):
 
 def run(*words):
     """Runs the program, and gives its status and what it printed on standard output."""
+    return run_with_notes(*words)[:2]
+
+
+def run_with_notes(*words):
+    """Runs the program, and gives its status and what it printed on standard output and on standard error."""
     done = subprocess.run(["ssbcube", *words], capture_output=True, text=True)
-    return done.returncode, done.stdout
+    return done.returncode, done.stdout, done.stderr
+
+
+@contextlib.contextmanager
+def read_by_another(device):
+    """The file is open for reading in another program: with a lock that lets others read it and none write it."""
+    with open(device, "rb") as file:
+        fcntl.flock(file, fcntl.LOCK_SH)
+        yield
 
 
 def must(*words):
@@ -128,6 +145,9 @@ class Status:
     def marks(self):
         return {view: numbers[0] for view, numbers in self.cuboids.items()}
 
+    def is_unfinished(self):
+        return any(mark < self.numbers["target"] for mark in self.marks().values())
+
     def all(self):
         return self.status, self.numbers, self.cuboids
 
@@ -143,7 +163,8 @@ class Command:
     def __init__(self, name, words):
         self.name, self.words = name, words
         self.image = Path(DEVICE).read_bytes()
-        self.before = Status(DEVICE)
+        with read_by_another(DEVICE):
+            self.before = Status(DEVICE)
         self.calls = record(words)
         self.after = Status(DEVICE)
         self.done = Path(DEVICE).read_bytes()
@@ -174,29 +195,54 @@ class Command:
         """What is wrong with an image that is left once so many batches were printed."""
         device = "cut.dev"
         Path(device).write_bytes(image)
-        status = Status(device)
-        if status.status != 0:
-            return ["no warehouse is found"]
-        found = []
-        first = self.before.numbers["batches"] + loaded
-        batches = status.numbers["batches"]
-        if not first <= batches <= min(first + 1, self.after.numbers["batches"]):
-            found.append(f"{batches} batches, {first} of them acknowledged")
-        if status.numbers["rows"] != rows[batches]:
-            found.append(f"{status.numbers['rows']} rows in {batches} batches")
-        found += self.other_cuboids(status)
-        if run("audit", device) != (0, "audit yes\n"):
-            found.append("audit does not say yes")
-        if [run("report", device, query) for query in QUERIES] != [(0, report) for report in self.reports.get(batches, [])]:
-            found.append("a report is another")
+        with read_by_another(device):
+            status = Status(device)
+            if status.status != 0:
+                return ["no warehouse is found"]
+            found = self.other_numbers(status, loaded, rows) + self.other_cuboids(status) + self.other_answers(device, status)
         if Path(device).read_bytes() != image:
             found.append("a command that only reads changed the file")
+        found += self.unfinished(device, status, image)
         again = [self.words[0], device, *self.words[2:]]
         if run(*again)[0] != 0 or run("upkeep", device)[0] != 0 or Status(device).all() != self.kept_up.all():
             found.append("given again it does not lead to the same")
         if run("audit", device) != (0, "audit yes\n"):
             found.append("audit does not say yes in the end")
         return found
+
+    def other_numbers(self, status, loaded, rows):
+        """What is wrong with the batches of an image that is left once so many were printed."""
+        first = self.before.numbers["batches"] + loaded
+        batches = status.numbers["batches"]
+        found = []
+        if not first <= batches <= min(first + 1, self.after.numbers["batches"]):
+            found.append(f"{batches} batches, {first} of them acknowledged")
+        if status.numbers["rows"] != rows[batches]:
+            found.append(f"{status.numbers['rows']} rows in {batches} batches")
+        return found
+
+    def other_answers(self, device, status):
+        """What is wrong with the answers over an image, and with the note on an upkeep that was cut off."""
+        found = []
+        if run("audit", device) != (0, "audit yes\n"):
+            found.append("audit does not say yes")
+        asked = [run_with_notes("report", device, query) for query in QUERIES]
+        if [answer[:2] for answer in asked] != [(0, report) for report in self.reports.get(status.numbers["batches"], [])]:
+            found.append("a report is another")
+        if any(notes.startswith("note: an upkeep ") != status.is_unfinished() for _, _, notes in asked):
+            found.append("a note on an upkeep is missing, or one too many")
+        return found
+
+    def unfinished(self, device, status, image):
+        """What is wrong where a report has the file for itself."""
+        report = self.reports.get(status.numbers["batches"], [None])[0]
+        if run_with_notes("report", device, QUERIES[0]) != (0, report, ""):
+            return ["a report that finishes an upkeep is another, or has a note"]
+        if not status.is_unfinished():
+            return ["a report changed the file"] if Path(device).read_bytes() != image else []
+        finished = Status(device)
+        same = (finished.numbers, finished.cuboids.keys()) == (status.numbers, status.cuboids.keys())
+        return [] if same and not finished.is_unfinished() else ["a report does not finish the upkeep"]
 
     def other_cuboids(self, status):
         """What is wrong with the cuboids of an image."""
@@ -227,7 +273,8 @@ def half_done(command):
     """An image of a crash within an upkeep, once its target is durable and a cuboid is still to be brought to it."""
     for said, found in images(command.image, command.calls):
         Path("half.dev").write_bytes(found[1])
-        status = Status("half.dev")
+        with read_by_another("half.dev"):
+            status = Status("half.dev")
         marks = status.marks().values()
         if status.numbers["target"] == command.after.numbers["target"] and min(marks) < max(marks):
             return found[1]

@@ -1,6 +1,7 @@
 //! The file of a warehouse.
 use crate::contents::{Contents, contents_of};
 use crate::refusal::Met;
+use crate::unfinished::is_unfinished;
 use clap::ArgMatches;
 use cube_model::Fault;
 use dimensions::Dims;
@@ -24,7 +25,7 @@ const CACHED_SECTORS: u32 = 1024;
 pub enum Access {
     /// It reads and writes it, with a lock against all other programs.
     Commit,
-    /// It only reads it, with a lock against programs that write it.
+    /// It reads it, with a lock against programs that write it. Before that it finishes an upkeep that was cut off, where it can.
     Read,
 }
 
@@ -90,7 +91,28 @@ where
 {
     match access {
         Access::Commit => open_to_commit(rt, path_of(given)),
-        Access::Read => open_to_read(rt, path_of(given)),
+        Access::Read => open_finished(rt, path_of(given)),
+    }
+}
+
+// Opens the warehouse in a file for reading. Where an upkeep was cut off, it is finished first, if the file can be written and no other
+// program has it open. Otherwise the warehouse is opened as it is.
+fn open_finished<R: Files + AllocGlobal>(
+    rt: &R,
+    path: &str,
+) -> Result<Session<Device<R::File>>, Met>
+where
+    R::File: FileExt + LockFile,
+{
+    let session = open_to_read(rt, path)?;
+    if !is_unfinished(&session) {
+        return Ok(session);
+    }
+    // Its lock keeps the file from being opened for writing.
+    drop(session);
+    match open_to_commit(rt, path) {
+        Ok(finished) => Ok(finished),
+        Err(_) => open_to_read(rt, path),
     }
 }
 

@@ -3,7 +3,7 @@ use crate::files::GivenFiles;
 use crate::load::cut_of;
 use batch_loader::Lines;
 use cube_model::Fault;
-use std::alloc::Global;
+use std::alloc::{AllocError, Global};
 use std::io::Read;
 use std::rt::Files;
 use table_hints::{Cut, Table, TableFiles};
@@ -28,13 +28,22 @@ pub fn repeated_hint<R: Files>(
     let StoredBatch { number, rows } = stored;
     let path = files.path(Table::Lineorder);
     let given = match rows_given(alloc, files, cut, number)? {
-        Some(given) => format!(in alloc; " ({given} rows)")?,
+        Some(given) => counted(alloc, given)?,
         None => String::new(alloc),
     };
+    let stored = counted(alloc, u64::from(rows))?;
     let said = format!(in alloc;
-        "batch {number} of {path}{given} is not batch {number} of the warehouse ({rows} rows): was it loaded with another --rows, or is --first too small?"
+        "batch {number} of {path}{given} is not batch {number} of the warehouse{stored}: was it loaded with another --rows, or is --first too small?"
     )?;
     Ok(Some(said))
+}
+
+// A number of rows in brackets, after a blank.
+fn counted(alloc: Global, rows: u64) -> Result<String, AllocError> {
+    match rows {
+        1 => String::from_str(alloc, " (1 row)"),
+        _ => format!(in alloc; " ({rows} rows)"),
+    }
 }
 
 // How many rows the file of a load has for the batch of a number, if it can be read again.

@@ -5,9 +5,21 @@ use sector_device::Sectors;
 use std::alloc::{AllocError, Global};
 use warehouse::{Session, Status};
 
-/// Says on standard error which stored cuboids hold fewer batches than the last upkeep was to bring them to, where there are some: it
-/// was cut off, or refused. A command that only reads leaves them so. Standard output and the status stay as they are, also where
-/// standard error takes nothing.
+/// Whether a stored cuboid holds fewer batches than the last upkeep was to bring it to: the upkeep was cut off, or refused.
+pub fn is_unfinished<D: Sectors>(session: &Session<D>) -> bool {
+    match session.status() {
+        Ok(status) => status
+            .cuboids
+            .iter()
+            .flatten()
+            .any(|cuboid| cuboid.mark < status.target),
+        Err(_) => false,
+    }
+}
+
+/// Says on standard error which stored cuboids hold fewer batches than the last upkeep was to bring them to, where there are some: there
+/// was no room for them, they would have too many cells, or the file could not be written. Standard output and the status stay as they
+/// are, also where standard error takes nothing.
 pub fn note_unfinished<R: AllocGlobal + Eprint, D: Sectors>(
     rt: &R,
     given: &ArgMatches<'_>,
