@@ -1,16 +1,24 @@
-//! Random queries over warehouses whose cuboids have different marks, against one pass over the same rows.
+//! Random queries over warehouses whose cuboids have different marks, at once and step by step with other calls between the steps,
+//! against one pass over the same rows.
 use crate::plain::{Row, SEVERAL, draw_row};
 use crate::random::created;
-use cube_model::{Agg, Attr, Fault, Kind, LineOrder, Measure, Query};
+use cube_model::{Agg, Answer, Attr, Fault, Kind, LineOrder, Measure, Query};
 use cube_query::fold;
 use dimensions::Dims;
 use sample_sessions::store_views;
 use sample_star::{ATTRIBUTES, Asked, Condition, Draw, dim_rows, line_order, query};
 use sector_device::MemDisk;
 use std::alloc::Global;
-use warehouse::{Plan, Session};
+use warehouse::{MOST_RUNNING, Plan, Running, Session, Stepped};
 
-/// A session, the dimensions of its own, how many batches there are, and their rows.
+/// A running query, and what it is to answer.
+#[derive(Drop)]
+struct Walker {
+    running: Running,
+    wanted: Answer,
+}
+
+/// A session with running queries, the dimensions of its own, how many batches there are, and their rows.
 #[derive(Drop)]
 struct Run {
     draw: Draw,
@@ -18,7 +26,26 @@ struct Run {
     dims: Dims,
     batches: u32,
     rows: Vec<Row>,
+    walkers: Vec<Walker>,
+    outcome: Outcome,
 }
+
+/// How many queries were answered at once and in steps, how many of all had the answer of one pass over the rows, and how many of
+/// those at once were answered from a cuboid.
+#[derive(Clone, Copy, Debug, PartialEq, Eq)]
+struct Outcome {
+    at_once: u32,
+    in_steps: u32,
+    agreed: u32,
+    by_cuboid: u32,
+}
+
+const NONE_YET: Outcome = Outcome {
+    at_once: 0,
+    in_steps: 0,
+    agreed: 0,
+    by_cuboid: 0,
+};
 
 fn begun(alloc: Global, seed: u64) -> Result<Run, Fault> {
     let rows = dim_rows(alloc, &SEVERAL)?;
@@ -28,6 +55,8 @@ fn begun(alloc: Global, seed: u64) -> Result<Run, Fault> {
         dims: Dims::build(alloc, &rows)?,
         batches: 0,
         rows: Vec::new(alloc),
+        walkers: Vec::new(alloc),
+        outcome: NONE_YET,
     })
 }
 
@@ -145,70 +174,93 @@ fn first_rows(alloc: Global, run: &Run, as_of: u32) -> Result<Vec<LineOrder>, Fa
     Ok(rows)
 }
 
-/// Whether a random query has one answer, by the session and by one pass over the rows, and whether its plan is a cuboid.
-fn ask(alloc: Global, run: &mut Run) -> Result<(bool, bool), Fault> {
+/// A random query over some of the batches, and the answer of one pass over their rows.
+fn drawn(alloc: Global, run: &mut Run) -> Result<(Query, u32, Answer), Fault> {
     let query = random_query(alloc, &mut run.draw)?;
     let as_of = run.draw.up_to(run.batches);
     let rows = first_rows(alloc, run, as_of)?;
-    let by_cuboid = run.session.plan(alloc, as_of, &query)? != Plan::Scan;
-    let answer = run.session.query(alloc, as_of, &query)?;
     let wanted = fold(alloc, &run.dims, rows.as_slice(), &query)?;
-    Ok((answer == wanted, by_cuboid))
+    Ok((query, as_of, wanted))
 }
 
-/// How many queries were asked, how many of them had one answer, and how many were answered from a cuboid.
-#[derive(Clone, Copy, Debug, PartialEq, Eq)]
-struct Outcome {
-    asked: u32,
-    agreed: u32,
-    by_cuboid: u32,
+/// Asks a random query at once.
+fn ask(alloc: Global, run: &mut Run) -> Result<(), Fault> {
+    let (query, as_of, wanted) = drawn(alloc, run)?;
+    let plan = run.session.plan(alloc, as_of, &query)?;
+    let answer = run.session.query(alloc, as_of, &query)?;
+    let outcome = &mut run.outcome;
+    outcome.at_once = outcome.at_once.saturating_add(1);
+    outcome.agreed = outcome.agreed.saturating_add(u32::from(answer == wanted));
+    outcome.by_cuboid = outcome
+        .by_cuboid
+        .saturating_add(u32::from(plan != Plan::Scan));
+    Ok(())
 }
 
-/// How many calls a run has.
-const CALLS: u32 = 80;
+/// Starts a random query, unless sixteen run.
+fn start(alloc: Global, run: &mut Run) -> Result<(), Fault> {
+    if run.walkers.len() >= MOST_RUNNING {
+        return Ok(());
+    }
+    let (query, as_of, wanted) = drawn(alloc, run)?;
+    let running = run.session.start(alloc, as_of, &query)?;
+    run.walkers.push(Walker { running, wanted })?;
+    Ok(())
+}
 
-/// Makes a random call of those that change what is stored.
-fn change(alloc: Global, run: &mut Run) -> Result<(), Fault> {
-    match run.draw.below(6) {
+/// Makes a step of a random query of those that run.
+fn step(alloc: Global, run: &mut Run) -> Result<(), Fault> {
+    if run.walkers.is_empty() {
+        return Ok(());
+    }
+    let place = run.draw.below(run.walkers.len() as u32) as usize;
+    let Walker { running, wanted } = run.walkers.swap_remove(place);
+    match run.session.step(alloc, running) {
+        Stepped::More(running) => run.walkers.push(Walker { running, wanted })?,
+        Stepped::Done(answer) => {
+            let outcome = &mut run.outcome;
+            outcome.in_steps = outcome.in_steps.saturating_add(1);
+            outcome.agreed = outcome.agreed.saturating_add(u32::from(answer == wanted));
+        }
+        Stepped::Refused(_, fault) => return Err(fault),
+    }
+    Ok(())
+}
+
+/// Makes a random call.
+fn go_on(alloc: Global, run: &mut Run) -> Result<(), Fault> {
+    match run.draw.below(64) {
         0 => store(alloc, run),
-        1 | 2 => run.session.upkeep(alloc),
-        _ => load(alloc, run),
+        1 => run.session.upkeep(alloc),
+        2 => load(alloc, run),
+        3..=8 => ask(alloc, run),
+        9..=14 => start(alloc, run),
+        _ => step(alloc, run),
     }
 }
 
+/// How many calls a run has, and how many runs there are.
+const CALLS: u32 = 1_200;
+
+const RUNS: u64 = 100;
+
+/// What a run of random calls comes to.
 fn outcome_of(alloc: Global, seed: u64) -> Result<Outcome, Fault> {
     let mut run = begun(alloc, seed)?;
-    let mut asked: u32 = 0;
-    let mut agreed: u32 = 0;
-    let mut by_cuboid: u32 = 0;
-    for call in 0..CALLS {
-        if call % 4 == 0 {
-            change(alloc, &mut run)?;
-        } else {
-            let (agrees, from_cells) = ask(alloc, &mut run)?;
-            asked = asked.saturating_add(1);
-            agreed = agreed.saturating_add(u32::from(agrees));
-            by_cuboid = by_cuboid.saturating_add(u32::from(from_cells));
-        }
+    for _ in 0..CALLS {
+        go_on(alloc, &mut run)?;
     }
-    Ok(Outcome {
-        asked,
-        agreed,
-        by_cuboid,
-    })
+    Ok(run.outcome)
 }
 
-/// The same over some runs together.
-fn outcome_of_runs(alloc: Global, runs: u64) -> Result<Outcome, Fault> {
-    let mut all = Outcome {
-        asked: 0,
-        agreed: 0,
-        by_cuboid: 0,
-    };
-    for seed in 0..runs {
+/// What all runs together come to.
+fn outcome_of_runs(alloc: Global) -> Result<Outcome, Fault> {
+    let mut all = NONE_YET;
+    for seed in 0..RUNS {
         let one = outcome_of(alloc, seed)?;
         all = Outcome {
-            asked: all.asked.saturating_add(one.asked),
+            at_once: all.at_once.saturating_add(one.at_once),
+            in_steps: all.in_steps.saturating_add(one.in_steps),
             agreed: all.agreed.saturating_add(one.agreed),
             by_cuboid: all.by_cuboid.saturating_add(one.by_cuboid),
         };
@@ -216,16 +268,20 @@ fn outcome_of_runs(alloc: Global, runs: u64) -> Result<Outcome, Fault> {
     Ok(all)
 }
 
-/// Whether all queries were answered as one pass over the rows does, and some of them from a cuboid.
+/// Whether many queries were answered at once and in steps, all of them as one pass over the rows does, and many from a cuboid.
 fn is_right(outcome: &Result<Outcome, Fault>) -> bool {
     match outcome {
-        Ok(all) => all.agreed == all.asked && all.by_cuboid > 0,
+        Ok(all) => {
+            all.at_once.min(all.in_steps) >= 10_000
+                && all.agreed == all.at_once.saturating_add(all.in_steps)
+                && all.by_cuboid >= 1_000
+        }
         Err(_) => false,
     }
 }
 
 #[test]
 fn random_queries_are_answered_as_one_pass_does(rt: HostRuntime) {
-    let outcome = outcome_of_runs(rt.alloc(), 12);
+    let outcome = outcome_of_runs(rt.alloc());
     assert!(rt; is_right(&outcome), "{outcome:?}");
 }

@@ -1,0 +1,8 @@
+//! A campaign over a whole life of a warehouse: creation, batches, a choice, upkeeps and reports, of which each device call fails in
+//! turn, once and from then on, with a crash after it, and of which each opening after such a crash is cut off in turn.
+#![tactic(auto)]
+
+#[cfg(test)]
+mod cuts;
+#[cfg(test)]
+mod script;

@@ -1,0 +1,222 @@
+//! The life of a warehouse, from any point of it, and what is to be found where it was cut off.
+use cube_model::{Answer, Fault, LineOrder};
+use cube_query::fold;
+use dimensions::Dims;
+use sample_sessions::{report, sample_dims, status, submit, with_cuboids};
+use sample_star::{FACTS, Fact, THIRD_FACT, line_orders};
+use sector_device::Sectors;
+use ssb_reports::{QNumber, query_of};
+use std::alloc::Global;
+use warehouse::{Session, Status, StoredCuboid};
+
+/// The batches: the three sample rows, the third of them once more, and no row.
+static BATCHES: [&[Fact<'static>]; 3] = [&FACTS, &[THIRD_FACT], &[]];
+
+/// How many rows there are in the first batches together.
+const ROWS: [u64; 4] = [0, 3, 4, 4];
+
+/// The views of the choice.
+const VIEWS: [u16; 3] = [59, 203, 248];
+
+/// What was acknowledged: the creation, batches, the choice, and how many batches the cuboids hold.
+#[derive(Clone, Copy, Debug, PartialEq, Eq)]
+pub(crate) struct Reached {
+    pub(crate) created: bool,
+    pub(crate) batches: u32,
+    pub(crate) chosen: bool,
+    pub(crate) mark: u32,
+}
+
+pub(crate) const NOTHING: Reached = Reached {
+    created: false,
+    batches: 0,
+    chosen: false,
+    mark: 0,
+};
+
+/// What a warehouse lacks next. The cuboids are brought to the first batch, and to the second.
+#[derive(Clone, Copy, Debug, PartialEq, Eq)]
+enum Lacks {
+    Batch(u32),
+    Choice,
+    Upkeep,
+    Nothing,
+}
+
+/// The least number of batches that a stored cuboid holds, if there is one.
+fn least_mark(status: &Status) -> Option<u32> {
+    status
+        .cuboids
+        .iter()
+        .flatten()
+        .map(|cuboid| cuboid.mark)
+        .min()
+}
+
+fn lacks(status: &Status) -> Lacks {
+    match least_mark(status) {
+        _ if status.batches == 0 => Lacks::Batch(1),
+        None => Lacks::Choice,
+        Some(mark) if mark < status.batches.min(2) => Lacks::Upkeep,
+        Some(_) if status.batches < 3 => Lacks::Batch(status.batches.saturating_add(1)),
+        Some(_) => Lacks::Nothing,
+    }
+}
+
+/// The rows of a batch.
+fn batch(number: u32) -> &'static [Fact<'static>] {
+    match BATCHES.get((number as usize).saturating_sub(1)) {
+        Some(facts) => facts,
+        None => &[],
+    }
+}
+
+/// Does what a warehouse lacks next, and notes what was acknowledged. Whether it lacked anything.
+fn go_on<D: Sectors>(
+    alloc: Global,
+    session: &mut Session<D>,
+    reached: &mut Reached,
+) -> Result<bool, Fault> {
+    match lacks(&session.status()?) {
+        Lacks::Batch(number) => {
+            submit(alloc, session, number, batch(number))?;
+            reached.batches = number;
+        }
+        Lacks::Choice => {
+            let _chosen = session.choose(alloc, 3)?;
+            reached.chosen = true;
+        }
+        Lacks::Upkeep => {
+            session.upkeep(alloc)?;
+            reached.mark = reached.batches;
+        }
+        Lacks::Nothing => return Ok(false),
+    }
+    Ok(true)
+}
+
+/// Does all that a warehouse lacks, asks the thirteen queries of the benchmark, and notes what was acknowledged.
+pub(crate) fn live<D: Sectors>(
+    alloc: Global,
+    session: &mut Session<D>,
+    reached: &mut Reached,
+) -> Result<(), Fault> {
+    for _ in 0..9 {
+        if !go_on(alloc, session, reached)? {
+            break;
+        }
+    }
+    for number in QNumber::ALL {
+        let _answer = report(alloc, session, reached.batches, number)?;
+    }
+    Ok(())
+}
+
+/// What the thirteen queries answer over the first batches, by one pass over their rows.
+pub(crate) type Wanted = [Vec<Answer>; 4];
+
+/// The rows of the first batches.
+fn first_rows(alloc: Global, batches: u32) -> Result<Vec<LineOrder>, Fault> {
+    let mut facts = Vec::new(alloc);
+    for number in 1..=batches {
+        facts.extend_from_slice(batch(number))?;
+    }
+    line_orders(alloc, facts.as_slice())
+}
+
+fn answers(alloc: Global, dims: &Dims, batches: u32) -> Result<Vec<Answer>, Fault> {
+    let rows = first_rows(alloc, batches)?;
+    let mut answers = Vec::new(alloc);
+    for number in QNumber::ALL {
+        let query = query_of(alloc, number)?;
+        answers.push(fold(alloc, dims, rows.as_slice(), &query)?)?;
+    }
+    Ok(answers)
+}
+
+pub(crate) fn wanted(alloc: Global) -> Result<Wanted, Fault> {
+    let dims = sample_dims(alloc)?;
+    Ok([
+        answers(alloc, &dims, 0)?,
+        answers(alloc, &dims, 1)?,
+        answers(alloc, &dims, 2)?,
+        answers(alloc, &dims, 3)?,
+    ])
+}
+
+/// Whether a session answers the thirteen queries over its batches as one pass over their rows does.
+fn answers_right<D: Sectors>(
+    alloc: Global,
+    session: &mut Session<D>,
+    batches: u32,
+    wanted: &[Answer],
+) -> Result<bool, Fault> {
+    for (number, answer) in QNumber::ALL.iter().zip(wanted) {
+        if report(alloc, session, batches, *number)? != *answer {
+            return Ok(false);
+        }
+    }
+    Ok(true)
+}
+
+/// Whether cuboids are those of the choice, each holding at least so many batches and no more than there are; or, before the choice was
+/// acknowledged, none.
+fn are_allowed(status: &Status, reached: &Reached) -> bool {
+    let marks = reached.mark..=status.batches;
+    let mut views = VIEWS.iter();
+    for cuboid in status.cuboids.iter().flatten() {
+        if views.next() != Some(&cuboid.view) || !marks.contains(&cuboid.mark) {
+            return false;
+        }
+    }
+    match views.len() {
+        0 => true,
+        left => left == VIEWS.len() && !reached.chosen,
+    }
+}
+
+/// Whether a status is one that may be found once so much was acknowledged: the batches, and at most the one that was being added.
+fn is_allowed(status: &Status, reached: &Reached) -> bool {
+    let batches = reached.batches..=reached.batches.saturating_add(1);
+    batches.contains(&status.batches)
+        && ROWS.get(status.batches as usize) == Some(&status.rows)
+        && are_allowed(status, reached)
+}
+
+/// Whether a session is at a warehouse that may be found once so much was acknowledged, and answers and audits as it should.
+pub(crate) fn is_promised<D: Sectors>(
+    alloc: Global,
+    session: &mut Session<D>,
+    reached: &Reached,
+    wanted: &Wanted,
+) -> Result<bool, Fault> {
+    let status = session.status()?;
+    let Some(answers) = wanted.get(status.batches as usize) else {
+        return Ok(false);
+    };
+    Ok(
+        is_allowed(&status, reached)
+            && session.audit(alloc)?
+            && answers_right(alloc, session, status.batches, answers.as_slice())?,
+    )
+}
+
+/// A cuboid at the end.
+fn last_cuboid(view: u16) -> StoredCuboid {
+    StoredCuboid {
+        view,
+        runs: 2,
+        mark: 2,
+        cells: 3,
+    }
+}
+
+/// The status at the end, as a life that is not cut off leaves it.
+pub(crate) fn last_status() -> Status {
+    let plain = Status {
+        target: 2,
+        generation: 13,
+        ..status(3, 4)
+    };
+    with_cuboids(plain, &VIEWS.map(last_cuboid))
+}
