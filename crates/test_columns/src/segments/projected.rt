@@ -83,19 +83,22 @@ fn numbers_in(columns: &FactColumns, column: FactColumn) -> [Option<u64>; 3] {
 }
 
 // How many rows a batch has of the sample rows so many times.
-fn row_count(times: usize) -> usize {
+fn row_count(times: u32) -> u32 {
     times.saturating_mul(3)
 }
 
 // The bytes of a batch of the sample rows so many times, in which the first tax is made 5.
-fn repeated(alloc: Global, times: usize) -> Result<Vec<u8>, Fault> {
+fn repeated(alloc: Global, times: u32) -> Result<Vec<u8>, Fault> {
     let mut rows = Vec::new(alloc);
     for _ in 0..times {
         let mut three = line_orders(alloc, &FACTS)?;
         rows.append(&mut three)?;
     }
     let mut bytes = spelled(alloc, 1, &rows)?;
-    if let Some(tax) = bytes.get_mut(row_count(times).saturating_mul(62).saturating_add(12)) {
+    let place = (row_count(times) as usize)
+        .saturating_mul(62)
+        .saturating_add(12);
+    if let Some(tax) = bytes.get_mut(place) {
         *tax = 5;
     }
     Ok(bytes)
@@ -104,13 +107,18 @@ fn repeated(alloc: Global, times: usize) -> Result<Vec<u8>, Fault> {
 // What a new buffer has of the first three rows in each column, after one was read of a batch of the sample rows so many times.
 fn after_reading(
     alloc: Global,
-    times: usize,
+    times: u32,
     column: FactColumn,
 ) -> Result<Vec<[Option<u64>; 3]>, Fault> {
     let bytes = repeated(alloc, times)?;
     let mut buffer = ColumnBuffer::new(alloc)?;
-    let rows = row_count(times) as u32;
-    buffer.read(&mut SliceSource::new(&bytes), 9, 1, rows, &[column])?;
+    buffer.read(
+        &mut SliceSource::new(&bytes),
+        9,
+        1,
+        row_count(times),
+        &[column],
+    )?;
     let columns = buffer.columns();
     let mut found = Vec::with_capacity(alloc, COLUMNS.len())?;
     for (other, _) in &COLUMNS {
@@ -138,10 +146,10 @@ fn numbers_of(
 }
 
 // How many times a batch has the sample rows, and whether all its columns are read at once: those of 64 rows take 4,044 bytes.
-static BATCHES: [(usize, bool); 3] = [(1, true), (21, true), (22, false)];
+static BATCHES: [(u32, bool); 3] = [(1, true), (21, true), (22, false)];
 
 // The first column of which another one is read than it should, if there is one.
-fn first_wrong(alloc: Global, times: usize, all: bool) -> Result<Option<FactColumn>, Fault> {
+fn first_wrong(alloc: Global, times: u32, all: bool) -> Result<Option<FactColumn>, Fault> {
     for (column, _) in &COLUMNS {
         if after_reading(alloc, times, *column)? != numbers_of(alloc, all, *column)? {
             return Ok(Some(*column));
@@ -184,7 +192,7 @@ fn refusal_of(
 
 // How many times the batch has the sample rows, how many bytes of it there are, how many reads are not refused, the number and how
 // many rows are wanted, and what is answered. The columns of 66 rows take 4,170 bytes.
-type Source = (usize, (Option<usize>, usize), (u32, u32), Option<Fault>);
+type Source = (u32, (Option<usize>, usize), (u32, u32), Option<Fault>);
 
 static SOURCES: [Source; 16] = [
     (1, (None, 9), (1, 3), Some(Fault::BadLayout)),
