@@ -150,7 +150,7 @@ struct Outcome {
 }
 
 /// Cuts a life off at each call of its device in turn.
-fn outcome(
+fn cut_each_call(
     alloc: Global,
     failing: Failing,
     after: After,
@@ -178,7 +178,7 @@ fn outcome(
 const LEAST_CALLS: u64 = 74;
 
 fn outcome_of_way(alloc: Global, way: &(Failing, After)) -> Result<Outcome, Fault> {
-    outcome(alloc, way.0, way.1, &wanted(alloc)?)
+    cut_each_call(alloc, way.0, way.1, &wanted(alloc)?)
 }
 
 fn is_as_promised(outcome: &Result<Outcome, Fault>) -> bool {
@@ -234,12 +234,8 @@ fn outcome_of_openings(alloc: Global, picks: &'static [u32]) -> Result<Outcome, 
     Ok(outcome)
 }
 
-static PICKS: [&[u32]; 4] = [
-    &[0; 8],
-    &[1; 8],
-    &[0, 1, 0, 1, 0, 1, 0, 1],
-    &[1, 0, 1, 0, 1, 0, 1, 0],
-];
+/// What a crash leaves of the sectors that were written: the newest bytes and the oldest in turn.
+static PICKS: [&[u32]; 1] = [&[1, 0, 1, 0, 1, 0, 1, 0]];
 
 #[test]
 fn an_opening_that_is_cut_off_goes_on(rt: HostRuntime) {

@@ -9,9 +9,6 @@ use ssb_reports::{QNumber, query_of};
 use std::alloc::Global;
 use warehouse::{Session, Status, StoredCuboid};
 
-/// The batches: the three sample rows, the third of them once more, and no row.
-static BATCHES: [&[Fact<'static>]; 3] = [&FACTS, &[THIRD_FACT], &[]];
-
 /// How many rows there are in the first batches together.
 const ROWS: [u64; 4] = [0, 3, 4, 4];
 
@@ -53,7 +50,7 @@ fn least_mark(status: &Status) -> Option<u32> {
         .min()
 }
 
-fn lacks(status: &Status) -> Lacks {
+fn lack_of(status: &Status) -> Lacks {
     match least_mark(status) {
         _ if status.batches == 0 => Lacks::Batch(1),
         None => Lacks::Choice,
@@ -63,11 +60,16 @@ fn lacks(status: &Status) -> Lacks {
     }
 }
 
-/// The rows of a batch.
-fn batch(number: u32) -> &'static [Fact<'static>] {
-    match BATCHES.get((number as usize).saturating_sub(1)) {
-        Some(facts) => facts,
-        None => &[],
+/// Submits the batch of a number: the three sample rows, the third of them once more, and no row.
+fn submit_next<D: Sectors>(
+    alloc: Global,
+    session: &mut Session<D>,
+    number: u32,
+) -> Result<(), Fault> {
+    match number {
+        1 => submit(alloc, session, 1, &FACTS),
+        2 => submit(alloc, session, 2, &[THIRD_FACT]),
+        _ => submit(alloc, session, number, &[]),
     }
 }
 
@@ -77,9 +79,9 @@ fn go_on<D: Sectors>(
     session: &mut Session<D>,
     reached: &mut Reached,
 ) -> Result<bool, Fault> {
-    match lacks(&session.status()?) {
+    match lack_of(&session.status()?) {
         Lacks::Batch(number) => {
-            submit(alloc, session, number, batch(number))?;
+            submit_next(alloc, session, number)?;
             reached.batches = number;
         }
         Lacks::Choice => {
@@ -115,13 +117,23 @@ pub(crate) fn live<D: Sectors>(
 /// What the thirteen queries answer over the first batches, by one pass over their rows.
 pub(crate) type Wanted = [Vec<Answer>; 4];
 
+/// Adds fact rows to others.
+fn push(alloc: Global, rows: &mut Vec<LineOrder>, facts: &[Fact<'_>]) -> Result<(), Fault> {
+    let mut further = line_orders(alloc, facts)?;
+    rows.append(&mut further)?;
+    Ok(())
+}
+
 /// The rows of the first batches.
 fn first_rows(alloc: Global, batches: u32) -> Result<Vec<LineOrder>, Fault> {
-    let mut facts = Vec::new(alloc);
-    for number in 1..=batches {
-        facts.extend_from_slice(batch(number))?;
+    let mut rows = Vec::new(alloc);
+    if batches > 0 {
+        push(alloc, &mut rows, &FACTS)?;
     }
-    line_orders(alloc, facts.as_slice())
+    if batches > 1 {
+        push(alloc, &mut rows, &[THIRD_FACT])?;
+    }
+    Ok(rows)
 }
 
 fn answers(alloc: Global, dims: &Dims, batches: u32) -> Result<Vec<Answer>, Fault> {
@@ -151,7 +163,8 @@ fn answers_right<D: Sectors>(
     batches: u32,
     wanted: &[Answer],
 ) -> Result<bool, Fault> {
-    for (number, answer) in QNumber::ALL.iter().zip(wanted) {
+    let numbers = QNumber::ALL;
+    for (number, answer) in numbers.iter().zip(wanted) {
         if report(alloc, session, batches, *number)? != *answer {
             return Ok(false);
         }
@@ -163,7 +176,8 @@ fn answers_right<D: Sectors>(
 /// acknowledged, none.
 fn are_allowed(status: &Status, reached: &Reached) -> bool {
     let marks = reached.mark..=status.batches;
-    let mut views = VIEWS.iter();
+    let chosen = VIEWS;
+    let mut views = chosen.iter();
     for cuboid in status.cuboids.iter().flatten() {
         if views.next() != Some(&cuboid.view) || !marks.contains(&cuboid.mark) {
             return false;
@@ -171,7 +185,7 @@ fn are_allowed(status: &Status, reached: &Reached) -> bool {
     }
     match views.len() {
         0 => true,
-        left => left == VIEWS.len() && !reached.chosen,
+        left => left == chosen.len() && !reached.chosen,
     }
 }
 

