@@ -55,7 +55,7 @@ const PRIORITIES: [&str; 5] = ["1-URGENT", "2-HIGH", "3-MEDIUM", "4-NOT SPECI", 
 
 const MODES: [&str; 7] = ["AIR", "FOB", "MAIL", "RAIL", "REG AIR", "SHIP", "TRUCK"];
 
-/// City, nation and region: a city is nine letters of its nation, with blanks behind, and a digit.
+/// City, nation and region: a city is nine letters of its nation, with blanks after them, and a digit.
 fn place(random: &mut Random) -> String {
     let (region, nations) = REGIONS[random.between(0, 4) as usize];
     let nation = random.one_of(&nations);

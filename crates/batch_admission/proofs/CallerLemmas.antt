@@ -109,7 +109,7 @@ known_from dimensions m n (row ∷ rows) e =
     (any_number (is_none (customer_of dimensions row.custkey)) (is_none (supplier_of dimensions row.suppkey)) (is_none (part_of dimensions row.partkey)) (is_none (date_of dimensions row.orderdate)) m n parts.0)
     (known_from dimensions (m + 1) (n + 1) rows (only _ parts.1))
 
--- keys that are known stay known behind others
+-- keys that are known stay known after others
 pub known_both : (dimensions : DimRows) (m n k : ℕ) (earlier rows : List LineOrder) → unknown_key dimensions m earlier ≡ None → unknown_key dimensions n rows ≡ None → unknown_key dimensions m (earlier ++ rows) ≡ None
 known_both dimensions m n k [] rows a b = known_from dimensions n m rows b
 known_both dimensions m n k (row ∷ earlier) rows a b =
@@ -119,7 +119,7 @@ known_both dimensions m n k (row ∷ earlier) rows a b =
 none_of_three : (a b c : Option Fault) → a ≡ None → b ≡ None → c ≡ None → first_cause (a ∷ b ∷ c ∷ []) ≡ None
 none_of_three a b c at_a at_b at_c = rw (at_a, at_b, at_c) refl
 
--- rows in which nothing was found may be folded behind those before them
+-- rows in which nothing was found may be folded after those before them
 pub found-clean : (dimensions : DimRows) (before rows : List LineOrder) → cause_of (found_in dimensions (totals_of before) rows) ≡ None → (unknown_key dimensions 1 rows ≡ None) × AreInRange (before ++ rows)
 found-clean dimensions before rows e =
     let long = both (long_text 1 rows) (unknown_key dimensions 1 rows ∷ totals_cause (plus_rows (totals_of before) rows) ∷ []) e in

@@ -33,7 +33,7 @@ at_end : {Row : Type 0} (p : Row → Bool) (rows : List Row) → (position_or_le
 at_end p [] = refl
 at_end p (row ∷ rows) = at_first (p row) row (position_or_len p rows) (length rows) (find p rows) (at_end p rows)
 
--- a key is lacking where its row index is behind the last row
+-- a key is lacking where its row index is after the last row
 pub lacks-at_end : (dimensions : DimRows) (axis : Axis) (key : ℕ) → (row_index_of dimensions axis key == row_count_of dimensions axis) ≡ lacks dimensions axis key
 lacks-at_end dimensions Customer key = at_end _ dimensions.customers
 lacks-at_end dimensions Supplier key = at_end _ dimensions.suppliers

@@ -15,19 +15,19 @@ pub record Accepted : Type 0 where
   pub count : ℕ
   pub totals : Totals
 
--- it stands behind accepted batches: it has their number, and the totals of their rows
+-- it comes after accepted batches: it has their number, and the totals of their rows
 pub record StandsBehind (accepted : Accepted) (batches : List (List LineOrder)) : Type 0 where
   pub count : accepted.count ≡ length batches
   pub totals : accepted.totals ≡ totals_of (all_rows batches)
 
--- the first cause to refuse a batch by its number alone, behind so many batches
+-- the first cause to refuse a batch by its number alone, after so many batches
 abbrev pub number_cause : ℕ → ℕ → Option Fault
 number_cause count number = first_cause (
     cause_if (nat_le number count) Repeated
     ∷ cause_if (nat_lt (count + 1) number) Gap
     ∷ cause_if (nat_le most_batches count) TooManyBatches ∷ [])
 
--- rows can be a batch with a number behind so many batches: it is the next one, not past the last, they are not too many,
+-- rows can be a batch with a number after so many batches: it is the next one, not past the last, they are not too many,
 -- and no text of theirs is too long
 pub record CanFollow (count number : ℕ) (rows : List LineOrder) : Type 0 where
   pub next : number ≡ count + 1
@@ -35,7 +35,7 @@ pub record CanFollow (count number : ℕ) (rows : List LineOrder) : Type 0 where
   pub few : length rows ≤ most_batch_rows
   pub texts : long_text 1 rows ≡ None
 
--- a batch was taken in behind accepted ones exactly if it is not refused there; the first cause is the answer
+-- a batch was taken in after accepted ones exactly if it is not refused there; the first cause is the answer
 pub record Admits (dimensions : DimRows) (old new : Accepted) (number : ℕ) (rows : List LineOrder) (answer : Option Fault)
     (batches : List (List LineOrder)) : Type 0 where
   pub cause : answer ≡ refusal dimensions batches number rows

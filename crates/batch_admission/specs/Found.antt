@@ -26,7 +26,7 @@ pub record Found : Type 0 where
   pub unknown_key : Option Fault
   pub totals : Totals
 
--- what is found in rows, behind batches with some totals
+-- what is found in rows, after batches with some totals
 abbrev pub found_in : DimRows → Totals → List LineOrder → Found
 found_in dimensions totals rows = record {
   row_count = length rows;

@@ -122,7 +122,7 @@ impl Admission {
         self.keep(number, found)
     }
 
-    // Refuses a number that is not the next one, and a batch behind the last that there can be.
+    // Refuses a number that is not the next one, and a batch after the last that there can be.
     fn check_number(&self, number: u32) -> Result<(), Fault>
         ensures cause { result_err result ≡ number_cause self.now.count number }
         ensures next { OnOk result ((number ≡ self.now.count + 1) × (number ≤ most_batches)) }

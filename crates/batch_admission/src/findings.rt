@@ -53,7 +53,7 @@ impl Model for Findings {
 }
 
 impl Findings {
-    /// Nothing yet, behind accepted batches with some totals.
+    /// Nothing yet, after accepted batches with some totals.
     pub fn none(totals: Totals) -> Findings
         requires { AreBelow sum_limit totals }
         ensures found { (dimensions : DimRows) → result ≡ found_in dimensions totals [] }

@@ -1,4 +1,4 @@
-//! The check of a batch of fact rows behind the batches that were accepted.
+//! The check of a batch of fact rows after the batches that were accepted.
 #![tactic(auto)]
 
 mod admission;

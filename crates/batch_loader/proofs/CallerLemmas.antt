@@ -31,7 +31,7 @@ front-first (Ok first) (Err fault) all back rows is each = absurd (cc)
 front-first (Ok first) (Ok others) all back rows is each =
     ap (row_before (Ok first)) (each others refl) ∙ in_front first others back ∙ ap (λ taken. rows_before taken back) (all_of first others rows is)
 
--- the rows of some lines stand in front of those of the lines behind them
+-- the rows of some lines are in front of those of the lines after them
 pub rows_of-append : {Row : Type 0} (row : ℕ → List ℕ → Result Row Fault) (number : ℕ) (lines others : List (List ℕ)) (rows : List Row) → rows_of row number lines ≡ Ok rows
     → rows_of row number (lines ++ others) ≡ rows_before rows (rows_of row (number_after (length lines) number) others)
 rows_of-append row number [] others [] is = nothing_in_front (rows_of row number others)

@@ -6,7 +6,7 @@ use Rattle.std.specs.List.{list_all}
 use Rattle.std.proofs.lemmas.Bool.Decides.{nat_tests}
 use Rattle.batch_loader.specs.Numbers.{number_of, is_digit, value_of}
 
--- the number that digits spell behind a number so far, digit by digit
+-- the number that digits spell after a number so far, digit by digit
 abbrev pub number_from : ℕ → ℕ → List ℕ → Option ℕ
 number_from limit so_far [] = cond (nat_le so_far limit) (Some so_far) None
 number_from limit so_far (byte ∷ bytes) = cond (is_digit byte) (number_from limit (so_far * 10 + (byte - 48)) bytes) None

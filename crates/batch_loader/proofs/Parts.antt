@@ -13,7 +13,7 @@ use Rattle.batch_loader.specs.Fields.{between_bars, first_parts, parts_at, bar_f
 abbrev is_bar : ℕ → Bool
 is_bar byte = byte == 124
 
--- the parts behind a place, of which there are none past the end
+-- the parts after a place, of which there are none past the end
 abbrev pub parts_left : List ℕ → ℕ → List (List ℕ)
 parts_left line from = cond (nat_le from (length line)) (between_bars (drop from line)) []
 
@@ -120,7 +120,7 @@ parts_left-behind line from n within =
 between : (from n : ℕ) → n ≡ from + n - from
 between from n = omega arith
 
--- the parts behind a place begin with the one that ends at the next bar
+-- the parts after a place begin with the one that ends at the next bar
 pub parts_left-step : (line : List ℕ) (from : ℕ) → from ≤ length line → parts_left line from ≡ slice_range line from (bar_from line from) ∷ parts_left line (bar_from line from + 1)
 parts_left-step line from within =
     parts_left-within line from within ∙ parts-step (drop from line)

@@ -32,7 +32,7 @@ not_true : (b : Bool) → (b ≡ true → ⊥) → b ≡ false
 not_true true refuted = absurd (refuted refl)
 not_true false refuted = refl
 
--- no LF stands at the first places
+-- no LF is at the first places
 abbrev pub NoLf : List ℕ → ℕ → Type 0
 NoLf xs n = (k : ℕ) → k < n → (get_or xs k 0 == 10) ≡ true → ⊥
 
@@ -59,7 +59,7 @@ lines_of-part [] ys (suc n) within none = absurd (omega arith)
 lines_of-part (byte ∷ xs) ys (suc n) within none =
     byte_on byte (xs ++ ys) (none 0 (omega arith)) ∙ ap (onto_first_line byte) (lines_of-part xs ys n (omega arith) (λ k below. none (suc k) (omega arith)))
 
--- an LF behind them ends it
+-- an LF after them ends it
 lines_of-at : (xs ys : List ℕ) (at : ℕ) → at < length xs → NoLf xs at → (get_or xs at 0 == 10) ≡ true → lines_of (xs ++ ys) ≡ take at xs ∷ lines_of (drop (suc at) xs ++ ys)
 lines_of-at [] ys at within none here = absurd (omega arith)
 lines_of-at (byte ∷ xs) ys zero within none here = ap (λ b. cond b ([] ∷ lines_of (xs ++ ys)) (onto_first_line byte (lines_of (xs ++ ys)))) here

@@ -1,4 +1,4 @@
--- Rows that are put over others and behind them.
+-- Rows that are put over others and after them.
 use Rattle.std.proofs.Common.{◌≡◌, ◌∙◌, sym, ap, ℕ, ◌+◌, ◌<◌, ◌≤◌, List, [], ◌∷◌, ◌++◌, length, take, set, arith}
 use Rattle.std.proofs.lemmas.List.{length_push, take_all, take_more_set}
 

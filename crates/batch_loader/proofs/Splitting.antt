@@ -7,7 +7,7 @@ use Rattle.std.proofs.lemmas.List.{take_more_set, take_all}
 use Rattle.batch_loader.specs.Fields.{between_bars, first_parts, parts_at, bar_from, start_of}
 use Rattle.batch_loader.proofs.Parts.{parts_left, first_parts-step, first_parts-none, first_parts-all, first_parts-more}
 
--- where the part behind some ends begins
+-- where the part after some ends begins
 abbrev pub next_from : ℕ → List ℕ → ℕ
 next_from from [] = from
 next_from from (end ∷ ends) = next_from (end + 1) ends
@@ -20,7 +20,7 @@ parts_at-push : (line : List ℕ) (from end : ℕ) (ends : List ℕ) → parts_a
 parts_at-push line from end [] = refl
 parts_at-push line from end (first ∷ ends) = ap (λ parts. slice_range line from first ∷ parts) (parts_at-push line (first + 1) end ends)
 
--- what the loop keeps that finds the ends: the parts so far stand in front of the parts that are left
+-- what the loop keeps that finds the ends: the parts so far are in front of the parts that are left
 pub record IsSplitting (n : ℕ) (line ends : List ℕ) (place from : ℕ) : Type 0 where
   pub front : first_parts n (between_bars line) ≡ option_map (λ others. parts_at line 0 (take place ends) ++ others) (first_parts (n - place) (parts_left line from))
   pub within : (k : ℕ) → k < place → (start_of ends k ≤ get_or ends k 0) × (get_or ends k 0 ≤ length line)

@@ -24,7 +24,7 @@ drop_nothing zero [] none = refl
 drop_nothing (suc n) [] none = refl
 drop_nothing n (item ∷ items) none = absurd (omega arith)
 
--- so many items, cut behind the first of them
+-- so many items, cut after the first of them
 take_cut : {X : Type 0} (size more : ℕ) (items : List X) → size ≤ more → take more items ≡ take size items ++ take (more - size) (drop size items)
 take_cut zero more items within =
     let same : more ≡ more - 0 = omega arith in
@@ -45,7 +45,7 @@ drop_cut (suc size) (suc more) (item ∷ items) within =
     let same : more - size ≡ suc more - suc size = omega arith in
     drop_cut size more items (omega arith) ∙ ap (λ n. drop n (drop size items)) same
 
--- the rows of the first of some lines stand in front of those of the others
+-- the rows of the first of some lines are in front of those of the others
 rows_of-cut : {Row : Type 0} (row : ℕ → List ℕ → Result Row Fault) (size more number : ℕ) (lines others : List (List ℕ)) (piece : List Row) → size ≤ more
     → rows_of row number (take size lines) ≡ Ok piece → others ≡ drop size lines
     → rows_of row number (take more lines) ≡ rows_before piece (rows_of row (number_after (length piece) number) (take (more - size) others))

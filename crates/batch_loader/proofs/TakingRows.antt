@@ -16,7 +16,7 @@ abbrev pub rows_before : {Row : Type 0} → List Row → Result (List Row) Fault
 rows_before rows (Err fault) = Err fault
 rows_before rows (Ok others) = Ok (rows ++ others)
 
--- the rows so far stand in front of those of the lines that are left
+-- the rows so far are in front of those of the lines that are left
 abbrev pub AreInFront : {Row : Type 0} → (ℕ → List ℕ → Result Row Fault) → ℕ → ℕ → Option (List ℕ) → ℕ → ℕ → Option (List ℕ) → List Row → Type 0
 AreInFront row max number None more from now rows = ⊤
 AreInFront row max number (Some text) more from None rows = ⊥

@@ -1,4 +1,4 @@
--- The first bar behind a place, by the lowest bit of a window.
+-- The first bar after a place, by the lowest bit of a window.
 use Rattle.std.proofs.Common.{◌≡◌, ◌≢◌, ◌∙◌, sym, ap, refl, ℕ, ◌+◌, ◌-◌, ◌<◌, ◌≤◌, Bool, true, false, cond, List, [], ◌∷◌, length, map, get_or, arith}
 use Rattle.std.specs.Prelude.{◌==◌, nat_le, suc, zero, slice_index}
 use Rattle.std.specs.Int.{bit_at}
@@ -53,7 +53,7 @@ is_behind from place bit is =
     holds : nat_le from place ≡ true → from ≤ place
     holds reached = grind (arith, nat_tests)
 
--- the next bar stands in the window
+-- the next bar is in the window
 pub record IsNext (text : List ℕ) (from end : ℕ) : Type 0 where
   pub after : from ≤ end
   pub within : end < length text
@@ -100,7 +100,7 @@ IsNext-lowest text from first bars bit bound set below window =
           (λ _. bar);
     }
 
--- the bars behind it
+-- the bars after it
 pub AreBarsBehind-next : (text : List ℕ) (from first bars others bit : ℕ) → bit < 64 → bit_at bars bit ≡ 1 → ((k : ℕ) → k < bit → bit_at bars k ≡ 0)
     → bit_at others bit ≡ 0 → ((k : ℕ) → k < 64 → k ≢ bit → bit_at others k ≡ bit_at bars k) → AreBarsBehind text from first bars
     → AreBarsBehind text (first + bit + 1) first others
@@ -142,7 +142,7 @@ AreBarsBehind-next text from first bars others bit bound set below cleared same 
 no_bits : (bars : ℕ) → bars ≡ 0 → (k : ℕ) → k < 64 → bit_at bars k ≡ 0
 no_bits bars empty k less = ap (λ n. bit_at n k) empty ∙ bit_at-zero k
 
--- a window without a bar: those of the window behind it
+-- a window without a bar: those of the window after it
 pub AreBarsBehind-skip : (text : List ℕ) (from first bars others next : ℕ) → bars ≡ 0 → next ≡ first + 64 → ((k : ℕ) → k < 64 → bit_at others k ≡ bar_bit text (next + k)) → AreBarsBehind text from first bars
     → AreBarsBehind text from next others
 AreBarsBehind-skip text from first bars others next empty is bits window = record {
@@ -249,7 +249,7 @@ AreBarsUpTo-other text first place bars other before = record {
             let at : place ≡ first + k = omega arith in
             before.others k there ∙ sym (bar_bit-other text place other) ∙ ap (bar_bit text) at
 
--- all bytes behind the place are looked at
+-- all bytes after the place are looked at
 pub AreBarsUpTo-all : (text : List ℕ) (first place bars : ℕ) → length text ≤ place → AreBarsUpTo text first place bars → (k : ℕ) → bit_at bars k ≡ bar_bit text (first + k)
 AreBarsUpTo-all text first place bars end before k =
     (elim (nat_le place (first + k)) as (λ b. nat_le place (first + k) ≡ b → bit_at bars k ≡ bar_bit text (first + k)) [

@@ -1,4 +1,4 @@
--- The fields of a line, which stand between bars.
+-- The fields of a line, which are between bars.
 use Rattle.std.specs.Prelude.{◌<◌, ◌≤◌, drop, ℕ, suc, zero, ◌+◌, ◌-◌, ◌==◌, ◌&&◌, nat_lt, Option, Some, None, List, [], ◌∷◌, cond, take, length, slice_index, slice_range}
 use Rattle.std.specs.List.{slice_split, position_or_len}
 use Rattle.std.specs.Option.{option_map}
@@ -23,7 +23,7 @@ first_parts (suc n) (part ∷ parts) = option_map (λ others. part ∷ others) (
 abbrev pub fields_of : ℕ → List ℕ → Option (List (List ℕ))
 fields_of n line = first_parts n (between_bars (without_cr line))
 
--- the parts of a line that end at some places, the first from a place on, and each next one behind the bar that ends the one before
+-- the parts of a line that end at some places, the first from a place on, and each next one after the bar that ends the one before
 abbrev pub parts_at : List ℕ → ℕ → List ℕ → List (List ℕ)
 parts_at line from [] = []
 parts_at line from (end ∷ ends) = slice_range line from end ∷ parts_at line (end + 1) ends
@@ -32,7 +32,7 @@ parts_at line from (end ∷ ends) = slice_range line from end ∷ parts_at line 
 abbrev pub bar_from : List ℕ → ℕ → ℕ
 bar_from text from = from + position_or_len (λ byte. byte == 124) (drop from text)
 
--- where the part at a place begins: at the front, or behind the bar that ends the part before
+-- where the part at a place begins: at the front, or after the bar that ends the part before
 abbrev pub start_of : List ℕ → ℕ → ℕ
 start_of ends zero = 0
 start_of ends (suc place) = slice_index ends place + 1

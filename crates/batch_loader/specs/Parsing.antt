@@ -30,7 +30,7 @@ ReadsFields place [] fields numbers = ⊤
 ReadsFields place (column ∷ columns) fields numbers =
     ReadsField column (text_in fields place) (slice_index numbers place) × ReadsFields (suc place) columns fields numbers
 
--- the same of columns whose numbers stand in a list of their own
+-- the same of columns whose numbers are in a list of their own
 abbrev pub ReadsEach : ℕ → List Column → List (List ℕ) → List ℕ → Type 0
 ReadsEach place [] fields numbers = ⊤
 ReadsEach place (column ∷ columns) fields [] = ⊥

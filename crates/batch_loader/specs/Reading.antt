@@ -51,12 +51,12 @@ NextGives old new (Ok None) = IsAllTaken old new
 NextGives old new (Ok (Some line)) = TakesNext old new line.now
 NextGives old new (Err fault) = (new.fault ≡ Some fault) × (old.fault ≡ None → RefusesNext old fault)
 
--- a row stands behind some rows
+-- a row comes after some rows
 abbrev pub PushesRow : {Row : Type 0} → Result Row Fault → List Row → List Row → Type 0
 PushesRow (Ok row) old new = new ≡ old ++ row ∷ []
 PushesRow (Err fault) old new = ⊥
 
--- the row of the next line stands behind some rows, or the text was at its end
+-- the row of the next line comes after some rows, or the text was at its end
 abbrev pub PushesNext : {Row : Type 0} → (ℕ → List ℕ → Result Row Fault) → Unread → Unread → List Row → List Row → Bool → Type 0
 PushesNext row old new before after true = TakesNext old new new.line × PushesRow (row (next_number old.number) new.line) before after
 PushesNext row old new before after false = IsAllTaken old new × (after ≡ before)

@@ -80,7 +80,7 @@ pub fn numbers_of<const N: usize>(
     Ok(numbers)
 }
 
-/// The number of a field that stands at a place from 0, if its column is one of numbers, and else 0.
+/// The number of the field at a place from 0, if its column is one of numbers, and else 0.
 #[inline(always)]
 fn read_field<const N: usize>(
     column: Column,

@@ -39,7 +39,7 @@ impl<'a, const N: usize> LineFields<'a, N> {
         self.in_place().number(place, limit)
     }
 
-    /// The same fields, where they stand.
+    /// The same fields, where they are.
     #[inline(always)]
     fn in_place(&self) -> FieldsInPlace<'a, '_, N>
         ensures { fields_at result ≡ texts_of self.now }
@@ -103,7 +103,7 @@ impl<'a, 'b, const N: usize> FieldsInPlace<'a, 'b, N> {
         number_between(self.line, self.start(place), self.ends[place], limit)
     }
 
-    /// The same, told sooner where the number has one digit or two.
+    /// The same, decided sooner where the number has one digit or two.
     #[inline(always)]
     pub(crate) fn few_digits(&self, place: usize, limit: u64) -> Option<u64>
         requires { place < N }

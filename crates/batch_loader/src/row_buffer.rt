@@ -4,7 +4,7 @@ ghost use Rattle.std.specs.Prelude.{◌≡◌, ◌<◌, ◌≤◌, ◌+◌, ◌+
 use cube_model::{Fault, Items};
 use std::marker::Model;
 
-/// Rows that are put over others, which are no longer needed, and behind them. Contracts see the rows that were put.
+/// Rows that are put over others, which are no longer needed, and after them. Contracts see the rows that were put.
 #[derive(Drop)]
 pub struct RowBuffer<T> {
     rows: Vec<T>,
@@ -32,7 +32,7 @@ impl<T> RowBuffer<T> {
         }
     }
 
-    /// Puts a row behind the others. It can only fail for want of memory.
+    /// Puts a row after the others. It can only fail for want of memory.
     pub fn push(&mut self, row: T) -> Result<(), Fault>
     where
         T: Drop,
@@ -56,7 +56,7 @@ impl<T> RowBuffer<T> {
     }
 }
 
-// Puts a row at a place, over the one there or behind the last.
+// Puts a row at a place, over the one there or after the last.
 #[tactic(auto, using(crate::proofs::RowBuffers::put_over, crate::proofs::RowBuffers::put_behind))]
 fn put<T: Drop>(rows: &mut Vec<T>, place: usize, row: T) -> Result<(), Fault>
     requires { place ≤ length rows.old.items }

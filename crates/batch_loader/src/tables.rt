@@ -129,7 +129,7 @@ fn read_rows<T: TableRow + Drop, R: Read>(
     Ok(rows.into_rows())
 }
 
-// Puts the row of the next line behind some rows. It gives false at the end of the text.
+// Puts the row of the next line after some rows. It gives false at the end of the text.
 fn push_row<T: TableRow + Drop, R: Read>(
     alloc: Global,
     lines: &mut Lines<R>,
@@ -149,7 +149,7 @@ fn push_row<T: TableRow + Drop, R: Read>(
     }
 }
 
-// Puts the row of a line with a number behind some rows.
+// Puts the row of a line with a number after some rows.
 fn push_line<T: TableRow + Drop>(
     alloc: Global,
     line: &[u8],

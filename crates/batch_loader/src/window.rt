@@ -92,7 +92,7 @@ pub fn line_at_front(window: &Window) -> usize
     }
 }
 
-/// Puts the bytes before the next LF behind a line, or all, and takes them and the LF. It gives true where there is an LF, and an error for a line that is too long.
+/// Puts the bytes before the next LF after a line, or all, and takes them and the LF. It gives true where there is an LF, and an error for a line that is too long.
 pub fn take_part(window: &mut Window, line: &mut Vec<u8>) -> Result<bool, ()>
     requires room { LINE_LIMIT ≤ vec_capacity line.old }
     requires short { length line.old.items ≤ LINE_LIMIT }

@@ -36,14 +36,14 @@ length-catalogue_of entries root =
       length-entries entries,
     )
 
--- the parts of a header, one behind the other
+-- the parts of a header, one after the other
 pub header_of-append : (entries root : ℕ) (rest : List ℕ)
     → header_of entries root ++ rest ≡ codes "CAT1" ++ (spelling 4 entries ++ (spelling 4 root ++ rest))
 header_of-append entries root rest =
     append_assoc (codes "CAT1") (spelling 4 entries ++ spelling 4 root) rest
     ∙ ap (λ (part : List ℕ). codes "CAT1" ++ part) (append_assoc (spelling 4 entries) (spelling 4 root) rest)
 
--- the parts of an entry, one behind the other
+-- the parts of an entry, one after the other
 pub entry_of-append : (entry : Entry) (rest : List ℕ)
     → entry_of entry ++ rest ≡ spelling 4 entry.id ++ (spelling 4 entry.first ++ (spelling 8 entry.bytes ++ rest))
 entry_of-append entry rest =

@@ -37,7 +37,7 @@ module _ (bytes mid : List ℕ) (count root_bytes : ℕ) (header : ReadsHeader b
       let same = header_is entries root is in
       (entries-one read entries rest root reads.fit is.proper.fit (reads.many ∙ same.0) (sym reads.spelled ∙ same.2)).0
 
-  -- the bytes behind the entries
+  -- the bytes after the entries
   pub root_left : (rest : List ℕ) (read : List Entry) → ReadsEntries count mid rest read → IsHeaderOf (length bytes) count root_bytes → length rest ≡ root_bytes
   root_left rest read reads proper =
       let all : length mid ≡ length (flat_map entry_of read) + length rest = ap length reads.spelled ∙ length-append (flat_map entry_of read) rest in

@@ -1,10 +1,10 @@
--- Fields that are written one behind the other. Our own.
+-- Fields that are written one after the other. Our own.
 use Rattle.std.proofs.Common.{◌≡◌, ℕ, ◌+◌, List, [], ◌++◌, length, drop, refl, sym, ap, ◌∙◌, arith, append_assoc, length-append, length-drop, append-nil}
 use Rattle.std.proofs.lemmas.List.{drop_all}
 use Rattle.wire.specs.Writing.{with_field}
 use Rattle.wire.proofs.CallerLemmas.{with_field-done}
 
--- a field behind those that are done
+-- a field after those that are done
 field_put : (at : ℕ) (done field rest old new : List ℕ) → length done ≡ at → old ≡ done ++ rest
     → new ≡ with_field at field old → new ≡ (done ++ field) ++ drop (length field) rest
 field_put at done field rest old new is_at was is =
@@ -13,7 +13,7 @@ field_put at done field rest old new is_at was is =
     ∙ with_field-done done field rest
     ∙ sym (append_assoc done field (drop (length field) rest))
 
--- three fields one behind the other, which fill the bytes
+-- three fields one after the other, which fill the bytes
 pub three_put : (a b c s0 s1 s2 s3 : List ℕ) (at1 at2 : ℕ) → length a ≡ at1 → at1 + length b ≡ at2 → length s0 ≡ at2 + length c
     → s1 ≡ with_field 0 a s0 → s2 ≡ with_field at1 b s1 → s3 ≡ with_field at2 c s2 → s3 ≡ a ++ (b ++ c)
 three_put a b c s0 s1 s2 s3 at1 at2 is1 is2 room put1 put2 put3 =

@@ -13,7 +13,7 @@ use Rattle.catalogue.specs.Catalogue.{FitsFields, entry_of, header_of}
 use Rattle.catalogue.specs.Reading.{ReadsEntries, ReadsEntry, ReadsHeader}
 use Rattle.catalogue.proofs.CallerLemmas.{header_of-append, length-header_of}
 
--- bytes that a comparison told apart, or found to be the same
+-- bytes that a comparison found to differ, or found to be the same
 pub told_apart : (a b : List ℕ) (r : Bool) → r ≡ not (bytes_eq a b) → r ≡ true → a ≡ b → ⊥
 told_apart a b r is differs same = let found : bytes_eq a b ≡ true = (bytes_eq-Decides a b).1 same in let no : r ≡ false = is ∙ ap not found in cc
 
@@ -43,7 +43,7 @@ header_read old r0 r1 new part entries root taken name one two = record {
   left = omega (arith, taken.left, one.left, two.left);
 }
 
--- one more entry was read, behind those before it
+-- one more entry was read, after those before it
 pub one_more : (count : ℕ) (old mid new : List ℕ) (entries after : List Entry) (entry : Entry) → ReadsEntries count old mid entries → ReadsEntry mid new entry
     → after ≡ entries ++ entry ∷ [] → ReadsEntries (count + 1) old new after
 one_more count old mid new entries after entry before one is = record {

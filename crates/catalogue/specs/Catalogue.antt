@@ -28,7 +28,7 @@ pub record IsProperEntry (entry : Entry) : Type 0 where
   pub least_bytes : 1 ≤ entry.bytes
   pub most_bytes : entry.bytes ≤ most_object_bytes
 
--- each id is below those behind it
+-- each id is below those after it
 abbrev pub AreAscending : List Entry → Type 0
 AreAscending entries = AllPairs (λ one other. one.id < other.id) entries
 

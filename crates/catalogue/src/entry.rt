@@ -1,9 +1,9 @@
-//! Where an object stands.
+//! Where an object is.
 ghost use Rattle.std.specs.Prelude.{◌↔◌, IsTrue};
 
 use wire::limits::MOST_OBJECT_BYTES;
 
-/// Where an object stands.
+/// Where an object is.
 #[derive(Clone, Copy, Debug, PartialEq, Eq)]
 pub struct Entry {
     /// The number of the object.

@@ -1,4 +1,4 @@
-//! The catalogue: where the objects of a store stand, and the root.
+//! The catalogue: where the objects of a store are, and the root.
 #![tactic(auto)]
 
 mod catalogue;

@@ -10,7 +10,7 @@ use std::alloc::Global;
 use wire::Cursor;
 use wire::limits::{MOST_OBJECTS, MOST_ROOT_BYTES};
 
-// What stands before the entries: how many there are, and how many bytes the root has.
+// What is before the entries: how many there are, and how many bytes the root has.
 #[derive(Clone, Copy)]
 pub(crate) struct Header {
     pub(crate) entries: u32,

@@ -1,4 +1,4 @@
--- A mask in blocks of 32 rows and what is behind them.
+-- A mask in blocks of 32 rows and what is after them.
 use Rattle.std.proofs.Common.{◌≡◌, ℕ, zero, suc, ◌+◌, ◌*◌, ◌^◌, ◌<◌, ◌≤◌, ◌==◌, Bool, true, false, cond, Some, List, [], ◌∷◌, ◌++◌, length, length-append, take, drop, get_or, slice_get, refl, sym, ap, ◌∙◌, arith, length-take-le, append-nil, append_assoc}
 use Rattle.std.proofs.Math.Seq.{take-add}
 use Rattle.std.proofs.lemmas.List.{take_more, take-append-drop, get_or_append_left, length-drop, length-take}
@@ -58,7 +58,7 @@ more_rest word i numbers lt =
     ∙ sum-append (selected (bits_of i word) (take i numbers)) (selected (bit ∷ []) (x ∷ []))
     ∙ ap (λ (n : ℕ). sum (selected (bits_of i word) (take i numbers)) + n) (one_selected bit x)
 
--- the blocks and what is behind them
+-- the blocks and what is after them
 pub whole_sum : (words : List ℕ) (rest n : ℕ) (numbers : List ℕ) → length numbers ≡ 32 * length words + n
     → sum (selected (flat_map (bits_of 32) words ++ bits_of n rest) numbers)
     ≡ sum (selected (flat_map (bits_of 32) words) (take (32 * length words) numbers)) + sum (selected (bits_of n rest) (drop (32 * length words) numbers))
@@ -114,7 +114,7 @@ words_of_blocks f (suc k) xs ys room other =
     ∙ ap (λ (l : List Bool). l ++ others) (bits_of-mask_l_at (zip2 f (take 32 xs) (take 32 ys)) 32 one)
     ∙ sym whole
 
--- the mask of two columns, from the words of their blocks and of what is behind them
+-- the mask of two columns, from the words of their blocks and of what is after them
 pub mask_of : (f : ℕ → ℕ → Bool) (k : ℕ) (xs ys : List ℕ) (words : List ℕ) (rest n : ℕ) → k * 32 ≤ length xs → length ys ≡ length xs
     → words ≡ zip2 (λ x y. mask_l (zip2 f x y)) (first_chunks 32 k xs) (first_chunks 32 k ys)
     → rest ≡ mask_l (zip2 f (drop (k * 32) xs) (drop (k * 32) ys)) → n ≡ length (drop (k * 32) xs)
@@ -158,7 +158,7 @@ get_block (word ∷ words) (suc block) i d tail lt in_block =
     ∙ slice_get_behind here (flat_map (bits_of 32) words ++ tail) (32 * block + i)
     ∙ get_block words block i d tail (omega (arith, lt)) in_block
 
--- a truth value of the rows behind the blocks
+-- a truth value of the rows after the blocks
 pub get_rest : (words : List ℕ) (rest n i : ℕ) → i < n
     → slice_get (flat_map (bits_of 32) words ++ bits_of n rest) (32 * length words + i) ≡ Some (bit_at rest i == 1)
 get_rest words rest n i lt =

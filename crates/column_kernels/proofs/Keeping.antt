@@ -91,7 +91,7 @@ take_whole zero (x ∷ numbers) long = absurd (omega (arith, long))
 take_whole (suc n) [] long = refl
 take_whole (suc n) (x ∷ numbers) long = ap (λ (l : List ℤ). x ∷ l) (take_whole n numbers (omega (arith, long)))
 
--- the blocks and what is behind them
+-- the blocks and what is after them
 pub kept_whole : (words : List ℕ) (rest n : ℕ) (numbers : List ℤ) → length numbers ≡ 32 * length words + n
     → selected (flat_map (bits_of 32) words) (take (32 * length words) numbers) ++ selected (bits_of n rest) (take n (drop (32 * length words) numbers))
     ≡ selected (flat_map (bits_of 32) words ++ bits_of n rest) numbers

@@ -1,4 +1,4 @@
--- The numbers of columns that stand as bytes, and what is made of two columns row by row. Our layout.
+-- The numbers of columns that are stored as bytes, and what is made of two columns row by row. Our layout.
 use Rattle.std.specs.Prelude.{ℕ, ℤ, pos, ◌*◌, ◌/◌, ◌%◌, ◌-ℤ◌, List, map}
 use Rattle.std.specs.Int.{from_le_bytes, w64}
 use Rattle.std.specs.Simd.Lanes.{zip2}

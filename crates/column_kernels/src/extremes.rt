@@ -82,7 +82,7 @@ impl Extremes {
         }
     }
 
-    // With one number more, if it is selected. It does not branch on that: the number is what stands already, if not.
+    // With one number more, if it is selected. It does not branch on that: the number is what was there already, if not.
     fn with_if(self, is_selected: bool, number: i128) -> Self
         ensures { result ≡ cond is_selected (kept_with self number) self }
     {
@@ -155,7 +155,7 @@ fn number_or(is_selected: bool, number: i128, other: i128) -> i128
     if is_selected { number } else { other }
 }
 
-// Whether two ends stand the wrong way round.
+// Whether two ends are the wrong way round.
 fn are_turned(least: i128, greatest: i128) -> bool
     ensures { IsTrue result ↔ (greatest <ℤ least) }
 {

@@ -1,4 +1,4 @@
-//! Columns of a batch as they stand in its bytes: checks, masks of rows, and sums, the least and the greatest of
+//! Columns of a batch as they are in its bytes: checks, masks of rows, and sums, the least and the greatest of
 //! the selected rows.
 #![tactic(auto)]
 

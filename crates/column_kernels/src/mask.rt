@@ -19,7 +19,7 @@ use std::marker::Model;
 pub struct Mask {
     // a bit a row of each whole block of 32 rows, the first row's the lowest
     words: Vec<u32>,
-    // the bits of the rows behind the last whole block
+    // the bits of the rows after the last whole block
     rest: u32,
     rest_rows: u32,
 }
@@ -90,7 +90,7 @@ impl Mask {
     }
 
     /// The truth values as bits: a word for each whole block of 32 rows, the first row's bit the lowest, then the bits
-    /// of the rows behind them, and how many rows those are, fewer than 32. No other bit is set.
+    /// of the rows after them, and how many rows those are, fewer than 32. No other bit is set.
     pub fn words(&self) -> (&[u32], u32, u32)
         ensures bits { self.now ≡ flat_map (bits_of 32) result.0.now ++ bits_of result.2 result.1 }
         ensures rest { (result.2 < 32) × (result.1 < 2 ^ result.2) }
@@ -233,7 +233,7 @@ fn sum_of_blocks<C: Column>(words: &[u32], column: &C) -> u128
     sum
 }
 
-// The sum over the selected ones of the rows behind some whole blocks.
+// The sum over the selected ones of the rows after some whole blocks.
 fn sum_of_rest<C: Column>(blocks: usize, word: u32, rows: u32, column: &C) -> u128
     requires rows { length (C.numbers column.now) ≡ 32 * blocks + rows }
     requires few { (blocks ≤ 2048) × (rows < 32) }

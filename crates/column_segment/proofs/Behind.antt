@@ -1,4 +1,4 @@
--- Parts that are written one behind the other. Our own.
+-- Parts that are written one after the other. Our own.
 use Rattle.std.proofs.Common.{◌≡◌, ◌∙◌, sym, ap, ℕ, List, [], ◌∷◌, ◌++◌, length, append_assoc, append-nil}
 use Rattle.std.specs.List.{flat_map}
 use Rattle.std.proofs.lemmas.Grind.{flat_map-append}
@@ -6,7 +6,7 @@ use Rattle.cube_model.specs.declared.rows.LineOrder.{LineOrder}
 use Rattle.column_segment.specs.Columns.{figure_columns, key_columns, number_columns, text_columns}
 use Rattle.column_segment.specs.Segment.{header_of, number_column, segment_of, text_column}
 
--- a part behind others is a part behind their start
+-- a part after others is a part after their start
 pub then_part : (s0 s1 s2 front part : List ℕ) → s1 ≡ s0 ++ front → s2 ≡ s1 ++ part → s2 ≡ s0 ++ (front ++ part)
 then_part s0 s1 s2 front part first second = second ∙ ap (λ (l : List ℕ). l ++ part) first ∙ append_assoc s0 front part
 

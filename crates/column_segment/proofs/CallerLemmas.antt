@@ -207,7 +207,7 @@ rows-one (one ∷ rows) (other ∷ others) many same texts =
 
 -- ---- the whole
 
--- the name, the number and how many rows, one behind the other
+-- the name, the number and how many rows, one after the other
 pub header-append : (n c : ℕ) (rest : List ℕ) → header_of n c ++ rest ≡ codes "SEG1" ++ (spelling 4 n ++ (spelling 4 c ++ rest))
 header-append n c rest = append_assoc (codes "SEG1") (spelling 4 n ++ spelling 4 c) rest ∙ ap (λ (part : List ℕ). codes "SEG1" ++ part) (append_assoc (spelling 4 n) (spelling 4 c) rest)
 

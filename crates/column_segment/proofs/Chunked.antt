@@ -1,4 +1,4 @@
--- Numbers of one width, one behind the other, cut into chunks and read back. Our own.
+-- Numbers of one width, one after the other, cut into chunks and read back. Our own.
 use Rattle.std.proofs.Common.{◌≡◌, ℕ, zero, suc, ◌+◌, ◌*◌, ◌^◌, ◌<◌, ◌≤◌, List, [], ◌∷◌, ◌++◌, length, map, take, drop, slice_index, refl, sym, ap, subst, ◌∙◌, arith, append_assoc, length-append, length-drop, ◌%◌}
 use Rattle.std.specs.Int.{from_le_bytes, w16, w32, w64}
 use Rattle.std.specs.List.{AllByRecursion, flat_map}

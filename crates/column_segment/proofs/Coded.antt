@@ -49,7 +49,7 @@ texts_short column rows texts codes are short few =
     let proper = AreProper-firsts most_batch_rows (map (text_of column) rows) shorts (omega (arith, count, length-map rows (text_of column))) in
     subst AreShort (sym are.texts_are) proper.short
 
--- the dictionary and the codes, one behind the other, are the column
+-- the dictionary and the codes, one after the other, are the column
 pub column_put : (column : List (List ℕ)) (texts : Texts) (codes s0 s1 s2 : List ℕ) → AreCoded column texts codes → s1 ≡ s0 ++ texts_spelling texts.texts
     → s2 ≡ s1 ++ codes → s2 ≡ s0 ++ column_spelling column
 column_put column texts codes s0 s1 s2 are first second =

@@ -39,7 +39,7 @@ one_room column rows coding are few = record {
   limit = omega (arith, are.limit);
 }
 
--- behind fewer rows than a batch may have there is room for one more
+-- after fewer rows than a batch may have there is room for one more
 pub room_left : (rows : List LineOrder) (texts : Texts) → HaveTexts rows texts → length rows < most_batch_rows → HaveRoom texts
 room_left rows texts have few = record {
   orderpriority = one_room OrderPriority rows texts.orderpriority have.orderpriority few;
@@ -48,13 +48,13 @@ room_left rows texts have few = record {
   shipmode = one_room ShipMode rows texts.shipmode have.shipmode few;
 }
 
--- so many of further rows behind the rows before them
+-- so many of further rows after the rows before them
 pub length_behind : (before rows : List LineOrder) (i : ℕ) → i ≤ length rows → length (before ++ take i rows) ≡ length before + i
 length_behind before rows i le = length-append before (take i rows) ∙ ap (λ (n : ℕ). length before + n) (length-take-le i rows le)
 
 -- ---- pieces of rows
 
--- the bytes of a piece behind those of the rows before
+-- the bytes of a piece after those of the rows before
 pub chunks_behind : (column : Column) (before piece : List LineOrder) (old new : List (List ℕ)) → old ≡ number_chunks column before → new ≡ old ++ number_chunks column piece
     → new ≡ number_chunks column (before ++ piece)
 chunks_behind column before piece old new are put =

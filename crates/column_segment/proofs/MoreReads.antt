@@ -1,4 +1,4 @@
--- Columns that are read one behind the other. Our own.
+-- Columns that are read one after the other. Our own.
 use Rattle.std.proofs.Common.{◌≡◌, ◌⊎◌, ℕ, zero, suc, ◌<◌, List, [], ◌∷◌, Result, Ok, Err, inl, inr, get_or, length, take, sym, ap, subst, ◌∙◌, arith}
 use Rattle.std.specs.List.{AllByRecursion}
 use Rattle.std.specs.Result.{IsErrAnd, IsErrOf, MatchResult}
@@ -19,7 +19,7 @@ module _ {S : Type 0} (g : Ghosts S) (join : (a b c : S) → g.reads a b → g.r
   ends_behind fault (inl bad) = inl (bad.0, HasRead-then g join old mid new read bad.1)
   ends_behind fault (inr refused) = inr (IsRefused-later g later fault old mid new read refused)
 
-  -- a refusal behind reads, handed on
+  -- a refusal after reads, handed on
   pub ends_later : {T : Type 0} (result : Result T Fault) (fault : Fault) → IsErrAnd result (λ own. own ≡ fault) → Ends g mid new fault → MatchResult result (λ _. HasRead g old new) (Ends g old new)
   ends_later (Ok value) fault is ends = absurd is
   ends_later (Err own) fault is ends = subst (λ (f : Fault). Ends g old new f) (sym is) (ends_behind fault ends)

@@ -30,7 +30,7 @@ item_same at count xs ys same place below =
     sym (get_or-drop at xs place 0) ∙ sym (get_or-take count (drop at xs) place 0 below) ∙ ap (λ (l : List ℕ). slice_index l place) same
     ∙ get_or-take count (drop at ys) place 0 below ∙ get_or-drop at ys place 0
 
--- before, behind or within
+-- before, after or within
 abbrev Side : ℕ → ℕ → ℕ → Type 0
 Side at count place = (place < at) ⊎ ((at + count ≤ place) ⊎ ((k : ℕ) × ((k < count) × (at + k ≡ place))))
 
@@ -45,7 +45,7 @@ side at count place = by (nat_lt place at) refl
     by true is = inl (ltb-true place at is)
     by false is = within (ltb-false place at is) (nat_lt place (at + count)) refl
 
--- ---- where columns stand
+-- ---- where columns are
 
 pub column_place : (column : FactColumn) → place_of column + width_of column ≤ 63
 column_place (Amount OrderKey) = omega arith

@@ -34,7 +34,7 @@ pub length-header : (number rows : ℕ) → length (header_of number rows) ≡ 1
 length-header number rows =
     omega (arith, length-append (codes "SEG1") (spelling 4 number ++ spelling 4 rows), length-append (spelling 4 number) (spelling 4 rows), length-spelling 4 number, length-spelling 4 rows)
 
--- a header stands before what is left behind twelve bytes
+-- a header is before what is left after twelve bytes
 pub header_stands : (text rest : List ℕ) (number rows : ℕ) → text ≡ header_of number rows ++ rest → drop 12 text ≡ rest
 header_stands text rest number rows is = ap (drop 12) is ∙ drop_at (header_of number rows) rest 12 (length-header number rows)
 
@@ -191,7 +191,7 @@ no_codes n count bytes left texts few read count_is none = λ column rest many s
           (subst (AreCodes (length (firsts column))) (sym found) laws.0);
     })
 
--- what is left behind a part, by how long it is
+-- what is left after a part, by how long it is
 pub left_at : (text front left : List ℕ) (from : ℕ) → from ≤ length text → drop from text ≡ front ++ left → left ≡ drop (length text - length left) text
 left_at text front left from within is =
     let whole : length text - from ≡ length front + length left = sym (length-drop from text) ∙ ap length is ∙ length-append front left in
@@ -201,7 +201,7 @@ left_at text front left from within is =
 pub within_left : (text : List ℕ) (from : ℕ) (left front : List ℕ) → drop from text ≡ front ++ left → length left ≤ length text
 within_left text from left front is = omega (arith, ap length is, length-append front left, length-drop from text)
 
--- the column that was read is the one that stands there
+-- the column that was read is the one that is there
 column_one : (text : List ℕ) (n from : ℕ) (coded : Coded) (column : List (List ℕ)) (rest : List ℕ) → AreBytes text → HasColumn text n from coded → n ≤ most_batch_rows → length column ≡ n → AreShort column
     → drop from text ≡ column_spelling column ++ rest → drop (coded.at + 2 * n) text ≡ rest
 column_one text n from coded column rest are read few many short is =

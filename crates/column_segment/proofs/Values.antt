@@ -1,4 +1,4 @@
--- What the rows of a batch have in each column, as it stands in the bytes. Our own.
+-- What the rows of a batch have in each column, as it is in the bytes. Our own.
 use Rattle.std.proofs.Common.{◌≡◌, ℕ, ◌+◌, ◌*◌, ◌^◌, ◌<◌, ◌≤◌, List, [], length, map, take, drop, slice_index, slice_index_or, All, refl, sym, ap, subst, ◌∙◌, arith, length-drop}
 use Rattle.std.specs.Int.{from_le_bytes, w16, w32, w64}
 use Rattle.std.specs.List.{AllByRecursion, flat_map, range_with_len}

@@ -26,7 +26,7 @@ use Rattle.column_segment.specs.Segment.{FitColumns, header_of, number_column, t
 use Rattle.column_segment.proofs.Chunked.{AreBytes, AreBytes-drop, AreBytes-take, back_2, chunks_back, length-read}
 use Rattle.column_segment.proofs.Values.{All-unmap, amounts_fit, amounts_stand, bytes_fit, bytes_stand, numbers_fit, numbers_stand, rows_many, text_values}
 
--- ---- columns of numbers, one behind the other
+-- ---- columns of numbers, one after the other
 
 abbrev pub total : List Column → ℕ
 total [] = 0
@@ -124,7 +124,7 @@ module _ (text : List ℕ) (n from : ℕ) (coded : Coded) (are : AreBytes text) 
       (length-take-le (2 * n) (drop coded.at text) (omega (arith, column.room, length-drop coded.at text)))
       (AreBytes-take (2 * n) (drop coded.at text) (AreBytes-drop coded.at text are))
 
-  -- what stands from there on is the column, and what stands behind its codes
+  -- what is from there on is the column, and what is after its codes
   pub column_stands : drop from text ≡ column_spelling (texts_in text n coded) ++ drop (coded.at + 2 * n) text
   column_stands =
       let laws = one_column coded.texts.texts (codes_in text n coded.at) column.proper.each_once column.are in

@@ -1,4 +1,4 @@
--- The columns of a batch of fact rows: which value of a row stands in each. Our layout.
+-- The columns of a batch of fact rows: which value of a row is in each. Our layout.
 use Rattle.std.specs.Prelude.{ℕ, ◌<◌, ◌^◌, List, [], ◌∷◌, ◌++◌}
 use Rattle.cube_model.specs.declared.rows.LineOrder.{LineOrder}
 use Rattle.column_segment.specs.declared.columns.AmountColumn.{AmountColumn}

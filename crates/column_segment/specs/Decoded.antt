@@ -19,7 +19,7 @@ use Rattle.column_segment.specs.declared.layout.CodedTexts.{CodedTexts}
 use Rattle.column_segment.specs.declared.layout.Layout.{Layout}
 use Rattle.column_segment.specs.Segment.{IsSegment}
 
--- how many bytes of a row stand in the columns before one
+-- how many bytes of a row are in the columns before one
 abbrev pub amount_place : AmountColumn → ℕ
 amount_place OrderKey = 0
 amount_place ExtendedPrice = 29
@@ -39,7 +39,7 @@ byte_place Quantity = 28
 byte_place Discount = 45
 byte_place Tax = 62
 
--- the bytes of a column of so many bytes a row, behind the header and the columns before it
+-- the bytes of a column of so many bytes a row, after the header and the columns before it
 abbrev pub column_bytes : ℕ → ℕ → ℕ → List ℕ → List ℕ
 column_bytes place width rows bytes = take (width * rows) (drop (place * rows) (drop 12 bytes))
 
@@ -66,7 +66,7 @@ coded_of ShipPriority texts = texts.shippriority
 coded_of CommitDate texts = texts.commitdate
 coded_of ShipMode texts = texts.shipmode
 
--- a row: what stands at its place in each column
+-- a row: what is at its place in each column
 abbrev pub row_in : List ℕ → Layout → ℕ → LineOrder
 row_in bytes layout row =
     let rows = layout.rows in

@@ -23,7 +23,7 @@ pub record AgreeOn (columns : List FactColumn) (rows others : List LineOrder) : 
   pub count : length rows ≡ length others
   pub each : AllByRecursion (λ column. map (value_of column) rows ≡ map (value_of column) others) columns
 
--- how many bytes of a row stand in the columns before one, and in it
+-- how many bytes of a row are in the columns before one, and in it
 abbrev pub place_of : FactColumn → ℕ
 place_of (Amount column) = amount_place column
 place_of (Number column) = number_place column
@@ -39,13 +39,13 @@ abbrev pub ShareColumn : ℕ → List ℕ → List ℕ → FactColumn → Type 0
 ShareColumn rows bytes others column =
     column_bytes (place_of column) (width_of column) rows bytes ≡ column_bytes (place_of column) (width_of column) rows others
 
--- what stands outside of so many bytes from a place on stays
+-- what is outside of so many bytes from a place on stays
 pub record StaysOutside (at count : ℕ) (old new : List ℕ) : Type 0 where
   pub long : length new ≡ length old
   pub front : (place : ℕ) → place < at → slice_index new place ≡ slice_index old place
   pub back : (place : ℕ) → at + count ≤ place → slice_index new place ≡ slice_index old place
 
--- a text begins with the header of a batch, and has room behind it for the columns of numbers
+-- a text begins with the header of a batch, and has room after it for the columns of numbers
 pub record HasColumns (text : List ℕ) (number rows : ℕ) : Type 0 where
   pub header : HasHeader text number rows
   pub room : 12 + 63 * rows ≤ length text

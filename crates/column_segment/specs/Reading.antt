@@ -32,14 +32,14 @@ pub record BeginsWithCodes (bytes : List ℕ) (rows count : ℕ) : Type 0 where
   pub room : 2 * rows ≤ length bytes
   pub are : AreCodes count (map (from_le_bytes w16) (first_chunks 2 rows (take (2 * rows) bytes)))
 
--- a column of texts stands from a place on: its dictionary, then its codes
+-- a column of texts begins at a place: its dictionary, then its codes
 pub record HasColumn (bytes : List ℕ) (rows from : ℕ) (coded : Coded) : Type 0 where
   pub proper : AreProper most_batch_rows coded.texts.texts
   pub room : coded.at + 2 * rows ≤ length bytes
   pub are : AreCodes (length coded.texts.texts) (codes_in bytes rows coded.at)
   pub spelled : drop from bytes ≡ texts_spelling coded.texts.texts ++ drop coded.at bytes
 
--- the columns of texts stand one behind the other, up to the end
+-- the columns of texts come one after the other, up to the end
 pub record HasTexts (bytes : List ℕ) (rows : ℕ) (texts : CodedTexts) : Type 0 where
   pub orderpriority : HasColumn bytes rows (12 + 63 * rows) texts.orderpriority
   pub shippriority : HasColumn bytes rows (texts.orderpriority.at + 2 * rows) texts.shippriority
@@ -60,7 +60,7 @@ SpellNone columns count bytes = (rows : List LineOrder) → length rows ≡ coun
 abbrev pub SpellNoTexts : ℕ → List ℕ → Type 0
 SpellNoTexts count bytes = SpellNone text_columns count bytes
 
--- the last two columns of texts stand from a place on, up to the end
+-- the last two columns of texts begin at a place and fill the rest
 pub record HasLast (bytes : List ℕ) (rows from : ℕ) (date mode : Coded) : Type 0 where
   pub commitdate : HasColumn bytes rows from date
   pub shipmode : HasColumn bytes rows (date.at + 2 * rows) mode

@@ -1,4 +1,4 @@
--- How a batch of fact rows stands on disk: whole columns, one after the other. Our layout.
+-- How a batch of fact rows is stored on disk: whole columns, one after the other. Our layout.
 use Rattle.std.specs.Prelude.{◌≡◌, Option, Some, ℕ, ◌<◌, ◌≤◌, ◌^◌, List, ◌++◌, length, codes, map, All}
 use Rattle.std.specs.List.{AllByRecursion, flat_map}
 use Rattle.cube_model.specs.Limits.{longest_text, most_batch_rows}

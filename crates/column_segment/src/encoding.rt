@@ -78,7 +78,7 @@ impl BatchColumns {
         })
     }
 
-    /// Adds rows behind those before, with which they are at most 65,536. It can only fail for want of memory.
+    /// Adds rows after those before, with which they are at most 65,536. It can only fail for want of memory.
     pub fn push(&mut self, alloc: Global, rows: &[LineOrder]) -> Result<(), Fault>
         requires few { HaveFew (length rows.now) self.old }
         ensures ok { OnOk result ((before : List LineOrder) → HaveRows before self.old → HaveRows (before ++ rows.now) self.new) }

@@ -1,4 +1,4 @@
-//! Where the columns of a batch stand in its bytes.
+//! Where the columns of a batch are in its bytes.
 ghost use Rattle.std.specs.Prelude.{◌≡◌, ◌+◌, ◌*◌, ◌≤◌, length, map};
 ghost use Rattle.std.specs.Int.{from_le_bytes, w16};
 ghost use Rattle.std.specs.Simd.{first_chunks};
@@ -10,7 +10,7 @@ use crate::columns::{AmountColumn, ByteColumn, FactColumn, NumberColumn, TextCol
 use dictionary::Dictionary;
 use std::alloc::Global;
 
-/// How many bytes stand before the columns: the name, the batch's number, how many rows.
+/// How many bytes are before the columns: the name, the batch's number, how many rows.
 pub(crate) const HEADER_BYTES: usize = 12;
 
 /// How many bytes a row takes in the columns of numbers.
@@ -141,7 +141,7 @@ pub(crate) fn code_chunks(bytes: &[u8], rows: usize, at: usize) -> &[[u8; 2]]
     bytes.split_at(at).1.split_at(2 * rows).0.as_chunks::<2>().0
 }
 
-// The bytes of a column of so many bytes a row, behind those of the columns before it.
+// The bytes of a column of so many bytes a row, after those of the columns before it.
 fn part(bytes: &[u8], rows: usize, place: usize, width: usize) -> &[u8]
     requires few { rows ≤ most_batch_rows }
     requires within { place + width ≤ 63 }
@@ -153,7 +153,7 @@ fn part(bytes: &[u8], rows: usize, place: usize, width: usize) -> &[u8]
     columns.split_at(place * rows).1.split_at(width * rows).0
 }
 
-/// How many bytes of a row stand in the columns before one.
+/// How many bytes of a row are in the columns before one.
 pub(crate) fn place_of(column: FactColumn) -> usize
     ensures value { result ≡ place_of column }
     ensures within { result + width_of column ≤ 63 }
@@ -165,7 +165,7 @@ pub(crate) fn place_of(column: FactColumn) -> usize
     }
 }
 
-/// How many bytes of a row stand in a column.
+/// How many bytes of a row are in a column.
 pub(crate) fn width_of(column: FactColumn) -> usize
     ensures { result ≡ width_of column }
 {
@@ -176,7 +176,7 @@ pub(crate) fn width_of(column: FactColumn) -> usize
     }
 }
 
-// How many bytes of a row stand in the columns before one of amounts.
+// How many bytes of a row are in the columns before one of amounts.
 fn amount_place(column: AmountColumn) -> usize
     ensures value { result ≡ amount_place column }
     ensures within { result + 8 ≤ 63 }

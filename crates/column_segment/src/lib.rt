@@ -1,4 +1,4 @@
-//! A batch of fact rows as columns, and how it stands on disk.
+//! A batch of fact rows as columns, and how it is stored on disk.
 #![tactic(auto)]
 
 mod batch;

@@ -51,7 +51,7 @@ pub(crate) fn read_columns<S: Source>(
     Ok(())
 }
 
-/// A batch whose columns stand in bytes agrees in them with the rows there. It does nothing.
+/// A batch whose columns are in bytes agrees in them with the rows there. It does nothing.
 pub(crate) fn columns_agree(bytes: &[u8], layout: &Layout)
     requires { HoldsColumns bytes.now layout.now.rows }
     ensures { (text : List ℕ) (number other : ℕ) (others : List LineOrder) (columns : List FactColumn) → HasColumns text number layout.now.rows
@@ -119,7 +119,7 @@ fn has_room<S: Source>(source: &S, id: u32, rows: usize) -> bool
     }
 }
 
-// Whether a source has at an id the header of a batch of a number and of so many rows, and room behind it for the columns
+// Whether a source has at an id the header of a batch of a number and of so many rows, and room after it for the columns
 // of numbers.
 fn has_columns<S: Source>(source: &mut S, id: u32, number: u32, rows: usize) -> Result<bool, Fault>
     requires few { rows ≤ most_batch_rows }

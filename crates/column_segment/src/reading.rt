@@ -44,7 +44,7 @@ pub(crate) fn read_layout(alloc: Global, bytes: &[u8]) -> Result<Layout, Fault>
     })
 }
 
-// What stands before the columns.
+// What is before the columns.
 pub(crate) fn read_header(bytes: &[u8]) -> Result<Header, Fault>
     ensures ok { IfOk result (λ header. HasHeader bytes.now header.number header.rows) }
     ensures fault { IsOkUnless result Fault.BadLayout }
@@ -86,7 +86,7 @@ pub(crate) fn fits(bytes: &[u8], rows: usize, column: AmountColumn) -> bool
     are_amounts(amount_chunks(bytes, rows, column))
 }
 
-// Where the columns of texts stand, which end with the bytes.
+// Where the columns of texts are, which end with the bytes.
 fn read_texts(alloc: Global, bytes: &[u8], rows: usize) -> Result<CodedTexts, Fault>
     requires few { rows ≤ most_batch_rows }
     requires room { 12 + 63 * rows ≤ length bytes.now }
@@ -106,7 +106,7 @@ fn read_texts(alloc: Global, bytes: &[u8], rows: usize) -> Result<CodedTexts, Fa
     })
 }
 
-// Where the first two of them stand.
+// Where the first two of them are.
 fn read_first_two(alloc: Global, bytes: &[u8], rows: usize) -> Result<(Coded, Coded), Fault>
     requires few { rows ≤ most_batch_rows }
     requires room { 12 + 63 * rows ≤ length bytes.now }
@@ -119,7 +119,7 @@ fn read_first_two(alloc: Global, bytes: &[u8], rows: usize) -> Result<(Coded, Co
     Ok((orderpriority, shippriority))
 }
 
-// Where the last two of them stand, which begin at a place and end with the bytes.
+// Where the last two of them are, which begin at a place and end with the bytes.
 fn read_last_two(
     alloc: Global,
     bytes: &[u8],
@@ -140,7 +140,7 @@ fn read_last_two(
     Ok((commitdate, shipmode))
 }
 
-// Where a column of texts stands that begins at a place.
+// Where a column of texts is that begins at a place.
 fn read_column(alloc: Global, bytes: &[u8], from: usize, rows: usize) -> Result<Coded, Fault>
     requires few { rows ≤ most_batch_rows }
     requires within { from ≤ length bytes.now }

@@ -105,7 +105,7 @@ impl Segment {
         FactColumns::of(&self.bytes, &self.layout)
     }
 
-    /// A column of texts: the texts that stand in it, and for each row the code of its text, which is a place among them, in
+    /// A column of texts: the texts that are in it, and for each row the code of its text, which is a place among them, in
     /// two bytes, the lowest first.
     pub fn coded(&self, column: TextColumn) -> (&Dictionary, &[[u8; 2]])
         ensures below { All (λ code. code < length result.0.now.texts) (map (from_le_bytes w16) result.1.now) }

@@ -14,7 +14,7 @@ use std::os::unix::fs::FileExt;
 use std::rt::Files;
 use warehouse::Session;
 
-/// The device of a warehouse: a file behind a cache.
+/// The device of a warehouse: a file with a cache.
 pub type Device<F> = Cached<FileDisk<Host<F>, Unread>>;
 
 /// The sectors that the cache has room for, 512 KiB.
@@ -140,7 +140,7 @@ where
     session_on(rt.alloc(), disk, Access::Read)
 }
 
-// Opens the warehouse on a disk, behind a cache. Where it is only read, an upkeep that was cut off stays so.
+// Opens the warehouse on a disk, with a cache. Where it is only read, an upkeep that was cut off stays so.
 fn session_on<F: FileExt + OpenFile + Drop>(
     alloc: Global,
     disk: FileDisk<Host<F>, Unread>,

@@ -1,4 +1,4 @@
-//! The statuses that the program ends with, beside 1 of a refusal.
+//! The statuses that the program ends with, other than 1 of a refusal.
 
 /// The command was done.
 pub const DONE: u8 = 0;

@@ -6,7 +6,7 @@ use cube_model::Fault;
 use std::alloc::Global;
 use std::io::{self, BufWriter, ErrorKind, Printer};
 
-/// Standard output behind a buffer, with why a write to it failed.
+/// Standard output with a buffer, with why a write to it failed.
 pub type Output<'r, R> = Watched<BufWriter<Printer<'r, R>>>;
 
 /// Standard output, of which no write has failed yet.

@@ -12,7 +12,7 @@ use std::io;
 use std::rt::Files;
 use table_hints::{load_hint, table_hint};
 
-/// A fault, and a line in plain words behind it where the program knows more.
+/// A fault, and a line in plain words after it where the program knows more.
 #[derive(Drop)]
 pub struct Refusal {
     pub fault: Fault,

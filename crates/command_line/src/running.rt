@@ -17,7 +17,7 @@ use std::rt::{Clock, Files};
 use warehouse_jobs::Job;
 
 /// Does what words say, of which the first is the program's name, and gives the status to end with: 0 done, 1 refused, 2 no
-/// command. The report goes to standard output, and a refusal to standard error: its fault, and behind it what is known of it.
+/// command. The report goes to standard output, and a refusal to standard error: its fault, and after it what is known of it.
 ///
 /// It fails where standard error cannot be written.
 pub fn run<R: Files + AllocGlobal + Print + Eprint + Clock + Input>(

@@ -103,7 +103,7 @@ few_tested n limit = (few n limit, tested n limit)
     tested : (n limit : ℕ) → n ≤ limit → nat_lt limit n ≡ false
     tested n limit h = grind (arith, nat_tests)
 
--- facts of each row behind the earlier ones
+-- facts of each row after the earlier ones
 
 module _ {Row : Type 0} where
   abbrev Each : (List Row → Row → Type 0) → List Row → List Row → Type 0

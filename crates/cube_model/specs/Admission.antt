@@ -73,7 +73,7 @@ sums_cause rows = first_cause (
 abbrev pub all_rows : List (List LineOrder) → List LineOrder
 all_rows batches = flat_map (λ batch. batch) batches
 
--- the first cause for which a batch with a number is refused behind earlier batches
+-- the first cause for which a batch with a number is refused after earlier batches
 abbrev pub refusal : DimRows → List (List LineOrder) → ℕ → List LineOrder → Option Fault
 refusal dimensions batches number rows = first_cause (
     cause_if (nat_le number (length batches)) Repeated

@@ -1,4 +1,4 @@
--- The numbers of the faults, which stand in each printed line. Our own.
+-- The numbers of the faults, which are in each printed line. Our own.
 use Rattle.std.specs.Prelude.{ℕ}
 use Rattle.cube_model.specs.declared.fault.Fault.{Fault}
 use Rattle.cube_model.specs.declared.fault.Fault.TheVariants.{Memory, Device, Failed, Full, NotFormatted, AlreadyFormatted, BadLayout, DeviceSize, FieldCount, BadNumber, FieldTooLong, DuplicateKey, HierarchyBroken, ReservedMember, UnknownCustomer, UnknownSupplier, UnknownPart, UnknownDate, SumRange, TooManyRows, TooManyBatches, Repeated, Gap, BadQuery, NoSuchPrefix, TooManyCells, TooManyMembers, Worn, Input, Output, NotRunning}

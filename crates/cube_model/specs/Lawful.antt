@@ -56,7 +56,7 @@ abbrev pub EachPair : {X : Type 0} → (X → X → Type 0) → List X → Type 
 EachPair R [] = Unit {0}
 EachPair R (x ∷ xs) = AllByRecursion (R x) xs × EachPair R xs
 
--- The rows of a dimension keep its rules, each rule by itself: few rows, keys that differ, no text that stands for all
+-- The rows of a dimension keep its rules, each rule by itself: few rows, keys that differ, no text that means all
 -- members, few members of each kind, and no text that determines two others.
 pub record KeepsRules {Row : Type 0} (rules : Rules Row) (rows : List Row) : Type 0 where
   pub few_rows : length rows ≤ rules.row_limit

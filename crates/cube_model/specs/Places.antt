@@ -1,4 +1,4 @@
--- Where the rows of a dimension stand, and what an attribute is at each place. Our own: fast answers work with places.
+-- Where the rows of a dimension are, and what an attribute is at each place. Our own: fast answers work with places.
 use Rattle.std.specs.Prelude.{ℕ, ◌==◌, List, [], map, length, slice_index_or}
 use Rattle.std.specs.List.{position_or_len}
 use Rattle.std.specs.Fmt.{decimal}
@@ -40,7 +40,7 @@ texts_of dimensions DateYear = map (λ row. row.year) dimensions.dates
 texts_of dimensions DateYearmonth = map (λ row. row.yearmonth) dimensions.dates
 texts_of dimensions DateWeeknuminyear = map (λ row. row.weeknuminyear) dimensions.dates
 
--- an attribute at a place, and no text behind the last
+-- an attribute at a place, and no text after the last
 abbrev pub text_at : DimRows → Attr → ℕ → List ℕ
 text_at dimensions attr place = slice_index_or (texts_of dimensions attr) place []
 

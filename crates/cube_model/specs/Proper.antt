@@ -10,7 +10,7 @@ use Rattle.cube_model.specs.declared.query.Order.{Order}
 use Rattle.cube_model.specs.declared.query.Query.{Query}
 use Rattle.cube_model.specs.Limits.{most_aggregates, most_columns, most_conditions, most_listed_texts}
 
--- no column stands twice
+-- no column occurs twice
 abbrev pub IsFreeOfRepeats : List Attr → Type 0
 IsFreeOfRepeats [] = Unit {0}
 IsFreeOfRepeats (column ∷ columns) = (Contains columns column → ⊥) × IsFreeOfRepeats columns

@@ -73,7 +73,7 @@ module _ {Row : Type 0} (rules : Rules Row) where
   abbrev pub repeats_key : List Row → Row → Bool
   repeats_key earlier row = list_any (λ other. rules.key other == rules.key row) earlier
 
-  -- a member is the text that stands for all members
+  -- a member is the text that means all members
   abbrev pub names_all : Row → Bool
   names_all row = list_any (λ text. bytes_eq (codes "ALL") (text row)) rules.texts
 
@@ -86,7 +86,7 @@ module _ {Row : Type 0} (rules : Rules Row) where
   breaks_link earlier row =
       list_any (λ link. list_any (λ other. bytes_eq (link.0 other) (link.0 row) && not (bytes_eq (link.1 other) (link.1 row))) earlier) rules.links
 
-  -- the first cause to refuse a row behind earlier ones. Rows count from 1
+  -- the first cause to refuse a row after earlier ones. Rows count from 1
   abbrev pub row_cause : List Row → Row → Option Fault
   row_cause earlier row = first_cause (
       cause_if (repeats_key earlier row) (DuplicateKey rules.axis (length earlier + 1))
@@ -94,7 +94,7 @@ module _ {Row : Type 0} (rules : Rules Row) where
       ∷ cause_if (overflows earlier row) (TooManyMembers rules.axis (length earlier + 1))
       ∷ cause_if (breaks_link earlier row) (HierarchyBroken rules.axis (length earlier + 1)) ∷ [])
 
-  -- the first cause to refuse one of the rows that are left, behind earlier ones
+  -- the first cause to refuse one of the rows that are left, after earlier ones
   abbrev pub rows_cause : List Row → List Row → Option Fault
   rows_cause earlier [] = None
   rows_cause earlier (row ∷ rows) = first_cause (row_cause earlier row ∷ rows_cause (earlier ++ row ∷ []) rows ∷ [])

@@ -8,7 +8,7 @@ use std::alloc::{AllocError, AllocFailed};
 use std::fmt;
 use thiserror::Error;
 
-/// Where a text stands: in a line of a table, or in a row of a batch. Both count from 1.
+/// Where a text is: in a line of a table, or in a row of a batch. Both count from 1.
 #[derive(Clone, Copy, Debug, PartialEq, Eq)]
 pub enum Place {
     Line(u64),
@@ -26,7 +26,7 @@ impl fmt::Display for Place {
 
 /// Why a call was refused, and where. It prints as `fault N NAME PLACE`.
 ///
-/// Lines, fields and rows count from 1. Field 0 stands for a whole line.
+/// Lines, fields and rows count from 1. Field 0 means a whole line.
 #[derive(Clone, Copy, Debug, PartialEq, Eq, Drop, Error)]
 pub enum Fault {
     /// A growth of memory was refused.
@@ -55,7 +55,7 @@ pub enum Fault {
     DuplicateKey { axis: Axis, row: u32 },
     /// A member has two upper members.
     HierarchyBroken { axis: Axis, row: u32 },
-    /// A member is the text `ALL`, which stands for every member.
+    /// A member is the text `ALL`, which means every member.
     ReservedMember { axis: Axis, row: u32 },
     /// No customer has the key.
     UnknownCustomer { row: u32 },
@@ -198,7 +198,7 @@ impl Fault {
         }
     }
 
-    // Shows where, each part behind a blank.
+    // Shows where, each part after a blank.
     fn show_place<W: fmt::Write>(&self, f: &mut fmt::Formatter<W>) -> fmt::Result {
         match self {
             Fault::FieldCount { line } => write!(f, " line {line}"),

@@ -1,4 +1,4 @@
--- What a fold of one group stands for when the selected rows of a batch were merged in.
+-- What a fold of one group represents when the selected rows of a batch were merged in.
 use Rattle.std.proofs.Common.{◌≡◌, sym, refl, subst, ℕ, ◌<◌, ◌≤◌, Bool, true, Some, List, [], ◌∷◌, ◌++◌, map, length, arith, append-nil}
 use Rattle.std.specs.List.{AllByRecursion}
 use Rattle.std.specs.declared.alloc.Global.{Global}

@@ -78,7 +78,7 @@ module _ (measure : Measure) (rows : List LineOrder) (small : sum_by (λ row. na
   pub greatest_fits : (low high : ℤ) → Some (low, high) ≡ extremes_of numbers → FitsSigned w64 high
   greatest_fits low high is = FitsSigned-small high (omega (arith, ap nat_abs (extremes_are numbers low high is).1, greatest_small (measure_of measure) rows, small))
 
--- ---- a count is taken of noughts
+-- ---- a count is taken of zeros
 noughts_sum : (rows : List LineOrder) → fold (λ so_far number. so_far +ℤ number) (pos 0) (map (λ _. pos 0) rows) ≡ pos 0
 noughts_sum [] = refl
 noughts_sum (row ∷ rows) = noughts_sum rows

@@ -1,4 +1,4 @@
--- What a fold stands for when cells were merged in: the rows that they stand for.
+-- What a fold represents when cells were merged in: the rows that they represent.
 use Rattle.std.proofs.Common.{◌≡◌, ◌∙◌, sym, ap, refl, subst, ℕ, zero, suc, ◌<◌, ◌≤◌, Bool, true, false, cond, List, [], ◌∷◌, ◌++◌, map, length, length-append, get_or, Option, Some, None, arith, All}
 use Rattle.std.specs.Prelude.{◌==◌, nat_abs}
 use Rattle.std.specs.List.{Contains, filter, list_any}
@@ -61,7 +61,7 @@ apart (cell ∷ cells) up = (
   apart cells (λ i j d before h. up (suc i) (suc j) d (omega (arith, before)) (omega (arith, h))),
 )
 
--- ---- stand-ins
+-- ---- rows that represent cells
 pub stand_known : (dimensions : DimRows) (modes : List (List ℕ)) (view : View) (cells : List Cell) (stand : List LineOrder) → AreStandIns dimensions modes view cells stand → All (IsKnown dimensions) stand
 stand_known dimensions modes view [] [] standing = All-nil (IsKnown dimensions)
 stand_known dimensions modes view [] (row ∷ stand) standing = absurd standing
@@ -155,7 +155,7 @@ module _ (dimensions : DimRows) (modes : List (List ℕ)) (view : View) (query :
             ∙ sym (ap (λ (more : List LineOrder). tally_over agg (before ++ more)) (slotted-filter slot slot_of_row rows)) in
             λ i. one i ∷ each aggs i
 
--- tallies over some of the rows so far have room for the cells that stand for others
+-- tallies over some of the rows so far have room for the cells that represent others
 module _ (dimensions : DimRows) (modes : List (List ℕ)) (plain : PlainCells) (so_far rows : List LineOrder) (stand_for : StandFor dimensions modes rows plain) (foldable : AreFoldable dimensions (so_far ++ rows))
     (own : List LineOrder) (fewer : length own ≤ length so_far) (smaller : (agg : Agg) → size_of agg own ≤ size_of agg so_far) where
   room_for : (agg : Agg) → HasRoomFor agg plain.cells (tally_of (map (number_of agg) own))
@@ -181,7 +181,7 @@ module _ (dimensions : DimRows) (plan : Plan) (over : IsPlanOver dimensions plan
   abbrev as_they_are : (slot : ℕ) → tallies_at columns slot ≡ tallies_at columns slot
   as_they_are slot = refl
 
-  -- with more slots it stands for what it stood for
+  -- with more slots it represents what it represented
   pub shown_with_slots : shown plan new columns ≡ shown plan old columns
   shown_with_slots = shown_ready dimensions plan over old columns kept new columns cover grow as_they_are
 

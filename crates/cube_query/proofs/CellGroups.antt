@@ -1,4 +1,4 @@
--- Cells in place of the fact rows that they stand for: the tallies of a slot's cells are those of its rows.
+-- Cells in place of the fact rows that they represent: the tallies of a slot's cells are those of its rows.
 use Rattle.std.proofs.Common.{◌≡◌, ◌∙◌, sym, ap, refl, subst, ℕ, ◌≤◌, pos, ◌+ℤ◌, Bool, true, false, cond, not, List, [], ◌∷◌, ◌++◌, map, length, length-append, append-nil, append_assoc, Option, Some, None, arith}
 use Rattle.std.specs.Prelude.{◌==◌, ◌&&◌, ◌||◌, nat_abs}
 use Rattle.std.specs.Int.{int_min, int_max}

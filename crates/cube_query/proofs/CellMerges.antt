@@ -181,7 +181,7 @@ after-size agg slot (cell ∷ cells) (Some other ∷ group_slots) tally =
       | false ↦ omega (arith, after-size agg slot cells group_slots tally, sum)
     ]
 
--- tallies that have room for cells have it for each of them behind those before
+-- tallies that have room for cells have it for each of them after those before
 module _ (cells : List Cell) (place : ℕ) (h : place < length cells) (slot : ℕ) (group_slots : List (Option ℕ)) where
   one_next : (agg : Agg) (tally : Tally) → HasRoomFor agg cells tally → HasRoomFor agg (get_or cells place no_cell ∷ []) (after_cells agg slot (take place cells) group_slots tally)
   one_next agg tally room =

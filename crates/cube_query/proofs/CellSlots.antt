@@ -68,7 +68,7 @@ module _ (asked : AskedOfCells) where
         ∙ sym (with_cells-push slot cells are.group_slots cell is.group_slot (cell_slots-length old cells are.group_slots are.slots) aggs (tallies_at first slot));
   }
 
-  -- groups that have room for cells have it for each of them behind those before
+  -- groups that have room for cells have it for each of them after those before
   pub rooms_next : (aggs : List Agg) (old new : List (ℕ × ℕ)) (cells : List Cell) (place : ℕ) → place < length cells → (first now : List (Vec Tally Global))
       → AreMergedIn asked aggs old (take place cells) first now → GroupsHaveRoomFor new aggs cells first → GroupsHaveRoomFor new aggs (get_or cells place no_cell ∷ []) now
   rooms_next aggs old new cells place h first now are room number slot found =

@@ -1,4 +1,4 @@
--- Rows that a mask leaves out change nothing that a fold stands for. Our own.
+-- Rows that a mask leaves out change nothing that a fold represents. Our own.
 use Rattle.std.proofs.Common.{◌≡◌, ◌∙◌, sym, ap, refl, subst, ℕ, zero, suc, ◌+◌, ◌<◌, ◌≤◌, ◌&&◌, Bool, true, false, cond, Option, Some, None, List, [], ◌∷◌, ◌++◌, Result, Ok, Err, length, map, take, drop, slice_get, arith, append_assoc}
 use Rattle.std.specs.Prelude.{nat_abs, nat_le, slice_set, unwrap_or, IfOk, OnOk}
 use Rattle.std.specs.Int.{from_bool}
@@ -60,7 +60,7 @@ places_below place (true ∷ marks) zero d h = omega arith
 places_below place (true ∷ marks) (suc k) d h = omega (arith, places_below (place + 1) marks k d (omega (arith, h)))
 places_below place (false ∷ marks) k d h = omega (arith, places_below (place + 1) marks k d h)
 
--- the mark at a place, and those behind it
+-- the mark at a place, and those after it
 next_mark : (marks : List Bool) (place : ℕ) → place < length marks → drop place marks ≡ unwrap_or (slice_get marks place) false ∷ drop (suc place) marks
 next_mark [] place h = absurd (omega (arith, h))
 next_mark (mark ∷ marks) zero h = refl
@@ -260,7 +260,7 @@ keep_over asked dimensions query old some all is same keep =
     subst (λ (conditions : List Cond). KeepSelected dimensions conditions some all) same
     (subst (λ (a : Asked). KeepSelected a.dimensions a.query.conditions some all) is keep)
 
--- ---- what a fold stands for
+-- ---- what a fold represents
 pub stands_for_all : (dimensions : DimRows) (fold : FoldState) (some all : List LineOrder)
     → selected_by dimensions fold.query.conditions some ≡ selected_by dimensions fold.query.conditions all → StandsFor dimensions fold some → StandsFor dimensions fold all
 stands_for_all dimensions fold some all same stands = record {

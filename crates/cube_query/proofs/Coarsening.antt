@@ -144,7 +144,7 @@ seen-some [] rows some more = absurd (omega (arith, some))
 seen-some (agg ∷ aggs) [] some more = absurd (more refl)
 seen-some (agg ∷ aggs) (row ∷ rows) some more = some_seen (agg ∷ aggs) row rows
 
--- a key is told by what it has at a place and what it is with ALL there
+-- a key is determined by what it has at a place and what it is with ALL there
 told : (key other : List Member) (i : ℕ) (text : Member) → get_or key i All ≡ text → get_or other i All ≡ text → slice_set key i All ≡ slice_set other i All → key ≡ other
 told key other i text here there same =
     sym (set-get_or key i All) ∙ ap (slice_set key i) here ∙ sym (set-set key i All text) ∙ ap (λ k. slice_set k i text) same

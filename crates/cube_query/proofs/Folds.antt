@@ -1,4 +1,4 @@
--- What a fold keeps, and what it stands for: as it begins, with more slots, and with more rows.
+-- What a fold keeps, and what it represents: as it begins, with more slots, and with more rows.
 use Rattle.std.proofs.Common.{◌≡◌, ◌∙◌, sym, ap, refl, subst, ℕ, zero, suc, ◌<◌, ◌≤◌, ◌⊎◌, inl, inr, true, false, List, [], ◌∷◌, ◌++◌, map, length, get_or, Some, None, arith}
 use Rattle.std.specs.Prelude.{Option}
 use Rattle.std.specs.List.{AllByRecursion, range_with_len}
@@ -89,7 +89,7 @@ module _ (dimensions : DimRows) (plan : Plan) (over : IsPlanOver dimensions plan
     pub kept_cover : Cover (group_count dimensions (query_of plan).columns) slots
     kept_cover = subst (λ n. Cover n slots) made.counted kept.cover
 
-    -- ---- rows that it stands for
+    -- ---- rows that it represents
     pub tallied_for : (rows : List LineOrder) → StandsFor dimensions (shown plan slots columns) rows → AreTallied dimensions (finest (query_of plan)) (entries_of slots) columns rows
     tallied_for rows stands =
         let query = query_of plan in

@@ -24,7 +24,7 @@ place_found p xs some =
           absurd (cc (none, some))
     ]
 
--- no cause, and none behind it
+-- no cause, and none after it
 no_cause : (test : Bool) (fault : Fault) (causes : List (Option Fault)) → first_cause (cause_if test fault ∷ causes) ≡ None → (test ≡ false) × (first_cause causes ≡ None)
 no_cause true fault causes none = absurd (cc none)
 no_cause false fault causes none = (refl, none)
@@ -58,7 +58,7 @@ known_from dimensions number (first ∷ rows) none zero row h = known_row dimens
 known_from dimensions number (first ∷ rows) none (suc k) row h =
     known_from dimensions (number + 1) rows (only_none (unknown_key dimensions (number + 1) rows) (first_none (unknown_axis dimensions number first) _ none).1) k row (omega (arith, h))
 
--- the rows that come behind others
+-- the rows that come after others
 pub known_behind : (dimensions : DimRows) (number : ℕ) (so_far rows : List LineOrder) → unknown_key dimensions number (so_far ++ rows) ≡ None → All (IsKnown dimensions) rows
 known_behind dimensions number [] rows none = known_from dimensions number rows none
 known_behind dimensions number (row ∷ so_far) rows none =

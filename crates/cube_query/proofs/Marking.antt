@@ -92,7 +92,7 @@ module _ (dimensions : DimRows) (query : Query) where
       (are.0.0, are.0.2 ∙ ap Some same)
   AreGroupSlots-at entries (row ∷ rows) (group_slot ∷ group_slots) are (suc place) slot at = AreGroupSlots-at entries rows group_slots are.1 place slot at
 
-  -- no row is slotted with a slot behind the last
+  -- no row is slotted with a slot after the last
   pub slotted-none : (bound : ℕ) (entries : List (ℕ × ℕ)) → AreSlots bound entries → (rows : List LineOrder) (group_slots : List (Option ℕ)) → AreGroupSlots dimensions query entries rows group_slots → (slot : ℕ) → length entries ≤ slot → slotted slot rows group_slots ≡ []
   slotted-none bound entries slots [] group_slots are slot h = refl
   slotted-none bound entries slots (row ∷ rows) [] are slot h = refl

@@ -95,7 +95,7 @@ SameRows-sym a b p = record { tallies = λ number. sym (p.tallies number); sums 
 pub SameRows-is : (a b : List LineOrder) → a ≡ b → SameRows a b
 SameRows-is a b e = subst (SameRows a) e (SameRows-refl a)
 
--- behind the same rows
+-- after the same rows
 pub SameRows-behind : (front rows others : List LineOrder) → SameRows rows others → SameRows (front ++ rows) (front ++ others)
 SameRows-behind front rows others same = record {
   tallies = λ number.

@@ -129,7 +129,7 @@ module _ (dimensions : DimRows) (row : LineOrder) where
       deeper [] all = tt
       deeper (grouping ∷ sets) all = (all.0, deeper sets all.1)
 
--- from behind the last column on there is the finest grouping alone
+-- from the place after the last column on there is the finest grouping alone
 pub finest_sets : (kind : Kind) (columns : List Attr) → sets_from kind (length columns) columns ≡ map (λ _. true) columns ∷ []
 finest_sets Plain [] = refl
 finest_sets Rollup [] = refl

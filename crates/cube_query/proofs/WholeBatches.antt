@@ -189,7 +189,7 @@ one_column rows own slot aggs columns merged_so_far count agg column new same h 
     ∙ (λ i. with_rows (sym (take_more aggs count agg (omega (arith, h, same))) i) rows own slot
     (sym (ap (map read) (take_more columns count column h) ∙ map-append read (take count columns) (get_or columns count column ∷ [])) i))
 
--- what stands at a place of a list is read there, whatever would be read behind its end
+-- what is at a place of a list is read there, whatever would be read after its end
 pub same_at : {X : Type 0} (xs : List X) (i : ℕ) (d e : X) → i < length xs → get_or xs i d ≡ get_or xs i e
 same_at [] i d e h = absurd (omega (arith, h))
 same_at (x ∷ xs) zero d e h = refl

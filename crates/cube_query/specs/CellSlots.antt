@@ -20,13 +20,13 @@ use Rattle.cube_query.specs.declared.tally.Tally.{Tally}
 abbrev pub asked_of : DimRows → Query → View → List (List ℕ) → AskedOfCells
 asked_of dimensions query view modes = record { dimensions = dimensions; query = query; view = view; modes = modes }
 
--- the slot of the group of a row that stands in for a cell, and none where the row is not selected
+-- the slot of the group of a row that represents a cell, and none where the row is not selected
 pub record IsCellSlot (asked : AskedOfCells) (entries : List (ℕ × ℕ)) (cell : Cell) (group_slot : Option ℕ) : Type 0 where
   pub row : LineOrder
   pub stands : IsStandIn asked.dimensions asked.modes asked.view cell row
   pub slot : IsGroupSlot asked.dimensions asked.query entries row group_slot
 
--- the slots of the groups of cells: those of rows that stand in for them
+-- the slots of the groups of cells: those of rows that represent them
 pub record AreCellSlots (asked : AskedOfCells) (entries : List (ℕ × ℕ)) (cells : List Cell) (group_slots : List (Option ℕ)) : Type 0 where
   pub rows : List LineOrder
   pub stand : AreStandIns asked.dimensions asked.modes asked.view cells rows
@@ -46,7 +46,7 @@ pub record AreMergedIn (asked : AskedOfCells) (aggs : List Agg) (entries : List 
   pub slots : AreCellSlots asked entries cells group_slots
   pub merged : (slot : ℕ) → tallies_at new slot ≡ with_cells aggs slot cells group_slots (tallies_at old slot)
 
--- no row stands in for a cell
+-- no row represents a cell
 abbrev pub HasNoStandIn : AskedOfCells → Cell → Type 0
 HasNoStandIn asked cell = (row : LineOrder) → IsStandIn asked.dimensions asked.modes asked.view cell row → ⊥
 

@@ -28,7 +28,7 @@ summary_in measures Profit = measures.profit
 abbrev pub counted : ℕ → Summary → Tally
 counted count summary = record { count = count; sum = summary.sum; least = summary.least; greatest = summary.greatest }
 
--- so many noughts: a count is taken of nothing
+-- so many zeros: a count is taken of nothing
 abbrev pub noughts : ℕ → Tally
 noughts count = record { count = count; sum = pos 0; least = pos 0; greatest = pos 0 }
 

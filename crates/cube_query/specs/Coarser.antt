@@ -40,7 +40,7 @@ abbrev pub rows_from : DimRows → Query → ℕ → List Member → List LineOr
 rows_from dimensions query i key rows =
     filter (λ row. list_any (eq_by_cmp key_cmp key) (keys_from dimensions query.kind i query.columns row)) (selected dimensions query.conditions rows)
 
--- a group from which one with ALL at a column is made: of a rollup those with ALL at all columns behind it
+-- a group from which one with ALL at a column is made: of a rollup those with ALL at all columns after it
 abbrev pub leads : Kind → ℕ → List Member → Bool
 leads Plain i key = false
 leads Rollup i key = is_all (slice_index_or key (suc i) All)

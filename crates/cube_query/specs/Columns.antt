@@ -18,7 +18,7 @@ no_tally = tally_of []
 abbrev pub tally_after : Tally → ℤ → Tally
 tally_after tally number = cond (tally.count == 0) (tally_of (number ∷ [])) (tally_with tally number)
 
--- the tally at a slot of a column: that of no number behind the last
+-- the tally at a slot of a column: that of no number after the last
 abbrev pub tally_at : List Tally → ℕ → Tally
 tally_at column slot = slice_index_or column slot no_tally
 

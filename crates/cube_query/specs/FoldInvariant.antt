@@ -1,4 +1,4 @@
--- How the slots and the columns of a fold stand to the fact rows that were counted in. Our own.
+-- How the slots and the columns of a fold relate to the fact rows that were counted in. Our own.
 use Rattle.std.specs.Prelude.{◌≡◌, ℕ, ◌≤◌, ◌<◌, false, Option, Some, None, List, [], ◌∷◌, ◌++◌, length, map, slice_index_or}
 use Rattle.std.specs.List.{range_with_len}
 use Rattle.std.specs.declared.alloc.Global.{Global}
@@ -71,7 +71,7 @@ tallies_in query slots columns number = tallies_or_none query columns (slot_of (
 abbrev pub all_tallies : Plan → Slots → List (Vec Tally Global) → List (List Tally)
 all_tallies plan slots columns = map (tallies_in (query_of plan) slots columns) (range_with_len 0 (count_of plan))
 
--- what a fold keeps, over any dimensions: slots for numbers below the plan's count, and no row behind the last slot
+-- what a fold keeps, over any dimensions: slots for numbers below the plan's count, and no row after the last slot
 pub record IsKept (plan : Plan) (slots : Slots) (columns : List (Vec Tally Global)) : Type 0 where
   pub proper : IsProper (query_of plan)
   pub numbers : AreSlots (count_of plan) (entries_of slots)

@@ -35,7 +35,7 @@ pub record FoldState : Type 0 where
   pub plan : Plan
   pub tallies : List (List Tally)
 
--- A fold stands for fact rows over dimensions: its plan is over these, at the number of each group it has the tallies over
+-- A fold represents fact rows over dimensions: its plan is over these, at the number of each group it has the tallies over
 -- the selected rows of that group's key, and no selected row has another key.
 pub record StandsFor (dimensions : DimRows) (fold : FoldState) (rows : List LineOrder) : Type 0 where
   pub over : IsPlanOver dimensions fold.plan
@@ -46,7 +46,7 @@ pub record StandsFor (dimensions : DimRows) (fold : FoldState) (rows : List Line
       → ((number : ℕ) → number < group_count dimensions fold.query.columns → key_at dimensions fold.query.columns number ≡ key → ⊥)
       → rows_at dimensions (finest fold.query) key rows ≡ []
 
--- a fold that begins: it stands for no fact row
+-- a fold that begins: it represents no fact row
 pub record Begins (dimensions : DimRows) (query : Query) (fold : FoldState) : Type 0 where
   pub query_is : fold.query ≡ query
   pub stands : StandsFor dimensions fold []
@@ -55,20 +55,20 @@ pub record Begins (dimensions : DimRows) (query : Query) (fold : FoldState) : Ty
 abbrev pub IsOver : DimRows → FoldState → Type 0
 IsOver dimensions fold = IsPlanOver dimensions fold.plan
 
--- a fold over the dimensions of its beginning: it stands for some fact rows
+-- a fold over the dimensions of its beginning: it represents some fact rows
 abbrev pub IsFoldOver : DimRows → FoldState → Type 0
 IsFoldOver dimensions fold = (rows : List LineOrder) × StandsFor dimensions fold rows
 
--- a fold over the dimensions of its beginning that stands for fact rows that may be folded
+-- a fold over the dimensions of its beginning that represents fact rows that may be folded
 abbrev pub IsFoldable : DimRows → FoldState → Type 0
 IsFoldable dimensions fold = (rows : List LineOrder) × (StandsFor dimensions fold rows × AreFoldable dimensions rows)
 
--- the fold stands for fact rows behind which others may be added
+-- the fold represents fact rows after which others may be added
 abbrev pub CanTake : DimRows → FoldState → List LineOrder → Type 0
 CanTake dimensions fold rows = (so_far : List LineOrder)
     × (StandsFor dimensions fold so_far × AreFoldable dimensions (so_far ++ rows))
 
--- the fold stands for the fact rows that it stood for, with others behind them
+-- the fold represents the fact rows that it represented, with others after them
 pub record Takes (dimensions : DimRows) (old : FoldState) (rows : List LineOrder) (new : FoldState) : Type 0 where
   pub query : new.query ≡ old.query
   pub stands : (so_far : List LineOrder) → StandsFor dimensions old so_far → StandsFor dimensions new (so_far ++ rows)

@@ -16,10 +16,10 @@ use cuboid_cells::Cell;
 use cuboid_upkeep::CellNumbers;
 use std::alloc::Global;
 
-/// Columns with cells merged in at the slots of their groups, beside the columns that they are made from. Numbers of groups
+/// Columns with cells merged in at the slots of their groups, next to the columns that they are made from. Numbers of groups
 /// that have no slot are given one.
 ///
-/// `BadLayout` says that no row stands in for a cell, for a code is that of no member, or that a count or a sum would pass
+/// `BadLayout` says that no row represents a cell, for a code is that of no member, or that a count or a sum would pass
 /// its limit. Each cell is read once.
 pub fn with_cells(
     alloc: Global,

@@ -16,7 +16,7 @@ use cube_model::{Fault, Kind};
 use group_plan::PlanOver;
 use std::alloc::{AllocError, Global};
 
-// Whether the group with a number leads to one with ALL in a column: of a rollup those with ALL in all columns behind it.
+// Whether the group with a number leads to one with ALL in a column: of a rollup those with ALL in all columns after it.
 fn leads(plan: &PlanOver, kind: Kind, column: usize, number: u128) -> bool
     requires column { column < length plan.now.query.columns }
     requires few { length plan.now.query.columns ≤ 6 }

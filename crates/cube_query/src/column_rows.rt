@@ -131,7 +131,7 @@ impl<'a> FactRows for ColumnRows<'a> {
     }
 }
 
-// The number at a place of a column. Behind the last it is 0.
+// The number at a place of a column. After the last it is 0.
 fn number_at(column: &[[u8; 4]], place: usize) -> u32
     ensures { (number : LineOrder → ℕ) (rows : List LineOrder) → map (from_le_bytes w32) column.now ≡ map number rows
         → place < length rows → result ≡ number (row_at rows place) }

@@ -37,7 +37,7 @@ fn line_of(
     Ok(Line { key, values })
 }
 
-// Puts the line of a group behind others.
+// Puts the line of a group after others.
 fn push_line(
     alloc: Global,
     plan: &PlanOver,

@@ -10,7 +10,7 @@ use dictionary::Dictionary;
 use group_plan::{FactRows, ModeRows};
 use std::marker::Model;
 
-/// The rows of a batch whose ship modes are told by their codes in the batch. Contracts see the list of the rows, and the
+/// The rows of a batch whose ship modes are given by their codes in the batch. Contracts see the list of the rows, and the
 /// texts of the codes.
 #[derive(Drop)]
 pub struct RowsWithModes<'a> {

@@ -158,10 +158,10 @@ impl Fold {
         self.add_batch(dims, batch)
     }
 
-    /// Counts the cells of a view in, in place of the rows that they stand for. A refusal leaves the fold as it was.
+    /// Counts the cells of a view in, in place of the rows that they represent. A refusal leaves the fold as it was.
     ///
     /// The view has to serve the query. The fifth codes of cells are places among the modes, which only a view that groups
-    /// by ship mode looks at. `BadLayout` says that the cells stand for no rows that can be taken: a code is
+    /// by ship mode looks at. `BadLayout` says that the cells represent no rows that can be taken: a code is
     /// that of no member, or the sums with them pass their limit. Each cell is read once. It takes memory for new groups,
     /// and for the time of the call some for each group and each member of the view's levels.
     pub fn add_cells(
@@ -259,7 +259,7 @@ impl Fold {
         Ok(())
     }
 
-    // Counts fact rows in, wherever they stand. A refusal leaves the fold as it was.
+    // Counts fact rows in, wherever they are. A refusal leaves the fold as it was.
     fn add<F: FactRows>(&mut self, dims: &Dims, rows: &F) -> Result<(), Fault>
         requires { IsOver dims.now self.old }
         ensures over { IsOver dims.now self.new }
@@ -358,7 +358,7 @@ fn ready<F: FactRows>(
     Ok(group_slots)
 }
 
-// The columns of a fold with cells merged in, beside those that they are made from. Numbers of groups that have no slot are
+// The columns of a fold with cells merged in, next to those that they are made from. Numbers of groups that have no slot are
 // given one.
 fn columns_with_cells(
     alloc: Global,

@@ -57,7 +57,7 @@ pub fn selected_rows(alloc: Global, plan: &PlanOver, batch: &FactColumns) -> Res
     Ok(mask)
 }
 
-/// Columns with the selected rows of a batch merged in at a slot, beside the columns that they are made from. `BadLayout`
+/// Columns with the selected rows of a batch merged in at a slot, next to the columns that they are made from. `BadLayout`
 /// where a count or a sum would pass its limit.
 pub fn with_batch(
     alloc: Global,

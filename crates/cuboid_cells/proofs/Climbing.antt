@@ -21,7 +21,7 @@ pub lower : (low at : ℕ) (cells : List Cell) → low ≤ at → Climbs at cell
 lower low at [] below climbs = tt
 lower low at (cell ∷ cells) below climbs = (omega (arith, below, climbs.0), climbs.1)
 
--- a cell behind them
+-- a cell after them
 pub climb_more : (low high : ℕ) (cells : List Cell) (cell : Cell) → ClimbsTo low cells high → high ≤ number_of cell.key
     → ClimbsTo low (cells ++ cell ∷ []) (number_of cell.key + 1)
 climb_more low high [] cell climbs above = (omega (arith, climbs, above), omega arith)

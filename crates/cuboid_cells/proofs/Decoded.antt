@@ -35,7 +35,7 @@ module _ (bytes : List ℕ) where
   too_short short span plain is = omega (arith, short, ap length is.spelled, length-run_of span plain)
 
   module _ (r0 : List ℕ) (header : Header) (reads : ReadsHeader bytes r0 header) where
-    -- the header of a run, and what stands behind it
+    -- the header of a run, and what is after it
     parts : (span : Span) (plain : PlainCells) → IsRun bytes span plain
         → (header.name.now ≡ name_of plain.view.ship_mode) × (header.view ≡ index_of plain.view) × (header.from ≡ span.from) × (header.to ≡ span.to)
         × (header.cells ≡ length plain.cells) × (r0 ≡ flat_map (cell_of plain.view.ship_mode) plain.cells)

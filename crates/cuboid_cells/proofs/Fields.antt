@@ -1,4 +1,4 @@
--- Fields one behind the other. Our own.
+-- Fields one after the other. Our own.
 use Rattle.std.proofs.Common.{◌≡◌, ℕ, ℤ, ◌+◌, ◌^◌, ◌<◌, FitsSigned, List, ◌++◌, length, take, ap, sym, ◌∙◌, append_assoc, length-append, arith, w64, to_z, of_z}
 use Rattle.std.proofs.Math.Seq.{take-append_seam}
 use Rattle.std.proofs.lemmas.Int.{to_z-of_z, ints}

@@ -97,7 +97,7 @@ in_tail cell cells found is = (suc is.0, omega (arith, is.1), is.2)
 in_head : (cell : Cell) (cells : List Cell) → Contains (cell ∷ cells) cell
 in_head cell cells = (zero, omega arith, refl)
 
--- cells behind a first one that is above a key are above it
+-- cells after a first one that is above a key are above it
 behind_first : (cell : Cell) (high : ℕ) (cells : List Cell) → IsBelowFirst cell cells → Climbs high cells → Climbs (number_of cell.key + 1) cells
 behind_first cell high [] below climbs = tt
 behind_first cell high (first ∷ cells) below climbs = (omega (arith, below), climbs.1)

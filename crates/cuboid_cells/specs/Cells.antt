@@ -1,5 +1,5 @@
 -- What a cell of a view is: the codes of its members, how many fact rows it groups, and for each measure what is kept of
--- the numbers of these rows. A view's cells are told by their codes.
+-- the numbers of these rows. A view's cells are identified by their codes.
 use Rattle.std.specs.Prelude.{◌≡◌, ℕ, ◌+◌, ◌*◌, ◌^◌, ◌<◌, ◌≤◌, ◌↔◌, ◌==◌, Bool, false, List, Option, length, All, FitsSigned}
 use Rattle.std.specs.Int.{w64}
 use Rattle.std.specs.List.{AllPairs, find}
@@ -79,7 +79,7 @@ pub record PlainCells : Type 0 where
 abbrev pub FollowRules : View → List Cell → Type 0
 FollowRules view cells = All (IsCellOf view) cells × AreAscending cells
 
--- the rules of a view's cells, beside the ranges of their numbers
+-- the rules of a view's cells, besides the ranges of their numbers
 pub record KeepRules (view : View) (cells : List Cell) : Type 0 where
   pub few : length cells ≤ most_cells
   pub each : All (IsCellOf view) cells
@@ -90,6 +90,6 @@ pub record AreProper (plain : PlainCells) : Type 0 where
   pub rules : KeepRules plain.view plain.cells
   pub fit : All CellFits plain.cells
 
--- the cell of a key, told by its number, if there is one
+-- the cell of a key, identified by its number, if there is one
 abbrev pub cell_at : ℕ → List Cell → Option Cell
 cell_at key cells = find (λ cell. number_of cell.key == key) cells

@@ -5,6 +5,6 @@ use Rattle.std.specs.Prelude.{ℕ}
 abbrev pub most_cells : ℕ
 most_cells = 262144
 
--- the code that stands for every member of an axis; those of members are below it
+-- the code that means every member of an axis; those of members are below it
 abbrev pub all_code : ℕ
 all_code = 65535

@@ -31,7 +31,7 @@ pub(crate) fn bytes_of_cell(ship_modes: bool) -> usize
     }
 }
 
-// Adds what stands before the cells.
+// Adds what is before the cells.
 pub(crate) fn push_header(
     out: &mut Vec<u8>,
     ship_modes: bool,

@@ -11,7 +11,7 @@ use cube_model::Fault;
 use lattice::View;
 use std::alloc::Global;
 
-// The cell of the lowest key, and what is left behind it on both sides.
+// The cell of the lowest key, and what is left after it on both sides.
 #[derive(Clone, Copy)]
 pub(crate) struct Step<'a> {
     pub(crate) cell: Cell,

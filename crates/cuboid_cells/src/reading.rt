@@ -16,7 +16,7 @@ use lattice::View;
 use std::alloc::Global;
 use wire::Cursor;
 
-// What stands before the cells.
+// What is before the cells.
 #[derive(Clone, Copy)]
 pub(crate) struct Header<'a> {
     pub(crate) name: &'a [u8],

@@ -1,4 +1,4 @@
-//! The rules of cells that are read one behind the other.
+//! The rules of cells that are read one after the other.
 ghost use Rattle.std.specs.Prelude.{◌↔◌, ◌-◌, IsTrue, length, slice_get};
 ghost use Rattle.cuboid_cells.specs.Cells.{IsCellOf};
 ghost use Rattle.cuboid_cells.specs.Steps.{IsAboveLast};

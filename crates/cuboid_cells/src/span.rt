@@ -1,6 +1,6 @@
 //! Which batches a run of cells holds.
 
-/// Batches one behind the other.
+/// Batches one after the other.
 #[derive(Clone, Copy, Debug, PartialEq, Eq)]
 pub struct Span {
     /// The number of the batch before the first of them. Batches count from 1.

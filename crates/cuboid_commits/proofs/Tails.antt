@@ -60,7 +60,7 @@ whole_too_large have more w old holds span from some large =
     subst (λ (l : List LineOrder). HaveTooMany w.rows (modes_of w) old.view l) (sym (rows_split w.batches span some))
     (record { cells = all.0; stand = all.1; many = omega (arith, large.many, no_fewer) })
 
--- why cells that stand for rows are not merged
+-- why cells that represent rows are not merged
 abbrev pub IsNotMerged : DimRows → View → List LineOrder → Fault → Type 0
 IsNotMerged dimensions view rows fault =
     (fault ≡ Memory)

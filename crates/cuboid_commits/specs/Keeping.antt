@@ -12,7 +12,7 @@ use Rattle.warehouse_objects.specs.Facts.{facts_in}
 use Rattle.warehouse_objects.specs.Warehouse.{Cuboid, Warehouse, cuboid_at, modes_of}
 use Rattle.warehouse_objects.specs.Stands.{Stands, root_of}
 
--- a store stands for a warehouse, and its root is kept in memory
+-- a store represents a warehouse, and its root is kept in memory
 pub record StoreAt {D : Type 0} (g : Ghosts D) (store : Store D g) (root : PlainRoot) (w : Warehouse) : Type 0 where
   pub fine : stores.has_failed store ≡ false
   pub stands : (stores.disk_of g store).keeps_word → Stands (stores.content_of g store) w

@@ -31,7 +31,7 @@ run_held [] k d s lt held = absurd (omega arith)
 run_held (run ∷ others) zero d s lt held = inl held
 run_held (run ∷ others) (suc k) d s lt held = inr (run_held others k d s (omega arith) held)
 
--- runs begin one behind another
+-- runs begin one after another
 pub rise : (low high : ℕ) (runs : List Extent) (i j : ℕ) (d : Extent) → AreRuns low high runs → i ≤ j → j < length runs → (get_or runs i d).first ≤ (get_or runs j d).first
 rise low high [] i j d ok le lt = absurd (omega arith)
 rise low high (run ∷ others) zero zero d ok le lt = omega arith

@@ -22,7 +22,7 @@ module _ (count : ℕ) (runs : List Extent) (ok : AreRuns 2 (count + 1) runs) (e
     within : (2 ≤ run.first) × (0 < run.len) × (run.first + run.len < count + 1)
     within = subst (λ (x : Extent). (2 ≤ x.first) × (0 < x.len) × (x.first + x.len < count + 1)) (sym read) (run_within 2 (count + 1) runs place run ok lt)
 
-    -- the runs behind have no sector of the extent
+    -- the runs after it have no sector of the extent
     none_behind : (s : ℕ) → run.first + run.len + 1 ≤ s → s < extent.first + extent.len → ¬ SomeHolds (drop (place + 1) runs) s
     none_behind s low high held =
         in_use s (omega arith, high) (subst (λ xs. SomeHolds xs s) whole (parts_held (take place runs) (drop (place + 1) runs) run s (inr (inr held))))

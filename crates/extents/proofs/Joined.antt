@@ -8,7 +8,7 @@ use Rattle.extents.specs.Runs.{AreRuns}
 use Rattle.extents.proofs.FirstFit.{run_within}
 use Rattle.extents.proofs.Sectors.{in_either, in_front, in_back, lower}
 
--- runs end one behind another
+-- runs end one after another
 pub rise_ends : (low high : ℕ) (runs : List Extent) (i j : ℕ) (d : Extent) → AreRuns low high runs → i ≤ j → j < length runs
     → (get_or runs i d).first + (get_or runs i d).len ≤ (get_or runs j d).first + (get_or runs j d).len
 rise_ends low high [] i j d ok le lt = absurd (omega arith)
@@ -25,7 +25,7 @@ front_below low high mid [] (suc n) ok le ends = tt
 front_below low high mid (run ∷ others) (suc n) ok le ends =
     (ok.0, ok.1, ends 0 run (omega arith), front_below (run.first + run.len + 1) high mid others n ok.3 (omega arith) (λ k d lt. ends (suc k) d (omega arith)))
 
--- the runs before one, and those behind it
+-- the runs before one, and those after it
 pub front_at : (low high : ℕ) (runs : List Extent) (n : ℕ) (d : Extent) → AreRuns low high runs → n < length runs → AreRuns low (get_or runs n d).first (take n runs)
 front_at low high [] n d ok lt = absurd (omega arith)
 front_at low high (run ∷ others) zero d ok lt = tt
@@ -44,13 +44,13 @@ back_from low high runs zero ok = ok
 back_from low high [] (suc n) ok = tt
 back_from low high (run ∷ others) (suc n) ok = back_from low high others n (lower low (run.first + run.len + 1) high others (omega arith) ok.3)
 
--- runs that have none of the sectors up to another begin at that one or behind it
+-- runs that have none of the sectors up to another begin at that one or after it
 pub raise : (low mid high : ℕ) (runs : List Extent) → AreRuns low high runs → ((s : ℕ) → low ≤ s → s < mid → ¬ SomeHolds runs s) → AreRuns mid high runs
 raise low mid high [] ok none = tt
 raise low mid high (run ∷ others) ok none =
     (elim (cases_lt run.first mid) [ inl early ↦ absurd (none run.first ok.0 early (inl (omega arith, omega arith))) | inr late ↦ late ], ok.1, ok.2, ok.3)
 
--- runs that have no sector of an extent, and end behind its first one, begin behind it
+-- runs that have no sector of an extent, and end after its first one, begin after it
 pub behind_extent : (low high : ℕ) (extent : Extent) (runs : List Extent) → AreRuns low high runs → 0 < extent.len → ((s : ℕ) → Holds extent s → ¬ SomeHolds runs s)
     → ((d : Extent) → 0 < length runs → extent.first < (get_or runs 0 d).first + (get_or runs 0 d).len) → AreRuns (extent.first + extent.len) high runs
 behind_extent low high extent [] ok some apart ends = tt
@@ -75,11 +75,11 @@ pub parts_held : (front back : List Extent) (run : Extent) (s : ℕ) → SomeHol
 parts_held front back run s (inl before) = in_front front (run ∷ back) s before
 parts_held front back run s (inr rest) = in_back front (run ∷ back) s rest
 
--- a list is what stands before a place, at it and behind it
+-- a list is what is before a place, at it and after it
 pub split_at : (runs : List Extent) (n : ℕ) (d : Extent) → n < length runs → take n runs ++ get_or runs n d ∷ drop (n + 1) runs ≡ runs
 split_at runs n d lt = ap (λ rest. take n runs ++ rest) (sym (drop_more runs n d lt)) ∙ take-append-drop n runs
 
--- one run for two that touch, before and behind which others stand
+-- one run for two that touch, before and after which there are others
 pub joins : (front back : List Extent) (a b both : Extent) (s : ℕ) → a.first + a.len ≡ b.first → both.first ≡ a.first → both.len ≡ a.len + b.len
     → SomeHolds (front ++ both ∷ back) s ↔ (SomeHolds front s ⊎ ((Holds a s ⊎ Holds b s) ⊎ SomeHolds back s))
 joins front back a b both s touch first len = (there, back_again)

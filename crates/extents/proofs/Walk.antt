@@ -9,7 +9,7 @@ use Rattle.extents.specs.Runs.{AreRuns, gap, IsRest}
 use Rattle.extents.proofs.Gap.{gap_holds, holds_gap, AreRuns-gap}
 use Rattle.extents.proofs.Sectors.{in_either, in_front, in_back, lower, AreRuns-append}
 
--- extents in ascending order that begin at a sector or behind it, none empty and none past the count
+-- extents in ascending order that begin at a sector or after it, none empty and none past the count
 abbrev pub AreInOrder : ℕ → ℕ → List Extent → Type 0
 AreInOrder count from [] = Unit {0}
 AreInOrder count from (extent ∷ others) =
@@ -28,7 +28,7 @@ AreRuns-gaps_of count from (extent ∷ others) ok =
     (omega arith) (AreRuns-gap from extent.first)
     (lower (extent.first + 1) (extent.first + extent.len) (count + 1) _ (omega arith) (AreRuns-gaps_of count (extent.first + extent.len) others ok.3)) (omega arith)
 
--- a sector of extents in order is at the first or behind it
+-- a sector of extents in order is at the first or after it
 at_or_behind : (count from : ℕ) (extents : List Extent) (s : ℕ) → AreInOrder count from extents → SomeHolds extents s → from ≤ s
 at_or_behind count from [] s ok held = absurd held
 at_or_behind count from (extent ∷ others) s ok (inl here) = omega arith
@@ -75,7 +75,7 @@ in_gaps count from (extent ∷ others) s le lt none =
 pub IsRest-gaps_of : (count : ℕ) (extents : List Extent) → AreInOrder count 2 extents → IsRest count extents (gaps_of count 2 extents)
 IsRest-gaps_of count extents ok s = (gaps_hold count 2 extents s ok, λ inside. in_gaps count 2 extents s inside.0 inside.1 inside.2)
 
--- each extent of a list in order begins at the sector or behind it
+-- each extent of a list in order begins at the sector or after it
 begins : (count from : ℕ) (extents : List Extent) (k : ℕ) (d : Extent) → AreInOrder count from extents → k < length extents → from ≤ (get_or extents k d).first
 begins count from [] k d ok lt = absurd (omega arith)
 begins count from (extent ∷ others) zero d ok lt = ok.0

@@ -9,7 +9,7 @@ use Rattle.extents.specs.Runs.{FreeSectors, AreRuns}
 abbrev pub joined_runs : List Extent → Join → List Extent
 joined_runs runs join = take join.place runs ++ join.joined ∷ drop join.behind runs
 
--- a join that is a run behind those before its place, with at least so many sectors between it and those behind it
+-- a join that is a run after those before its place, with at least so many sectors between it and those after it
 pub record IsJoin (margin : ℕ) (free : FreeSectors) (join : Join) : Type 0 where
   pub in_range : IsInRange free.count join.joined
   pub order : join.place ≤ join.behind

@@ -41,7 +41,7 @@ pub record IsFreeBeside (count : ℕ) (used : List Extent) (free : FreeSectors) 
   pub of_device : free.count ≡ count
   pub sectors : IsRest count used free.runs
 
--- runs in ascending order, which begin at low or behind it and end before high: none is empty, and between two lies a sector that is in none
+-- runs in ascending order, which begin at low or after it and end before high: none is empty, and between two lies a sector that is in none
 abbrev pub AreRuns : ℕ → ℕ → List Extent → Type 0
 AreRuns low high [] = Unit {0}
 AreRuns low high (run ∷ others) =

@@ -8,7 +8,7 @@ pub struct Extent {
 }
 
 impl Extent {
-    // The sector behind the last one.
+    // The sector after the last one.
     pub(crate) fn end(&self) -> u64
         ensures { result ≡ self.now.first + self.now.len }
     {

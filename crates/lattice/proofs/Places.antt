@@ -1,4 +1,4 @@
--- Where a view stands in the lattice.
+-- Where a view is in the lattice.
 use Rattle.std.proofs.Common.{◌≡◌, ℕ, zero, suc, ◌+◌, ◌*◌, ◌<◌, Bool, true, false, List, [], ◌∷◌, ◌++◌, length, map, refl, sym, ap, ◌∙◌, arith}
 use Rattle.std.specs.Prelude.{Some, slice_get}
 use Rattle.std.specs.List.{flat_map}
@@ -89,7 +89,7 @@ place_by true c s p d =
     let low : ℕ = 64 * height c + (16 * height s + (4 * height p + height d)) in
     in_second (views_with false) (views_with true) (256 + low) low refl ∙ place_among true c s p d
 
--- a view stands at its number
+-- a view is at its number
 pub place_of : (view : View) → slice_get (lattice true) (index_of view) ≡ Some view
 place_of view = place_by view.ship_mode view.customer view.supplier view.part view.date
 

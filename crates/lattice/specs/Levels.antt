@@ -1,4 +1,4 @@
--- The levels of an axis: three of its hierarchy, and ALL, the value that stands for every member (Gray et al. 1997).
+-- The levels of an axis: three of its hierarchy, and ALL, the value that means every member (Gray et al. 1997).
 -- Which levels an axis has is our own choice of the benchmark's columns.
 use Rattle.std.specs.Prelude.{ℕ, List, [], ◌∷◌, Option, Some, None, codes}
 use Rattle.cube_model.specs.declared.attr.Attr.{Attr}
@@ -8,7 +8,7 @@ use Rattle.cube_model.specs.declared.attr.Axis.TheVariants.{Customer, Supplier, 
 use Rattle.lattice.specs.declared.level.Level.{Level}
 use Rattle.lattice.specs.declared.level.Level.TheVariants.{Lowest, Middle, Highest, All}
 
--- how high a level stands
+-- how high a level is
 abbrev pub height : Level → ℕ
 height Lowest = 0
 height Middle = 1

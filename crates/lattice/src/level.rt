@@ -21,7 +21,7 @@ pub enum Level {
 }
 
 impl Level {
-    /// How high the level stands: 0 for the lowest, 3 for `All`.
+    /// How high the level is: 0 for the lowest, 3 for `All`.
     pub fn height(self) -> u16
         ensures { result ≡ height self }
     {
@@ -33,7 +33,7 @@ impl Level {
         }
     }
 
-    /// Whether the level is the other one or stands below it.
+    /// Whether the level is the other one or is below it.
     pub fn is_at_most(self, other: Level) -> bool
         ensures { result ≡ nat_le (height self) (height other) }
     {

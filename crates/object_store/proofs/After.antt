@@ -22,7 +22,7 @@ use Rattle.object_store.specs.Frames.{objects_same}
 
 module _ (size : ℕ) (was image : Image) (used : List Extent) (kept : List Entry) (puts : List (ℕ × List ℕ)) (root : List ℕ) (generation layout : ℕ) (plan : Plan) (planned : IsPlan size used kept puts root generation layout plan) (has : HasWritten plan puts was image)
     (in_range : All (IsInRange size) used) (in_use : (i : ℕ) → SomeHolds (extents_of kept) i → SomeHolds used i) where
-  -- a sector in use stands as it was
+  -- a sector in use is as it was
   still : (i : ℕ) → SomeHolds used i → image i ≡ was i
   still i held =
       let r : (2 ≤ i) × (i < size) = held_in_range size used in_range i held in

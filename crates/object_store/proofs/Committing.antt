@@ -120,7 +120,7 @@ module _ (s0 : DeviceState) (super : Super) (entries : List Entry) (root0 : List
         ⊎_elim (λ beside. (c0, (super, entries, before_shows image beside), inl refl))
         (λ has. (committed puts drops root layout c0, (plan.superblock, plan.entries.items, after_shows image has), inr refl)) either
 
-    -- and what stands at the end
+    -- and what is at the end
     module _ (s1 : DeviceState) (size : s1.size ≡ s0.size) (settled : IsSettled s1) (has : HasWritten plan puts s0.reads s1.reads) where
       objects_after : objects_at s1.reads plan.entries.items ≡ put_all puts (objects_at s0.reads (drop_each (λ e. e.id) drops entries))
       objects_after = after.objects_are s0.size s0.reads s1.reads (used_by super entries) (drop_each (λ e. e.id) drops entries) puts root (super.generation + 1) layout plan plan_here has kept.laid_out.in_range in_use

@@ -21,7 +21,7 @@ use Rattle.object_store.specs.Reading.{IsOnlyRead}
 use Rattle.object_store.proofs.Lists.{All-unmap}
 use Rattle.object_store.specs.Frames.{objects_same, shows_same, ready_shows}
 
--- what stands at an id is what its entry names
+-- what is at an id is what its entry names
 pub look_up_at : (image : Image) (entries : List Entry) (id : ℕ) → look_up id (objects_at image entries) ≡ option_map (λ e. bytes_at image e.first e.bytes) (find_by (λ e. e.id) id entries)
 look_up_at image [] id = refl
 look_up_at image (e ∷ entries) id =
@@ -47,7 +47,7 @@ found_range size id super entries e is laid =
     found_all (λ (x : Entry). IsInRange size (extent_of x.first x.bytes)) id entries e is
     (All-unmap (IsInRange size) (λ (x : Entry). extent_of x.first x.bytes) entries (All-tail (IsInRange size) (extent_of super.catalogue super.bytes) (extents_of entries) laid.in_range))
 
--- so many bytes stand there
+-- so many bytes are there
 pub length_bytes_at : (image : Image) (first bytes size : ℕ) → IsInRange size (extent_of first bytes) → ((i : ℕ) → i < size → length (image i) ≡ 512) → length (bytes_at image first bytes) ≡ bytes
 length_bytes_at image first bytes size in_range whole =
     let ends = in_range.ends in

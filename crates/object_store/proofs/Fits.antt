@@ -91,7 +91,7 @@ fail_here first now puts k d entries lens lt so_far are none = record {
   none = λ at. subst (λ (n : ℕ). ¬ AreFreeFrom now n at) (sym (ap (λ (l : List ℕ). get_or l k 0) are ∙ get_or-map (λ (p : ℕ × List ℕ). sectors_of (length p.1)) puts k d 0 lt)) (none at);
 }
 
--- and with more to be placed behind them
+-- and with more to be placed after them
 pub fail_more : (first : FreeSectors) (lens : List ℕ) (len : ℕ) → FitsFail first lens → FitsFail first (lens ++ len ∷ [])
 fail_more first lens len fail = record {
   before = fail.before;

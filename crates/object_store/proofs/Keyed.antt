@@ -1,11 +1,11 @@
--- Where an element stands in a list by ascending keys.
+-- Where an element is in a list by ascending keys.
 use Rattle.std.proofs.Common.{◌≡◌, ◌≢◌, ◌⊎◌, inl, inr, ℕ, zero, suc, ◌<◌, ◌≤◌, cond, ltb, eqb, List, [], ◌∷◌, ◌++◌, length, take, drop, set, get_or, Some, None, refl, sym, ◌∙◌, ap, arith}
 use Rattle.std.specs.List.{AllPairs}
 use Rattle.std.specs.List.Sorted.{IsNonDecreasingBy}
 use Rattle.std.proofs.lemmas.Bool.{cond-true, cond-false, lt-ltb, le-ltb, eq-eqb, ne_eqb, cases_lt, cases_eq}
 use Rattle.object_store.specs.Commit.{put_by, drop_by, find_by}
 
--- the keys before a place are below a key, and those behind it are not
+-- the keys before a place are below a key, and those after it are not
 abbrev pub IsPlace : {A : Type 0} → (A → ℕ) → ℕ → List A → ℕ → Type 0
 IsPlace {A} key id l n = (n ≤ length l) × ((k : ℕ) (d : A) → k < n → key (get_or l k d) < id) × ((k : ℕ) (d : A) → n ≤ k → k < length l → id ≤ key (get_or l k d))
 

@@ -136,7 +136,7 @@ run_is (suc n) bytes image first long each =
     sym (take-append-drop 512 bytes) ∙ ap (λ (l : List ℕ). l ++ drop 512 bytes) front
     ∙ ap (λ (l : List ℕ). image first ++ l) (run_is n (drop 512 bytes) image (suc first) (omega (arith, long, length-drop 512 bytes)) later)
 
--- a part behind others, in the place of zeros
+-- a part after others, in the place of zeros
 pub behind : (at : ℕ) (old zeros all new : List ℕ) → at ≡ length old → all ≡ old ++ zeros → take at all ++ (new ++ post_of at (length all - at) all) ≡ old ++ new
 behind at old zeros all new here is =
     let front : take at all ≡ old = ap (λ (l : List ℕ). take at l) is ∙ take_at old zeros at (sym here) in

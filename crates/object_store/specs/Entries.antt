@@ -1,4 +1,4 @@
--- Where an entry stands among entries by ascending id. Our own.
+-- Where an entry is among entries by ascending id. Our own.
 use Rattle.std.specs.Prelude.{◌≡◌, ◌≢◌, ℕ, ◌<◌, ◌≤◌, List, length, slice_index_or}
 use Rattle.catalogue.specs.declared.entry.Entry.{Entry}
 
@@ -8,7 +8,7 @@ IsPlace entries id place =
     (place ≤ length entries) × ((k : ℕ) (d : Entry) → k < place → (slice_index_or entries k d).id < id)
     × ((k : ℕ) (d : Entry) → place ≤ k → k < length entries → id ≤ (slice_index_or entries k d).id)
 
--- an entry with this id stands there
+-- an entry with this id is there
 abbrev pub StandsAt : List Entry → ℕ → ℕ → Type 0
 StandsAt entries id place = (place < length entries) × ((d : Entry) → (slice_index_or entries place d).id ≡ id)
 

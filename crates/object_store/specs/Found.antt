@@ -1,4 +1,4 @@
--- What was found on a device, and what stands nowhere. Our own.
+-- What was found on a device, and what is nowhere. Our own.
 use Rattle.std.specs.Prelude.{◌≡◌, ◌≢◌, ◌⊎◌, ◌<◌, ℕ, ⊤, Bool, true, false, List}
 use Rattle.sector_device.specs.Device.{Image, DeviceState, IsSettled}
 use Rattle.extents.specs.Extents.{AreLaidOut}
@@ -25,7 +25,7 @@ SpellNone super bytes = (entries : List Entry) (root : List ℕ) → IsCatalogue
 abbrev pub ShowsNothing : ℕ → Image → Type 0
 ShowsNothing size image = (c : Content) → Shows size image c → ⊥
 
--- a refusal that says that nothing readable stands there
+-- a refusal that says that nothing readable is there
 abbrev pub is_of_layout : Fault → Bool
 is_of_layout NotFormatted = true
 is_of_layout BadLayout = true

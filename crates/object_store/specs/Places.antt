@@ -1,4 +1,4 @@
--- Where a catalogue has its objects, and what stands there. Our layout.
+-- Where a catalogue has its objects, and what is there. Our layout.
 use Rattle.std.specs.Prelude.{ℕ, zero, suc, List, [], ◌∷◌, ◌++◌, take, map}
 use Rattle.sector_device.specs.Device.{Image}
 use Rattle.extents.specs.declared.extent.Extent.{Extent}

@@ -20,7 +20,7 @@ pub record ArePlaced (first : FreeSectors) (puts : List (ℕ × List ℕ)) (entr
   pub still_free : (sector : ℕ) → IsFree now sector → IsFree first sector × (¬ SomeHolds (extents_of entries) sector)
   pub count : now.count ≡ first.count
 
--- entries for some puts, placed beside the sectors in use, and what is then free
+-- entries for some puts, placed outside the sectors in use, and what is then free
 pub record ArePlacedBeside (sectors : ℕ) (used : List Extent) (puts : List (ℕ × List ℕ)) (entries : List Entry) (now : FreeSectors) : Type 0 where
   pub first : FreeSectors
   pub beside : IsFreeBeside sectors used first

@@ -19,7 +19,7 @@ AreFor entries puts = sizes_at entries ≡ map size_of puts
 abbrev pub written_by : Plan → List Extent
 written_by plan = extent_of plan.superblock.catalogue plan.superblock.bytes ∷ extents_of plan.placed.items
 
--- A plan for puts beside the sectors in use: entries for them and the kept ones, their catalogue, and its superblock.
+-- A plan for puts outside the sectors in use: entries for them and the kept ones, their catalogue, and its superblock.
 pub record IsPlan (sectors : ℕ) (used : List Extent) (kept : List Entry) (puts : List (ℕ × List ℕ)) (root : List ℕ) (generation layout : ℕ) (plan : Plan) : Type 0 where
   pub sized : plan.superblock.sectors ≡ sectors
   pub numbered : plan.superblock.generation ≡ generation
@@ -30,12 +30,12 @@ pub record IsPlan (sectors : ℕ) (used : List Extent) (kept : List Entry) (puts
   pub same_root : plan.root.items ≡ root
   pub spelled : catalogues.IsCatalogue plan.catalogue.items plan.entries.items root
   pub bytes : plan.superblock.bytes ≡ length plan.catalogue.items
-  -- what is written lies beside what is used
+  -- what is written lies outside what is used
   pub written : AreLaidOut sectors (written_by plan)
   pub apart : (sector : ℕ) → SomeHolds (written_by plan) sector → SomeHolds used sector → ⊥
   pub laid_out : AreLaidOut sectors (used_by plan.superblock plan.entries.items)
 
--- the plan of a commit over what stands there
+-- the plan of a commit over what is there
 abbrev pub IsPlanOver : Super → List Entry → List (ℕ × List ℕ) → List ℕ → List ℕ → ℕ → Plan → Type 0
 IsPlanOver super entries puts drops root layout plan =
     IsPlan super.sectors (used_by super entries) (drop_each (λ e. e.id) drops entries) puts root (super.generation + 1) layout plan

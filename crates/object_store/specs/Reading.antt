@@ -8,7 +8,7 @@ use Rattle.superblock.specs.Superblock.{IsSuperblock}
 abbrev pub IsOnlyRead : DeviceState → DeviceState → Type 0
 IsOnlyRead old new = WritesWithin (λ _. ⊥) old new
 
--- what stands in the two slots
+-- what is in the two slots
 abbrev pub two : List ℕ → List ℕ → Image
 two even odd slot = if slot == 0 then even else odd
 

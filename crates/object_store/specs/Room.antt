@@ -47,12 +47,12 @@ pub record FitsFail (free : FreeSectors) (lens : List ℕ) : Type 0 where
   pub fits : AreFirstFits free (take before lens) extents left
   pub none : (first : ℕ) → ¬ AreFreeFrom left (slice_index lens before) first
 
--- the first fits fail, for so many sectors each beside those that are used
+-- the first fits fail, for so many sectors each outside those that are used
 pub record LacksPlaces (sectors : ℕ) (used : List Extent) (lens : List ℕ) : Type 0 where
   pub free : FreeSectors
   pub beside : IsFreeBeside sectors used free
   pub fail : FitsFail free lens
 
--- The first fits fail: there is no room for these puts and then the catalogue, beside what is used.
+-- The first fits fail: there is no room for these puts and then the catalogue, outside what is used.
 unfoldable pub LacksRoom : Room → List (ℕ × List ℕ) → List ℕ → List ℕ → Type 0
 LacksRoom room puts drops root = LacksPlaces room.sectors room.used (asked_for (drop_each (λ o. o.0) drops room.sizes) puts root)

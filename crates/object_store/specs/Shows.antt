@@ -16,7 +16,7 @@ pub record Spells (size : ℕ) (image : Image) (c : Content) (super : Super) (en
   -- it was made for a device of this size
   pub sized : super.sectors ≡ size
   pub spelled : catalogues.IsCatalogue (bytes_at image super.catalogue super.bytes) entries c.root
-  -- the extents lie behind the superblocks and within the device, and share no sector
+  -- the extents lie after the superblocks and within the device, and share no sector
   pub laid_out : AreLaidOut size (used_by super entries)
   pub objects : c.objects ≡ objects_at image entries
 

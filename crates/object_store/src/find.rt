@@ -1,4 +1,4 @@
-// What stands on a device.
+// What is on a device.
 ghost use Rattle.std.specs.Prelude.{◌≡◌, ◌⊎◌, ◌+◌, ◌-◌, ◌^◌, ◌%◌, ◌<◌, ◌≤◌, ℕ, min, true, IfOk, IfErr, IfSome, OnOk, MatchOption};
 ghost use Rattle.cube_model.specs.declared.fault.Fault.{Fault};
 ghost use Rattle.sector_device.specs.Device.{CountsFailure, IsSettled, Syncs};

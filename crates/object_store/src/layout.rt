@@ -31,7 +31,7 @@ pub(crate) fn used_extents(
     Ok(used)
 }
 
-/// `BadLayout` where they do not lie behind the superblocks and within the device, or share a sector.
+/// `BadLayout` where they do not lie after the superblocks and within the device, or share a sector.
 pub(crate) fn check_extents(
     alloc: Global,
     superblock: &Super,

@@ -13,7 +13,7 @@ use cube_model::Fault;
 use extents::{Extent, Free};
 use std::alloc::Global;
 
-/// An entry for each put, in order, each by first fit beside extents that keep the rules of the layout, and what is then
+/// An entry for each put, in order, each by first fit outside extents that keep the rules of the layout, and what is then
 /// free.
 pub(crate) fn place_beside(
     alloc: Global,
@@ -31,7 +31,7 @@ pub(crate) fn place_beside(
     Ok((free, placed))
 }
 
-// The free sectors beside extents that keep the rules of the layout.
+// The free sectors outside extents that keep the rules of the layout.
 fn free_beside(alloc: Global, sectors: u32, used: &[Extent]) -> Result<Free, Fault>
     requires { AreLaidOut sectors used.now }
     ensures ok { IfOk result (IsFreeBeside sectors used.now) }

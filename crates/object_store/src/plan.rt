@@ -41,7 +41,7 @@ pub(crate) struct Stamp {
     pub layout: u32,
 }
 
-/// The plan for puts beside the sectors in use, with the entries that are kept.
+/// The plan for puts outside the sectors in use, with the entries that are kept.
 pub(crate) fn prepare(
     alloc: Global,
     stamp: Stamp,
@@ -109,7 +109,7 @@ fn catalogued(
     Ok((entries, catalogue, root))
 }
 
-/// The plan of a commit over what stands there.
+/// The plan of a commit over what is there.
 pub(crate) fn next_plan(
     alloc: Global,
     superblock: &Super,

@@ -12,7 +12,7 @@ use catalogue::Entry;
 use sector_device::{DeviceError, Sectors};
 use superblock::encode;
 
-/// Writes what a plan names, then its superblock, with a sync behind each.
+/// Writes what a plan names, then its superblock, with a sync after each.
 pub(crate) fn publish<D: Sectors>(
     device: &mut D,
     puts: &[(u32, &[u8])],

@@ -1,4 +1,4 @@
-// Reading bytes that stand from a sector on.
+// Reading bytes that begin at a sector.
 ghost use Rattle.std.specs.Prelude.{◌≡◌, ◌+◌, ◌-◌, ◌*◌, ◌/◌, ◌%◌, ◌<◌, ◌≤◌, ◌^◌, ◌++◌, ℕ, length, take, drop, min, IfOk, OnOk};
 ghost use Rattle.std.specs.Vec.{vec_capacity};
 ghost use Rattle.sector_device.specs.Device.{CountsFailure};
@@ -97,7 +97,7 @@ fn read_piece<D: Sectors>(
     Ok(n)
 }
 
-/// Puts the bytes of so many sectors, from one on, behind others. There is to be room for them.
+/// Puts the bytes of so many sectors, from one on, after others. There is to be room for them.
 pub(crate) fn push_sectors<D: Sectors>(
     device: &mut D,
     first: u32,

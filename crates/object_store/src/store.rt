@@ -98,7 +98,7 @@ impl<D: Sectors> Store<D> {
         }
     }
 
-    /// Finds what stands on a device, also one that was not restarted. A refusal hands the device back.
+    /// Finds what is on a device, also one that was not restarted. A refusal hands the device back.
     pub fn open(alloc: Global, mut device: D) -> Result<Store<D>, (Fault, D)>
         // It is usable, there is one image, and it shows the content, which an image at the start showed.
         ensures fine { IfOk result (λ store. has_failed store ≡ false) }

@@ -11,7 +11,7 @@ use Rattle.warehouse_objects.specs.Warehouse.{Warehouse}
 use Rattle.warehouse.specs.Session.{IsAsked, QueryRefuses}
 use Rattle.plan_report.specs.Printed.{plans_text}
 
--- The plans of a query over the first batches were written, the one that is taken first. Or the writer failed, behind a beginning of
+-- The plans of a query over the first batches were written, the one that is taken first. Or the writer failed, after a beginning of
 -- them. Or the query is refused, and nothing was written
 abbrev pub Explains : {A : Type 0} → Warehouse → ℕ → Query → (before after : Option (List ℕ)) → Result A Fault → Type 0
 Explains w count query before after (Ok done) =

@@ -73,7 +73,7 @@ pub said_is : (w : Warehouse) (view : View) (entries : List StoredCuboid) (numbe
 said_is w view entries number said cuboid same numbered is at =
     let both : Some (said_of cuboid) ≡ Some said = sym (said_found w view entries number (Some said) cuboid same numbered is at) in cc
 
--- cells of the first batches can be taken by a fold that stands for no row
+-- cells of the first batches can be taken by a fold that represents no row
 pub can_take_first : (c : Content) (w : Warehouse) (view : ℕ) (cuboid : Cuboid) (mark : ℕ) (dims : DimRows) (fold : FoldState) → Stands c w → cuboid_at view w.cuboids ≡ Some cuboid → cuboid.mark ≡ mark → dims ≡ w.rows
     → StandsFor dims fold [] → CanTake dims fold (all_rows (take mark w.batches))
 can_take_first c w view cuboid mark dims fold stands found marked same begun =

@@ -58,7 +58,7 @@ pub fn answer_by_plan<D: Sectors>(
     }
 }
 
-// The answer to a query over the first batches of a store, by a fold of it that stands for no row yet.
+// The answer to a query over the first batches of a store, by a fold of it that represents no row yet.
 fn answer_by<D: Sectors>(
     alloc: Global,
     store: &mut Store<D>,
@@ -85,7 +85,7 @@ fn answer_by<D: Sectors>(
     fold.finish(dims)
 }
 
-/// Counts the cells of a query's plan into a fold of it that stands for no row yet. It answers how many of the first batches
+/// Counts the cells of a query's plan into a fold of it that represents no row yet. It answers how many of the first batches
 /// they hold.
 pub(crate) fn begin_fold<D: Sectors>(
     alloc: Global,

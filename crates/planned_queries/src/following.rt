@@ -24,7 +24,7 @@ use std::alloc::Global;
 use stored_cuboids::merged_runs;
 use warehouse_root::{Root, StoredCuboid};
 
-/// Counts the cells of a plan into a fold that stands for no row yet. It answers how many of the first batches they hold: none
+/// Counts the cells of a plan into a fold that represents no row yet. It answers how many of the first batches they hold: none
 /// of a scan.
 ///
 /// `BadLayout` where the cuboid is not as the root says, and where the fold cannot take its cells.
@@ -40,7 +40,7 @@ pub fn begin_by_plan<D: Sectors>(
     requires begun { StandsFor dims.now fold.old [] }
     requires serves { ServesBy fold.old.query plan }
 
-    // Then it stands for the rows of these batches.
+    // Then it represents the rows of these batches.
     ensures ok { OnOk result (D.keeps_word (device_of store.new) → (w : Warehouse) → Stands (content_of D.Sectors store.old) w
         → root.now ≡ root_of w → dims.now ≡ w.rows → IsOfCuboid w plan → StandsFor dims.now fold.new (all_rows (take (mark_of plan) w.batches))) }
     ensures from { IfOk result (λ from. from ≡ mark_of plan) }
@@ -65,7 +65,7 @@ pub fn begin_by_plan<D: Sectors>(
     }
 }
 
-// Counts the cells of the stored cuboid of a view into a fold that stands for no row yet. They hold so many of the first batches.
+// Counts the cells of the stored cuboid of a view into a fold that represents no row yet. They hold so many of the first batches.
 fn add_cuboid<D: Sectors>(
     alloc: Global,
     store: &mut Store<D>,

@@ -10,7 +10,7 @@ use Rattle.planner.specs.declared.price.Plan.TheVariants.{Scan, Cells}
 use Rattle.planner.specs.declared.price.Priced.{Priced}
 use Rattle.planner.specs.declared.stored.Stored.{Stored}
 
--- the fact rows of the batches behind one up to another, where batches count from 1
+-- the fact rows of the batches after one up to another, where batches count from 1
 abbrev pub rows_between : List ℕ → ℕ → ℕ → ℕ
 rows_between batch_rows from to = sum (take (to - from) (drop from batch_rows))
 
@@ -19,7 +19,7 @@ pub record ServesAsOf (query : Query) (as_of : ℕ) (stored : Stored) : Type 0 w
   pub in_time : stored.mark ≤ as_of
   pub serves : Serves stored.view query
 
--- what a stored cuboid reads: its cells, and the fact rows of the batches behind its mark
+-- what a stored cuboid reads: its cells, and the fact rows of the batches after its mark
 abbrev pub cells_cost : List ℕ → ℕ → Stored → ℕ
 cells_cost batch_rows as_of stored = stored.cells + rows_between batch_rows stored.mark as_of
 
@@ -46,6 +46,6 @@ pub record IsCheapest (query : Query) (stored : List Stored) (batch_rows : List 
 abbrev pub IsPlan : Query → List Stored → List ℕ → ℕ → Plan → Type 0
 IsPlan query stored batch_rows as_of plan = (cost : ℕ) × IsCheapest query stored batch_rows as_of plan cost
 
--- one priced plan is taken before another: it reads less, or as much and is not behind it in the order
+-- one priced plan is taken before another: it reads less, or as much and is not after it in the order
 abbrev pub ComesFirst : Priced → Priced → Type 0
 ComesFirst first second = (first.cost < second.cost) ⊎ ((first.cost ≡ second.cost) × (rank first.plan ≤ rank second.plan))

@@ -11,7 +11,7 @@ use cube_model::Query;
 /// The plan that reads least of those that answer a query over the first `as_of` batches.
 ///
 /// A scan reads the fact rows of all these batches. A stored cuboid that serves the query reads its cells, and the fact
-/// rows of the batches behind its mark. At a tie the scan is taken before a cuboid, and a cuboid before those of greater
+/// rows of the batches after its mark. At a tie the scan is taken before a cuboid, and a cuboid before those of greater
 /// index. It takes no memory.
 pub fn plan(query: &Query, stored: &[Stored], batch_rows: &[u32], as_of: u32) -> Plan
     requires { as_of ≤ length batch_rows.now }
@@ -37,7 +37,7 @@ pub(crate) fn by_scan(batch_rows: &[u32], as_of: u32) -> Priced
     }
 }
 
-/// The cells of a cuboid, and the batches behind its mark up to `as_of`.
+/// The cells of a cuboid, and the batches after its mark up to `as_of`.
 pub(crate) fn by_cells(batch_rows: &[u32], one: &Stored, as_of: u32) -> Priced
     requires order { one.now.mark ≤ as_of }
     requires known { as_of ≤ length batch_rows.now }

@@ -4,7 +4,7 @@ ghost use Rattle.planner.specs.Plans.{rows_between, cells_cost};
 
 use crate::stored::Stored;
 
-// The fact rows of the batches behind `from` up to `to`.
+// The fact rows of the batches after `from` up to `to`.
 pub(crate) fn rows_between(batch_rows: &[u32], from: u32, to: u32) -> u64
     requires order { from ≤ to }
     requires known { to ≤ length batch_rows.now }
@@ -19,7 +19,7 @@ pub(crate) fn rows_between(batch_rows: &[u32], from: u32, to: u32) -> u64
     total
 }
 
-// The cells of a cuboid, and the fact rows of its tail: the batches behind its mark.
+// The cells of a cuboid, and the fact rows of its tail: the batches after its mark.
 pub(crate) fn cells_cost(batch_rows: &[u32], stored: &Stored, as_of: u32) -> u64
     requires order { stored.now.mark ≤ as_of }
     requires known { as_of ≤ length batch_rows.now }

@@ -1,4 +1,4 @@
--- A condition behind its colon.
+-- A condition after its colon.
 use Rattle.std.proofs.Common.{◌≡◌, ℕ, false, Bor, List, [], ◌∷◌, refl, sym, ap, subst, ◌∙◌, codes, length, map, get_or, arith}
 use Rattle.std.proofs.lemmas.Bool.{false≢true}
 use Rattle.std.proofs.lemmas.Slice.Eq.{bytes_eq-Decides}
@@ -42,7 +42,7 @@ no_bounds range low high parts none m n bounds =
     let high_same : bounds.high_text ≡ high = cc in
     none (m, n) (subst (λ (text : List ℕ). IsSmallNumber text m) low_same bounds.low_is, subst (λ (text : List ℕ). IsSmallNumber text n) high_same bounds.high_is)
 
--- and so nothing is spelled behind the name of a number
+-- and so nothing is spelled after the name of a number
 pub no_quantity : (name range low high : List ℕ) → name ≡ codes "quantity" → low ∷ high ∷ [] ≡ parts_by 124 range → ((ends : ℕ × ℕ) → IsSmallNumber low ends.0 × IsSmallNumber high ends.1 → ⊥) → (condition : Cond) → SpellsRange name range condition → ⊥
 no_quantity name range low high is parts none (OneOf attr texts) spelled = (no_number attr).0 (sym spelled.name_is ∙ is)
 no_quantity name range low high is parts none (Between attr from to) spelled = (no_number attr).0 (sym spelled.name_is ∙ is)

@@ -1,4 +1,4 @@
--- Where the sign of a condition stands.
+-- Where the sign of a condition is.
 use Rattle.std.proofs.Common.{◌≡◌, ◌≢◌, inl, inr, ℕ, zero, suc, ◌<◌, Bool, true, false, cond, eqb, eq-eqb, List, [], ◌∷◌, ◌++◌, length, get_or, None, Some, Result, Ok, Err, refl, sym, ap, ◌∙◌, subst, arith, codes, Bor, lit<}
 use Rattle.std.specs.List.{position_or_len}
 use Rattle.std.proofs.lemmas.Bool.{false≢true}
@@ -29,7 +29,7 @@ free sign [] e i below is = absurd (omega arith)
 free sign (byte ∷ text) e zero below is = let same : eqb byte sign ≡ true = eq-eqb byte sign is in false≢true (rw same at e)
 free sign (byte ∷ text) e (suc i) below is = free sign text (none_behind (eqb byte sign) (has_no sign text) e) i (omega arith) is
 
--- behind the first opening bracket (40) of an aggregate's name stands a closing one (41) at the end
+-- after the first opening bracket (40) of an aggregate's name comes a closing one (41) at the end
 closed_by : (front : List ℕ) → has_no 40 front ≡ true → (word measure : List ℕ) (taken closed : Bor (List ℕ)) → IsSplitOnceResult 40 word (Some (taken, closed)) → ((name : List ℕ) → closed.now ≢ name ++ 41 ∷ []) → word ≡ front ++ 40 ∷ (measure ++ 41 ∷ []) → ⊥
 closed_by front plain word measure taken closed is unclosed e = unclosed measure (split_after 40 word front (measure ++ 41 ∷ []) (Some (taken, closed)) is (lit< tt) e (free 40 front plain)).1
 
@@ -78,7 +78,7 @@ no_list word name rest is none attr list e = none attr (split_after 61 word (att
 pub no_equals : (word : List ℕ) → IsSplitOnceResult 61 word None → (attr : Attr) (list : List ℕ) → word ≡ attr_name attr ++ 61 ∷ list → ⊥
 no_equals word is attr list e = split_after 61 word (attr_name attr) list None is (lit< tt) e (free 61 (attr_name attr) (plain_names attr).0)
 
--- a condition that is spelled behind the colon is spelled by the word
+-- a condition that is spelled after the colon is spelled by the word
 behind : (word : List ℕ) (name range : Bor (List ℕ)) → IsSplitOnceResult 58 word (Some (name, range)) → (condition : Cond) → SpellsRange name.now range.now condition → SpellsCondition word condition
 behind word name range is condition spelled = record {
   members = range.now;
@@ -102,7 +102,7 @@ nothing_behind word name range is unlisted none (Between attr low high) spelled 
 nothing_behind word name range is unlisted none (Quantity low high) spelled = none (Quantity low high) (before_colon word name range is (Quantity low high) refl spelled)
 nothing_behind word name range is unlisted none (Discount low high) spelled = none (Discount low high) (before_colon word name range is (Discount low high) refl spelled)
 
--- what stands behind the colon is read
+-- what is after the colon is read
 pub reads_range : (word : List ℕ) (name range : Bor (List ℕ)) → IsSplitOnceResult 58 word (Some (name, range)) → ((attr : Attr) (list : List ℕ) → word ≡ attr_name attr ++ 61 ∷ list → ⊥) → (result : Result Cond Fault) → Reads (SpellsRange name.now range.now) result → Reads (SpellsCondition word) result
 reads_range word name range is unlisted (Ok condition) read = behind word name range is condition read
 reads_range word name range is unlisted (Err fault) (inl memory) = inl memory

@@ -73,7 +73,7 @@ fn aggregate(word: &str) -> Option<Agg>
     }
 }
 
-// Count, or a measure behind a colon, such as `sum:revenue`.
+// Count, or a measure after a colon, such as `sum:revenue`.
 fn behind_colon(word: &str) -> Option<Agg>
     ensures { Finds (λ agg. word.now ≡ agg_word agg) result }
 {

@@ -22,7 +22,7 @@ pub fn read_conditions(alloc: Global, words: &[&str]) -> Result<Items<Cond>, Fau
     Ok(conditions)
 }
 
-// Behind `=` stand texts, behind `:` the two ends of a range. No name has a sign in it.
+// After `=` come texts, after `:` the two ends of a range. No name has a sign in it.
 fn read_condition(alloc: Global, word: &str) -> Result<Cond, Fault>
     ensures { Reads (SpellsCondition word.now) result }
 {

@@ -9,7 +9,7 @@ use crate::parts::{parts, text_of};
 use cube_model::{Attr, Cond, Fault};
 use std::alloc::Global;
 
-/// Reads a condition whose two ends stand behind the name of what it is on.
+/// Reads a condition whose two ends come after the name of what it is on.
 pub fn read_range(alloc: Global, name: &str, range: &str) -> Result<Cond, Fault>
     ensures { Reads (SpellsRange name.now range.now) result }
 {
@@ -20,7 +20,7 @@ pub fn read_range(alloc: Global, name: &str, range: &str) -> Result<Cond, Fault>
     read_ends(alloc, name, low, high)
 }
 
-// Reads a condition by its name and its two ends, the parts of what stands behind the name.
+// Reads a condition by its name and its two ends, the parts of what is after the name.
 fn read_ends(alloc: Global, name: &str, low: &str, high: &str) -> Result<Cond, Fault>
     ensures { (range : List ℕ) → low.now ∷ high.now ∷ [] ≡ parts_by 124 range → Reads (SpellsRange name.now range) result }
 {

@@ -1,4 +1,4 @@
-// A device behind a cache of some of its sectors.
+// A device with a cache of some of its sectors.
 ghost use Rattle.std.specs.Prelude.{◌≡◌, ◌+◌, ◌-◌, ◌/◌, ◌%◌, ◌^◌, ◌<◌, ◌≤◌, ℕ, List, length, min, Some, None, IsSome, OnOk, OnErr, IfOk, IfErr};
 ghost use Rattle.sector_device.specs.Device.{CountsFailure, HasRun, IsInRun, Stays, Writes, WritesWithin};
 ghost use Rattle.sector_cache.specs.Kept.{Agrees};

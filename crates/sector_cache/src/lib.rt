@@ -1,4 +1,4 @@
-//! A device behind a cache of some of its sectors.
+//! A device with a cache of some of its sectors.
 #![tactic(auto)]
 
 mod cached;

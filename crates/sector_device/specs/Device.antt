@@ -1,7 +1,7 @@
 -- A device as its candidates, and the images that a stop at each moment may leave. Our own model of a disk.
 use Rattle.std.specs.Prelude.{◌≡◌, ◌≢◌, ◌⊎◌, ℕ, ◌+◌, ◌-◌, ◌*◌, ◌/◌, ◌^◌, ◌≤◌, ◌<◌, min, List, length, take, drop, Result, MatchResult}
 
--- what stands in each sector: a list of 512 bytes for each number of a sector
+-- what is in each sector: a list of 512 bytes for each number of a sector
 abbrev pub Image : Type 0
 Image = ℕ → List ℕ
 

@@ -57,7 +57,7 @@ synced_within Within old mid new so_far syncs = record {
   leaves = goes_on old mid new _ so_far.leaves syncs.time (λ image is i out. so_far.no_more i (image i) out (syncs.no_more i (image i) (is i)));
 }
 
--- each sector outside stood still, so what depends on it alone stands
+-- each sector outside stayed as it was, so what depends on it alone holds
 pub within_more : (Within More : ℕ → Type 0) (old new : DeviceState) → ((i : ℕ) → Within i → More i) → WritesWithin Within old new → WritesWithin More old new
 within_more Within More old new so writes = record {
   others = λ i out. writes.others i (λ w. out (so i w));

@@ -1,6 +1,6 @@
 // What a write or a sync took away.
 
-/// What a write or a sync took away, so that what stood before can be told.
+/// What a write or a sync took away, so that what was there before is known.
 #[derive(Drop)]
 pub enum Change {
     /// A write replaced this content of a sector.

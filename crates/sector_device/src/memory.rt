@@ -1,4 +1,4 @@
-// A disk in memory. It keeps what each write and sync took away, so that each earlier moment can be told.
+// A disk in memory. It keeps what each write and sync took away, so that each earlier moment is known.
 ghost use Rattle.std.specs.Prelude.{◌≡◌, ◌+◌, ◌-◌, ◌^◌, ◌<◌, ℕ, [], ◌∷◌, length, min, replicate, reverse, IsOk, IfOk, IfErr, OnOk, OnErr};
 ghost use Rattle.sector_device.specs.Device.{IsImage, IsSettled, Stays, Writes, Syncs, CountsFailure};
 ghost use Rattle.sector_device.specs.Memory.{AreWhole};
@@ -48,7 +48,7 @@ impl MemDisk {
         })
     }
 
-    /// What stands in the disk after a stop: the j-th sector with several candidates takes the one of this
+    /// What is in the disk after a stop: the j-th sector with several candidates takes the one of this
     /// pick, modulo their number, the oldest first; a missing pick is 0. It takes no memory.
     pub fn crash(self, picks: &[u32]) -> MemDisk
         ensures size { (state_of result).size ≡ (state_of self).size }

@@ -102,7 +102,7 @@ AreTaken-none dimensions query accepted fold next batches [] found taken begun n
 pub counted : (dimensions : DimRows) (query : Query) (before rows : List LineOrder) (found : Found) (fold : FoldState) → IsBegun dimensions query before rows found fold → found.row_count ≡ length rows
 counted dimensions query before rows found fold begun = ap (λ some. some.row_count) begun.found_is
 
--- what was found, behind the batches that stand
+-- what was found, after the batches that are there
 pub found-behind : (dimensions : DimRows) (query : Query) (accepted : Accepted) (batches : List (List LineOrder)) (rows : List LineOrder) (found : Found) (fold : FoldState) → StandsBehind accepted batches
     → IsBegun dimensions query (all_rows batches) rows found fold → found ≡ found_in dimensions accepted.totals rows
 found-behind dimensions query accepted batches rows found fold stands begun = begun.found_is ∙ ap (λ totals. found_in dimensions totals rows) (sym stands.totals)

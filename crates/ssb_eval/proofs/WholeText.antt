@@ -14,7 +14,7 @@ use Rattle.cube_model.specs.Limits.{most_batch_rows}
 use Rattle.ssb_eval.specs.Evaluation.{facts_behind, facts_of, table_rows}
 use Rattle.batch_admission.proofs.CallerLemmas.{all_rows-last}
 
--- a row stands in front of others
+-- a row is in front of others
 record IsBefore {Row : Type 0} (first : Result Row Fault) (others : Result (List Row) Fault) (rows : List Row) : Type 0 where
   row : Row
   rest : List Row
@@ -30,7 +30,7 @@ is_before (Ok row) (Ok rest) rows e = record { row = row; rest = rest; first_is 
 same : {A : Type 0} (outcome : Result A Fault) (a b : A) → outcome ≡ Ok a → outcome ≡ Ok b → b ≡ a
 same outcome a b one two = cc
 
--- the rows of some lines, and of others behind them
+-- the rows of some lines, and of others after them
 rows-append : {Row : Type 0} (row : ℕ → List ℕ → Result Row Fault) (number : ℕ) (lines others : List (List ℕ)) (rows more : List Row)
     → rows_of row number lines ≡ Ok rows → rows_of row (number_after (length rows) number) others ≡ Ok more → rows_of row number (lines ++ others) ≡ Ok (rows ++ more)
 rows-append row number [] others rows more first second =
@@ -63,7 +63,7 @@ not_refused : {A : Type 0} (cause : Option Fault) (outcome : Result A Fault) (va
 not_refused None outcome value e = e
 not_refused (Some fault) outcome value e = absurd (cc)
 
--- the rows of the lines that are left stand behind those of the batches
+-- the rows of the lines that are left come after those of the batches
 record AreBehind (number : ℕ) (lines : List (List ℕ)) (batches : List (List LineOrder)) (rows : List LineOrder) : Type 0 where
   more : List LineOrder
   more_are : rows_of lineorder_row number lines ≡ Ok more

@@ -1,4 +1,4 @@
--- What stands between two batches of an evaluation. Our own.
+-- What holds between two batches of an evaluation. Our own.
 use Rattle.std.specs.Prelude.{◌≡◌, ◌⊎◌, ℕ, ◌+◌, ◌*◌, ◌≤◌, Bool, true, false, None, Some, Option, List, [], ◌∷◌, ◌++◌, length, Result, Ok, Err}
 use Rattle.batch_loader.specs.Lines.{lines_of}
 use Rattle.batch_loader.specs.Parts.{parts_of}
@@ -37,7 +37,7 @@ LeavesFacts dimensions text batches number (Some left) = facts_of dimensions tex
 abbrev pub CanGoOn : DimRows → Accepted → FoldState → Type 0
 CanGoOn dimensions accepted fold = (batches : List (List LineOrder)) × AreTaken dimensions fold.query accepted fold batches
 
--- The first rows of a batch were looked at behind those of accepted batches, and folded unless something was found in
+-- The first rows of a batch were looked at after those of accepted batches, and folded unless something was found in
 -- them. The totals found are those of all these rows
 pub record IsBegun (dimensions : DimRows) (query : Query) (before earlier : List LineOrder) (found : Found) (fold : FoldState) : Type 0 where
   pub found_is : found ≡ found_in dimensions (totals_of before) earlier

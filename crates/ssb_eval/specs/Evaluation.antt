@@ -44,7 +44,7 @@ dimensions_of texts =
     and_then (table_rows date_row texts.date) (λ dates.
     valid_rows (record { customers = customers; suppliers = suppliers; parts = parts; dates = dates })))))
 
--- the fact rows of the lines of batches, behind batches that were accepted: the lines of a batch are read, and then it is
+-- the fact rows of the lines of batches, after batches that were accepted: the lines of a batch are read, and then it is
 -- admitted. The number is that of the next line
 abbrev pub facts_behind : DimRows → List (List LineOrder) → ℕ → List (List (List ℕ)) → Result (List LineOrder) Fault
 facts_behind dimensions batches number [] = Ok (all_rows batches)
@@ -97,7 +97,7 @@ pub record HaveTexts (customer supplier part date lineorder : Option (List ℕ))
   pub date_left : date ≡ Some texts.date
   pub lineorder_left : lineorder ≡ Some texts.lineorder
 
--- The end of an evaluation: the report was written. Or the writer failed, behind a beginning of the report. Or nothing
+-- The end of an evaluation: the report was written. Or the writer failed, after a beginning of the report. Or nothing
 -- was written: for want of memory, since a reader failed, or since that is the first refusal
 abbrev pub Reports : {A : Type 0} → Option (List ℕ) → Option (List ℕ) → Result (List ℕ) Fault → Result A Fault → Type 0
 Reports old new outcome (Ok done) = (bytes : List ℕ) × (outcome ≡ Ok bytes) × Appends old new bytes

@@ -33,11 +33,11 @@ before old new fault first second (is, part) = (
 pub Writes-on : (old mid new : Option (List ℕ)) (result : Result Unit Fault) (first second whole : List ℕ) → Appends old mid first → Writes mid new result second → whole ≡ first ++ second → Writes old new result whole
 Writes-on old mid new result first second whole front back is = rw is (behind old mid new result first second front back)
 
--- the first part was not written whole, and nothing behind it
+-- the first part was not written whole, and nothing after it
 pub Writes-stop : (old new : Option (List ℕ)) (result : Result Unit Fault) (fault : Fault) (first second whole : List ℕ) → (y : Fault) × (result ≡ Err y) × (y ≡ fault) → Writes old new (Err fault) first → whole ≡ first ++ second → Writes old new result whole
 Writes-stop old new result fault first second whole stop part is = rw (is, stop.1, stop.2) (before old new fault first second part)
 
--- the part behind a first was not written whole, and nothing behind it
+-- the part after a first was not written whole, and nothing after it
 pub Writes-stop_behind : (old mid new : Option (List ℕ)) (result : Result Unit Fault) (fault : Fault) (first second third whole : List ℕ) → (y : Fault) × (result ≡ Err y) × (y ≡ fault) → Appends old mid first → Writes mid new (Err fault) second → whole ≡ first ++ (second ++ third) → Writes old new result whole
 Writes-stop_behind old mid new result fault first second third whole stop front part is =
     rw (is, stop.1, stop.2) (behind old mid new (Err fault) first (second ++ third) front (before mid new fault second third part))

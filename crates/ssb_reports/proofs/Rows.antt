@@ -43,7 +43,7 @@ parted-first text lead (first ∷ others) field some is =
     ap (λ one. lead ++ (text one ++ parted (124 ∷ []) (map text others))) (sym is)
     ∙ ap (λ rest. lead ++ (text field ++ parted (124 ∷ []) (map text rest))) (sym (take_rest (first ∷ others) 1))
 
--- the texts before an item, its own, and those behind it
+-- the texts before an item, its own, and those after it
 pub flat_map-around : {A : Type 0} (text : A → List ℕ) (items : List A) (i : ℕ) (item : A) → i < length items → item ≡ get_or items i item → flat_map text items ≡ flat_map text (take i items) ++ (text item ++ flat_map text (drop (i + 1) items))
 flat_map-around text items i item within is =
     ap (flat_map text) (sym (take-append-drop i items) ∙ ap (λ rest. take i items ++ rest) (rw (add-one) (drop-cons items i item within)))

@@ -47,7 +47,7 @@ sum_of measure columns conditions = record {
   order = None;
 }
 
--- the same in order by the third column, in which the years stand, and in a year from the greatest sum down
+-- the same in order by the third column, in which the years are, and in a year from the greatest sum down
 abbrev pub by_year_and_sum : Query → Query
 by_year_and_sum query = record query { order = Some (record { column = 2; aggregate = 0 }) }
 

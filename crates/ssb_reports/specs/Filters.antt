@@ -1,11 +1,11 @@
--- The conditions of the benchmark's queries, as they stand in the program. Our own.
+-- The conditions of the benchmark's queries, as they are in the program. Our own.
 use Rattle.cube_model.specs.declared.query.Cond as cond
 use Rattle.cube_model.specs.declared.query.Cond.{Cond}
 use Rattle.ssb_reports.specs.declared.filter.Filter.{Filter}
 use Rattle.ssb_reports.specs.declared.filter.Filter.TheVariants.{Is, Either, Between, Quantity, Discount}
 use Rattle.ssb_reports.specs.Benchmark.{is, is_either}
 
--- the condition that a filter stands for
+-- the condition that a filter represents
 abbrev pub condition_of : Filter → Cond
 condition_of (Is attr text) = is attr text.now
 condition_of (Either attr text other) = is_either attr text.now other.now

@@ -6,7 +6,7 @@ abbrev pub parted : List ℕ → List (List ℕ) → List ℕ
 parted lead [] = []
 parted lead (field ∷ fields) = lead ++ (field ++ parted (124 ∷ []) fields)
 
--- what leads the next field behind some others: a bar, and nothing where there are none
+-- what leads the next field after some others: a bar, and nothing where there are none
 abbrev pub lead_behind : {A : Type 0} → List A → List ℕ
 lead_behind [] = []
 lead_behind (first ∷ others) = 124 ∷ []

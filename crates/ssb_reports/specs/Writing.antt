@@ -11,7 +11,7 @@ pub record AppendsBeginning (old new : Option (List ℕ)) (bytes : List ℕ) : T
   pub whole : bytes ≡ written ++ left
   pub appended : Appends old new written
 
--- all of the bytes were written, or the writer failed behind a beginning of them
+-- all of the bytes were written, or the writer failed after a beginning of them
 abbrev pub Writes : Option (List ℕ) → Option (List ℕ) → Result Unit Fault → List ℕ → Type 0
 Writes old new (Ok done) bytes = Appends old new bytes
 Writes old new (Err fault) bytes = (fault ≡ Output) × AppendsBeginning old new bytes

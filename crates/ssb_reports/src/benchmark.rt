@@ -51,7 +51,7 @@ fn measure_of(number: QNumber) -> Measure
     }
 }
 
-// The years stand in the third column of the queries that are in order by them.
+// The years are in the third column of the queries that are in order by them.
 fn order_of(number: QNumber) -> Option<Order>
     ensures { result ≡ (benchmark_query number).order }
 {

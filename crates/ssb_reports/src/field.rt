@@ -8,9 +8,9 @@ use crate::writing::{write_bytes, write_number};
 use cube_model::{Agg, Attr, Fault, Fraction, Measure, Member, Value};
 use std::io::Write;
 
-/// What stands between two bars of a report.
+/// What is between two bars of a report.
 pub trait Field {
-    // the bytes that stand there
+    // the bytes that are there
     ghost text: { Self → List ℕ };
 
     /// Hands a writer the bytes.

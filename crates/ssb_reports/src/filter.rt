@@ -1,4 +1,4 @@
-//! The conditions of the benchmark's queries, as they stand in the program.
+//! The conditions of the benchmark's queries, as they are in the program.
 use cube_model::Attr;
 
 /// A condition whose texts are the program's own.

@@ -9,7 +9,7 @@ use Rattle.superblock.specs.declared.superblock.Super.{Super}
 use Rattle.superblock.specs.Superblock.{sector_of, IsProper}
 use Rattle.superblock.proofs.CallerLemmas.{bytes_fit, catalogue_fits, layout_fits, made_of}
 
--- a field of k bytes goes on with what is done, where zeros stand
+-- a field of k bytes goes on with what is done, where zeros are
 field_put : (at k m : ℕ) (done field old new : List ℕ) → length done ≡ at → length field ≡ k
     → drop {A = ℕ} k (replicate (k + m) 0) ≡ replicate m 0 → old ≡ done ++ replicate (k + m) 0
     → new ≡ with_field at field old → new ≡ (done ++ field) ++ replicate m 0
@@ -21,7 +21,7 @@ field_put at k m done field old new is_at is_k zeros was is =
     ∙ ap (λ (rest : List ℕ). done ++ (field ++ rest)) zeros
     ∙ sym (append_assoc done field (replicate m 0))
 
--- six fields one after the other, and zeros behind them
+-- six fields one after the other, and zeros after them
 pub fields_put : (a b c d e f s1 s2 s3 s4 s5 s6 : List ℕ)
     → length a ≡ 8 → length b ≡ 4 → length c ≡ 4 → length d ≡ 8 → length e ≡ 4 → length f ≡ 4
     → s1 ≡ with_field 0 a (replicate 512 0) → s2 ≡ with_field 8 b s1 → s3 ≡ with_field 12 c s2

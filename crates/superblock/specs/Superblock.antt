@@ -1,4 +1,4 @@
--- How a superblock stands in its sector, and which rules it keeps. Our layout.
+-- How a superblock is stored in its sector, and which rules it keeps. Our layout.
 use Rattle.std.specs.Prelude.{◌≡◌, ℕ, ◌+◌, ◌/◌, ◌%◌, ◌^◌, ◌<◌, ◌≤◌, List, ◌++◌, replicate, codes}
 use Rattle.wire.specs.Limits.{least_sectors, most_object_bytes}
 use Rattle.wire.specs.Spelling.{spelling}
@@ -25,7 +25,7 @@ pub record IsProper (s : Super) : Type 0 where
   pub least_sectors : least_sectors ≤ s.sectors
   -- generations count from 1
   pub first_generation : 1 ≤ s.generation
-  -- the catalogue lies behind the two superblocks, and ends where the device ends at the latest
+  -- the catalogue lies after the two superblocks, and ends where the device ends at the latest
   pub behind : 2 ≤ s.catalogue
   pub within : s.catalogue + sectors_of s.bytes ≤ s.sectors
   pub least_bytes : 12 ≤ s.bytes

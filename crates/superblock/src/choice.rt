@@ -1,4 +1,4 @@
-//! Which of two superblocks stands.
+//! Which of two superblocks is current.
 ghost use Rattle.superblock.specs.Choice.{StandsOf};
 
 use crate::superblock::Super;

@@ -21,7 +21,7 @@ pub fn decode(sector: &[u8; 512], slot: u8) -> Option<Super>
     None
 }
 
-// What stands in the places of the fields, whatever else the sector has.
+// What is in the places of the fields, whatever else the sector has.
 fn fields(sector: &[u8]) -> Result<Super, Fault>
     ensures { (s : Super) → IsProper s → sector.now ≡ sector_of s → result ≡ Ok s }
 {

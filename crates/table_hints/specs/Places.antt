@@ -1,4 +1,4 @@
--- Where a key stands. Lines of a file, rows of a batch and batches count from 1; a batch has 65,536 lines. Our own.
+-- Where a key is. Lines of a file, rows of a batch and batches count from 1; a batch has 65,536 lines. Our own.
 use Rattle.std.specs.Prelude.{◌≡◌, ℕ, ◌+◌, ◌-◌, ◌*◌, ◌/◌, ◌%◌, List, Contains}
 use Rattle.cube_model.specs.Limits.{most_batch_rows}
 

@@ -1,4 +1,4 @@
-//! A fact row whose key stands in no dimension row.
+//! A fact row whose key is in no dimension row.
 ghost use Rattle.std.specs.Prelude.{◌≡◌, ◌≤◌, ◌<◌, ◌^◌, IfOk, IfSome};
 ghost use Rattle.table_hints.specs.Places.{IsUnknownAt, batch_of};
 ghost use Rattle.table_hints.specs.Tables.{key_field};
@@ -11,7 +11,7 @@ use cube_model::{Axis, Fault};
 use std::alloc::Global;
 use std::io::Read;
 
-// A key, and the line that it stands in, from 1.
+// A key, and the line that it is in, from 1.
 #[derive(Clone, Copy)]
 struct Found {
     line: u64,

@@ -1,4 +1,4 @@
-//! What stands behind a refusal of the five tables: which file, which line of it, and which text or key.
+//! The cause of a refusal of the five tables: which file, which line of it, and which text or key.
 #![tactic(auto)]
 
 mod beginnings;

@@ -5,7 +5,7 @@ use cube_model::Fault;
 use std::alloc::Global;
 use std::io::Read;
 
-/// How many fields a line has. A bar behind the last one is no further field.
+/// How many fields a line has. A bar after the last one is no further field.
 pub fn field_count(line: &[u8]) -> usize {
     let line = without_return(line);
     let parts = line.split(|byte| *byte == b'|').count();

@@ -17,7 +17,7 @@ pub struct Cut {
     pub rows: u32,
 }
 
-/// What stands behind a refusal of a load, as one line without its end. The warehouse has so many batches, so the batch
+/// The cause of a refusal of a load, as one line without its end. The warehouse has so many batches, so the batch
 /// that was refused is the next.
 ///
 /// The file is read once more. It fails for want of memory, and where the file cannot be read again to its end.

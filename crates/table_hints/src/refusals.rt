@@ -7,7 +7,7 @@ use cube_model::limits::{MOST_DAYS, MOST_DIMENSION_ROWS};
 use cube_model::{Axis, Fault, Measure, Place};
 use std::alloc::Global;
 
-/// What stands behind a refusal, as one line without its end: which file, which line of it, and what is wrong there.
+/// The cause of a refusal, as one line without its end: which file, which line of it, and what is wrong there.
 ///
 /// The files are read once more. Nothing is said of faults that are none of a table's, and where the files do not show
 /// the fault any more. It fails for want of memory, and where a file cannot be read again to its end.

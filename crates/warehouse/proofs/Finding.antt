@@ -62,7 +62,7 @@ module _ {D : Type 0} (g : Ghosts D) (device : D) (store : Store D g) (facts : F
       let may = content_may (reads.word k) in
       (may.0, may.1, may.2, is_at g session may.0 fine (λ j. subst (λ (c : Content). Stands c may.0) (sym (same j)) may.3))
 
-  -- what was found stands for something
+  -- what was found represents something
   pub never_loaded : (now : Disk) → Leaves (stores.disk_of g store) now (λ c. c ≡ stores.content_of g store) → now.keeps_word → ((w : Warehouse) → Stands (stores.content_of g store) w → ⊥) → ⊥
   never_loaded now reads k none = let may = content_may (reads.word k) in none may.0 may.3
 

@@ -1,4 +1,4 @@
--- What is found behind a run that was stopped.
+-- What is found after a run that was stopped.
 use Rattle.std.proofs.Common.{⊎_elim, inl, inr, ◌≤◌, ℕ, zero, suc, Some, None, Option, List, [], ◌∷◌, length, take, slice_get, refl, sym, subst, arith}
 use Rattle.sector_device.specs.declared.device.Sectors.{Ghosts}
 use Rattle.sector_device.specs.Device.{Image, IsImage}

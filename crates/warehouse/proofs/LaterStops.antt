@@ -1,4 +1,4 @@
--- A stop behind some of the commands of a run.
+-- A stop after some of the commands of a run.
 use Rattle.std.proofs.Common.{◌≡◌, ⊎_elim, List, [], ◌∷◌, sym, ◌∙◌, ap, subst}
 use Rattle.sector_device.specs.declared.device.Sectors.{Ghosts}
 use Rattle.warehouse_objects.specs.Facts.{Facts, facts_in}

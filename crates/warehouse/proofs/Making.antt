@@ -60,7 +60,7 @@ module _ (rows : DimRows) (puts : List (ℕ × List ℕ)) (bytes : List ℕ) (la
         same : root_of (fresh rows) ≡ roots.first_root First
         same = refl
 
-  -- until the end an image has no valid superblock, or stands for the warehouse
+  -- until the end an image has no valid superblock, or represents the warehouse
   pub create_leaves : (old new : Disk) → LeavesOrNone old new (λ c. c ≡ created puts bytes layout) → LeavesOrNone old new (λ c. Stands c (fresh rows))
   create_leaves old new =
       passes_also (ShowsSomeOrNone (λ (c : Content). c ≡ created puts bytes layout)) (ShowsSomeOrNone (λ (c : Content). Stands c (fresh rows))) old new

@@ -25,7 +25,7 @@ follows rows batches number batch admissible =
       batch = is_batch rows batches number batch admissible;
     }
 
--- a batch that was accepted behind so many may be put there
+-- a batch that was accepted after so many may be put there
 pub can_follow : (count batches number : ℕ) (batch : List LineOrder) → CanFollow count number batch → count ≡ batches → MayFollow batches number batch
 can_follow count batches number batch can is = record {
   next = can.next ∙ ap (λ n. n + 1) is;

@@ -1,4 +1,4 @@
--- What a session that a call left unchanged stands for.
+-- What a session that a call left unchanged represents.
 use Rattle.std.proofs.Common.{◌≡◌, false, sym, ◌∙◌, subst}
 use Rattle.sector_device.specs.declared.device.Sectors.{Ghosts}
 use Rattle.object_store.specs.Content.{Content}
@@ -35,7 +35,7 @@ module _ {D : Type 0} (g : Ghosts D) (w : Warehouse) where
     stands = λ k. subst (λ (c : Content). Stands c w) (sym same.content) (at.stands (subst (λ (d : D). g.keeps_word d) same.device k));
   }
 
-  -- while it shows its content, it stands for the warehouse
+  -- while it shows its content, it represents the warehouse
   pub content_leaves : (old new : Disk) (content : Content) → (old.keeps_word → Stands content w) → Leaves old new (λ c. c ≡ content) → Leaves old new (λ c. Stands c w)
   content_leaves old new content stands leaves =
       leaves_weaker (λ (c : Content). c ≡ content) (λ (c : Content). Stands c w) old new (λ k c e. subst (λ (x : Content). Stands x w) (sym e) (stands k)) leaves

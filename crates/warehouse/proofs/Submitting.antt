@@ -57,7 +57,7 @@ module _ (c : Content) (puts : List (ℕ × List ℕ)) (bytes : List ℕ) (layou
     root_bytes = root_after puts [] bytes layout c ∙ bytes_are;
   }
 
-  -- what the content stands for then
+  -- what the content represents then
   pub stands_after : (w : Warehouse) → Stands c w → IsAdmissible w.rows w.batches number batch → FitColumns batch → after ≡ root_of (loaded w batch)
       → Stands (committed puts [] bytes layout c) (loaded w batch)
   stands_after w stands admissible fits after_is =
@@ -67,7 +67,7 @@ module _ (c : Content) (puts : List (ℕ × List ℕ)) (bytes : List ℕ) (layou
       (subst (λ (l : ℕ). Stands (committed (batch_put number batch) [] (roots.root_of (root_of (loaded w batch))) l c) (loaded w batch)) (ap number_of stands.first)
       (stands_loaded c w number batch stands admissible fits))))
 
-  -- at each moment it stands for the warehouse before or after
+  -- at each moment it represents the warehouse before or after
   pub submit_leaves : (w : Warehouse) (old new : Disk) → (old.keeps_word → Stands c w) → (old.keeps_word → IsAdmissible w.rows w.batches number batch × (after ≡ root_of (loaded w batch))) → FitColumns batch
       → Leaves old new (IsOneOf c (committed puts [] bytes layout c)) → Leaves old new (λ x. Stands x w ⊎ (IsAdmissible w.rows w.batches number batch × Stands x (loaded w batch)))
   submit_leaves w old new stands model fits leaves =

@@ -16,9 +16,9 @@ use Rattle.warehouse_objects.specs.Warehouse.{fresh}
 use Rattle.warehouse_objects.specs.Stands.{Stands}
 use Rattle.warehouse_objects.specs.Loaded.{IsLoaded}
 
--- the store stands for the warehouse of no batch, and its root is that one
+-- the store represents the warehouse of no batch, and its root is that one
 pub record MakesStore {D : Type 0} (g : Ghosts D) (device : D) (rows : DimRows) (root : PlainRoot) (store : Store D g) : Type 0 where
-  -- until the end an image has no valid superblock, or stands for it
+  -- until the end an image has no valid superblock, or represents it
   pub leaves : Each (disk g device) IsBlank → LeavesOrNone (disk g device) (disk_of g store) (λ c. Stands c (fresh rows))
   pub fine : has_failed store ≡ false
   pub stands : (disk_of g store).keeps_word → Stands (content_of g store) (fresh rows)

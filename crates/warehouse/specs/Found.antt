@@ -17,7 +17,7 @@ abbrev pub MayBeFound : Facts → Option Change → Warehouse → Type 0
 MayBeFound facts last found =
     (facts_in found ≡ facts) ⊎ ((change : Change) × (last ≡ Some change) × Adds facts change (facts_in found))
 
--- a content stands for facts that may be found
+-- a content represents facts that may be found
 abbrev pub MayStand : Facts → Option Change → Content → Type 0
 MayStand facts last c = (w : Warehouse) × MayBeFound facts last w × Stands c w
 

@@ -23,7 +23,7 @@ totals_in root = record {
   profit = root.totals.profit;
 }
 
--- What was found in the rows that a batch has so far, behind the batches of a root, and the columns of these rows, unless
+-- What was found in the rows that a batch has so far, after the batches of a root, and the columns of these rows, unless
 -- a text is too long
 pub record IsGrown (dimensions : DimRows) (root : PlainRoot) (rows : List LineOrder) (batch : GrowingBatch) : Type 0 where
   pub found : batch.found ≡ found_in dimensions (totals_in root) rows

@@ -14,7 +14,7 @@ use Rattle.warehouse_objects.specs.Facts.{Admits, refusal_of}
 use Rattle.warehouse_objects.specs.Warehouse.{Warehouse, loaded}
 use Rattle.warehouse.specs.declared.prepared.Prepared.{Prepared}
 
--- rows with a number may be put as a segment behind so many batches
+-- rows with a number may be put as a segment after so many batches
 pub record MayFollow (batches number : ℕ) (rows : List LineOrder) : Type 0 where
   pub next : number ≡ batches + 1
   pub few : number ≤ most_batches

@@ -1,4 +1,4 @@
--- What a session shows of itself, and when it stands for a warehouse.
+-- What a session shows of itself, and when it represents a warehouse.
 use Rattle.std.specs.Prelude.{◌≡◌, ◌⊎◌, ℕ, ◌+◌, ◌-◌, ◌^◌, ◌<◌, ◌≤◌, min, Bool, true, false, Some, length, List, []}
 use Rattle.std.proofs.Common.{sym, subst}
 use Rattle.sector_device.specs.declared.device.Sectors.{Ghosts}
@@ -37,7 +37,7 @@ module _ {D : Type 0} where
   abbrev pub room_of : {g : Ghosts D} → Session D g → Room
   room_of session = stores.room_of session.store
 
--- the session has not failed, and stands for a warehouse: every image does
+-- the session has not failed, and represents a warehouse: every image does
 pub record IsAt {D : Type 0} (g : Ghosts D) (session : Session D g) (w : Warehouse) : Type 0 where
   pub fine : has_failed session ≡ false
   pub stands : (disk_of g session).keeps_word → Stands (content_of g session) w
@@ -77,7 +77,7 @@ QueryRefuses w as_of query fault =
     ⊎ (((fault ≡ NoSuchPrefix) × IsProper query × (length w.batches < as_of))
     ⊎ ((fault ≡ Memory) × IsAsked w as_of query))
 
--- a session that has not failed is at what its content stands for
+-- a session that has not failed is at what its content represents
 pub is_at : {D : Type 0} (g : Ghosts D) (session : Session D g) (w : Warehouse) → has_failed session ≡ false → ((disk_of g session).keeps_word → Stands (content_of g session) w) → IsAt g session w
 is_at g session w fine stands = record {
   fine = fine;

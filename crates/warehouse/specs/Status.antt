@@ -14,7 +14,7 @@ pub record IsSaidOf (cuboid : Cuboid) (said : StoredCuboid) : Type 0 where
   pub runs : said.runs ≡ length cuboid.runs
   pub cells : said.cells ≡ cells_in cuboid.runs
 
--- what stands at the place of a cuboid, and that a place without one is empty
+-- what is at the place of a cuboid, and that a place without one is empty
 abbrev pub StandsAt : Option Cuboid → Option StoredCuboid → Type 0
 StandsAt None None = Unit {0}
 StandsAt None (Some said) = ⊥

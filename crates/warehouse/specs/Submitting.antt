@@ -12,7 +12,7 @@ use Rattle.warehouse.specs.Session.{IsAt, device_of, disk_of}
 use Rattle.warehouse.specs.declared.prepared.Prepared.{Prepared}
 use Rattle.warehouse.specs.declared.session.Session.{Session}
 
--- A session stands for a warehouse, and an admissible batch was made ready for it. No device call was made for that
+-- A session represents a warehouse, and an admissible batch was made ready for it. No device call was made for that
 pub record IsReady {D : Type 0} (g : Ghosts D) (session : Session D g) (w : Warehouse) (number : ℕ) (rows : List LineOrder) (prepared : Prepared) : Type 0 where
   pub at : IsAt g session w
   pub prepared_is : IsPrepared session.root number rows prepared

@@ -89,7 +89,7 @@ fn rows_of(root: &Root, number: u32) -> Option<u32>
     Some(*rows)
 }
 
-// Whether a store has under a number a batch with the rows of a batch that has grown behind those of its root.
+// Whether a store has under a number a batch with the rows of a batch that has grown after those of its root.
 fn is_stored<D: Sectors>(
     alloc: Global,
     store: &mut Store<D>,

@@ -26,7 +26,7 @@ use warehouse_root::Layout;
 
 /// Makes a warehouse without batches on a device without one. A refusal hands the device back.
 pub fn create<D: Sectors>(alloc: Global, device: D, dims: Dims) -> Result<Session<D>, (Fault, D)>
-    // Where no image at the start has a valid superblock: until the end an image has none, or stands for the warehouse.
+    // Where no image at the start has a valid superblock: until the end an image has none, or represents the warehouse.
     ensures leaves { IfOk result (λ session. Each (disk D.Sectors device) IsBlank →
         LeavesOrNone (disk D.Sectors device) (disk_of D.Sectors session) (λ c. Stands c (fresh dims))) }
     ensures leaves_err { IfErr result (λ e. Each (disk D.Sectors device) IsBlank →
@@ -34,7 +34,7 @@ pub fn create<D: Sectors>(alloc: Global, device: D, dims: Dims) -> Result<Sessio
     ensures still_blank { IfErr result (λ e. e.0 ≢ Device → Each (disk D.Sectors device) IsBlank → Each (disk D.Sectors e.1) IsBlank) }
     ensures not_already { IfErr result (λ e. D.keeps_word e.1 → Each (disk D.Sectors device) IsBlank → e.0 ≢ AlreadyFormatted) }
 
-    // Then it is at the warehouse of no batch, and every image stands for it.
+    // Then it is at the warehouse of no batch, and every image represents it.
     ensures ok { IfOk result (λ session. IsAt D.Sectors session (fresh dims)) }
 
     // It succeeds only where reads show no valid superblock at the start. Where they show one, no sector is written.

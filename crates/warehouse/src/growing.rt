@@ -49,7 +49,7 @@ impl GrowingBatch {
         self.found.row_count()
     }
 
-    // A batch of no row behind those of a root, with room for so many.
+    // A batch of no row after those of a root, with room for so many.
     fn behind(alloc: Global, root: &Root, rows: usize) -> Result<GrowingBatch, Fault>
         ensures ok { IfOk result (λ batch. (dimensions : DimRows) → IsGrown dimensions root.now [] batch) }
         ensures memory { IfErr result (λ fault. fault ≡ Memory) }
@@ -90,7 +90,7 @@ impl GrowingBatch {
         Ok(Some(self.columns.encode(alloc, number)?))
     }
 
-    // Makes the batch ready behind those of a root, or answers the first cause to refuse it, or `Memory`.
+    // Makes the batch ready after those of a root, or answers the first cause to refuse it, or `Memory`.
     fn prepared(&self, alloc: Global, root: &Root, number: u32) -> Result<Prepared, Fault>
         requires grown { (dimensions : DimRows) × (rows : List LineOrder) × IsGrown dimensions root.now rows self.now }
         ensures ready { IfOk result (λ p. (dimensions : DimRows) (rows : List LineOrder) → IsGrown dimensions root.now rows self.now → IsPrepared root.now number rows p) }
@@ -106,7 +106,7 @@ impl GrowingBatch {
 impl<D: Sectors> Session<D> {
     ghost use Rattle.warehouse.specs.Growing.{CanGrow, Grows, IsOfSession};
 
-    /// A batch of no row yet, behind those that are there, with room for so many rows. It can only fail for want of memory.
+    /// A batch of no row yet, after those that are there, with room for so many rows. It can only fail for want of memory.
     pub fn begin_batch(&self, alloc: Global, rows: usize) -> Result<GrowingBatch, Fault>
         ensures ok { IfOk result (Grows self.now []) }
         ensures memory { IfErr result (λ fault. fault ≡ Memory) }
@@ -114,7 +114,7 @@ impl<D: Sectors> Session<D> {
         GrowingBatch::behind(alloc, &self.root, rows)
     }
 
-    /// Adds rows to a batch of this session, with which it has at most 65,536. A cause to refuse it is told when it is
+    /// Adds rows to a batch of this session, with which it has at most 65,536. A cause to refuse it is answered when it is
     /// submitted. It can only fail for want of memory.
     pub fn add_rows(
         &self,

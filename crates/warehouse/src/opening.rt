@@ -1,4 +1,4 @@
-//! Opening what stands on a device.
+//! Opening what is on a device.
 ghost use Rattle.std.specs.Prelude.{◌≡◌, ◌≢◌, ◌⊎◌, ◌+◌, ◌-◌, ◌^◌, min, true, false, Option, IfOk, IfErr, IsErrOf, OnOk};
 ghost use Rattle.cube_model.specs.declared.fault.Fault.TheVariants.{BadLayout, Device, Memory, NotFormatted};
 ghost use Rattle.object_store.specs.Disk.{disk, AllShow, Each, IsBlank, IsShown, Leaves};
@@ -33,18 +33,18 @@ use warehouse_root::Root;
 /// there is no room for a commit, and at the last generation, the others are left as they are. Where memory is missing or the
 /// device fails, cuboids that were brought on stay so.
 pub fn open<D: Sectors>(alloc: Global, device: D) -> Result<Session<D>, (Fault, D)>
-    // Where every image at the start stands for batches that may be found, each at any moment stands for such.
+    // Where every image at the start represents batches that may be found, each at any moment represents such.
     ensures leaves { IfOk result (λ session. (facts : Facts) (last : Option Change) →
         AllShow (disk D.Sectors device) (MayStand facts last) → Leaves (disk D.Sectors device) (disk_of D.Sectors session) (MayStandSince (disk D.Sectors device) facts last)) }
     ensures leaves_err { IfErr result (λ e. (facts : Facts) (last : Option Change) →
         AllShow (disk D.Sectors device) (MayStand facts last) → Leaves (disk D.Sectors device) (disk D.Sectors e.1) (MayStandSince (disk D.Sectors device) facts last)) }
 
-    // Then it is at one of them, and every image stands for that one. Its cuboids hold the batches up to the target.
+    // Then it is at one of them, and every image represents that one. Its cuboids hold the batches up to the target.
     ensures ok { IfOk result (λ session. (facts : Facts) (last : Option Change) →
         AllShow (disk D.Sectors device) (MayStand facts last) → D.keeps_word (device_of session)
         → (w : Warehouse) × MayBeFound facts last w × IsSince (disk D.Sectors device) w × IsAt D.Sectors session w × IsFinished D.Sectors session w) }
 
-    // Where every image at the start stands for a warehouse, it never finds none: it refuses for memory or the device.
+    // Where every image at the start represents a warehouse, it never finds none: it refuses for memory or the device.
     ensures never { IfErr result (λ e. (facts : Facts) (last : Option Change) →
         AllShow (disk D.Sectors device) (MayStand facts last) → D.keeps_word e.1 → (e.0 ≡ Memory) ⊎ (e.0 ≡ Device)) }
     ensures device { IfErr result (λ e. e.0 ≡ Device → D.failed e.1 ≡ min (D.failed device + 1) (2 ^ 64 - 1)) }
@@ -68,13 +68,13 @@ pub fn open<D: Sectors>(alloc: Global, device: D) -> Result<Session<D>, (Fault, 
 ///
 /// It reads the root and the dimensions, and no batch. It commits nothing: an upkeep that was cut off stays so.
 pub fn open_as_is<D: Sectors>(alloc: Global, device: D) -> Result<Session<D>, (Fault, D)>
-    // Where every image at the start stands for batches that may be found, each at any moment stands for such.
+    // Where every image at the start represents batches that may be found, each at any moment represents such.
     ensures leaves { IfOk result (λ session. (facts : Facts) (last : Option Change) →
         AllShow (disk D.Sectors device) (MayStand facts last) → Leaves (disk D.Sectors device) (disk_of D.Sectors session) (MayStandSince (disk D.Sectors device) facts last)) }
     ensures leaves_err { IfErr result (λ e. (facts : Facts) (last : Option Change) →
         AllShow (disk D.Sectors device) (MayStand facts last) → Leaves (disk D.Sectors device) (disk D.Sectors e.1) (MayStandSince (disk D.Sectors device) facts last)) }
 
-    // Then it is at one of them, and every image stands for that one.
+    // Then it is at one of them, and every image represents that one.
     ensures ok { IfOk result (λ session. (facts : Facts) (last : Option Change) →
         AllShow (disk D.Sectors device) (MayStand facts last) → D.keeps_word (device_of session)
         → (w : Warehouse) × MayBeFound facts last w × IsSince (disk D.Sectors device) w × IsAt D.Sectors session w) }
@@ -85,7 +85,7 @@ pub fn open_as_is<D: Sectors>(alloc: Global, device: D) -> Result<Session<D>, (F
     ensures word { IfOk result (λ session. D.keeps_word (device_of session) → D.keeps_word device) }
     ensures failures { IfOk result (λ session. D.failed (device_of session) ≡ D.failed device) }
 
-    // Where every image at the start stands for a warehouse, it never finds none: it refuses for memory or the device.
+    // Where every image at the start represents a warehouse, it never finds none: it refuses for memory or the device.
     ensures never { IfErr result (λ e. (facts : Facts) (last : Option Change) →
         AllShow (disk D.Sectors device) (MayStand facts last) → D.keeps_word e.1 → (e.0 ≡ Memory) ⊎ (e.0 ≡ Device)) }
     ensures device { IfErr result (λ e. e.0 ≡ Device → D.failed e.1 ≡ min (D.failed device + 1) (2 ^ 64 - 1)) }
@@ -122,7 +122,7 @@ fn load<D: Sectors>(alloc: Global, mut store: Store<D>) -> Result<Session<D>, (F
     }
 }
 
-// The dimensions and the root of the warehouse for which the content of a store stands.
+// The dimensions and the root of the warehouse that the content of a store represents.
 fn read<D: Sectors>(alloc: Global, store: &mut Store<D>) -> Result<(Rc<Dims>, Root), Fault>
     requires fine { stores.has_failed store.old ≡ false }
     ensures loaded { IfOk result (λ parts. D.keeps_word (stores.device_of store.new) → IsLoaded (stores.content_of D.Sectors store.old) parts.0.value parts.1) }

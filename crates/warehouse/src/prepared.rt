@@ -60,7 +60,7 @@ impl Prepared {
     }
 }
 
-// The check of a further batch behind those of a root.
+// The check of a further batch after those of a root.
 pub(crate) fn admission_of(root: &Root) -> Admission
     ensures count { result.count ≡ length root.now.batches }
     ensures totals { result.totals ≡ totals_in root.now }
@@ -107,7 +107,7 @@ pub(crate) fn cause_of(fault: Fault) -> Fault
     }
 }
 
-/// What is kept in memory is what the content stands for. It does nothing.
+/// What is kept in memory is what the content represents. It does nothing.
 pub(crate) fn kept_is_what_stands(dims: &Rc<Dims>, root: &Root)
     ensures dims { AreStorable dims.now.value }
     ensures puts { ArePuts (dimension_puts dims.now.value) }

@@ -46,7 +46,7 @@ impl<D: Sectors> Session<D> {
         self.store.close()
     }
 
-    /// Whether the device failed in an earlier call. Until then each image stands for the warehouse.
+    /// Whether the device failed in an earlier call. Until then each image represents the warehouse.
     pub fn is_broken(&self) -> bool
         ensures broken { result ≡ has_failed self.now }
         ensures leaves { (w : Warehouse) → IsAt D.Sectors self.now w

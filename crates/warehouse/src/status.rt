@@ -24,9 +24,9 @@ pub struct Status {
     pub rows: u64,
     /// How many of the first batches each stored cuboid is to hold.
     pub target: u32,
-    /// How many commits made what stands on the device.
+    /// How many commits made what is on the device.
     pub generation: u64,
-    /// The stored cuboids, by ascending view. Places behind the last one are empty.
+    /// The stored cuboids, by ascending view. Places after the last one are empty.
     pub cuboids: [Option<StoredCuboid>; MOST_CUBOIDS],
 }
 
@@ -66,7 +66,7 @@ pub(crate) fn row_total(batches: &[u32]) -> u64
     total
 }
 
-// Cuboids in as many places as there can be. Those behind the last one are empty.
+// Cuboids in as many places as there can be. Those after the last one are empty.
 fn in_places(cuboids: &[StoredCuboid]) -> [Option<StoredCuboid>; MOST_CUBOIDS]
     requires few { length cuboids.now ≤ most_cuboids }
     ensures { (place : ℕ) → place < most_cuboids → slice_index_or result place None ≡ slice_get cuboids.now place }

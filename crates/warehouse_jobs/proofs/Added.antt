@@ -152,7 +152,7 @@ stopped_load {D} g shows_it w first size text old mid new before after result lo
 
 -- ---- a whole text
 
--- each batch is admissible behind those before it
+-- each batch is admissible after those before it
 abbrev AreAdmitted : DimRows → List (List LineOrder) → List (List LineOrder) → Type 0
 AreAdmitted dimensions batches [] = Unit {0}
 AreAdmitted dimensions batches (rows ∷ others) = (refusal dimensions batches (length batches + 1) rows ≡ None) × AreAdmitted dimensions (batches ++ rows ∷ []) others

@@ -36,7 +36,7 @@ module _ {D : Type 0} (g : Ghosts D) (w : Warehouse) (first size : ℕ) (text : 
   abbrev pub now : Warehouse
   now = with_batches w first (batches_of trace)
 
-  -- it is the step of the number behind the batches that were done
+  -- it is the step of the number after the batches that were done
   numbered_step : (is : Result Bool Fault) → step ≡ is → Steps g size now (first + length trace) lines rest mid new told between is
   numbered_step is same =
       subst (λ (s : Result Bool Fault). Steps g size now (first + length trace) lines rest mid new told between s) same

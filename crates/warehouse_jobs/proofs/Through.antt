@@ -109,7 +109,7 @@ stay-on g w first size text trace mid new stay between place one is =
     leaves_then (MayHold w first size text (place + 1)) (disk_of g one.session) (disk_of g mid) (disk_of g new) (stay place one is)
     (leaves-fewer g w first size text (place + 1) (length trace) mid new within between)
 
--- a batch that was done has a number of the warehouse behind it
+-- a batch that was done has a number of the warehouse after it
 reaches : (w : Warehouse) (number : ℕ) (rows : List LineOrder) → (length w.batches < number → IsAdmissible w.rows w.batches number rows) → number ≤ length (with_batch w number rows).batches
 reaches w number rows may =
     ⊎_elim

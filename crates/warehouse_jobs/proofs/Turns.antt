@@ -111,7 +111,7 @@ places-more P [] last all one (suc place) item is = absurd cc
 places-more P (first ∷ items) last all one zero item is = all 0 item is
 places-more P (first ∷ items) last all one (suc place) item is = places-more (λ k x. P (suc k) x) items last (λ k x. all (suc k) x) one place item is
 
--- at this moment a stop leaves what the session stands for
+-- at this moment a stop leaves what the session represents
 pub still : {D : Type 0} (g : Ghosts D) (session : Session D g) (w : Warehouse)
     → ((device : D) (image : Image) → g.keeps_word device → (g.state device).left_since (g.state device).moment image → IsImage (g.state device) image)
     → IsAt g session w → Leaves (disk_of g session) (disk_of g session) (λ c. Stands c w)

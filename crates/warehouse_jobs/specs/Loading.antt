@@ -23,7 +23,7 @@ use Rattle.warehouse_jobs.specs.Printed.{batch_line, count_line}
 abbrev pub taken_of : Warehouse → ℕ → Taken
 taken_of w number = if nat_le number (length w.batches) then Skipped else Added
 
--- the warehouse behind it
+-- the warehouse after it
 abbrev pub behind : Taken → Warehouse → List LineOrder → Warehouse
 behind Added w rows = loaded w rows
 behind Skipped w rows = w
@@ -31,7 +31,7 @@ behind Skipped w rows = w
 abbrev pub with_batch : Warehouse → ℕ → List LineOrder → Warehouse
 with_batch w number rows = behind (taken_of w number) w rows
 
--- the warehouse behind some batches, the first of them with a number
+-- the warehouse after some batches, the first of them with a number
 abbrev pub with_batches : Warehouse → ℕ → List (List LineOrder) → Warehouse
 with_batches w number [] = w
 with_batches w number (rows ∷ batches) = with_batches (with_batch w number rows) (number + 1) batches
@@ -45,7 +45,7 @@ abbrev pub lines_in : Warehouse → ℕ → List (List LineOrder) → List ℕ
 lines_in w number [] = []
 lines_in w number (rows ∷ batches) = line_in w number rows ++ lines_in (with_batch w number rows) (number + 1) batches
 
--- The device in one batch of a load. It stands for the warehouse behind it then, and until then for this or the one before. A
+-- The device in one batch of a load. It represents the warehouse after it then, and until then this or the one before. A
 -- batch that is passed over has exactly the rows of the stored one, in the same order
 pub record TakesIn {D : Type 0} (g : Ghosts D) (w : Warehouse) (number : ℕ) (rows : List LineOrder) (old new : Session D g) (taken : Taken) : Type 0 where
   pub taken_is : taken ≡ taken_of w number

@@ -26,7 +26,7 @@ asked_for w None = length w.batches
 abbrev pub report_over : Warehouse → ℕ → Query → List ℕ
 report_over w count query = report_of query (answer_as_of query count w.rows w.batches)
 
--- The report was written. Or the writer failed, behind a beginning of it. Or nothing was written: the device failed, or
+-- The report was written. Or the writer failed, after a beginning of it. Or nothing was written: the device failed, or
 -- the query is refused
 abbrev pub ReportEnds : {D A : Type 0} (g : Ghosts D) → Warehouse → ℕ → Query → (new : Session D g) → (before after : Option (List ℕ)) → Result A Fault → Type 0
 ReportEnds g w count query new before after (Ok done) = IsAt g new w × IsAsked w count query × Appends before after (report_over w count query)
@@ -39,7 +39,7 @@ pub record Reports {D A : Type 0} (g : Ghosts D) (w : Warehouse) (as_of : Option
   pub ends : ReportEnds g w (asked_for w as_of) query new before after result
   pub leaves : Leaves (disk_of g old) (disk_of g new) (λ c. Stands c w)
 
--- the numbers of the warehouse are written, or the writer fails behind a beginning of them
+-- the numbers of the warehouse are written, or the writer fails after a beginning of them
 abbrev pub Tells : {D A : Type 0} (g : Ghosts D) → Warehouse → (old new : Session D g) → (before after : Option (List ℕ)) → Result A Fault → Type 0
 Tells g w old new before after (Ok done) =
     (new ≡ old) × (status : Status) × IsStatus w (content_of g old).generation status × Appends before after (status_text status)

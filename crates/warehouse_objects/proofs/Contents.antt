@@ -1,4 +1,4 @@
--- What contents stand for.
+-- What contents represent.
 use Rattle.std.proofs.Common.{◌≡◌, ◌≢◌, ◌<◌, ◌≤◌, ◌+◌, ◌-◌, ◌==◌, ◌∙◌, suc, sym, ap, refl, subst, arith, drop, get_or, nat_lt, if◌then◌else◌, ℕ, true, false, List, [], ◌∷◌, ◌++◌, map, length, slice_get, Option, Some, None, All, length-append}
 use Rattle.std.specs.List.{AllPairs}
 use Rattle.std.specs.Option.{option_map}

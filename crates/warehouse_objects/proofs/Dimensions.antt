@@ -1,4 +1,4 @@
--- The dimensions that were read, beside the warehouse for which the content stands.
+-- The dimensions that were read, and those of the warehouse that the content represents.
 use Rattle.std.proofs.Common.{◌≡◌, ◌⊎◌, ⊎_elim, inl, inr, ℕ, List, Option, Some, None, Result, Ok, Err, IfErr, IfOk, IsErrOf, sym, ◌∙◌, ap, subst}
 use Rattle.std.proofs.lemmas.Result.{IfOk-weaker}
 use Rattle.cube_model.specs.declared.attr.Axis.TheVariants.{Customer, Supplier, Part, Date}

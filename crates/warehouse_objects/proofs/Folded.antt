@@ -39,7 +39,7 @@ module _ (c : Content) (w : Warehouse) (stands : Stands c w) where
       by None e = let none : None ≡ Some bytes = sym (stands.objects (65537 + before) ∙ object_batch w before low ∙ ap (option_map (segment_of (before + 1))) e) ∙ at in absurd cc
       by (Some x) e = e ∙ ap (λ (l : List LineOrder). Some l) (sym (same_batch before x bytes number rows low e at segment).1)
 
-  -- the batch behind so many, at the id of its number
+  -- the batch after so many, at the id of its number
   module _ (before number id : ℕ) (numbered : number ≡ before + 1) (placed : id ≡ 65536 + number) (low : before < 65535) where
     at_id : bytes_of c (65537 + before) ≡ bytes_of c id
     at_id = let same : 65537 + before ≡ id = omega (arith, numbered, placed) in ap (λ (n : ℕ). bytes_of c n) same
@@ -78,7 +78,7 @@ module _ (c : Content) (w : Warehouse) (stands : Stands c w) where
         by None at none = absurd none
         by (Some bytes) at agree = by_batch bytes at agree (slice_get w.batches before) refl
 
-  -- a batch can be taken behind those before it
+  -- a batch can be taken after those before it
   pub can_take_there : (dims : DimRows) (fold : FoldState) (before : ℕ) (batch : List LineOrder) → dims ≡ w.rows → slice_get w.batches before ≡ Some batch
       → StandsFor dims fold (all_rows (take before w.batches)) → CanTake dims fold batch
   can_take_there dims fold before batch same here so_far =

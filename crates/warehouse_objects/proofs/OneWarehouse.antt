@@ -1,4 +1,4 @@
--- A content stands for one warehouse.
+-- A content represents one warehouse.
 use Rattle.std.proofs.Common.{◌≡◌, ◌<◌, ◌≤◌, ◌+◌, ◌-◌, ◌*◌, ◌/◌, ◌%◌, ◌==◌, ◌∙◌, zero, suc, sym, ap, refl, arith, if◌then◌else◌, ℕ, Bool, true, false, List, [], ◌∷◌, map, length, get_or, slice_get, Option, Some}
 use Rattle.std.specs.Option.{option_map}
 use Rattle.std.proofs.Math.Nat.{div-add-mod, mod-lt}
@@ -162,7 +162,7 @@ module _ (law : ValidRowsKeepTheRules) (c : Content) (w v : Warehouse) (is : Sta
         cuboids = cuboids i;
       }
 
--- what stands is laid out
+-- a warehouse that is represented is laid out
 pub laid_of : (c : Content) (w : Warehouse) → Stands c w → StandsWith IsLaid c w
 laid_of c w stands = record {
   objects = stands.objects;

@@ -1,4 +1,4 @@
--- The root that was read, beside the warehouse for which the content stands.
+-- The root that was read, and that of the warehouse that the content represents.
 use Rattle.std.proofs.Common.{◌≡◌, ◌⊎◌, ⊎_elim, inl, inr, ℕ, List, Result, Ok, Err, IfErr, IfOk, ◌∙◌}
 use Rattle.cube_model.specs.declared.fault.Fault.{Fault}
 use Rattle.cube_model.specs.declared.fault.Fault.TheVariants.{BadLayout, Memory}

@@ -32,12 +32,12 @@ batch_put number batch = (segment_id number, segment_of number batch) ∷ []
 abbrev pub loading_puts : Warehouse → ℕ → List LineOrder → List (ℕ × List ℕ)
 loading_puts w number batch = batch_put number batch
 
--- a content that was made of storable rows and the first root stands for the warehouse of no batch
+-- a content that was made of storable rows and the first root represents the warehouse of no batch
 abbrev pub CreatingStands : Type 0
 CreatingStands = (rows : DimRows) → AreStorable rows
     → Stands (created (dimension_puts rows) (roots.root_of (roots.first_root First)) (number_of First)) (fresh rows)
 
--- a commit of an admissible batch and of the root with it makes a content that stands for one batch more
+-- a commit of an admissible batch and of the root with it makes a content that represents one batch more
 abbrev pub LoadingStands : Type 0
 LoadingStands = (c : Content) (w : Warehouse) (number : ℕ) (batch : List LineOrder)
     → Stands c w → Admits w number batch → FitColumns batch
@@ -52,7 +52,7 @@ AimingStands = (c : Content) (w : Warehouse) → Stands c w
 abbrev pub run_put : Cuboid → ℕ → StoredRun → List (ℕ × List ℕ)
 run_put cuboid number run = (run_id (index_of cuboid.view) number, run_bytes cuboid run) ∷ []
 
--- the objects of the runs behind the first
+-- the objects of the runs after the first
 abbrev pub later_runs : Cuboid → List ℕ
 later_runs cuboid = range_with_len (run_id (index_of cuboid.view) 1) (length cuboid.runs - 1)
 
@@ -66,7 +66,7 @@ pub record MayReplace (w : Warehouse) (old new : Cuboid) : Type 0 where
   pub few : length new.runs ≤ most_runs
   pub cells : cells_in new.runs ≤ most_cells
 
--- a commit of one run more, behind those of its cuboid, or in the place of all of them
+-- a commit of one run more, after those of its cuboid, or in the place of all of them
 abbrev pub AppendingStands : Type 0
 AppendingStands = (c : Content) (w : Warehouse) (old new : Cuboid) (run : StoredRun) → Stands c w → MayReplace w old new
     → new.runs ≡ old.runs ++ run ∷ []
@@ -92,6 +92,6 @@ ObjectsAreStorable = ((rows : DimRows) → AreStorable rows → ArePuts (dimensi
 abbrev pub RowsAreOne : Type 0
 RowsAreOne = (c : Content) (rows others : DimRows) → AreStorable rows → AreStorable others → HasRows c rows → HasRows c others → rows ≡ others
 
--- a content stands for one warehouse at most
+-- a content represents one warehouse at most
 abbrev pub ContentIsOneWarehouse : Type 0
 ContentIsOneWarehouse = (c : Content) (w v : Warehouse) → Stands c w → Stands c v → w ≡ v

@@ -1,4 +1,4 @@
--- What the content of a store stands for. The ids of objects and what they hold are our layout.
+-- What the content of a store represents. The ids of objects and what they hold are our layout.
 use Rattle.std.specs.Prelude.{◌≡◌, ◌<◌, ◌≤◌, ℕ, ◌+◌, ◌-◌, ◌/◌, ◌%◌, ◌==◌, nat_lt, if◌then◌else◌, Option, Some, None, is_some, IsTrue, List, [], ◌∷◌, length, map, slice_get, take, drop, All}
 use Rattle.std.specs.List.{AllPairs, filter, find, range_with_len}
 use Rattle.std.specs.Option.{option_map}
@@ -45,7 +45,7 @@ abbrev pub run_in : Option Cuboid → ℕ → Option (List ℕ)
 run_in None run = None
 run_in (Some cuboid) run = option_map (run_bytes cuboid) (slice_get cuboid.runs run)
 
--- the run that stands so far behind the first one of view 0: each view has sixteen places
+-- the run that is so far after the first one of view 0: each view has sixteen places
 abbrev pub run_behind : ℕ → List Cuboid → Option (List ℕ)
 run_behind place cuboids = run_in (cuboid_at (place / 16) cuboids) (place % 16)
 
@@ -138,7 +138,7 @@ pub record StandsWith (Keeps : Warehouse → Cuboid → Type 0) (c : Content) (w
   pub batches : AreInOrder w.rows w.batches
   pub cuboids : All (Keeps w) w.cuboids
 
--- the content stands for the warehouse
+-- the content represents the warehouse
 abbrev pub Stands : Content → Warehouse → Type 0
 Stands = StandsWith HoldsGroupings
 

@@ -18,7 +18,7 @@ use Rattle.warehouse_root.specs.declared.layout.Layout.{Layout}
 use Rattle.warehouse_root.specs.declared.layout.Layout.TheVariants.{First}
 use Rattle.warehouse_root.specs.Objects.{run_id}
 
--- a run of cells of a stored cuboid, over some batches one behind the other
+-- a run of cells of a stored cuboid, over some batches one after the other
 pub record StoredRun : Type 0 where
   pub span : Span
   pub cells : List Cell
@@ -106,7 +106,7 @@ pub record AreStorable (rows : DimRows) : Type 0 where
 abbrev pub FitsColumns : LineOrder → Type 0
 FitsColumns row = AllByRecursion (λ column. FitsColumn column row) number_columns
 
--- a batch that may follow others: it is admissible behind them, and its numbers fit their columns
+-- a batch that may follow others: it is admissible after them, and its numbers fit their columns
 pub record IsNext (rows : DimRows) (batches : List (List LineOrder)) (batch : List LineOrder) : Type 0 where
   pub admissible : IsAdmissible rows batches (length batches + 1) batch
   pub fits : FitColumns batch

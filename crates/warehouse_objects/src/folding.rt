@@ -42,7 +42,7 @@ pub fn fold_batches<D: Sectors>(
     requires order { from ≤ as_of }
     requires few { as_of ≤ length root.now.batches }
 
-    // A fold that stands for the rows of the batches up to the first of them then stands for those up to the last.
+    // A fold that represents the rows of the batches up to the first of them then represents those up to the last.
     ensures ok { OnOk result (D.keeps_word (device_of store.new) → (w : Warehouse) → Stands (content_of D.Sectors store.old) w
         → StandsFor dims.now fold.old (all_rows (take from w.batches)) → StandsFor dims.now fold.new (all_rows (take as_of w.batches))) }
     ensures over { IsOver dims.now fold.new }
@@ -108,7 +108,7 @@ pub fn fold_batch<D: Sectors>(
     add_batch(store, dims, fold, &mut buffer, &columns, before, count)
 }
 
-// Reads the columns of the batch behind so many others at which the fold's query looks, and counts its rows in. There are to
+// Reads the columns of the batch after so many others at which the fold's query looks, and counts its rows in. There are to
 // be so many. A refusal leaves the fold as it was.
 fn add_batch<D: Sectors>(
     store: &mut Store<D>,

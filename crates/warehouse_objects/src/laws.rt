@@ -3,12 +3,12 @@ ghost use Rattle.warehouse_objects.specs.Lawful.{AimingStands, AppendingStands, 
 
 use cube_model::valid_rows_keep_the_rules;
 
-/// A content that is made of storable dimension rows and the first root stands for the warehouse of no batch.
+/// A content that is made of storable dimension rows and the first root represents the warehouse of no batch.
 pub fn creating_stands()
     ensures { CreatingStands }
 {}
 
-/// A commit of an admissible batch, with the root that says so, makes a content that stands for one batch more.
+/// A commit of an admissible batch, with the root that says so, makes a content that represents one batch more.
 pub fn loading_stands()
     ensures { LoadingStands }
 {}
@@ -27,7 +27,7 @@ pub fn rows_are_one()
     valid_rows_keep_the_rules();
 }
 
-/// A content stands for one warehouse at most: one list of dimension rows, and one list of batches.
+/// A content represents one warehouse at most: one list of dimension rows, and one list of batches.
 pub fn content_is_one_warehouse()
     ensures { ContentIsOneWarehouse }
 {
@@ -39,7 +39,7 @@ pub fn aiming_stands()
     ensures { AimingStands }
 {}
 
-/// A commit of one run more makes a content that stands for the warehouse with it.
+/// A commit of one run more makes a content that represents the warehouse with it.
 pub fn appending_stands()
     ensures { AppendingStands }
 {}
@@ -50,7 +50,7 @@ pub fn merging_stands()
 {}
 
 /// A commit of the root with the cuboids of some views, at most 16, that drops the runs of the others, makes a content that
-/// stands for the warehouse with these views.
+/// represents the warehouse with these views.
 pub fn choosing_stands()
     ensures { ChoosingStands }
 {}

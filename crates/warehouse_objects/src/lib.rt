@@ -1,4 +1,4 @@
-//! What the content of a store stands for, as a warehouse, and reading it.
+//! What the content of a store represents, as a warehouse, and reading it.
 #![tactic(auto)]
 
 mod folding;

@@ -20,7 +20,7 @@ pub fn has_its_objects<D: Sectors>(
 ) -> Result<bool, Fault>
     ensures ok { IfOk result (λ has. D.keeps_word (device_of store.now) → IsTrue has ↔ HasItsObjects (content_of D.Sectors store.now) root.now) }
 
-    // It does where the content stands for a warehouse of that root.
+    // It does where the content represents a warehouse of that root.
     ensures stands { IfOk result (λ has. has ≡ false → D.keeps_word (device_of store.now)
         → (w : Warehouse) → Stands (content_of D.Sectors store.now) w → root.now ≡ root_of w → ⊥) }
     ensures memory { IfErr result (λ fault. fault ≡ Fault.Memory) }

@@ -21,7 +21,7 @@ use sector_device::Sectors;
 use std::alloc::Global;
 use warehouse_root::{Layout, Root};
 
-/// The root of the warehouse for which the content of a store stands. `BadLayout` where it stands for none, as far as
+/// The root of the warehouse that the content of a store represents. `BadLayout` where it represents none, as far as
 /// the root and the layout show it.
 pub fn read_root<D: Sectors>(alloc: Global, store: &Store<D>) -> Result<Root, Fault>
     ensures ok { IfOk result (IsRootOf First (content_of D.Sectors store.now).root) }
@@ -36,7 +36,7 @@ pub fn read_root<D: Sectors>(alloc: Global, store: &Store<D>) -> Result<Root, Fa
     Root::decode(alloc, Layout::First, store.root())
 }
 
-/// The dimensions of the warehouse for which the content of a store stands. `BadLayout` where it stands for none, as
+/// The dimensions of the warehouse that the content of a store represents. `BadLayout` where it represents none, as
 /// far as objects 1 to 4 show it.
 pub fn read_dims<D: Sectors>(alloc: Global, store: &mut Store<D>) -> Result<Dims, Fault>
     requires fine { has_failed store.old ≡ false }

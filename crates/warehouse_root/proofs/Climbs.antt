@@ -20,7 +20,7 @@ lower : (low at high : ℕ) (xs : List ℕ) → low ≤ at → Climbs at xs high
 lower low at high [] below climbs = omega (arith, climbs)
 lower low at high (x ∷ xs) below climbs = (omega (arith, climbs.0), climbs.1)
 
--- one behind the other
+-- one after the other
 join : (low mid high : ℕ) (xs ys : List ℕ) → Climbs low xs mid → Climbs mid ys high → Climbs low (xs ++ ys) high
 join low mid high [] ys first second = lower low mid high ys first second
 join low mid high (x ∷ xs) ys first second = (first.0, join (x + 1) mid high xs ys first.1 second)

@@ -16,7 +16,7 @@ module _ (bytes : List ℕ) where
   pub too_short : length bytes < 64 → SpellNoRoot bytes
   too_short short root is = omega (arith, short, ap length is.spelled, length-root_of root)
 
-  -- the counts of a root are those that stand at its front
+  -- the counts of a root are those that are at its front
   pub counts_are_of : (mid : List ℕ) (counts : Counts) → ReadsCounts bytes mid counts → (root : PlainRoot) → IsRoot bytes root → AreCountsOf (length bytes) counts
   counts_are_of mid counts reads root is =
       let fits = root_fits root is.proper in
@@ -65,7 +65,7 @@ module _ (layout : Layout) (bytes : List ℕ) where
     pub is_root_of : IsProper (parts_of layout counts totals batches cuboids) → IsRootOf layout bytes (parts_of layout counts totals batches cuboids)
     is_root_of proper = record { of_layout = refl; is_root = record { spelled = parts_spelled; proper = proper } }
 
--- the front and what stands behind it
+-- the front and what is after it
 pub parts_of_bytes : (bytes r1 r2 r3 : List ℕ) (counts : Counts) (totals : StoredTotals) (batches : List ℕ) (cuboids : List StoredCuboid)
     → ReadsFront bytes r1 counts totals → ReadsRows counts.batches r1 r2 batches → ReadsCuboids counts.cuboids r2 r3 cuboids → ArePartsOf bytes counts totals batches cuboids
 parts_of_bytes bytes r1 r2 r3 counts totals batches cuboids front rows last = record {

@@ -1,4 +1,4 @@
--- Fields one behind the other, over any fields. Our own.
+-- Fields one after the other, over any fields. Our own.
 use Rattle.std.proofs.Common.{◌≡◌, ℕ, ◌+◌, ◌^◌, ◌<◌, List, ◌++◌, length, ap, sym, ◌∙◌, append_assoc, length-append, arith}
 use Rattle.wire.specs.Spelling.{spelling}
 use Rattle.wire.proofs.CallerLemmas.{spelling-one}

@@ -41,7 +41,7 @@ range-push first (suc count) =
     let next : first + 1 + count ≡ first + suc count = omega arith in
     ap (λ (rest : List ℕ). first ∷ rest) (range-push (first + 1) count ∙ ap (λ (last : ℕ). range_with_len (first + 1) count ++ last ∷ []) next)
 
--- one more of the numbers behind others
+-- one more of the numbers after others
 pub range-more : (out more mid : List ℕ) (first at : ℕ) → first ≤ at → more ≡ mid ++ at ∷ [] → mid ≡ out ++ range_with_len first (at - first)
     → more ≡ out ++ range_with_len first (at + 1 - first)
 range-more out more mid first at from is was =
@@ -70,7 +70,7 @@ any_run (cuboid ∷ cuboids) id = (
       (Contains-append_cases (run_ids cuboid) (flat_map run_ids cuboids) id found),
 )
 
--- a number that stands among numbers in a row, before other numbers
+-- a number that is among numbers in a row, before other numbers
 pub in_row : (first from count many : ℕ) (b : List ℕ) (id : ℕ) (said : Bool) → first ≡ from → count ≡ many
     → IsTrue said ↔ Contains (range_with_len first count) id → said ≡ true → IsTrue said ↔ Contains (range_with_len from many ++ b) id
 in_row first from count many b id said same as_many is told =
@@ -78,7 +78,7 @@ in_row first from count many b id said same as_many is told =
     subst (λ (n : ℕ). Contains (range_with_len from n) id) as_many (subst (λ (n : ℕ). Contains (range_with_len n count) id) same (is.0 told)) in
     (λ again. Contains-append_left (range_with_len from many) b id found, λ any. told)
 
--- a number that does not stand among them
+-- a number that is not among them
 pub behind_row : (first from count many : ℕ) (b : List ℕ) (id : ℕ) (said r : Bool) → first ≡ from → count ≡ many
     → IsTrue said ↔ Contains (range_with_len first count) id → said ≡ false
     → IsTrue r ↔ Contains b id → IsTrue r ↔ Contains (range_with_len from many ++ b) id

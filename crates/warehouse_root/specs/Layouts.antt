@@ -1,4 +1,4 @@
--- The layouts of what stands on a device. Our layout.
+-- The layouts of what is stored on a device. Our layout.
 use Rattle.std.specs.Prelude.{ℕ}
 use Rattle.warehouse_root.specs.declared.layout.Layout.{Layout}
 use Rattle.warehouse_root.specs.declared.layout.Layout.TheVariants.{First, Second}

@@ -1,4 +1,4 @@
--- The limits of what a root says, beside those of rows and batches, each in one place. Our layout.
+-- The limits of what a root says, besides those of rows and batches, each in one place. Our layout.
 use Rattle.std.specs.Prelude.{ℕ}
 
 -- times that rows of dimensions were added

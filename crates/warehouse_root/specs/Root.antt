@@ -61,7 +61,7 @@ pub record IsProperCuboid (layout : Layout) (batches : ℕ) (cuboid : StoredCubo
   pub most_runs : cuboid.runs ≤ most_runs
   pub most_cells : cuboid.cells ≤ most_cells
 
--- the view of each cuboid is below those of the cuboids behind it
+-- the view of each cuboid is below those of the cuboids after it
 abbrev pub AreAscending : List StoredCuboid → Type 0
 AreAscending cuboids = AllPairs (λ one other. one.view < other.view) cuboids
 

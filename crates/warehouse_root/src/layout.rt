@@ -1,4 +1,4 @@
-//! The layouts of what stands on a device.
+//! The layouts of what is stored on a device.
 ghost use Rattle.std.specs.Prelude.{◌≡◌, ◌↔◌, Some};
 
 /// A layout of the objects of a warehouse.
@@ -14,7 +14,7 @@ impl Layout {
     ghost use Rattle.warehouse_root.specs.declared.layout.Layout.{Layout};
     ghost use Rattle.warehouse_root.specs.Layouts.{dimensions_of, number_of, views_of};
 
-    /// The layout of a number, 1 or 2, as it stands on the device.
+    /// The layout of a number, 1 or 2, as it is stored.
     pub fn of_number(number: u32) -> Option<Layout>
         ensures { (layout : Layout) → (result ≡ Some layout) ↔ (number ≡ number_of layout) }
     {

@@ -1,4 +1,4 @@
-//! The limits of what a root says, beside those of rows and batches.
+//! The limits of what a root says, besides those of rows and batches.
 
 /// The most times that rows were added to dimensions.
 pub const MOST_ADDITIONS: u32 = 4096;

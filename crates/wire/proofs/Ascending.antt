@@ -14,7 +14,7 @@ module _ {X : Type 0} (number : X → ℕ) where
       let place : i + 1 + suc n ≡ i + 1 + n + 1 = omega arith in
       rw place (omega (arith, before, last))
 
-  -- each item is below the next exactly where each is below all behind it
+  -- each item is below the next exactly where each is below all after it
   pub ascending : (items : List X) (r : Bool) → IsAllAdjacentAnswer (λ one other answer. answer ≡ nat_lt (number one) (number other)) items r
       → IsTrue r ↔ AllPairs (λ one other. number one < number other) items
   ascending items true answer = (

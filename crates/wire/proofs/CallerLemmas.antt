@@ -22,7 +22,7 @@ bytes_low_first-suc : (k i x : ℕ) → bytes_low_first (suc i) k x ≡ bytes_lo
 bytes_low_first-suc zero i x = refl
 bytes_low_first-suc (suc k) i x = rw (byte_at-suc i x, bytes_low_first-suc k (suc i) x) refl
 
--- the bytes of the number that stands in n bytes are these bytes
+-- the bytes of the number that is in n bytes are these bytes
 bytes_of-number : (n : ℕ) (xs : List ℕ) → n ≤ length xs → ((k : ℕ) → slice_index xs k < 256)
     → bytes_low_first 0 n (little_from 0 n xs) ≡ take n xs
 bytes_of-number zero xs room are_bytes = refl
@@ -34,7 +34,7 @@ bytes_of-number (suc n) (a ∷ xs) room are_bytes =
     let high : (a + 256 * little_from 0 n xs) / 256 ≡ little_from 0 n xs = omega arith in
     rw (little_from-cons 0 n a xs, bytes_low_first-suc n 0 (a + 256 * little_from 0 n xs), low, high, rest) refl
 
--- n bytes are the spelling of the number that stands in them
+-- n bytes are the spelling of the number that is in them
 pub spelling-number : (n : ℕ) (field : List ℕ) → length field ≡ n → ((k : ℕ) → slice_index field k < 256)
     → spelling n (little_number n field) ≡ field
 unfolding spelling
@@ -62,13 +62,13 @@ with_field-done done field rest = rw (take-append_seam done rest, drop-append-ad
 pub HasRead-none : {S : Type 0} (g : Ghosts S) → ((s : S) → g.reads s s) → (s : S) → HasRead g s s
 HasRead-none g none s = record { stays = Stays-none g s; run = none s }
 
--- a run of reads behind another is one, where runs join
+-- a run of reads after another is one, where runs join
 pub HasRead-then : {S : Type 0} (g : Ghosts S) → ((a b c : S) → g.reads a b → g.reads b c → g.reads a c)
     → (old mid new : S) → HasRead g old mid → HasRead g mid new → HasRead g old new
 HasRead-then g join old mid new first second =
     record { stays = Stays-then g old mid new first.stays second.stays; run = join old mid new first.run second.run }
 
--- a refusal behind a run of reads
+-- a refusal after a run of reads
 pub IsRefused-later : {S : Type 0} (g : Ghosts S) → ((fault : Fault) (a b c : S) → g.reads a b → g.fails fault b c → g.fails fault a c)
     → (fault : Fault) (old mid new : S) → HasRead g old mid → IsRefused g fault mid new → IsRefused g fault old new
 IsRefused-later g join fault old mid new first second = record {

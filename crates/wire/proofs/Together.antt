@@ -18,7 +18,7 @@ part_more (Some bytes) at n out part so_far gives many =
     let last : take n (drop at bytes) ≡ part = ap (λ (k : ℕ). take k (drop at bytes)) (sym many) ∙ sym gives in
     ap Some (take-add at n bytes ∙ ap (λ (front : List ℕ). front ++ take n (drop at bytes)) before ∙ ap (λ (back : List ℕ). out ++ back) last)
 
--- behind the last part
+-- after the last part
 pub all_parts : (text : Option (List ℕ)) (total at : ℕ) (out : List ℕ) → Some total ≡ option_map length text → total ≤ at
     → option_map (take at) text ≡ Some out → Some out ≡ text
 all_parts None total at out has past so_far = cc

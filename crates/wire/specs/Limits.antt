@@ -1,4 +1,4 @@
--- The limits of what stands on a device, each in one place. Our layout.
+-- The limits of what is stored on a device, each in one place. Our layout.
 use Rattle.std.specs.Prelude.{ℕ}
 
 -- sectors of a device, at least

@@ -7,6 +7,6 @@ use Rattle.cube_model.specs.declared.fault.Fault.TheVariants.{Device, Failed}
 abbrev pub Gives : Option (List ℕ) → ℕ → List ℕ → Type 0
 Gives text at part = IsSomeAnd text (λ bytes. part ≡ take (length part) (drop at bytes))
 
--- a refusal of a read: what the texts stand on failed, in this call or before
+-- a refusal of a read: what the texts are stored on failed, in this call or before
 abbrev pub IsReadFault : Fault → Type 0
 IsReadFault fault = (fault ≡ Device) ⊎ (fault ≡ Failed)

@@ -17,7 +17,7 @@ pub record HasRead {S : Type 0} (g : Ghosts S) (old new : S) : Type 0 where
   pub stays : Stays g old new
   pub run : g.reads old new
 
--- such reads, and one behind them that was refused
+-- such reads, and one after them that was refused
 pub record IsRefused {S : Type 0} (g : Ghosts S) (fault : Fault) (old new : S) : Type 0 where
   pub stays : Stays g old new
   pub cause : IsReadFault fault
@@ -32,7 +32,7 @@ Stays-none g s = record {
   goes_on = λ always keeps. keeps;
 }
 
--- one run behind another
+-- one run after another
 pub Stays-then : {S : Type 0} (g : Ghosts S) (old mid new : S)
     → Stays g old mid → Stays g mid new → Stays g old new
 Stays-then g old mid new first second = record {

@@ -2,6 +2,6 @@
 use Rattle.std.specs.Prelude.{ℕ, List}
 use Rattle.wire.specs.declared.source.SliceSource.{SliceSource}
 
--- the bytes that stand at every id
+-- the bytes that are at every id
 abbrev pub bytes_of : SliceSource → List ℕ
 bytes_of source = source.bytes.now

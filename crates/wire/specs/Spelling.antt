@@ -1,4 +1,4 @@
--- How a number stands on disk. It is the only definition, for reads and for writes. Our layout.
+-- How a number is stored on disk. It is the only definition, for reads and for writes. Our layout.
 use Rattle.std.specs.Prelude.{ℕ, ℤ, List}
 use Rattle.std.specs.Int.{w64, cast_unsigned}
 use Rattle.byteorder.specs.Endian.{little_bytes}

@@ -1,4 +1,4 @@
--- What a write does to the bytes that stand there. Our own.
+-- What a write does to the bytes that are there. Our own.
 use Rattle.std.specs.Prelude.{ℕ, ◌+◌, List, ◌++◌, length, take, drop}
 
 -- the bytes with a field from a place on, in place of what stood there

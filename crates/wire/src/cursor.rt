@@ -42,7 +42,7 @@ impl<'a> Cursor<'a> {
         self.rest.is_empty()
     }
 
-    /// Takes bytes as they stand.
+    /// Takes bytes as they are.
     pub fn bytes(&mut self, count: usize) -> Result<&'a [u8], Fault>
         ensures value { IfOk result (λ part. TakesBytes count self.old self.new part.now) }
         ensures short { IsErr result ↔ (length self.old < count) }
@@ -110,7 +110,7 @@ impl<'a> Cursor<'a> {
         Ok(number_i64(field))
     }
 
-    // Takes bytes as they stand, which the caller knows to be left.
+    // Takes bytes as they are, which the caller knows to be left.
     #[inline(always)]
     fn next_bytes(&mut self, count: usize) -> &'a [u8]
         requires { count ≤ length self.old }

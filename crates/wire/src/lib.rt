@@ -1,4 +1,4 @@
-//! Numbers as they stand on disk: the lowest byte first, signed ones in two's complement.
+//! Numbers as they are stored on disk: the lowest byte first, signed ones in two's complement.
 #![tactic(auto)]
 
 mod cursor;

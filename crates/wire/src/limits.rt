@@ -1,4 +1,4 @@
-//! The limits of what stands on a device.
+//! The limits of what is stored on a device.
 
 /// The bytes of a sector.
 pub const SECTOR_BYTES: usize = 512;

@@ -1,4 +1,4 @@
-//! Writing numbers behind the bytes of a vector.
+//! Writing numbers after the bytes of a vector.
 #![tactic(auto, unfolding(crate::specs::Spelling::spelling))]
 
 ghost use Rattle.std.specs.Prelude.{◌≡◌, ◌+◌, ◌<◌, ◌++◌, length, OnOk, OnErr, IsOkUnless};
@@ -7,7 +7,7 @@ ghost use Rattle.wire.specs.Spelling.{spelling, signed_spelling};
 
 use cube_model::Fault;
 
-/// Adds bytes as they stand.
+/// Adds bytes as they are.
 pub fn push_bytes(out: &mut Vec<u8>, bytes: &[u8]) -> Result<(), Fault>
     ensures ok { OnOk result (out.new.items ≡ out.old.items ++ bytes.now) }
     ensures err { OnErr result (out.new.items ≡ out.old.items) }

@@ -1,4 +1,4 @@
-//! Reading parts of texts, from wherever they stand.
+//! Reading parts of texts, from wherever they are.
 ghost use Rattle.std.specs.Prelude.{◌≡◌, ◌+◌, ◌≤◌, ℕ, List, Option, length, option_map, IfErr, IsSomeAnd, MatchResult, OnOk};
 ghost use Rattle.cube_model.specs.declared.fault.Fault.{Fault};
 ghost use Rattle.wire.specs.Parts.{Gives, IsReadFault};
@@ -24,7 +24,7 @@ pub trait Source {
     /// What a source of this kind promises of reads that succeeded, from one state to another.
     ghost reads: { Self → Self → Type 0 };
 
-    /// What it promises of such reads with one behind them that was refused.
+    /// What it promises of such reads with one after them that was refused.
     ghost fails: { Fault → Self → Self → Type 0 };
 
     /// How many bytes a text has, if there is one of that id.
@@ -51,12 +51,12 @@ pub trait Source {
     /// Two runs of reads are one.
     ghost reads_on: { (old mid new : Self) → reads old mid → reads mid new → reads old new };
 
-    /// A refusal behind a run of reads is one behind a longer run.
+    /// A refusal after a run of reads is one after a longer run.
     ghost fails_later: { (fault : Fault) (old mid new : Self)
         → reads old mid → fails fault mid new → fails fault old new };
 }
 
-/// Bytes in memory, which stand at every id.
+/// Bytes in memory, which are at every id.
 #[derive(Debug, Drop)]
 pub struct SliceSource<'a> {
     bytes: &'a [u8],

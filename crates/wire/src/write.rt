@@ -1,11 +1,11 @@
-//! Writing numbers over bytes that stand there.
+//! Writing numbers over bytes that are there.
 #![tactic(auto, unfolding(crate::specs::Spelling::spelling))]
 
 ghost use Rattle.std.specs.Prelude.{◌≡◌, ◌+◌, ◌≤◌, length};
 ghost use Rattle.wire.specs.Spelling.{signed_spelling, spelling};
 ghost use Rattle.wire.specs.Writing.{with_field};
 
-/// Writes bytes as they stand from a place on.
+/// Writes bytes as they are from a place on.
 pub fn write_bytes(to: &mut [u8], at: usize, bytes: &[u8])
     requires { at + length bytes.now ≤ length to.old }
     ensures { to.new ≡ with_field at bytes.now to.old }

@@ -1,4 +1,4 @@
--- How near a name is to a word, by Levenshtein's distance over characters. Which distance still is a slip is our own.
+-- How near a name is to a word, by Levenshtein's distance over characters. Which distance still is a typo is our own.
 use Rattle.std.specs.Prelude.{ℕ, ◌≤◌, ◌<◌, ◌+◌, ◌/◌, List, length, nat_eq, Contains, All}
 use Rattle.std.specs.Str.{chars}
 use Rattle.strsim.specs.Edits.{levenshtein_row}
@@ -7,7 +7,7 @@ use Rattle.strsim.specs.Edits.{levenshtein_row}
 abbrev pub edits : List ℕ → List ℕ → ℕ
 edits word name = levenshtein_row nat_eq (chars word) (chars name) (length (chars name))
 
--- the most edits that are taken for a slip: one, and one for each three bytes of the word
+-- the most edits that are taken for a typo: one, and one for each three bytes of the word
 abbrev pub most_edits : List ℕ → ℕ
 most_edits word = length word / 3 + 1
 

@@ -78,7 +78,7 @@ fn aggregate_hint(alloc: Global, word: &str) -> Result<Option<WordHint<'_>>, All
     }
 }
 
-// What is wrong with a word that takes something of what stands behind its sign.
+// What is wrong with a word that takes something of what comes after its sign.
 fn taken_hint<'a>(
     alloc: Global,
     word: &'a str,
@@ -129,7 +129,7 @@ fn conditions_hint<'a>(
     Ok(None)
 }
 
-// The name stands before the first sign of either kind.
+// The name is before the first sign of either kind.
 fn condition_hint(alloc: Global, word: &str) -> Result<Option<WordHint<'_>>, AllocError> {
     let Some((name, members)) = word.split_once(|sign| sign == '=' || sign == ':') else {
         return Ok(Some(Slip::NoSign.of(word)));

@@ -34,7 +34,7 @@ static MEASURES: [&str; 6] = [
     "profit",
 ];
 
-// What a range may be on: the attributes, and behind them what else a fact row has.
+// What a range may be on: the attributes, and after them what else a fact row has.
 static RANGED: [&str; 16] = [
     "c_city",
     "c_nation",

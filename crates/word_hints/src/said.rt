@@ -25,7 +25,7 @@ impl fmt::Display for Counted {
 /// What is wrong with a word of a condition, an aggregate or a group column.
 #[derive(Clone, Copy, Debug, PartialEq, Eq)]
 pub enum Slip {
-    /// A condition has no sign behind its name.
+    /// A condition has no sign after its name.
     NoSign,
     /// Something that takes a range is given texts.
     NoList,
@@ -37,13 +37,13 @@ pub enum Slip {
     NoNumber,
     /// An aggregate has no measure.
     NoMeasure,
-    /// A measure stands behind an opening bracket and before no closing one.
+    /// A measure comes after an opening bracket and before no closing one.
     NotClosed,
-    /// Something stands behind count.
+    /// Something comes after count.
     CountAlone,
     /// An aggregate is of the discount, which is no measure.
     OnlyCondition,
-    /// A group column stands twice.
+    /// A group column occurs twice.
     Twice,
 }
 
@@ -63,7 +63,7 @@ pub enum WordHint<'a> {
     NoAggregate,
     /// The list of group columns is empty.
     NoColumn,
-    /// Other words stand beside a query of the benchmark.
+    /// Other words come with a query of the benchmark.
     NotAlone,
     /// A word is no known name. A known name may be near.
     Unknown {

@@ -27,7 +27,7 @@ pub fn first_window(text: &[u8]) -> Window
     }
 }
 
-/// The place of the first bar from a place on, or the length of the text, and the window of the bars behind it; or nothing for a place past the end.
+/// The place of the first bar from a place on, or the length of the text, and the window of the bars after it; or nothing for a place past the end.
 #[inline(always)]
 pub fn next_end(text: &[u8], from: usize, window: Window) -> Option<(usize, Window)>
     requires bars { from ≤ length text.now → AreBarsBehind text.now from window.first window.bars }
@@ -50,7 +50,7 @@ pub fn next_end(text: &[u8], from: usize, window: Window) -> Option<(usize, Wind
     Some((window.first + bit, behind))
 }
 
-/// The first bar of a window, by its place in the window, and the window of those behind it.
+/// The first bar of a window, by its place in the window, and the window of those after it.
 #[inline(always)]
 fn lowest_bar(window: Window) -> (usize, Window)
     requires { window.bars ≢ 0 }

@@ -5,7 +5,7 @@ ghost use Rattle.std.specs.Slice.Scan.{little_endian};
 ghost use Rattle.batch_loader.specs.Numbers.{value_of};
 ghost use Rattle.batch_loader.specs.ShortNumbers.{AreDigits, IsSpread, decimal_of, raised};
 
-/// How far behind a number's lower half the upper one lies.
+/// How far after a number's lower half the upper one lies.
 const HALF: u64 = 4_294_967_296;
 
 /// Eight digits 0.
@@ -75,13 +75,13 @@ fn value_of_eight(number: u64) -> u64
 {
     // Each byte of a pair at an even place is ten times its digit and the next one.
     let pairs = number.wrapping_mul(10).wrapping_add(number >> 8);
-    // Each product has its part of the value behind its lower half, which no carry leaves.
+    // Each product has its part of the value after its lower half, which no carry leaves.
     let first = (byte(pairs, 0) + byte(pairs, 32) * HALF).wrapping_mul(1_000_000 * HALF + 100);
     let second = (byte(pairs, 16) + byte(pairs, 48) * HALF).wrapping_mul(10_000 * HALF + 1);
     first.wrapping_add(second) / HALF
 }
 
-/// The byte of a number behind some bits.
+/// The byte of a number after some bits.
 #[inline(always)]
 fn byte(number: u64, bits: u32) -> u64
     requires { bits < 64 }

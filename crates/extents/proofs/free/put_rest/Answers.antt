@@ -3,7 +3,7 @@ use Rattle.std.proofs.lemmas.List.{set_split}
 use Rattle.extents.proofs.Gap.{gap-of}
 use Rattle.extents.proofs.free.put_rest.Goals as goal
 
--- what is left stands where the run was
+-- what is left is where the run was
 pub returns-else-rest-eq0 : goal.returns-else-rest-eq0
 returns-else-rest-eq0 c =
     let xs = c.args.runs.now.items in

@@ -9,7 +9,7 @@ use Rattle.extents.proofs.Joined.{rise_ends}
 use Rattle.extents.proofs.GivenBack.{IsJoin-touching, sectors-touching, IsJoin-alone, sectors-alone}
 use Rattle.extents.proofs.free.Free.join_before.Goals as goal
 
--- the runs end one behind another
+-- the runs end one after another
 pub ended-place-requires : goal.ended-place-requires
 ended-place-requires c =
     subst (IsNonDecreasingBy (λ (run : Extent). run.first + run.len)) (sym c.deref.ensures.value) (λ i j d le lt. rise_ends 2 (c.self.inside.count + 1) c.self.inside.runs.items i j d c.self.invariant le lt)

@@ -20,6 +20,6 @@ none_spec 𝓤 𝓛 𝓜 𝓡 wired =
     sets ! (agg ! (no_more !)) refl (tt, tt) $
     returns ! (look_at ! 0 refl) $ free_all ! refl $
     suffices ! _ (ends_at 𝓛 f.ended stayed c y (vstruct vnil) empty tt tt) $ says ! refl $
-    -- a value of no bytes owns nothing, whatever calls it stands for
+    -- a value of no bytes owns nothing, whatever calls it represents
     pure_i ! (C.own_val empty (vstruct vnil ∷ [])) (λ vss. (tt, tt), tt) ((tt, (refl, tt)), tt) $
     nothing ! $ nothing ! $ group ! 3 $ done !))
