@@ -14,7 +14,7 @@ use Rattle.cube_model.specs.declared.rows.LineOrder.{LineOrder}
 use Rattle.dictionary.specs.Columns.{place_of, text_at}
 use Rattle.dictionary.specs.Dictionary.{code_of}
 use Rattle.dictionary.proofs.CallerLemmas.{absent, place_append, place_behind, place_seen, slice_get-lt}
-use Rattle.dimensions.proofs.KeyLaws.{place_of_some}
+use Rattle.dimensions.proofs.Keys.{place_of_some}
 use Rattle.std.proofs.lemmas.List.Quantifiers.{position-Some}
 use Rattle.lattice.specs.declared.view.View.{View}
 use Rattle.cuboid_cells.specs.Cells.{number_of}

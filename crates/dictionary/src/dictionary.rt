@@ -103,15 +103,27 @@ impl Dictionary {
         ensures err { OnErr result (self.new ≡ self.old) }
         ensures memory { IfErr result (λ fault. fault ≡ Fault.Memory) }
     {
+        let code = self.add_unkept(alloc, text)?;
+        if let Some(place) = code {
+            self.memo.keep(text, place as usize);
+        }
+        Ok(code)
+    }
+
+    // The same, and no guess is kept for the text.
+    pub(crate) fn add_unkept(&mut self, alloc: Global, text: &[u8]) -> Result<Option<u32>, Fault>
+        ensures ok { IfOk result (λ code. Adds self.old text.now code self.new) }
+        ensures within { IfOk result (λ code. IfSome code (λ c. c < self.old.limit)) }
+        ensures err { OnErr result (self.new ≡ self.old) }
+        ensures memory { IfErr result (λ fault. fault ≡ Fault.Memory) }
+    {
         if let Some(place) = self.texts.get_index_of(text) {
-            self.memo.keep(text, place);
             return Ok(Some(place as u32));
         }
         let next = self.texts.len();
         if next >= self.limit as usize {
             return Ok(None);
         }
-        self.memo.keep(text, next);
         let text = Vec::from_slice(alloc, text)?;
         self.texts.insert(text)?;
         Ok(Some(next as u32))

@@ -34,7 +34,7 @@ fn read_text(alloc: Global, cursor: &mut Cursor<'_>, found: &mut Dictionary) -> 
 {
     let next = found.len();
     let text = take_text(cursor)?;
-    match found.add(alloc, text)? {
+    match found.add_unkept(alloc, text)? {
         Some(code) if code as usize == next => Ok(()),
         _ => Err(Fault::BadLayout),
     }

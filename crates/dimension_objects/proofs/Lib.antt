@@ -1,5 +1,6 @@
 pub mod Front
 pub mod Header
+pub mod Numbers
 pub mod Objects
 pub mod Refused
 pub mod SpelledLaws

@@ -1,5 +1,5 @@
 //! Reading the parts of a dimension from the front of bytes.
-ghost use Rattle.std.specs.Prelude.{◌≡◌, ◌⊎◌, ◌+◌, ◌<◌, ◌^◌, ◌*◌, ◌≤◌, [], length, IfErr, IfOk, IsErr, IsOkUnless, OnOk};
+ghost use Rattle.std.specs.Prelude.{◌≡◌, ◌⊎◌, ◌<◌, ◌^◌, ◌*◌, [], length, IfErr, IfOk, IsErr, IsOkUnless, OnOk};
 ghost use Rattle.cube_model.specs.declared.fault.Fault.{Fault};
 ghost use Rattle.dimensions.specs.Coded.{HaveTexts};
 ghost use Rattle.dimensions.specs.Shapes.{lowers_of};
@@ -8,11 +8,12 @@ ghost use Rattle.dimension_objects.specs.Columns.{AreColumns, BeginsWithNoCodes,
 use crate::columns::place_count;
 use crate::encoding::NAME;
 use crate::order::axis_number;
+use byteorder::{ByteOrder, LittleEndian};
 use cube_model::limits::MOST_MEMBERS;
 use cube_model::{Axis, Fault, Items};
 use dictionary::Dictionary;
 use dimensions::CodedColumn;
-use std::alloc::Global;
+use std::alloc::{AllocError, Global};
 use wire::Cursor;
 
 // Reads what stands before the columns, and answers how many rows there are.
@@ -81,25 +82,19 @@ fn read_codes(alloc: Global, cursor: &mut Cursor<'_>, count: usize) -> Result<It
     ensures refused { IfErr result (λ fault. (fault ≡ Fault.Memory) ⊎ ((fault ≡ Fault.BadLayout)
         × (length cursor.old < 2 * count))) }
 {
-    let mut part = Cursor::new(cursor.bytes(2 * count)?);
-    let mut codes = Vec::with_capacity(alloc, count)?;
-    push_codes(&mut part, count, &mut codes)?;
+    let part = cursor.bytes(2 * count)?;
+    let codes = codes_of(alloc, part, count)?;
     Ok(Items::from_vec(codes))
 }
 
-// Reads so many codes from the front of bytes that hold them, to where no code is yet.
-fn push_codes(part: &mut Cursor<'_>, count: usize, codes: &mut Vec<u16>) -> Result<(), Fault>
-    requires long { 2 * count ≤ length part.old }
-    requires none { codes.old.items ≡ [] }
-    ensures ok { OnOk result (ReadsCodes count part.old part.new codes.new.items) }
-    ensures left { OnOk result (length part.old ≡ 2 * count + length part.new) }
-    ensures memory { IfErr result (λ fault. fault ≡ Fault.Memory) }
+// The codes that bytes spell.
+fn codes_of(alloc: Global, part: &[u8], count: usize) -> Result<Vec<u16>, AllocError>
+    requires { length part.now ≡ 2 * count }
+    ensures { IfOk result (λ codes. ReadsCodes count part.now [] codes.items) }
 {
-    for _ in 0..count {
-        let code = part.u16()?;
-        codes.push(code)?;
-    }
-    Ok(())
+    let mut codes = vec![in alloc; 0; count]?;
+    LittleEndian::read_u16_into(part, codes.as_mut_slice());
+    Ok(codes)
 }
 
 // Reads so many keys.
@@ -113,23 +108,17 @@ pub(crate) fn read_keys(
     ensures refused { IfErr result (λ fault. (fault ≡ Fault.Memory) ⊎ ((fault ≡ Fault.BadLayout)
         × (length cursor.old < 4 * count))) }
 {
-    let mut part = Cursor::new(cursor.bytes(4 * count)?);
-    let mut keys = Vec::with_capacity(alloc, count)?;
-    push_keys(&mut part, count, &mut keys)?;
+    let part = cursor.bytes(4 * count)?;
+    let keys = keys_of(alloc, part, count)?;
     Ok(Items::from_vec(keys))
 }
 
-// Reads so many keys from the front of bytes that hold them, to where no key is yet.
-fn push_keys(part: &mut Cursor<'_>, count: usize, keys: &mut Vec<u32>) -> Result<(), Fault>
-    requires long { 4 * count ≤ length part.old }
-    requires none { keys.old.items ≡ [] }
-    ensures ok { OnOk result (ReadsKeys count part.old part.new keys.new.items) }
-    ensures left { OnOk result (length part.old ≡ 4 * count + length part.new) }
-    ensures memory { IfErr result (λ fault. fault ≡ Fault.Memory) }
+// The keys that bytes spell.
+fn keys_of(alloc: Global, part: &[u8], count: usize) -> Result<Vec<u32>, AllocError>
+    requires { length part.now ≡ 4 * count }
+    ensures { IfOk result (λ keys. ReadsKeys count part.now [] keys.items) }
 {
-    for _ in 0..count {
-        let key = part.u32()?;
-        keys.push(key)?;
-    }
-    Ok(())
+    let mut keys = vec![in alloc; 0; count]?;
+    LittleEndian::read_u32_into(part, keys.as_mut_slice());
+    Ok(keys)
 }

@@ -1,9 +1,15 @@
 -- The places of keys that count on.
-use Rattle.std.proofs.Common.{◌≡◌, sym, ℕ, ◌-◌, ◌<◌, ◌≤◌, ◌==◌, true, false, List, length, get_or, arith}
+use Rattle.std.proofs.Common.{◌≡◌, sym, inl, inr, ap, ◌∙◌, ℕ, ◌+◌, ◌-◌, ◌<◌, ◌≤◌, ◌==◌, true, false, List, [], ◌∷◌, ◌++◌, length, get_or, arith}
 use Rattle.std.specs.List.{position_or_len}
+use Rattle.std.proofs.Math.ListN.{get_or-append}
+use Rattle.std.proofs.Math.Seq.{get_or-append_seam}
+use Rattle.std.proofs.lemmas.Bool.{cases_lt}
 use Rattle.std.proofs.lemmas.Bool.Decides.{nat_tests}
+use Rattle.std.proofs.lemmas.List.{length-append}
 use Rattle.std.proofs.lemmas.List.Sums.{position_or_len_is}
+use Rattle.dimensions.specs.Coded.{AreDistinct}
 use Rattle.dimensions.specs.KeyMaps.{CountOn}
+use Rattle.dimensions.proofs.KeyLaws.{places_distinct}
 
 other : (a b : ℕ) → a < b → (a == b) ≡ false
 other a b less = grind (arith, nat_tests)
@@ -28,3 +34,20 @@ place_before first key keys counted before =
     sym (position_or_len_is (λ other. other == key) keys (length keys) 0 (omega arith)
     (λ k below. later (get_or keys k 0) key (omega (arith, counted k below)))
     (λ below. absurd (omega (arith, below))))
+
+-- such keys are all different
+pub counted_distinct : (first : ℕ) (keys : List ℕ) → CountOn first keys → AreDistinct keys
+counted_distinct first keys counted =
+    places_distinct keys (λ row lt.
+    let at : get_or keys row 0 ≡ first + row = counted row lt in
+    sym (place_from first (get_or keys row 0) keys counted (omega (arith, at)) row (omega (arith, lt)) (omega (arith, at)) (λ below. omega (arith, at))))
+
+-- and they count on with the next key after them
+pub count_one_more : (first : ℕ) (keys : List ℕ) (key : ℕ) → CountOn first keys → key ≡ first + length keys → CountOn first (keys ++ key ∷ [])
+count_one_more first keys key counted next = λ row lt.
+    elim (cases_lt row (length keys)) [
+      | inl here ↦ get_or-append keys (key ∷ []) 0 row here ∙ counted row here
+      | inr behind ↦
+          let last : row ≡ length keys = omega (arith, length-append keys (key ∷ []), lt, behind) in
+          ap (λ i. get_or (keys ++ key ∷ []) i 0) last ∙ get_or-append_seam keys key [] 0 ∙ next ∙ ap (λ n. first + n) (sym last)
+    ]

@@ -1,5 +1,5 @@
 -- Keys that are all different, and the rows of keys that are read one by one.
-use Rattle.std.proofs.Common.{◌≡◌, ◌≢◌, ◌<◌, ◌+◌, ◌∙◌, ◌==◌, zero, suc, sym, ap, refl, arith, cond, not, ℕ, Bool, true, false, nat_eq, nat_lt, List, [], ◌∷◌, ◌++◌, length, get_or, take, position, unwrap_or, Option, Some, None, if◌then◌else◌}
+use Rattle.std.proofs.Common.{◌≡◌, ◌≢◌, ◌<◌, ◌+◌, ◌∙◌, ◌==◌, zero, suc, sym, ap, refl, arith, cond, not, ℕ, Bool, true, false, nat_eq, nat_lt, List, [], ◌∷◌, ◌++◌, length, get_or, take, position, unwrap_or, Option, Some, None, MatchOption, if◌then◌else◌}
 use Rattle.std.specs.List.{position_or_len}
 use Rattle.std.proofs.lemmas.Bool.{eqb-true, eq-eqb}
 use Rattle.std.proofs.lemmas.Grind.{common_steps}
@@ -22,12 +22,6 @@ other_key one key differ = elim (has key one) as (λ b. has key one ≡ b → b 
 ] refl
 
 -- ---- a place as an option
-
-pub place_of_some : {X : Type 0} (p : X → Bool) (xs : List X) (k : ℕ) → position p xs ≡ Some k → position_or_len p xs ≡ k
-place_of_some p xs k some = elim (nat_lt (position_or_len p xs) (length xs)) as (λ b. cond b (Some (position_or_len p xs)) None ≡ Some k → position_or_len p xs ≡ k) [
-  | true ↦ λ e. cc
-  | false ↦ λ e. cc
-] some
 
 pub some_of_place : {X : Type 0} (p : X → Bool) (xs : List X) (k : ℕ) → position_or_len p xs ≡ k → k < length xs → position p xs ≡ Some k
 some_of_place p xs k is lt =
@@ -103,3 +97,8 @@ module _ (keys : List ℕ) (row : ℕ) (lt : row < length keys) (rows : ℕ → 
         there ∙ sym (position-push_kept (has key) (take row keys) own first (sym (are key) ∙ there)) ∙ ap (position (has key)) (sym front)
     | false ↦ λ e. other_row key e
   ] refl
+
+-- where no first key is kept, the map has the rows
+pub none_rows : (o : Option ℕ) (A : Type 0) (B : ℕ → Type 0) → o ≡ None → MatchOption o A B → A
+none_rows None A B e rows = rows
+none_rows (Some first) A B e rows = absurd cc

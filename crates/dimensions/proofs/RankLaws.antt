@@ -1,10 +1,11 @@
 -- Members in order, and the place of a text among them.
-use Rattle.std.proofs.Common.{◌≡◌, ◌<◌, ◌+◌, ◌∙◌, inl, inr, zero, suc, sym, ap, refl, arith, ℕ, Bool, true, false, List, [], ◌∷◌, ◌++◌, length, get_or, slice_get, take, Some, Ok, Err, Result}
+use Rattle.std.proofs.Common.{◌≡◌, ◌<◌, ◌+◌, ◌∙◌, inl, inr, zero, suc, sym, ap, refl, arith, true≢false, ℕ, Bool, true, false, List, [], ◌∷◌, ◌++◌, length, get_or, slice_get, take, Some, Ok, Err, Result}
 use Rattle.std.specs.Str.{bytes_eq}
-use Rattle.std.specs.List.{list_any, Contains, HoldsAt, dedup}
+use Rattle.std.specs.List.{AllByRecursion, list_any, Contains, HoldsAt, dedup}
 use Rattle.std.specs.List.Sorted.{IsSorted, IsSortedBy, IsStrictlySortedBy, IsPermutation, IsBinarySearchResult}
 use Rattle.std.specs.Ordering.{is_lt, ordering_reverse}
 use Rattle.std.specs.Result.{IsOk}
+use Rattle.std.specs.declared.cmp.Ordering.{Ordering}
 use Rattle.std.specs.declared.cmp.Ordering.TheVariants.{Less, Equal, Greater}
 use Rattle.std.specs.Cmp.Lexicographic.{texts_ties, nat_list_cmp_total, nat_list_eq_equiv}
 use Rattle.std.specs.FinMap.{IsAntisymmetric, nat_cmp-IsAntisymmetric, slice_cmp-IsAntisymmetric}
@@ -100,3 +101,27 @@ pub copy_more : (texts copies more : List (List ℕ)) (k : ℕ) (text : List ℕ
 copy_more texts copies more k text so_far at is =
     let next : suc k ≡ k + 1 = omega arith in
     is ∙ ap (λ l. l ++ text ∷ []) so_far ∙ sym (take_more texts k text at) ∙ ap (λ n. take n texts) next
+
+below_all : (text next : List ℕ) (texts : List (List ℕ)) → text_cmp text next ≡ Less → AllByRecursion (λ other. text_cmp next other ≡ Less) texts → AllByRecursion (λ other. text_cmp text other ≡ Less) texts
+below_all text next [] less all = tt
+below_all text next (other ∷ texts) less all = (nat_list_cmp_total.trans text next other less all.0, below_all text next texts less all.1)
+
+-- texts of which each is below the next are in order
+ascends_by_steps : (texts : List (List ℕ)) → ((k : ℕ) → suc k < length texts → text_cmp (get_or texts k []) (get_or texts (suc k) []) ≡ Less) → IsAscending text_cmp texts
+ascends_by_steps [] below = tt
+ascends_by_steps (text ∷ []) below = (tt, tt)
+ascends_by_steps (text ∷ next ∷ texts) below =
+    let rest = ascends_by_steps (next ∷ texts) (λ k lt. below (suc k) (omega (arith, lt))) in
+    let first : text_cmp text next ≡ Less = below 0 (omega arith) in
+    ((first, below_all text next texts first rest.0), rest)
+
+-- such texts are their members
+pub own_members : (texts : List (List ℕ)) → ((k : ℕ) → suc k < length texts → text_cmp (get_or texts k []) (get_or texts (suc k) []) ≡ Less) → members_of texts ≡ texts
+own_members texts below =
+    IsAscending-unique text_cmp nat_list_cmp_total text_cmp_same (members_of texts) texts (members_ascend texts) (ascends_by_steps texts below)
+    (λ q. sym (has_by_cmp q (members_of texts)) ∙ has-members_of q texts ∙ has_by_cmp q texts)
+
+pub less_of : (order : Ordering) → is_lt order ≡ true → order ≡ Less
+less_of Less e = refl
+less_of Equal e = absurd (true≢false (sym e))
+less_of Greater e = absurd (true≢false (sym e))

@@ -1,6 +1,6 @@
 //! The rows of a dimension by codes.
-ghost use Rattle.std.specs.Prelude.{◌≡◌, ◌≢◌, ◌<◌, ◌↔◌, length, codes, IfSome, IsTrue};
-ghost use Rattle.std.specs.List.{AllByRecursion};
+ghost use Rattle.std.specs.Prelude.{◌≡◌, ◌≢◌, ◌<◌, ◌↔◌, length, codes, nat_lt, IfSome, IsTrue};
+ghost use Rattle.std.specs.List.{AllByRecursion, list_all};
 ghost use Rattle.dictionary.specs.Columns.{AreCodes};
 
 use crate::members::is_all;
@@ -118,7 +118,10 @@ fn are_codes(codes: &[u16], count: usize) -> bool
     ensures { IsTrue result ↔ AreCodes count codes.now }
 {
     let mut next = 0;
-    for code in codes {
+    for (i, code) in codes.iter().enumerate() {
+        if next == count {
+            return are_below(codes.split_at(i).1, count);
+        }
         let code = usize::from(*code);
         if code > next {
             return false;
@@ -128,4 +131,15 @@ fn are_codes(codes: &[u16], count: usize) -> bool
         }
     }
     next == count
+}
+
+// Whether each code is below a count. The loop never ends early, so that it works on many codes at once.
+fn are_below(codes: &[u16], count: usize) -> bool
+    ensures { result ≡ list_all (λ code. nat_lt code count) codes.now }
+{
+    let mut fine = true;
+    for code in codes {
+        fine = fine & (usize::from(*code) < count);
+    }
+    fine
 }

@@ -1,7 +1,6 @@
 //! From keys to row indexes.
-ghost use Rattle.std.specs.Prelude.{◌≡◌, ◌==◌, ◌<◌, ◌≤◌, ◌+◌, ◌^◌, ℕ, Some, None, false, nat_eq, position, length, vec_len, slice_index, slice_set, if◌then◌else◌, IfOk, OnOk, OnErr, IfSome};
+ghost use Rattle.std.specs.Prelude.{◌≡◌, ◌==◌, ◌<◌, ◌≤◌, ◌+◌, ◌^◌, ℕ, Some, None, false, nat_eq, position, length, vec_len, slice_index, slice_set, if◌then◌else◌, unwrap_or, IfOk, OnOk, OnErr, IfSome};
 ghost use Rattle.std.specs.List.{AllWithin};
-ghost use Rattle.cube_model.specs.Limits.{most_dimension_rows};
 ghost use Rattle.dimensions.specs.Entries.{entry_row};
 
 use std::alloc::{AllocError, Global};
@@ -55,6 +54,16 @@ impl KeyMap {
         self.hashed.get(&key).copied()
     }
 
+    /// The row index of a key, or another number where it is not there.
+    pub fn row_index_or(&self, key: u32, other: usize) -> usize
+        ensures { result ≡ unwrap_or (row_index_in self.now key) other }
+    {
+        match self.row_index(key) {
+            None => other,
+            Some(row) => row as usize,
+        }
+    }
+
     /// Puts a key at a row index. It can only fail for want of memory, and then changes nothing.
     pub fn put(&mut self, key: u32, row: u32) -> Result<(), AllocError>
         requires { row < 4294967295 }
@@ -88,7 +97,7 @@ impl KeyMap {
 
     /// The row indexes of the keys of a list, each that of its first row. It can only fail for want of memory.
     pub fn of(alloc: Global, keys: &[u32]) -> Result<KeyMap, AllocError>
-        requires few { length keys.now ≤ most_dimension_rows }
+        requires few { length keys.now < 2 ^ 32 }
         ensures { IfOk result (λ map. (key : ℕ) → row_index_in map key ≡ position (λ other. other == key) keys.now) }
     {
         if let Some(map) = KeyMap::dense(alloc, keys)? {

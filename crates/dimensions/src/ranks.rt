@@ -1,5 +1,5 @@
 //! The members among texts, in order by bytes, and the rank of each text.
-ghost use Rattle.std.specs.Prelude.{◌≡◌, ◌<◌, ◌≤◌, true, [], length, vec_len, slice_index_or, map, IfOk, IfErr};
+ghost use Rattle.std.specs.Prelude.{◌≡◌, ◌<◌, ◌≤◌, true, [], length, vec_len, slice_index_or, map, IfOk, IfErr, IsTrue};
 ghost use Rattle.std.specs.Fmt.{decimal};
 ghost use Rattle.std.specs.List.{list_any};
 ghost use Rattle.std.specs.Str.{bytes_eq};
@@ -37,13 +37,18 @@ impl Model for Ranks {
 
 impl Ranks {
     /// The ranks of texts. It can only fail for want of memory.
-    pub fn of(alloc: Global, texts: &[Text]) -> Result<Ranks, Fault>
-        requires { length texts.now ≤ most_members }
-        ensures ok { IfOk result (λ ranks. ranks ≡ texts.now) }
+    pub fn of(alloc: Global, texts: Vec<Text>) -> Result<Ranks, Fault>
+        requires { length texts.items ≤ most_members }
+        ensures ok { IfOk result (λ ranks. ranks ≡ texts.items) }
         ensures memory { IfErr result (λ fault. fault ≡ Fault.Memory) }
     {
-        let members = sorted_members(alloc, texts)?;
-        let ranks = ranks_among(alloc, members.as_slice(), texts)?;
+        if ascend(&texts) {
+            let ranks = own_ranks(alloc, texts.as_slice())?;
+            let members = texts;
+            return Ok(Ranks { members, ranks });
+        }
+        let members = sorted_members(alloc, texts.as_slice())?;
+        let ranks = ranks_among(alloc, members.as_slice(), texts.as_slice())?;
         Ok(Ranks { members, ranks })
     }
 
@@ -54,7 +59,7 @@ impl Ranks {
         ensures memory { IfErr result (λ fault. fault ≡ Fault.Memory) }
     {
         let texts = day_texts(alloc, keys)?;
-        Ranks::of(alloc, texts.as_slice())
+        Ranks::of(alloc, texts)
     }
 
     /// The ranks of the texts of a dictionary, at their codes. It can only fail for want of memory.
@@ -64,7 +69,7 @@ impl Ranks {
         ensures memory { IfErr result (λ fault. fault ≡ Fault.Memory) }
     {
         let texts = copied_texts(alloc, dictionary)?;
-        Ranks::of(alloc, texts.as_slice())
+        Ranks::of(alloc, texts)
     }
 
     /// The number of members.
@@ -91,6 +96,31 @@ impl Ranks {
     {
         self.members[usize::from(rank)].as_slice()
     }
+}
+
+// Whether each text is below the next, so that they are their members.
+fn ascend(texts: &[Text]) -> bool
+    ensures { IsTrue result → members_of texts.now ≡ texts.now }
+{
+    for place in 1..texts.len() {
+        if !texts[place - 1].cmp(&texts[place]).is_lt() {
+            return false;
+        }
+    }
+    true
+}
+
+// The rank of each of some texts that are their members.
+fn own_ranks(alloc: Global, texts: &[Text]) -> Result<Vec<u16>, AllocError>
+    requires few { length texts.now ≤ most_members }
+    ensures texts { IfOk result (λ ranks. texts_of_ranks texts.now ranks.items ≡ texts.now) }
+    ensures within { IfOk result (λ ranks. AreCodes (length texts.now) ranks.items) }
+{
+    let mut ranks = Vec::with_capacity(alloc, texts.len())?;
+    for rank in 0..texts.len() {
+        ranks.push(rank as u16)?;
+    }
+    Ok(ranks)
 }
 
 // The members among texts.

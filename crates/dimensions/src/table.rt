@@ -114,7 +114,7 @@ impl Table {
         if !self.enter(alloc, row, &codes)? {
             return Err(Fault::HierarchyBroken { axis, row: number });
         }
-        self.keys.push(row.key())
+        self.keys.push(alloc, row.key())
     }
 
     // Finds the codes of a row's texts, and says whether there is room for those that are new.

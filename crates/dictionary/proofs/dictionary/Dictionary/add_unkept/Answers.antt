@@ -5,7 +5,7 @@ use Rattle.dictionary.specs.Dictionary.{Texts}
 use Rattle.dictionary.specs.Dictionary.{EachOnce}
 use Rattle.dictionary.proofs.CallerLemmas.{EachOnce-push, list_any-map}
 use Rattle.dictionary.proofs.Items.{position-map, Adds-seen, Adds-full, Adds-new, map-insert_key}
-use Rattle.dictionary.proofs.dictionary.Dictionary.find_or_add.Goals as goal
+use Rattle.dictionary.proofs.dictionary.Dictionary.add_unkept.Goals as goal
 
 pub returns-in-Some-clause-ok : goal.returns-in-Some-clause-ok
 returns-in-Some-clause-ok c =
