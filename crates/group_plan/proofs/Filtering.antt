@@ -1,8 +1,9 @@
 -- Filters: how they are made, and a pass over places.
-use Rattle.std.proofs.Common.{◌≡◌, ◌∙◌, sym, ap, refl, subst, ℕ, zero, suc, ◌+◌, ◌-◌, ◌<◌, ◌≤◌, Bool, true, false, cond, Option, Some, None, List, [], ◌∷◌, ◌++◌, length, get_or, take, arith}
-use Rattle.std.specs.Prelude.{nat_lt, slice_get, slice_set, unwrap_or}
+use Rattle.std.proofs.Common.{◌≡◌, ◌∙◌, sym, ap, refl, subst, ℕ, zero, suc, ◌+◌, ◌-◌, ◌<◌, ◌≤◌, ◌⊎◌, inl, inr, Bool, true, false, cond, Option, Some, None, List, [], ◌∷◌, length, get_or, take, arith}
+use Rattle.std.specs.Prelude.{nat_lt, replicate, slice_get, slice_set, unwrap_or}
 use Rattle.std.specs.Int.{from_bool}
 use Rattle.std.specs.List.{filter, list_all}
+use Rattle.std.specs.Option.{is_some}
 use Rattle.std.proofs.lemmas.Bool.Decides.{nat_tests}
 use Rattle.std.proofs.lemmas.List.{drop-set-lt, get_or-drop, length-set, take_all, take-set}
 use Rattle.std.proofs.lemmas.List.Filters.{FiltersInPlace, FiltersInPlace-more_no, FiltersInPlace-more_set}
@@ -26,17 +27,29 @@ use Rattle.group_plan.proofs.Split.{all_five, passes_at, place_on, selected_by_p
 abbrev pub OnlyShuts : (ℕ → Type 0) → ℕ → List Bool → Type 0
 OnlyShuts Shut first marks = (k : ℕ) → slice_get marks k ≡ Some false → Shut (first + k)
 
-pub shuts_more : (Shut : ℕ → Type 0) (first key : ℕ) (marks : List Bool) (mark : Bool) → first + length marks ≡ key → (mark ≡ false → Shut key)
-    → OnlyShuts Shut first marks → OnlyShuts Shut first (marks ++ mark ∷ [])
-shuts_more Shut first key [] mark is shut only zero e =
-    let here : key ≡ first + 0 = omega (arith, is) in
-    subst Shut here (shut (cc e))
-shuts_more Shut first key [] mark is shut only (suc k) e = absurd (cc e)
-shuts_more Shut first key (one ∷ marks) mark is shut only zero e = only zero e
-shuts_more Shut first key (one ∷ marks) mark is shut only (suc k) e =
+-- where all pass
+pub shuts_none : (Shut : ℕ → Type 0) (first count : ℕ) → OnlyShuts Shut first (replicate count true)
+shuts_none Shut first zero k e = absurd (cc e)
+shuts_none Shut first (suc count) zero e = absurd (cc e)
+shuts_none Shut first (suc count) (suc k) e =
     let on : first + 1 + k ≡ first + suc k = omega arith in
-    let back : (j : ℕ) → first + suc j ≡ first + 1 + j = λ j. omega arith in
-    subst Shut on (shuts_more Shut (first + 1) key marks mark (omega (arith, is)) shut (λ j h. subst Shut (back j) (only (suc j) h)) k e)
+    subst Shut on (shuts_none Shut (first + 1) count k e)
+
+-- what is nothing is not something
+pub nothing_given : (part : Option ℕ) → is_some part ≡ false → part ≡ None
+nothing_given None e = refl
+nothing_given (Some one) e = absurd (cc e)
+
+-- one mark more
+pub marked : (marks : List Bool) (at k : ℕ) (mark : Bool) → slice_get (slice_set marks at mark) k ≡ Some false → ((k ≡ at) × (mark ≡ false)) ⊎ (slice_get marks k ≡ Some false)
+marked [] at k mark e = inr e
+marked (one ∷ marks) zero zero mark e = inl (refl, cc e)
+marked (one ∷ marks) zero (suc k) mark e = inr e
+marked (one ∷ marks) (suc at) zero mark e = inr e
+marked (one ∷ marks) (suc at) (suc k) mark e = elim (marked marks at k mark e) [
+  | inl here ↦ inl (ap suc here.0, here.1)
+  | inr other ↦ inr other
+]
 
 found : (mark : Option Bool) → unwrap_or mark true ≡ false → mark ≡ Some false
 found None e = absurd (cc e)

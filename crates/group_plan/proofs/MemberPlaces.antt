@@ -1,4 +1,4 @@
--- A row for each member of an attribute, found in one pass over the rows.
+-- A row for each member of an attribute, found in one pass over a row of each kind.
 use Rattle.std.proofs.Common.{◌≡◌, ◌∙◌, sym, ap, subst, ℕ, ◌+◌, ◌<◌, true, List, [], arith, length, get_or, set, inl, inr}
 use Rattle.std.specs.Str.{bytes_eq}
 use Rattle.std.specs.List.{list_any, position_or_len}
@@ -9,53 +9,60 @@ use Rattle.std.proofs.lemmas.List.Sums.{passes_at_first}
 use Rattle.cube_model.specs.declared.attr.Attr.{Attr}
 use Rattle.cube_model.specs.declared.rows.DimRows.{DimRows}
 use Rattle.cube_model.specs.Attributes.{axis_of}
+use Rattle.cube_model.specs.Lawful.{ValidRowsKeepTheRules}
 use Rattle.cube_model.specs.Places.{attr_members, row_count_of, texts_of, text_at}
+use Rattle.cube_model.specs.Validity.{HaveShortTexts, IsValid}
 use Rattle.dimensions.proofs.CallerLemmas.{bytes_eq-same, bytes_eq-refl, has-members_of}
+use Rattle.group_plan.specs.Kinds.{HasEachKind, kind_at}
 use Rattle.group_plan.specs.MemberRows.{HasMember, HaveMembers}
 use Rattle.group_plan.proofs.Members.{rank_is}
 use Rattle.group_plan.proofs.Numbers.{first_within, text_count}
+use Rattle.group_plan.proofs.OneKind.{one_text}
 
-module _ (dimensions : DimRows) (attr : Attr) where
-  -- each member that one of the first rows has stands beside such a row
+module _ (dimensions : DimRows) (attr : Attr) (rows : List ℕ) where
+  -- the place of each member that one of the first of some rows has is that of such a row
   pub record HaveSoFar (count : ℕ) (places : List ℕ) : Type 0 where
     pub counted : length places ≡ length (attr_members dimensions attr)
-    pub each : (rank place : ℕ) → rank < length places → place < count
-        → text_at dimensions attr place ≡ get_or (attr_members dimensions attr) rank []
+    pub each : (rank i : ℕ) → rank < length places → i < count
+        → text_at dimensions attr (get_or rows i 0) ≡ get_or (attr_members dimensions attr) rank []
         → HasMember dimensions attr rank (get_or places rank 0)
 
   -- one row more
-  pub so_far_more : (count rank : ℕ) (places : List ℕ) → HaveSoFar count places → count < row_count_of dimensions (axis_of attr)
-      → rank < length (attr_members dimensions attr) → get_or (attr_members dimensions attr) rank [] ≡ text_at dimensions attr count
-      → HaveSoFar (count + 1) (set places rank count)
+  pub so_far_more : (count rank : ℕ) (places : List ℕ) → HaveSoFar count places → get_or rows count 0 < row_count_of dimensions (axis_of attr)
+      → rank < length (attr_members dimensions attr) → get_or (attr_members dimensions attr) rank [] ≡ text_at dimensions attr (get_or rows count 0)
+      → HaveSoFar (count + 1) (set places rank (get_or rows count 0))
   so_far_more count rank places before within lt text = record {
-    counted = length-set places rank count ∙ before.counted;
-    each = λ other place below earlier is. elim (cases_lt place count) [
-      | inl early ↦ decide other place (omega (arith, below, length-set places rank count)) (λ apart. before.each other place (omega (arith, below, length-set places rank count)) early is)
+    counted = length-set places rank row ∙ before.counted;
+    each = λ other i below earlier is. elim (cases_lt i count) [
+      | inl early ↦ decide other (omega (arith, below, length-set places rank row)) (λ apart. before.each other i (omega (arith, below, length-set places rank row)) early is)
       | inr late ↦
-          let here : place ≡ count = omega (arith, earlier, late) in
+          let here : i ≡ count = omega (arith, earlier, late) in
           let same : other ≡ rank =
-          sym (rank_is dimensions attr count other (omega (arith, below, length-set places rank count, before.counted)) (sym is ∙ ap (text_at dimensions attr) here))
-          ∙ rank_is dimensions attr count rank lt text in
+          sym (rank_is dimensions attr row other (omega (arith, below, length-set places rank row, before.counted)) (sym is ∙ ap (λ (n : ℕ). text_at dimensions attr (get_or rows n 0)) here))
+          ∙ rank_is dimensions attr row rank lt text in
           at_rank other (omega (arith, same))
     ];
   }
     where
-      at_rank : (other : ℕ) → other ≡ rank → HasMember dimensions attr other (get_or (set places rank count) other 0)
+      row : ℕ
+      row = get_or rows count 0
+
+      at_rank : (other : ℕ) → other ≡ rank → HasMember dimensions attr other (get_or (set places rank row) other 0)
       at_rank other same =
-          subst (λ r. HasMember dimensions attr r (get_or (set places rank count) r 0)) (sym same)
-          (subst (HasMember dimensions attr rank) (sym (get_or-set_same places rank count 0 (omega (arith, lt, before.counted))))
+          subst (λ r. HasMember dimensions attr r (get_or (set places rank row) r 0)) (sym same)
+          (subst (HasMember dimensions attr rank) (sym (get_or-set_same places rank row 0 (omega (arith, lt, before.counted))))
           (record { within = within; text = sym text }))
 
-      decide : (other place : ℕ) → other < length places → ((other ≡ rank → ⊥) → HasMember dimensions attr other (get_or places other 0))
-          → HasMember dimensions attr other (get_or (set places rank count) other 0)
-      decide other place below kept = elim (cases_lt other rank) [
+      decide : (other : ℕ) → other < length places → ((other ≡ rank → ⊥) → HasMember dimensions attr other (get_or places other 0))
+          → HasMember dimensions attr other (get_or (set places rank row) other 0)
+      decide other below kept = elim (cases_lt other rank) [
         | inl less ↦
             let apart : other ≡ rank → ⊥ = λ e. omega (arith, e, less) in
-            subst (HasMember dimensions attr other) (sym (get_or-set_other places rank other count 0 apart)) (kept apart)
+            subst (HasMember dimensions attr other) (sym (get_or-set_other places rank other row 0 apart)) (kept apart)
         | inr at_least ↦ elim (cases_lt rank other) [
           | inl more ↦
               let apart : other ≡ rank → ⊥ = λ e. omega (arith, e, more) in
-              subst (HasMember dimensions attr other) (sym (get_or-set_other places rank other count 0 apart)) (kept apart)
+              subst (HasMember dimensions attr other) (sym (get_or-set_other places rank other row 0 apart)) (kept apart)
           | inr at_most ↦ at_rank other (omega (arith, at_least, at_most))
         ]
       ]
@@ -76,11 +83,16 @@ module _ (dimensions : DimRows) (attr : Attr) where
         ),
       )
 
-  -- all rows
-  pub so_far_all : (places : List ℕ) → HaveSoFar (row_count_of dimensions (axis_of attr)) places → HaveMembers dimensions attr places
-  so_far_all places all = record {
+  -- a row of each kind
+  pub so_far_all : ValidRowsKeepTheRules → IsValid dimensions → HaveShortTexts dimensions → HasEachKind dimensions (axis_of attr) rows
+      → (places : List ℕ) → HaveSoFar (length rows) places → HaveMembers dimensions attr places
+  so_far_all law valid short stand places all = record {
     counted = all.counted;
     each = λ rank below.
-        let row = row_of rank (omega (arith, below, all.counted)) in
-        all.each rank row.0 below row.1.0 row.1.1;
+        let found = row_of rank (omega (arith, below, all.counted)) in
+        let kind = kind_at dimensions (axis_of attr) found.0 in
+        let low : kind < length rows = stand.all found.0 found.1.0 in
+        let same : text_at dimensions attr (get_or rows kind 0) ≡ text_at dimensions attr found.0 =
+        one_text dimensions law valid short (get_or rows kind 0) found.0 attr (stand.within kind low) found.1.0 (stand.own kind low) in
+        all.each rank kind below low (same ∙ found.1.1);
   }

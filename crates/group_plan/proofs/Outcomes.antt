@@ -1,10 +1,8 @@
 -- What becomes of a fact row by the plan's bounds and sides.
-use Rattle.std.proofs.Common.{◌≡◌, ◌∙◌, ap, sym, subst, refl, true≢false, arith, ℕ, ◌+◌, ◌*◌, ◌^◌, ◌<◌, ◌≤◌, Bool, true, false, cond, ◌&&◌, ◌||◌, nat_le, min, max, Option, Some, None, List, [], ◌∷◌, map, length}
-use Rattle.std.specs.Prelude.{unwrap_or, slice_get, IfSome}
+use Rattle.std.proofs.Common.{◌≡◌, ◌∙◌, ap, sym, subst, refl, true≢false, arith, ℕ, ◌+◌, ◌*◌, ◌^◌, ◌<◌, ◌≤◌, Bool, true, false, cond, ◌&&◌, ◌||◌, nat_le, min, max, Option, Some, None, List, [], ◌∷◌}
+use Rattle.std.specs.Prelude.{IfSome}
 use Rattle.cube_model.specs.Places.{row_count_of}
-use Rattle.std.specs.List.{list_any, list_all, range_with_len}
-use Rattle.std.proofs.lemmas.List.FromFn.{get_or-map-range_with_len, length-map-range_with_len}
-use Rattle.std.proofs.lemmas.Option.{slice_get-get_or}
+use Rattle.std.specs.List.{list_any, list_all}
 use Rattle.std.proofs.lemmas.Bool.Decides.{nat_tests}
 use Rattle.cube_model.specs.declared.attr.Attr.{Attr}
 use Rattle.cube_model.specs.declared.attr.Axis.{Axis}
@@ -113,16 +111,6 @@ given_below dimensions query axis place limit within some narrow =
       | true ↦ omega (arith, part_below dimensions axis place within query.columns some, narrow)
       | false ↦ tt
     ]
-
--- what is kept of all places gives what each does
-pub parts_give : (dimensions : DimRows) (query : Query) (axis : Axis) (count : ℕ) (parts : List (Option ℕ)) → parts ≡ map (given_at dimensions query axis) (range_with_len 0 count)
-    → (place : ℕ) → place < count → unwrap_or (slice_get parts place) None ≡ given_at dimensions query axis place
-parts_give dimensions query axis count parts are place within =
-    let given = given_at dimensions query axis in
-    let there : place < length (map given (range_with_len 0 count)) = omega (arith, within, length-map-range_with_len given 0 count) in
-    ap (λ all. unwrap_or (slice_get all place) None) are
-    ∙ ap (λ found. unwrap_or found None) (slice_get-get_or (map given (range_with_len 0 count)) place None there)
-    ∙ get_or-map-range_with_len given 0 count place place None within (omega arith)
 
 or_left : (a b : Bool) → (a || b) ≡ false → a ≡ false
 or_left true b e = e

@@ -12,6 +12,7 @@ use Rattle.cube_model.specs.Places.{row_index_of, row_count_of}
 use Rattle.group_plan.specs.Beginnings.{AreThoseOf}
 use Rattle.group_plan.specs.Columns.{AreColumns}
 use Rattle.group_plan.specs.Filters.{AreFilters}
+use Rattle.group_plan.specs.Kinds.{kind_at}
 use Rattle.group_plan.specs.Numbers.{group_count, KeysRise}
 use Rattle.group_plan.specs.Parts.{given_at, holds_in, is_used}
 use Rattle.group_plan.specs.declared.bounds.Bounds.{Bounds}
@@ -20,20 +21,21 @@ use Rattle.group_plan.specs.declared.side.Side.{Side}
 use Rattle.group_plan.specs.declared.side.Side.TheVariants.{Unused, Narrow, Wide}
 use Rattle.group_plan.specs.declared.sides.Sides.{Sides}
 
--- what a side gives at a place
+-- what a side gives at a kind
 abbrev pub gives : Side → ℕ → Option ℕ
-gives Unused place = Some 0
-gives (Narrow parts) place = unwrap_or (slice_get parts.items place) None
-gives (Wide parts) place = unwrap_or (slice_get parts.items place) None
+gives Unused kind = Some 0
+gives (Narrow parts) kind = unwrap_or (slice_get parts.items kind) None
+gives (Wide parts) kind = unwrap_or (slice_get parts.items kind) None
 
--- a side gives at each place of its dimension what the row there does
+-- a side gives at the kind of each row of its dimension what the row does
 abbrev pub IsSide : DimRows → Query → Axis → Side → Type 0
-IsSide dimensions query axis side = (place : ℕ) → place < row_count_of dimensions axis → gives side place ≡ given_at dimensions query axis place
+IsSide dimensions query axis side = (place : ℕ) → place < row_count_of dimensions axis
+    → gives side (kind_at dimensions axis place) ≡ given_at dimensions query axis place
 
 -- a key is that of a row that gives nothing
 abbrev pub IsShut : DimRows → Axis → Side → ℕ → Type 0
 IsShut dimensions axis side key = (row_index_of dimensions axis key < row_count_of dimensions axis)
-    × (gives side (row_index_of dimensions axis key) ≡ None)
+    × (gives side (kind_at dimensions axis (row_index_of dimensions axis key)) ≡ None)
 
 -- bounds with those of one condition more
 abbrev pub bounds_with : Bounds → Cond → Bounds

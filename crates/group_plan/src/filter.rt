@@ -1,5 +1,5 @@
 //! Which fact rows a query cannot select, by their keys in a dimension.
-ghost use Rattle.std.specs.Prelude.{◌≡◌, ◌<◌, ◌≤◌, ℕ, false, true, take, length, IfOk};
+ghost use Rattle.std.specs.Prelude.{◌≡◌, ◌⊎◌, ◌<◌, ◌≤◌, ℕ, ◌+◌, false, true, Some, slice_get, take, length, IfOk};
 ghost use Rattle.std.specs.List.{filter};
 ghost use Rattle.cube_model.specs.Attributes.{key_on};
 ghost use Rattle.group_plan.specs.Filters.{passes};
@@ -7,9 +7,10 @@ ghost use Rattle.group_plan.specs.Kept.{ArePlaces};
 ghost use Rattle.group_plan.specs.Plans.{IsShut};
 ghost use Rattle.group_plan.specs.Rows.{row_at};
 
+use crate::kinds::Kinds;
 use crate::rows::FactRows;
 use crate::side::Side;
-use cube_model::Axis;
+use cube_model::{Axis, valid_rows_keep_the_rules};
 use dimensions::Dims;
 use std::alloc::{AllocError, Global};
 
@@ -38,10 +39,16 @@ impl Filter {
     pub fn of(alloc: Global, dims: &Dims, axis: Axis, side: &Side) -> Result<Filter, AllocError>
         ensures { IfOk result (λ made. (key : ℕ) → passes made key ≡ false → IsShut dims.now axis side.now key) }
     {
-        let (first, end) = span_of(dims.keys(axis));
-        let mut passes = Vec::with_capacity(alloc, end.saturating_sub(first) as usize)?;
-        for key in first..end {
-            passes.push(side.lets_pass(dims, axis, key))?;
+        valid_rows_keep_the_rules();
+        dims.row_count(axis);
+        let keys = dims.keys(axis);
+        let kinds = Kinds::of(dims, axis);
+        let (first, end) = span_of(keys);
+        let mut passes = vec![in alloc; true; end.saturating_sub(first) as usize]?;
+        for row in 0..keys.len() {
+            let kind = kinds.at(row);
+            let given = side.at(kind);
+            mark(&mut passes, first, keys[row], given.is_some());
         }
         Ok(Filter { first, passes })
     }
@@ -81,6 +88,20 @@ impl Filter {
             kept += usize::from(self.lets_pass(rows.key(place as usize, axis)));
         }
         kept
+    }
+}
+
+// Notes whether a key passes, if it is one of those from a first key on that have a mark.
+fn mark(passes: &mut Vec<bool>, first: u32, key: u32, pass: bool)
+    ensures { (k : ℕ) → slice_get passes.new.items k ≡ Some false
+        → ((key ≡ first + k) × (pass ≡ false)) ⊎ (slice_get passes.old.items k ≡ Some false) }
+{
+    if key < first {
+        return;
+    }
+    let at = (key - first) as usize;
+    if at < passes.len() {
+        passes[at] = pass;
     }
 }
 

@@ -7,6 +7,7 @@ mod copies;
 mod digits;
 mod filter;
 mod filters;
+mod kinds;
 mod member_rows;
 mod over;
 mod places;

@@ -2,7 +2,8 @@
 ghost use Rattle.std.specs.Prelude.{IfOk};
 ghost use Rattle.group_plan.specs.MemberRows.{HaveMembers};
 
-use cube_model::Attr;
+use crate::kinds::places_of_kinds;
+use cube_model::{Attr, valid_rows_keep_the_rules};
 use dimensions::Dims;
 use std::alloc::{AllocError, Global};
 
@@ -10,11 +11,14 @@ use std::alloc::{AllocError, Global};
 pub fn member_places(alloc: Global, dims: &Dims, attr: Attr) -> Result<Vec<usize>, AllocError>
     ensures { IfOk result (λ places. HaveMembers dims.now attr places.items) }
 {
+    valid_rows_keep_the_rules();
+    dims.row_count(attr.axis());
+    let rows = places_of_kinds(alloc, dims, attr.axis())?;
     let mut places = Vec::new(alloc);
     places.resize(dims.members(attr), 0)?;
-    for place in 0..dims.row_count(attr.axis()) {
-        let rank = dims.rank(attr, place) as usize;
-        places[rank] = place;
+    for i in 0..rows.len() {
+        let rank = dims.rank(attr, rows[i]) as usize;
+        places[rank] = rows[i];
     }
     Ok(places)
 }

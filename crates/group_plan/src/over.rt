@@ -13,6 +13,7 @@ ghost use Rattle.group_plan.specs.Plans.{AreBounds, IsPlanOf, query_of};
 ghost use Rattle.group_plan.specs.Rows.{row_at};
 
 use crate::bounds::Bounds;
+use crate::kinds::Kinds;
 use crate::plan::Plan;
 use crate::rows::FactRows;
 use crate::side::UnknownKey;
@@ -103,7 +104,8 @@ impl<'a> PlanOver<'a> {
         ensures { result ≡ given_at self.now.dimensions self.now.query axis (row_index_of self.now.dimensions axis key) }
     {
         let place = self.dims.row_index(axis, key);
-        self.plan.side(axis).at(place)
+        let kind = Kinds::of(self.dims, axis).at(place);
+        self.plan.side(axis).at(kind)
     }
 
     /// The number of the group of a fact row, if the row is selected, by what the dimension rows with its keys give. It looks

@@ -18,10 +18,10 @@ use cube_model::{Axis, Query};
 use dimensions::Dims;
 use std::alloc::{AllocError, Global};
 
-/// A query made ready for some dimensions: its conditions are decided at each row of the dimensions that it uses, and
-/// each of these rows has what it adds to the number of a group. Dimensions that it does not use are not looked at.
+/// A query made ready for some dimensions: its conditions, and what a row adds to the number of a group, are decided once
+/// for all rows with the same attributes. Dimensions that it does not use are not looked at.
 ///
-/// A plan keeps its own copy of the query and its own tables, by row index, and borrows nothing.
+/// A plan keeps its own copy of the query and its own tables, by kinds of rows and by keys, and borrows nothing.
 pub struct Plan {
     pub(crate) query: Query,
     pub(crate) bounds: Bounds,

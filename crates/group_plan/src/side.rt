@@ -1,15 +1,17 @@
 //! What the rows of one dimension give to the number of a group.
-ghost use Rattle.std.specs.Prelude.{◌≡◌, ◌↔◌, ◌<◌, ◌≤◌, ◌^◌, false, length, map, IfOk, IfSome, IsTrue, OnOk, OnErr};
-ghost use Rattle.std.specs.List.{list_any, range_with_len};
+ghost use Rattle.std.specs.Prelude.{◌≡◌, ◌↔◌, ℕ, ◌<◌, ◌≤◌, ◌^◌, false, length, map, slice_index_or, IfOk, IfSome, IsTrue, OnOk, OnErr};
+ghost use Rattle.std.specs.List.{list_any};
 ghost use Rattle.cube_model.specs.Attributes.{axis_of};
 ghost use Rattle.cube_model.specs.Places.{row_index_of, row_count_of};
+ghost use Rattle.group_plan.specs.Kinds.{kind_at};
 ghost use Rattle.group_plan.specs.Numbers.{group_count};
 ghost use Rattle.group_plan.specs.Parts.{digits_on, given_at, is_on, is_same, is_used};
-ghost use Rattle.group_plan.specs.Plans.{IsShut, IsSide, gives};
+ghost use Rattle.group_plan.specs.Plans.{IsSide, gives};
 
 use crate::digits::{Digit, part_by};
+use crate::kinds::{Kinds, places_of_kinds};
 use crate::places::{all_hold_at, is_same};
-use cube_model::{Attr, Axis, Cond, Query};
+use cube_model::{Attr, Axis, Cond, Query, valid_rows_keep_the_rules};
 use dimensions::Dims;
 use std::alloc::{AllocError, Global};
 
@@ -22,7 +24,7 @@ pub struct UnknownKey;
 
 /// What the rows of a dimension give to the number of a group.
 ///
-/// At the place of each row stands what it adds to the number: nothing where a condition does not hold.
+/// By the kinds of the rows: what a row of each kind adds to the number, and nothing where a condition does not hold.
 #[derive(Debug, Drop)]
 pub enum Side {
     /// No condition and no column is on the dimension.
@@ -51,16 +53,19 @@ impl Side {
         if !is_used(query, axis) {
             return Ok(Side::Unused);
         }
+        valid_rows_keep_the_rules();
+        dims.row_count(axis);
+        let places = places_of_kinds(alloc, dims, axis)?;
         if count <= NARROW {
-            Ok(Side::Narrow(narrow_parts(alloc, dims, query, axis)?))
+            Ok(Side::Narrow(narrow_parts(alloc, dims, query, axis, &places)?))
         } else {
-            Ok(Side::Wide(wide_parts(alloc, dims, query, axis)?))
+            Ok(Side::Wide(wide_parts(alloc, dims, query, axis, &places)?))
         }
     }
 
     /// What the row with a key gives. It refuses a key that no row of the dimension has.
     pub fn given(&self, dims: &Dims, axis: Axis, key: u32) -> Result<Option<u128>, UnknownKey>
-        ensures ok { IfOk result (λ part. part ≡ gives self.now (row_index_of dims.now axis key)) }
+        ensures ok { IfOk result (λ part. part ≡ gives self.now (kind_at dims.now axis (row_index_of dims.now axis key))) }
         ensures known { OnOk result (row_index_of dims.now axis key < row_count_of dims.now axis) }
         ensures unknown { OnErr result (row_count_of dims.now axis ≤ row_index_of dims.now axis key) }
     {
@@ -68,15 +73,8 @@ impl Side {
         if place >= dims.row_count(axis) {
             return Err(UnknownKey);
         }
-        Ok(self.at(place))
-    }
-
-    /// Whether fact rows with a key may be selected, as far as the dimension tells: the row with the key gives something,
-    /// or no row has it.
-    pub fn lets_pass(&self, dims: &Dims, axis: Axis, key: u32) -> bool
-        ensures { result ≡ false → IsShut dims.now axis self.now key }
-    {
-        !matches!(self.given(dims, axis, key), Ok(None))
+        let kind = Kinds::of(dims, axis).at(place);
+        Ok(self.at(kind))
     }
 
     /// Whether no condition and no column is on the dimension.
@@ -86,17 +84,17 @@ impl Side {
         matches!(self, Side::Unused)
     }
 
-    // What the row at a place gives.
-    pub(crate) fn at(&self, place: usize) -> Option<u128>
-        ensures { result ≡ gives self.now place }
+    // What a row of a kind gives.
+    pub(crate) fn at(&self, kind: usize) -> Option<u128>
+        ensures { result ≡ gives self.now kind }
     {
         match self {
             Side::Unused => Some(0),
-            Side::Narrow(parts) => match parts.get(place) {
+            Side::Narrow(parts) => match parts.get(kind) {
                 Some(Some(part)) => Some(u128::from(*part)),
                 _ => None,
             },
-            Side::Wide(parts) => match parts.get(place) {
+            Side::Wide(parts) => match parts.get(kind) {
                 Some(Some(part)) => Some(*part),
                 _ => None,
             },
@@ -115,42 +113,44 @@ fn narrow(part: Option<u128>) -> Option<u32>
     }
 }
 
-// What each row of a dimension gives, in numbers of 32 bits.
+// What the rows at some places of a dimension give, in numbers of 32 bits.
 fn narrow_parts(
     alloc: Global,
     dims: &Dims,
     query: &Query,
     axis: Axis,
+    places: &[usize],
 ) -> Result<Vec<Option<u32>>, AllocError>
     requires few { length query.now.columns ≤ 6 }
     requires narrow { group_count dims.now query.now.columns ≤ 2 ^ 32 }
-    ensures { IfOk result (λ parts. parts.items ≡ map (given_at dims.now query.now axis) (range_with_len 0 (row_count_of dims.now axis))) }
+    requires places { (i : ℕ) → i < length places.now → slice_index_or places.now i 0 < row_count_of dims.now axis }
+    ensures { IfOk result (λ parts. parts.items ≡ map (given_at dims.now query.now axis) places.now) }
 {
     let digits = Digit::all_on(alloc, dims, axis, query.columns.as_slice())?;
-    let count = dims.row_count(axis);
-    let mut parts = Vec::with_capacity(alloc, count)?;
-    for place in 0..count {
-        parts.push(narrow(given_at(dims, query, axis, digits.as_slice(), place)))?;
+    let mut parts = Vec::with_capacity(alloc, places.len())?;
+    for place in places {
+        parts.push(narrow(given_at(dims, query, axis, digits.as_slice(), *place)))?;
     }
     Ok(parts)
 }
 
-// What each row of a dimension gives.
+// What the rows at some places of a dimension give.
 fn wide_parts(
     alloc: Global,
     dims: &Dims,
     query: &Query,
     axis: Axis,
+    places: &[usize],
 ) -> Result<Vec<Option<u128>>, AllocError>
     requires few { length query.now.columns ≤ 6 }
     requires fits { group_count dims.now query.now.columns < 2 ^ 128 }
-    ensures { IfOk result (λ parts. parts.items ≡ map (given_at dims.now query.now axis) (range_with_len 0 (row_count_of dims.now axis))) }
+    requires places { (i : ℕ) → i < length places.now → slice_index_or places.now i 0 < row_count_of dims.now axis }
+    ensures { IfOk result (λ parts. parts.items ≡ map (given_at dims.now query.now axis) places.now) }
 {
     let digits = Digit::all_on(alloc, dims, axis, query.columns.as_slice())?;
-    let count = dims.row_count(axis);
-    let mut parts = Vec::with_capacity(alloc, count)?;
-    for place in 0..count {
-        parts.push(given_at(dims, query, axis, digits.as_slice(), place))?;
+    let mut parts = Vec::with_capacity(alloc, places.len())?;
+    for place in places {
+        parts.push(given_at(dims, query, axis, digits.as_slice(), *place))?;
     }
     Ok(parts)
 }

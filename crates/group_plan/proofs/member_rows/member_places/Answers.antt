@@ -1,21 +1,39 @@
-use Rattle.std.proofs.Common.{◌≡◌, ◌∙◌, subst, ap, arith}
-use Rattle.cube_model.specs.Attributes.{axis_of}
-use Rattle.cube_model.specs.Places.{row_count_of}
+use Rattle.std.proofs.Common.{◌≡◌, ◌∙◌, ◌+◌, ◌<◌, sym, subst, ap, arith, length, set}
+use Rattle.std.proofs.lemmas.Grind.{get_or_default_zero}
+use Rattle.cube_model.specs.Places.{text_at}
+use Rattle.group_plan.specs.Kinds.{HasEachKind}
 use Rattle.group_plan.proofs.MemberPlaces.{HaveSoFar, so_far_all, so_far_more}
 use Rattle.group_plan.proofs.member_rows.member_places.Goals as goal
 
-pub loop-place-preserved : goal.loop-place-preserved
-loop-place-preserved c =
+pub rank-rank-requires : goal.rank-rank-requires
+rank-rank-requires c =
+    let rows = c.in_ok-rows.rows.items in
+    let i = c.loop-i.i in
+    let stand = subst (λ axis. HasEachKind c.args.dims.now axis rows) c.axis-2.ensures c.in_ok-rows.ensures in
+    let low : i < length rows = omega (arith, c.loop-i-test.true, c.len-i-end.ensures) in
+    omega (arith, stand.within i low, c.index.ensures, get_or_default_zero rows i c.index.result.now low)
+
+pub loop-i-preserved : goal.loop-i-preserved
+loop-i-preserved c =
     let dims = c.args.dims.now in
-    let rows : c.row_count-place-end.result ≡ row_count_of dims (axis_of c.args.attr) =
-    c.row_count-place-end.ensures.count ∙ ap (row_count_of dims) c.axis.ensures in
-    so_far_more dims c.args.attr c.loop-place.place c.rank-rank.result c.loop-place.places.items c.loop-place.invariant
-    (omega (arith, c.loop-place-test.true, rows)) c.rank-rank.ensures.below c.rank-rank.ensures.text
+    let attr = c.args.attr in
+    let rows = c.in_ok-rows.rows.items in
+    let i = c.loop-i.i in
+    let places = c.loop-i.places.items in
+    let stand = subst (λ axis. HasEachKind dims axis rows) c.axis-2.ensures c.in_ok-rows.ensures in
+    let low : i < length rows = omega (arith, c.loop-i-test.true, c.len-i-end.ensures) in
+    let row = c.index.ensures ∙ get_or_default_zero rows i c.index.result.now low in
+    let again = c.index-in-loop-i.ensures ∙ get_or_default_zero rows i c.index-in-loop-i.result.now low in
+    subst (λ n. HaveSoFar dims attr rows (i + 1) (set places c.rank-rank.result n)) (sym again)
+    (so_far_more dims attr rows i c.rank-rank.result places c.loop-i.invariant (stand.within i low) c.rank-rank.ensures.below
+    (c.rank-rank.ensures.text ∙ ap (text_at dims attr) row))
 
 pub returns : goal.returns
 returns c =
     let dims = c.args.dims.now in
-    let end : c.loop-place.place ≡ row_count_of dims (axis_of c.args.attr) =
-    omega (arith, c.loop-place-test.false, c.loop-place.auto.place-end) ∙ c.row_count-place-end.ensures.count ∙ ap (row_count_of dims) c.axis.ensures in
-    so_far_all dims c.args.attr c.loop-place.places.items
-    (subst (λ count. HaveSoFar dims c.args.attr count c.loop-place.places.items) end c.loop-place.invariant)
+    let attr = c.args.attr in
+    let rows = c.in_ok-rows.rows.items in
+    let stand = subst (λ axis. HasEachKind dims axis rows) c.axis-2.ensures c.in_ok-rows.ensures in
+    let end : c.loop-i.i ≡ length rows = omega (arith, c.loop-i-test.false, c.loop-i.auto.i-end, c.len-i-end.ensures) in
+    so_far_all dims attr rows c.valid_rows_keep_the_rules.ensures c.row_count.ensures.valid c.row_count.ensures.short stand c.loop-i.places.items
+    (subst (λ count. HaveSoFar dims attr rows count c.loop-i.places.items) end c.loop-i.invariant)

@@ -2,6 +2,7 @@ use Rattle.std.proofs.Common.{◌≡◌, ◌∙◌, sym, ap, arith, false}
 use Rattle.std.proofs.lemmas.Result.{on_err_weaker}
 use Rattle.cube_model.specs.Attributes.{key_on}
 use Rattle.cube_model.specs.Places.{row_index_of}
+use Rattle.group_plan.specs.Kinds.{kind_at}
 use Rattle.group_plan.specs.Parts.{given_at, is_used}
 use Rattle.group_plan.specs.Plans.{gives}
 use Rattle.group_plan.specs.Rows.{row_at}
@@ -34,7 +35,7 @@ returns-clause-ok g c =
     let key = ap (row_index_of dims axis) c.key-key.ensures in
     rw (← c.self.view_is)
     (given_is c.given.result _ _ _ c.given.ensures.ok c.given.ensures.known (λ known.
-    ap (λ side. gives side (row_index_of dims axis c.key-key.result)) c.side-side.ensures ∙ c.self.invariant.sides.each axis _ known
+    ap (λ side. gives side (kind_at dims axis (row_index_of dims axis c.key-key.result))) c.side-side.ensures ∙ c.self.invariant.sides.each axis _ known
     ∙ ap (given_at dims c.self.inside.plan.now.query axis) key))
 
 pub returns-clause-unknown : goal.returns-clause-unknown
