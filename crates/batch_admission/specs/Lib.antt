@@ -1,4 +1,3 @@
 pub mod Accepted
 pub mod Found
-pub mod Known
 pub mod Totals

@@ -5,11 +5,10 @@ ghost use Rattle.cube_model.specs.declared.rows.DimRows.{DimRows};
 ghost use Rattle.cube_model.specs.declared.rows.LineOrder.{LineOrder};
 ghost use Rattle.cube_model.specs.Limits.{most_batch_rows};
 ghost use Rattle.batch_admission.specs.Found.{cause_of, found_in, found_with};
-ghost use Rattle.batch_admission.specs.Known.{AreKnown};
 ghost use Rattle.batch_admission.specs.Totals.{AreBelow, sum_limit};
 ghost use Rattle.batch_admission.specs.declared.totals.Totals.{Totals};
 
-use crate::rows::{Known, long_field, unknown_axis};
+use crate::rows::{long_field, unknown_axis};
 use crate::sums::Sums;
 use crate::totals::Totals;
 use cube_model::{Fault, LineOrder};
@@ -89,9 +88,8 @@ impl Findings {
             → result ≡ found_in dims.now totals (earlier ++ rows.now) }
     {
         let mut found = self;
-        let mut known = Known::none();
         for row in rows {
-            found = found.with_row(dims, &mut known, row);
+            found = found.with_row(dims, row);
         }
         found
     }
@@ -121,11 +119,9 @@ impl Findings {
     }
 
     // What is found with one more row.
-    fn with_row(self, dims: &Dims, known: &mut Known, row: &LineOrder) -> Findings
-        requires few { self.row_count < most_batch_rows }
-        requires known { AreKnown dims.now known.old }
-        ensures found { result ≡ found_with dims.now self row.now }
-        ensures known { AreKnown dims.now known.new }
+    fn with_row(self, dims: &Dims, row: &LineOrder) -> Findings
+        requires { self.row_count < most_batch_rows }
+        ensures { result ≡ found_with dims.now self row.now }
     {
         let row_count = self.row_count + 1;
         Findings {
@@ -136,7 +132,7 @@ impl Findings {
             },
             unknown_key: match self.unknown_key {
                 Some(fault) => Some(fault),
-                None => unknown_axis(dims, known, row_count, row),
+                None => unknown_axis(dims, row_count, row),
             },
             sums: self.sums.plus_row(row),
         }

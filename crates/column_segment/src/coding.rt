@@ -45,20 +45,14 @@ impl Coding {
         })
     }
 
-    // The code of the row before, where the next text is looked for first. Nothing rests on it.
-    #[inline(always)]
-    fn last(&self) -> Option<[u8; 2]> {
-        self.codes.last().copied()
-    }
-
     // Adds a row's text, which may have a code. There is room for one text more.
     #[inline(always)]
-    fn push(&mut self, alloc: Global, guess: Option<[u8; 2]>, text: &[u8]) -> Result<(), Fault>
+    fn push(&mut self, alloc: Global, text: &[u8]) -> Result<(), Fault>
         requires room { HasRoom self.old }
         ensures ok { OnOk result ((column : List (List ℕ)) → IsCoding column self.old → IsCoding (column ++ text.now ∷ []) self.new) }
         ensures memory { IsOkUnless result Fault.Memory }
     {
-        match add_text(&mut self.texts, alloc, guess, text)? {
+        match self.texts.add(alloc, text)? {
             Some(code) => put_code(&mut self.codes, code as u16),
             None => unreachable!(),
         }
@@ -107,17 +101,12 @@ impl Texts {
         ensures ok { OnOk result ((rows : List LineOrder) → HaveTexts rows self.old → HaveTexts (rows ++ row.now ∷ []) self.new) }
         ensures memory { IsOkUnless result Fault.Memory }
     {
-        // The rows of an order have one priority, and mostly all rows have one priority of shipping.
-        let order = self.orderpriority.last();
-        let shipping = self.shippriority.last();
         self.orderpriority
-            .push(alloc, order, TextColumn::OrderPriority.of(row))?;
+            .push(alloc, TextColumn::OrderPriority.of(row))?;
         self.shippriority
-            .push(alloc, shipping, TextColumn::ShipPriority.of(row))?;
-        self.commitdate
-            .push(alloc, None, TextColumn::CommitDate.of(row))?;
-        self.shipmode
-            .push(alloc, None, TextColumn::ShipMode.of(row))
+            .push(alloc, TextColumn::ShipPriority.of(row))?;
+        self.commitdate.push(alloc, TextColumn::CommitDate.of(row))?;
+        self.shipmode.push(alloc, TextColumn::ShipMode.of(row))
     }
 
     // Adds the columns to bytes.
@@ -130,42 +119,6 @@ impl Texts {
         self.shippriority.push_to(out)?;
         self.commitdate.push_to(out)?;
         self.shipmode.push_to(out)
-    }
-}
-
-// The code of a text, which is added if it was not seen. It is looked for at a guess first.
-#[inline(always)]
-fn add_text(
-    texts: &mut Dictionary,
-    alloc: Global,
-    guess: Option<[u8; 2]>,
-    text: &[u8],
-) -> Result<Option<u32>, Fault>
-    ensures ok { IfOk result (λ code. Adds texts.old text.now code texts.new) }
-    ensures within { IfOk result (λ code. IfSome code (λ c. c < texts.old.limit)) }
-    ensures memory { IfErr result (λ fault. fault ≡ Fault.Memory) }
-{
-    if let Some(bytes) = guess {
-        let code = u32::from(u16::from_le_bytes(bytes));
-        if stands_at(texts, code, text) {
-            return Ok(Some(code));
-        }
-    }
-    texts.add(alloc, text)
-}
-
-// Whether a code is that of a text.
-#[inline(always)]
-fn stands_at(texts: &Dictionary, code: u32, text: &[u8]) -> bool
-    ensures seen { IsTrue result → code_of texts.now.texts text.now ≡ Some code }
-    ensures within { IsTrue result → code < texts.now.limit }
-{
-    if code as usize >= texts.len() {
-        return false;
-    }
-    match texts.text(code) {
-        None => false,
-        Some(own) => own == text,
     }
 }
 

@@ -70,7 +70,7 @@ where
 {
     let mut out = output(rt)?;
     let as_of = given.get_one::<u32>("as-of");
-    match plan_report::explain(rt.alloc(), session, as_of, query, &mut out) {
+    match warehouse_jobs::explain(rt.alloc(), session, as_of, query, &mut out) {
         Ok(()) => {
             note_unfinished(rt, given, session);
             note_conditions(rt, given, session.dims());

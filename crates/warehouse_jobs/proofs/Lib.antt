@@ -8,3 +8,5 @@ pub mod Performed
 pub mod Added
 mod Cuboids
 mod Written
+mod PlanLines
+mod Explained

@@ -3,6 +3,8 @@ pub mod Cutting
 pub mod Loading
 pub mod Steps
 pub mod Reporting
+pub mod PlanLines
+pub mod Explaining
 pub mod Cuboids
 pub mod Jobs
 pub mod Lawful

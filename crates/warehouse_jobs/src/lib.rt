@@ -1,17 +1,20 @@
-//! What is done to an open warehouse: a file is loaded, a query is reported, the numbers are written, and cuboids are chosen, kept
-//! up to date and audited.
+//! What is done to an open warehouse: a file is loaded, a query is reported or its plans are written, the numbers are written, and
+//! cuboids are chosen, kept up to date and audited.
 #![tactic(auto)]
 
 mod choosing;
+mod explaining;
 mod job;
 mod keeping;
 pub mod laws;
 mod loading;
 mod performing;
+mod plan_lines;
 mod printing;
 mod reporting;
 mod taken;
 mod telling;
 
+pub use explaining::explain;
 pub use job::{BatchNumber, BatchRows, Job};
 pub use performing::perform;

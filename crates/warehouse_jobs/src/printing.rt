@@ -133,8 +133,8 @@ fn write_chosen<W: Write>(out: &mut W, one: &Chosen) -> Result<(), Fault>
     write_named(out, b" benefit ", one.benefit)
 }
 
-// Writes a view of the lattice over the four axes.
-fn write_view<W: Write>(out: &mut W, view: View) -> Result<(), Fault>
+/// Writes a view of the lattice over the four axes.
+pub(crate) fn write_view<W: Write>(out: &mut W, view: View) -> Result<(), Fault>
     ensures { Writes (W.contents out.old) (W.contents out.new) result (view_text false view) }
 {
     let mut index = Buffer::new();
@@ -178,8 +178,8 @@ fn write_audit_line<W: Write>(out: &mut W, yes: bool) -> Result<(), Fault>
     }
 }
 
-// Writes parts one after another.
-fn write_parts<W: Write>(out: &mut W, parts: &[&[u8]]) -> Result<(), Fault>
+/// Writes parts one after another.
+pub(crate) fn write_parts<W: Write>(out: &mut W, parts: &[&[u8]]) -> Result<(), Fault>
     ensures { Writes (W.contents out.old) (W.contents out.new) result (flat_map (λ part. part.now) parts.now) }
 {
     for part in parts {

@@ -47,10 +47,13 @@ fn report_over<D: Sectors, W: Write>(
     write_report(query, &answer, out)
 }
 
-// How many batches are asked for.
-fn batches_asked<D: Sectors>(session: &Session<D>, as_of: Option<u32>) -> Result<u32, Fault>
+/// How many batches are asked for.
+pub(crate) fn batches_asked<D: Sectors>(
+    session: &Session<D>,
+    as_of: Option<u32>,
+) -> Result<u32, Fault>
     ensures ok { IfOk result (λ count. (w : Warehouse) → IsAt D.Sectors session.now w → D.keeps_word (device_of session.now) → count ≡ asked_for w as_of) }
-    ensures err { IfErr result (λ _. has_failed session.now ≡ true) }
+    ensures err { IfErr result (λ fault. (fault ≡ Failed) × (has_failed session.now ≡ true)) }
 {
     match as_of {
         Some(as_of) => Ok(as_of),

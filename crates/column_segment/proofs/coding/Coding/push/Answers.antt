@@ -13,7 +13,7 @@ returns-clause-ok c =
     let text = c.args.text.now in
     let codes : List (List ℕ) = c.args.self.now.codes.items in
     let more : List (List ℕ) = c.put_code.new.to.items in
-    let adds = subst (λ code. Adds texts text code c.add_text.new.texts) c.in-Some.is c.in_ok-code.ensures.ok in
+    let adds = subst (λ code. Adds texts text code c.add.new.self) c.in-Some.is c.in_ok-code.ensures.ok in
     on_ok_weaker c.put_code.result
-    (λ put column are. coded_more column text texts c.add_text.new.texts (flat_map (λ code. code) codes) (flat_map (λ code. code) more) c.in-Some.code are adds (flat_more codes more (spelling 2 c.in-Some.code) put))
+    (λ put column are. coded_more column text texts c.add.new.self (flat_map (λ code. code) codes) (flat_map (λ code. code) more) c.in-Some.code are adds (flat_more codes more (spelling 2 c.in-Some.code) put))
     c.put_code.ensures.ok

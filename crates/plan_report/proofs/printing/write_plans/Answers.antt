@@ -1,5 +1,0 @@
-use Rattle.ssb_reports.proofs.Beginnings.{Writes-flushed}
-use Rattle.plan_report.proofs.printing.write_plans.Goals as goal
-
-pub returns : goal.returns
-returns g c = Writes-flushed _ _ _ _ _ c.in_ok-write_plan_lines.ensures c.flush.ensures.bytes c.flush.ensures.fault

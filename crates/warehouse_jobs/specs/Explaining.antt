@@ -1,0 +1,21 @@
+-- What is written of the plans of a query. Our own.
+use Rattle.std.specs.Prelude.{◌≡◌, ◌⊎◌, ℕ, List, Option, Result, Ok, Err}
+use Rattle.std.specs.Io.KnownBytes.{Appends, Keeps}
+use Rattle.cube_model.specs.declared.fault.Fault.{Fault}
+use Rattle.cube_model.specs.declared.fault.Fault.TheVariants.{Output}
+use Rattle.cube_model.specs.declared.query.Query.{Query}
+use Rattle.planner.specs.declared.price.Priced.{Priced}
+use Rattle.planned_queries.specs.Planned.{ArePlansOf}
+use Rattle.ssb_reports.specs.Writing.{AppendsBeginning}
+use Rattle.warehouse_objects.specs.Warehouse.{Warehouse}
+use Rattle.warehouse.specs.Session.{IsAsked, QueryRefuses}
+use Rattle.warehouse_jobs.specs.PlanLines.{plans_text}
+
+-- The plans of a query over the first batches were written, the one that is taken first. Or the writer failed, after a beginning of
+-- them. Or the query is refused, and nothing was written
+abbrev pub Explains : {A : Type 0} → Warehouse → ℕ → Query → (before after : Option (List ℕ)) → Result A Fault → Type 0
+Explains w count query before after (Ok done) =
+    IsAsked w count query × (plans : List Priced) × ArePlansOf w count query plans × Appends before after (plans_text count plans)
+Explains w count query before after (Err fault) =
+    ((fault ≡ Output) × IsAsked w count query × (plans : List Priced) × ArePlansOf w count query plans × AppendsBeginning before after (plans_text count plans))
+    ⊎ (Keeps before after × QueryRefuses w count query fault)
