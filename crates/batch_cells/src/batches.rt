@@ -10,16 +10,17 @@ ghost use Rattle.cuboid_upkeep.specs.Grouping.{StandFor};
 ghost use Rattle.cuboid_upkeep.specs.Steps.{HaveTooMany};
 ghost use Rattle.warehouse_objects.specs.Warehouse.{Warehouse, modes_of};
 ghost use Rattle.warehouse_objects.specs.Stands.{IsLaidOut, root_of, rows_in};
-ghost use Rattle.growing_cells.specs.Growing.{GrowOver, grown};
+ghost use Rattle.cuboid_upkeep.specs.Growing.{GrowOver, grown};
 ghost use Rattle.batch_cells.specs.Grouped.{GroupsBatch, GroupsMore, IsAddFaultOf, StandForSome};
 
 use column_segment::Segment;
 use cube_model::Fault;
 use cube_query::RowsWithModes;
 use cuboid_cells::{Cells, Span};
-use cuboid_upkeep::{more_rows_have_no_fewer_cells, rows_have_cells, rows_in_range_fit};
+use cuboid_upkeep::{
+    GrowingCells, more_rows_have_no_fewer_cells, rows_have_cells, rows_in_range_fit,
+};
 use dimensions::Dims;
-use growing_cells::GrowingCells;
 use lattice::View;
 use object_store::Store;
 use sector_device::Sectors;

@@ -1,5 +1,5 @@
 -- Fact rows have cells, and further rows leave no fewer.
-use Rattle.std.proofs.Common.{◌≡◌, ◌∙◌, sym, ap, refl, subst, ℕ, suc, ◌+◌, ◌==◌, ◌<◌, ◌≤◌, Bool, true, false, cond, ltb, eqb, nat_eq, List, [], ◌∷◌, ◌++◌, All, map, length, Option, Some, None, ◌||◌, arith, ⊎_elim, inl, inr, ◌⊎◌}
+use Rattle.std.proofs.Common.{◌≡◌, ◌∙◌, sym, ap, refl, ℕ, ◌+◌, ◌==◌, ◌<◌, ◌≤◌, Bool, true, false, cond, ltb, eqb, nat_eq, List, [], ◌∷◌, ◌++◌, All, map, length, Option, Some, None, ◌||◌, arith, inl, inr, ◌⊎◌}
 use Rattle.std.specs.Bool.{Decides}
 use Rattle.std.specs.Cmp.{IsEquivalence}
 use Rattle.std.specs.List.{IsDistinct, filter, list_any}
@@ -16,11 +16,11 @@ use Rattle.cube_model.specs.declared.rows.DimRows.{DimRows}
 use Rattle.cube_model.specs.declared.rows.LineOrder.{LineOrder}
 use Rattle.lattice.specs.declared.view.View.{View}
 use Rattle.cuboid_cells.specs.declared.cell.Cell.{Cell}
-use Rattle.cuboid_cells.specs.Cells.{AreAscending, PlainCells, cell_at, number_of}
-use Rattle.cuboid_cells.specs.Merges.{IsMergeOf, merged, merged_if_any}
+use Rattle.cuboid_cells.specs.Cells.{AreAscending, cell_at, number_of}
+use Rattle.cuboid_cells.specs.Merges.{merged, merged_if_any}
 use Rattle.cuboid_upkeep.specs.Grouping.{Group, HasMembers, StandFor, cell_over, key_of, rows_of, summaries_over}
 use Rattle.cuboid_upkeep.proofs.Added.{both_stand}
-use Rattle.cuboid_upkeep.proofs.Found.{flipped, none_else, own_key, other_key}
+use Rattle.cuboid_upkeep.proofs.Found.{flipped, none_else, other_key}
 use Rattle.cuboid_upkeep.proofs.Sorted.{key_number}
 
 -- each key is above those before it, and none is below `low`

@@ -1,21 +1,21 @@
 -- One fact row more is grouped.
-use Rattle.std.proofs.Common.{◌≡◌, ◌∙◌, sym, ap, refl, subst, inl, inr, ◌⊎◌, ℕ, ◌==◌, ◌<◌, ◌≤◌, ◌+◌, Bool, true, false, cond, nat_eq, List, [], ◌∷◌, ◌++◌, length, take, drop, Some, None, arith, All, append_assoc}
+use Rattle.std.proofs.Common.{◌≡◌, ◌∙◌, sym, ap, refl, subst, inr, ℕ, ◌<◌, ◌≤◌, ◌+◌, Bool, cond, nat_eq, List, [], ◌∷◌, ◌++◌, length, take, drop, Some, None, arith, All}
 use Rattle.std.specs.List.{IsDistinct}
-use Rattle.std.proofs.lemmas.List.{length_push, take_all, take_more, take-append-drop}
+use Rattle.std.proofs.lemmas.List.{length_push, take_all}
 use Rattle.std.proofs.lemmas.List.Elements.{All-append, All-cons, All-nil}
-use Rattle.cube_model.specs.declared.fault.Fault.{Fault}
 use Rattle.cube_model.specs.declared.rows.DimRows.{DimRows}
 use Rattle.cube_model.specs.declared.rows.LineOrder.{LineOrder}
-use Rattle.group_plan.specs.Rows.{no_row, row_at}
+use Rattle.group_plan.specs.Rows.{row_at}
 use Rattle.lattice.specs.declared.view.View.{View}
 use Rattle.cuboid_cells.specs.declared.cell.Cell.{Cell}
 use Rattle.cuboid_cells.specs.Cells.{cell_at, number_of, KeyFits}
 use Rattle.cuboid_cells.specs.Merges.{merged, merged_if_any}
-use Rattle.cuboid_upkeep.specs.Grouping.{Group, HasMembers, cell_over, key_of, summaries_over}
-use Rattle.cuboid_upkeep.specs.Steps.{AreGrouped, AreKeyed, AreUnfit, HasNoCell, IsCellOfRow, IsGood, Overflows, TakesIn}
+use Rattle.cuboid_upkeep.specs.Grouping.{Group, HasMembers}
+use Rattle.cuboid_upkeep.specs.Steps.{AreGrouped, AreKeyed, AreUnfit, IsCellOfRow, IsGood, Overflows, TakesIn}
 use Rattle.cuboid_upkeep.proofs.Found.{own_key}
 use Rattle.cuboid_upkeep.proofs.Sorted.{found_in}
 use Rattle.cuboid_upkeep.proofs.Merged.{both_group, over_append}
+use Rattle.cuboid_upkeep.proofs.Rows.{one_row_more, row_alone, whole}
 
 -- the rows before a place were grouped
 pub record Grouping (dimensions : DimRows) (modes : List (List ℕ)) (view : View) (rows : List LineOrder) (keys : List ℕ) (cells : List Cell) : Type 0 where
@@ -35,67 +35,24 @@ module _ (dimensions : DimRows) (modes : List (List ℕ)) (view : View) where
     group = λ number. refl;
   })
 
-  -- the cell of one row
-  abbrev of_row : (row : LineOrder) → Cell
-  of_row row = record { key = key_of dimensions modes view row; count = 1; measures = summaries_over (row ∷ []) }
-
-  one_if : (row : LineOrder) (b : Bool) → cond b (Some (of_row row)) None ≡ cell_over dimensions modes view (cond b (row ∷ []) [])
-  one_if row true = refl
-  one_if row false = refl
-
-  pub row_alone : (row : LineOrder) (cell : Cell) → IsCellOfRow dimensions modes view row cell → Group dimensions modes view (row ∷ []) (cell ∷ [])
-  row_alone row cell is =
-      let same : of_row row ≡ cell = cc is.is in
-      subst (λ (c : Cell). Group dimensions modes view (row ∷ []) (c ∷ [])) same
-      (λ number. one_if row (number_of (key_of dimensions modes view row) == number))
-
   module _ (rows : List LineOrder) (place : ℕ) (within : place < length rows) where
-    abbrev pub row : LineOrder
+    abbrev row : LineOrder
     row = row_at rows place
-
-    more : take (place + 1) rows ≡ take place rows ++ row ∷ []
-    more = take_more rows place no_row within
 
     pub one_more : (keys new_keys : List ℕ) (cells new : List Cell) (cell : Cell) → Grouping dimensions modes view (take place rows) keys cells
         → IsCellOfRow dimensions modes view row cell → AreKeyed new_keys new → TakesIn cells cell new → Grouping dimensions modes view (take (place + 1) rows) new_keys new
     one_more keys new_keys cells new cell so_far is keyed takes =
-        subst (λ (l : List LineOrder). Grouping dimensions modes view l new_keys new) (sym more) (record {
+        subst (λ (l : List LineOrder). Grouping dimensions modes view l new_keys new) (sym (one_row_more dimensions modes view rows place within)) (record {
           keyed = keyed;
           few = omega (arith, takes.longer, so_far.few, length_more);
           known = All-append (HasMembers dimensions modes view) (take place rows) (row ∷ []) so_far.known
               (All-cons (HasMembers dimensions modes view) row [] is.members (All-nil (HasMembers dimensions modes view)));
           good = takes.good view so_far.good is.good;
-          group = both_group dimensions modes view (take place rows) (row ∷ []) cells (cell ∷ []) new so_far.group (row_alone row cell is) takes.by_key;
+          group = both_group dimensions modes view (take place rows) (row ∷ []) cells (cell ∷ []) new so_far.group (row_alone dimensions modes view row cell is) takes.by_key;
         })
       where
         length_more : length (take place rows ++ row ∷ []) ≡ length (take place rows) + 1
         length_more = length_push (take place rows) row
-
-    parts_of_row : rows ≡ take place rows ++ (row ∷ [] ++ drop (place + 1) rows)
-    parts_of_row =
-        sym (take-append-drop (place + 1) rows) ∙ ap (λ (l : List LineOrder). l ++ drop (place + 1) rows) more
-        ∙ append_assoc (take place rows) (row ∷ []) (drop (place + 1) rows)
-
-    parts_so_far : rows ≡ [] ++ ((take place rows ++ row ∷ []) ++ drop (place + 1) rows)
-    parts_so_far = sym (take-append-drop (place + 1) rows) ∙ ap (λ (l : List LineOrder). l ++ drop (place + 1) rows) more
-
-    -- a row that has no cell
-    pub row_unfit : HasNoCell dimensions modes view row → AreUnfit dimensions modes view rows
-    row_unfit why = elim why as (λ _. AreUnfit dimensions modes view rows) [
-      | inl none ↦ inl (λ all. none (all place no_row within))
-      | inr past ↦ inr (record {
-        before = take place rows;
-        part = row ∷ [];
-        behind = drop (place + 1) rows;
-        number = number_of (key_of dimensions modes view row);
-        cell = past.0;
-        parts = parts_of_row;
-        is =
-            ap (λ (b : Bool). cell_over dimensions modes view (cond b (row ∷ []) [])) (own_key (number_of (key_of dimensions modes view row)) (number_of (key_of dimensions modes view row)) refl)
-            ∙ past.1;
-        passes = past.2;
-      })
-    ]
 
     -- a row whose cell cannot be taken in
     pub row_overflows : (keys : List ℕ) (cells : List Cell) (cell : Cell) → Grouping dimensions modes view (take place rows) keys cells
@@ -111,19 +68,13 @@ module _ (dimensions : DimRows) (modes : List (List ℕ)) (view : View) where
           behind = drop (place + 1) rows;
           number = number_of cell.key;
           cell = merged over.before cell;
-          parts = parts_so_far;
+          parts = sym (whole dimensions modes view rows place within);
           is =
               over_append dimensions modes view (number_of cell.key) (take place rows) (row ∷ [])
-              ∙ (λ i. merged_if_any (sym (so_far.group (number_of cell.key)) i) (sym (row_alone row cell is (number_of cell.key)) i))
+              ∙ (λ i. merged_if_any (sym (so_far.group (number_of cell.key)) i) (sym (row_alone dimensions modes view row cell is (number_of cell.key)) i))
               ∙ (λ i. merged_if_any (over.is i) (alone i));
           passes = λ numbers. over.passes (record { key = key; count = numbers.count; measures = numbers.measures });
         })
-
-    pub overflow_refused : (keys : List ℕ) (cells : List Cell) (cell : Cell) → Grouping dimensions modes view (take place rows) keys cells
-        → IsCellOfRow dimensions modes view row cell → (fault : Fault) → (fault ≡ Fault.Memory) ⊎ ((fault ≡ Fault.BadLayout) × Overflows cells cell)
-        → (fault ≡ Fault.Memory) ⊎ ((fault ≡ Fault.BadLayout) × AreUnfit dimensions modes view rows)
-    overflow_refused keys cells cell so_far is fault (inl memory) = inl memory
-    overflow_refused keys cells cell so_far is fault (inr over) = inr (over.0, row_overflows keys cells cell so_far is over.1)
 
   -- all rows were grouped
   pub are_grouped : (rows : List LineOrder) (place : ℕ) → length rows ≤ place → (keys : List ℕ) (cells : List Cell)

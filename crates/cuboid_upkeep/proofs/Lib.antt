@@ -13,6 +13,11 @@ mod Keyed
 mod Leading
 mod Modes
 mod Taken
-mod AxisCodes
 mod Existing
+mod Ascending
+mod Members
+mod Rows
+mod Slots
+mod Tables
+mod TakenRows
 pub mod CallerLemmas

@@ -1,21 +1,17 @@
 -- The codes of ship modes.
-use Rattle.std.proofs.Common.{◌≡◌, ◌∙◌, sym, ap, refl, subst, inl, inr, ℕ, ◌+◌, ◌==◌, ◌<◌, ◌≤◌, Bool, true, false, cond, List, [], ◌∷◌, ◌++◌, length, length-append, get_or, Some, None, arith, All}
+use Rattle.std.proofs.Common.{◌≡◌, ◌∙◌, sym, ap, refl, ℕ, ◌==◌, ◌<◌, Bool, true, false, cond, List, [], ◌∷◌, ◌++◌, length, length-append, get_or, Some, None, arith, All}
 use Rattle.std.specs.Prelude.{slice_get}
 use Rattle.std.specs.List.{position_or_len}
 use Rattle.std.specs.Str.{bytes_eq}
-use Rattle.std.proofs.Math.Seq.{get_or-append_seam}
-use Rattle.std.proofs.lemmas.Bool.{cases_lt}
-use Rattle.std.proofs.lemmas.List.{get_or_append_left, length_push}
 use Rattle.std.proofs.lemmas.Option.{slice_get-get_or}
 use Rattle.std.proofs.lemmas.List.Elements.{All-filter, All-head, All-tail}
 use Rattle.cube_model.specs.declared.attr.Axis.TheVariants.{Customer, Supplier, Part, Date}
 use Rattle.cube_model.specs.declared.rows.DimRows.{DimRows}
 use Rattle.cube_model.specs.declared.rows.LineOrder.{LineOrder}
-use Rattle.dictionary.specs.Columns.{place_of, text_at}
+use Rattle.dictionary.specs.Columns.{place_of}
 use Rattle.dictionary.specs.Dictionary.{code_of}
-use Rattle.dictionary.proofs.CallerLemmas.{absent, place_append, place_behind, place_seen, slice_get-lt}
+use Rattle.dictionary.proofs.CallerLemmas.{place_append, place_seen, slice_get-lt}
 use Rattle.dimensions.proofs.Keys.{place_of_some}
-use Rattle.std.proofs.lemmas.List.Quantifiers.{position-Some}
 use Rattle.lattice.specs.declared.view.View.{View}
 use Rattle.cuboid_cells.specs.Cells.{number_of}
 use Rattle.cuboid_cells.specs.Limits.{all_code}
@@ -23,34 +19,6 @@ use Rattle.cuboid_upkeep.specs.Codes.{IsMode, mode_code}
 use Rattle.cuboid_upkeep.specs.Grouping.{HasMembers, cell_over, code_on, key_of, rows_of, summaries_over}
 use Rattle.cuboid_upkeep.specs.Lawful.{ModesAreAddedBehind}
 use Rattle.cuboid_upkeep.specs.StandIns.{IsCodeOfMode}
-use Rattle.cuboid_upkeep.specs.Tables.{AreModeEntries, IsModeEntry}
-
--- ---- the entry of a text
-pub no_entry : (modes : List (List ℕ)) (text : List ℕ) (entry : ℕ) → code_of modes text ≡ None → entry ≡ all_code → IsModeEntry modes text entry
-no_entry modes text entry none is = inr (is, λ mode. (let behind = place_behind (bytes_eq text) modes (absent modes text none) in absurd (omega (arith, mode.among, behind))))
-
-pub no_mode : (text : List ℕ) (entry : ℕ) → entry ≡ all_code → IsModeEntry [] text entry
-no_mode text entry is = inr (is, λ mode. absurd (omega (arith, mode.among)))
-
-pub own_entry : (modes : List (List ℕ)) (text : List ℕ) (code entry : ℕ) → code_of modes text ≡ Some code → code < all_code → entry ≡ code → IsModeEntry modes text entry
-own_entry modes text code entry found small is =
-    let place : position_or_len (bytes_eq text) modes ≡ code = place_of_some (bytes_eq text) modes code found in
-    let within = (position-Some (bytes_eq text) modes code [] found).0 in
-    inl (record { among = omega (arith, place, within); below = omega (arith, place, small) }, is ∙ sym place)
-
-pub large_entry : (modes : List (List ℕ)) (text : List ℕ) (code entry : ℕ) → code_of modes text ≡ Some code → all_code ≤ code → entry ≡ all_code → IsModeEntry modes text entry
-large_entry modes text code entry found large is =
-    let place : position_or_len (bytes_eq text) modes ≡ code = place_of_some (bytes_eq text) modes code found in
-    inr (is, λ mode. (let below = mode.below in absurd (omega (arith, place, below, large))))
-
--- what an entry says
-pub entry_is : (modes : List (List ℕ)) (text : List ℕ) (entry : ℕ) → IsModeEntry modes text entry → (entry ≡ all_code → ⊥) → IsMode modes text × (entry ≡ place_of modes text)
-entry_is modes text entry (inl own) apart = own
-entry_is modes text entry (inr none) apart = absurd (apart none.0)
-
-pub entry_none : (modes : List (List ℕ)) (text : List ℕ) (entry : ℕ) → IsModeEntry modes text entry → entry ≡ all_code → IsMode modes text → ⊥
-entry_none modes text entry (inl own) is mode = let below = own.0.below in absurd (omega (arith, below, own.1, is))
-entry_none modes text entry (inr none) is mode = none.1 mode
 
 -- ---- modes behind others
 still : (modes more : List (List ℕ)) (text : List ℕ) → place_of modes text < length modes → place_of (modes ++ more) text ≡ place_of modes text
@@ -107,46 +75,6 @@ they_still_stand dimensions modes more rows plain stand =
           ∙ cell_still dimensions modes more view (rows_of dimensions modes view number rows)
           (All-filter (λ row. number_of (key_of dimensions modes view row) == number) (HasMembers dimensions modes view) rows stand.known));
     }
-
--- ---- the entries of a batch
-
--- those of the first texts
-pub record AreEntriesSoFar (modes own : List (List ℕ)) (count : ℕ) (entries : List ℕ) : Type 0 where
-  pub few : count ≤ length own
-  pub many : length entries ≡ count
-  pub each : (code : ℕ) → code < count → IsModeEntry modes (text_at own code) (get_or entries code 0)
-
-pub no_entries : (modes own : List (List ℕ)) (entries : List ℕ) → entries ≡ [] → AreEntriesSoFar modes own 0 entries
-no_entries modes own entries none = record {
-  few = omega arith;
-  many = ap length none;
-  each = λ code before. absurd (omega (arith, before));
-}
-
-pub one_entry_more : (modes own : List (List ℕ)) (count : ℕ) (entries new : List ℕ) (entry : ℕ) → AreEntriesSoFar modes own count entries → count < length own
-    → new ≡ entries ++ entry ∷ [] → IsModeEntry modes (text_at own count) entry → AreEntriesSoFar modes own (count + 1) new
-one_entry_more modes own count entries new entry so_far within new_is is = record {
-  few = omega (arith, within);
-  many = omega (arith, ap length new_is, length_push entries entry, so_far.many);
-  each = λ code before.
-      elim (cases_lt code count) [
-        | inl low ↦
-            (let at : get_or new code 0 ≡ get_or entries code 0 =
-            ap (λ (l : List ℕ). get_or l code 0) new_is ∙ get_or_append_left entries (entry ∷ []) 0 code (omega (arith, low, so_far.many)) in
-            subst (IsModeEntry modes (text_at own code)) (sym at) (so_far.each code low))
-        | inr high ↦
-            (let there : code ≡ count = omega (arith, before, high) in
-            let last : code ≡ length entries = omega (arith, there, so_far.many) in
-            let at : get_or new code 0 ≡ entry = (λ i. get_or (new_is i) (last i) 0) ∙ get_or-append_seam entries entry [] 0 in
-            subst (λ (n : ℕ). IsModeEntry modes (text_at own n) (get_or new code 0)) (sym there) (subst (IsModeEntry modes (text_at own count)) (sym at) is))
-      ];
-}
-
-pub all_entries : (modes own : List (List ℕ)) (count : ℕ) (entries : List ℕ) → length own ≤ count → AreEntriesSoFar modes own count entries → AreModeEntries modes own entries
-all_entries modes own count entries all so_far = record {
-  many = omega (arith, all, so_far.few, so_far.many);
-  each = λ code before. so_far.each code (omega (arith, before, all));
-}
 
 -- ---- codes of cells
 

@@ -5,19 +5,17 @@ use Rattle.std.specs.Option.{option_or}
 use Rattle.std.proofs.lemmas.List.{length_push}
 use Rattle.std.proofs.lemmas.List.Elements.{All-append, All-cons, All-nil, All-set}
 use Rattle.std.proofs.lemmas.List.Folds.{find-append, find-set, find_past}
-use Rattle.std.proofs.lemmas.List.Sums.{passes_at_first, position_or_len_is}
+use Rattle.std.proofs.lemmas.List.Sums.{passes_at_first}
 use Rattle.std.proofs.lemmas.Map.Keys.{any_passes_from_place}
 use Rattle.std.proofs.lemmas.Option.{slice_get-get_or}
 use Rattle.indexmap.specs.IndexSet.{insert_key}
 use Rattle.std.proofs.Math.Seq.{map-set_same}
 use Rattle.lattice.specs.declared.view.View.{View}
 use Rattle.cuboid_cells.specs.declared.cell.Cell.{Cell}
-use Rattle.cuboid_cells.specs.declared.key.Key.{Key}
 use Rattle.cuboid_cells.specs.Cells.{CellFits, cell_at, number_of}
 use Rattle.cuboid_cells.specs.Merges.{merged, merged_if_any}
-use Rattle.cuboid_upkeep.specs.Steps.{AreKeyed, HasKeyAt, IsGood, MergesAt, Overflows, OverflowsAt, TakesIn}
-use Rattle.cuboid_upkeep.proofs.Found.{at_none, at_place, found_key, has_key, none_else, other_key, own_key, place_is, same_key}
-use Rattle.cuboid_upkeep.proofs.Sorted.{AreApart, distinct_apart}
+use Rattle.cuboid_upkeep.specs.Steps.{AreKeyed, IsGood, MergesAt, Overflows, OverflowsAt, TakesIn}
+use Rattle.cuboid_upkeep.proofs.Found.{at_none, at_place, found_key, has_key, none_else, own_key, place_is, same_key}
 
 -- the keys stay where one is among them
 pub keys_stay : (keys : List ℕ) (number place : ℕ) → place ≡ position_or_len (nat_eq number) keys → place < length keys → insert_key nat_eq keys number ≡ keys
@@ -111,16 +109,3 @@ module _ (cells : List Cell) (cell : Cell) (place : ℕ) (is : place ≡ positio
 
   pub merge_overflows : place < length cells → OverflowsAt cells place cell → Overflows cells cell
   merge_overflows within over = overflows within over.before over.before_is over.passes
-
--- a cell with a key stands at the place of the key
-pub guessed : (keys : List ℕ) (cells : List Cell) (place : ℕ) (key : Key) → AreKeyed keys cells → HasKeyAt cells place key
-    → place ≡ position_or_len (nat_eq (number_of key)) (map (λ (c : Cell). number_of c.key) cells)
-guessed keys cells place key keyed has =
-    let number : ℕ = number_of key in
-    let here : number_of has.found.key ≡ number = ap number_of has.key_is in
-    let there : number_of (get_or cells place has.found).key ≡ number = ap (λ (c : Cell). number_of c.key) (sym has.found_is) ∙ here in
-    let apart : AreApart cells = distinct_apart cells (subst (IsDistinct nat_eq) keyed.keys_are keyed.once) in
-    sym (place_is number cells
-    ∙ position_or_len_is (has_key number) cells place has.found (omega (arith, has.within))
-    (λ k before. other_key (number_of (get_or cells k has.found).key) number (λ same. apart k place has.found before has.within (same ∙ sym there)))
-    (λ _. own_key (number_of (get_or cells place has.found).key) number there))

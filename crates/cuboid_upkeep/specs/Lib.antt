@@ -1,9 +1,13 @@
-pub mod AxisCodes
 pub mod CellNumbers
 pub mod Codes
 pub mod Grouping
+pub mod Growing
+pub mod Keys
 pub mod Lawful
 pub mod MemberParts
+pub mod Members
+pub mod Numbers
+pub mod Slots
 pub mod StandIns
 pub mod Steps
 pub mod Tables

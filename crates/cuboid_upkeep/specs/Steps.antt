@@ -55,13 +55,6 @@ pub record Overflows (old : List Cell) (cell : Cell) : Type 0 where
   pub is : cell_at (number_of cell.key) old ≡ Some before
   pub passes : CellFits (merged before cell) → ⊥
 
--- the cell at a place has a key
-pub record HasKeyAt (cells : List Cell) (place : ℕ) (key : Key) : Type 0 where
-  pub within : place < length cells
-  pub found : Cell
-  pub found_is : found ≡ slice_index_or cells place found
-  pub key_is : found.key ≡ key
-
 -- the cell at a place became its merge with another
 pub record MergesAt (old : List Cell) (place : ℕ) (cell : Cell) (new : List Cell) : Type 0 where
   pub before : Cell

@@ -1,22 +1,16 @@
 //! The codes of members.
-ghost use Rattle.std.specs.Prelude.{◌≡◌, ◌↔◌, ◌<◌, ◌≤◌, ℕ, Some, IfNone, IfSome, IsTrue, length};
+ghost use Rattle.std.specs.Prelude.{◌≡◌, ◌↔◌, ◌<◌, ◌≤◌, ℕ, Some, IsTrue, length};
 ghost use Rattle.cube_model.specs.Places.{row_count_of};
 ghost use Rattle.dimensions.specs.Coded.{AreGoodRows};
 ghost use Rattle.dimensions.specs.Shapes.{lowers_of};
 ghost use Rattle.dimensions.specs.Shown.{rows_on};
-ghost use Rattle.group_plan.specs.Numbers.{IsKnownOn};
-ghost use Rattle.group_plan.specs.Rows.{row_at};
 ghost use Rattle.lattice.specs.declared.level.Level.TheVariants as level;
 ghost use Rattle.lattice.specs.Levels.{level_attribute};
-ghost use Rattle.cuboid_cells.specs.Cells.{IsCodeAt};
 ghost use Rattle.cuboid_cells.specs.Limits.{all_code};
 ghost use Rattle.cuboid_upkeep.specs.Codes.{level_column, member_code};
-ghost use Rattle.cuboid_upkeep.specs.Grouping.{code_on};
 
 use cube_model::{Axis, valid_rows_keep_the_rules};
-use cuboid_cells::limits::ALL_CODE;
 use dimensions::{Dims, lower_column};
-use group_plan::FactRows;
 use lattice::Level;
 
 // Where the codes of the members of a level stand.
@@ -81,35 +75,6 @@ impl<'a> LevelCodes<'a> {
             }
         }
     }
-
-    // The code of the member that the row at a place has. Nothing where the level has members and the row's key has none.
-    #[inline(always)]
-    pub(crate) fn code<F: FactRows>(
-        self,
-        dims: &Dims,
-        axis: Axis,
-        grouped: Level,
-        rows: &F,
-        place: usize,
-    ) -> Option<u16>
-        requires codes { AreCodesOf dims.now axis grouped self }
-        requires place { place < length (F.rows rows.now) }
-        ensures some { IfSome result (λ code. code ≡ code_on dims.now axis grouped (row_at (F.rows rows.now) place)) }
-        ensures apart { IfSome result (IsCodeAt grouped) }
-        ensures known { IfSome result (λ code. (grouped ≡ level.All → ⊥)
-            → IsKnownOn dims.now (row_at (F.rows rows.now) place) axis) }
-        ensures none { IfNone result ((grouped ≡ level.All → ⊥)
-            × (IsKnownOn dims.now (row_at (F.rows rows.now) place) axis → ⊥)) }
-    {
-        if is_all(grouped) {
-            return Some(ALL_CODE);
-        }
-        let own = dims.row_index(axis, rows.key(place, axis));
-        if own >= dims.row_count(axis) {
-            return None;
-        }
-        Some(self.read(own))
-    }
 }
 
 // Whether a level is that of every member together.
@@ -147,14 +112,4 @@ pub(crate) fn code_count(dims: &Dims, axis: Axis, grouped: Level) -> usize
         None => dims.row_count(axis),
         Some(column) => dims.texts(axis, column).len(),
     }
-}
-
-// How many codes the keys of rows have for a level: one where all members are together.
-pub(crate) fn member_count(dims: &Dims, axis: Axis, grouped: Level) -> u32 {
-    if is_all(grouped) {
-        return 1;
-    }
-    valid_rows_keep_the_rules();
-    dims.row_count(axis);
-    code_count(dims, axis, grouped) as u32
 }

@@ -1,100 +1,86 @@
-//! Grouping fact rows by the levels of a view.
-ghost use Rattle.std.specs.Prelude.{◌≡◌, ◌⊎◌, [], true, IfErr, IfOk, OnOk};
+//! Grouping fact rows by their keys.
+ghost use Rattle.std.specs.Prelude.{◌≡◌, ◌⊎◌, [], length, IfErr, IfOk, OnOk};
 ghost use Rattle.cube_model.specs.declared.fault.Fault.{Fault};
 ghost use Rattle.cube_model.specs.declared.rows.DimRows.{DimRows};
-ghost use Rattle.cuboid_upkeep.specs.AxisCodes.{AreCodesOfRows};
-ghost use Rattle.cuboid_upkeep.specs.Steps.{AreGrouped, AreUnfit};
-ghost use Rattle.cuboid_upkeep.specs.Tables.{AreModeEntries, AreTablesOf, modes_in};
+ghost use Rattle.lattice.specs.declared.view.View.{View};
+ghost use Rattle.cuboid_upkeep.specs.declared.member_codes.ViewMembers.{ViewMembers};
+ghost use Rattle.cuboid_upkeep.specs.Keys.{AreRowKeys};
+ghost use Rattle.cuboid_upkeep.specs.Steps.{AreGrouped, AreKeyed, AreUnfit, Overflows, TakesIn};
 
-use crate::axis_codes::AxisCodes;
-use crate::guesses::{Guesses, Weights};
-use crate::key_tables::KeyTables;
-use crate::row_cell::coded_cell;
-use crate::taking::take_in;
+use crate::keys::key_at;
+use crate::row_cell::row_cell;
+use crate::taking::merge_at;
 use cube_model::Fault;
-use cuboid_cells::Cell;
-use dimensions::Dims;
-use group_plan::ModeRows;
+use cuboid_cells::{Cell, Key};
+use group_plan::FactRows;
 use indexmap::IndexSet;
-use lattice::View;
 use std::alloc::Global;
 
 // For how many cells there is room from the start, where there are as many rows: a view of some thousand cells then
 // copies none of them for want of room.
 const ROOM: usize = 8_192;
 
-// The cells of fact rows, in the order of the first rows of their keys.
-pub(crate) fn group_rows<F: ModeRows>(
+// The cells of fact rows, of which the keys are given, in the order of the first rows of their keys.
+pub(crate) fn group_rows<F: FactRows>(
     alloc: Global,
-    dims: &Dims,
-    view: View,
-    tables: &KeyTables<'_>,
+    keys: &[Key],
     rows: &F,
 ) -> Result<Vec<Cell>, Fault>
-    requires tables { AreTablesOf dims.now view (F.modes rows.now) tables.now }
-    ensures ok { IfOk result (λ cells. AreGrouped dims.now (modes_in tables.now) view (F.rows rows.now) cells.items) }
-    ensures refused { IfErr result (λ fault. (fault ≡ Fault.Memory)
-        ⊎ ((fault ≡ Fault.BadLayout) × AreUnfit dims.now (modes_in tables.now) view (F.rows rows.now))) }
-{
-    let codes = AxisCodes::of(alloc, dims, view, tables, rows)?;
-    group_coded(alloc, Weights::of(dims, view), view, tables, &codes, rows)
-}
-
-// The same by the codes of the rows on the axes.
-fn group_coded<F: ModeRows>(
-    alloc: Global,
-    weights: Weights,
-    view: View,
-    tables: &KeyTables<'_>,
-    codes: &AxisCodes,
-    rows: &F,
-) -> Result<Vec<Cell>, Fault>
-    requires entries { view.ship_mode ≡ true → AreModeEntries (modes_in tables.now) (F.modes rows.now) tables.now.entries.items }
-    ensures ok { IfOk result (λ cells. (dimensions : DimRows) → AreCodesOfRows dimensions view (F.rows rows.now) codes.now
-        → AreGrouped dimensions (modes_in tables.now) view (F.rows rows.now) cells.items) }
+    ensures ok { IfOk result (λ cells. (dimensions : DimRows) (view : View) (members : ViewMembers)
+        → AreRowKeys dimensions view members (F.rows rows.now) (length (F.rows rows.now)) keys.now
+        → AreGrouped dimensions [] view (F.rows rows.now) cells.items) }
     ensures refused { IfErr result (λ fault. (fault ≡ Fault.Memory) ⊎ ((fault ≡ Fault.BadLayout)
-        × ((dimensions : DimRows) → AreCodesOfRows dimensions view (F.rows rows.now) codes.now
-        → AreUnfit dimensions (modes_in tables.now) view (F.rows rows.now)))) }
+        × ((dimensions : DimRows) (view : View) (members : ViewMembers)
+        → AreRowKeys dimensions view members (F.rows rows.now) (length (F.rows rows.now)) keys.now
+        → AreUnfit dimensions [] view (F.rows rows.now)))) }
 {
     let room = rows.count().min(ROOM);
     let mut numbers = IndexSet::with_capacity(alloc, room)?;
     let mut cells = Vec::with_capacity(alloc, room)?;
-    let mut guesses = Guesses::new(alloc, weights);
-    take_in_rows(
-        &mut numbers,
-        &mut cells,
-        &mut guesses,
-        view,
-        tables,
-        codes,
-        rows,
-    )?;
+    take_in_rows(&mut numbers, &mut cells, keys, rows)?;
     Ok(cells)
 }
 
-// Takes the cells of fact rows in, where no cell was before. A row's key is put together where its cell is looked for, and
-// kept nowhere.
-fn take_in_rows<F: ModeRows>(
+// Takes the cells of fact rows in, where no cell was before.
+fn take_in_rows<F: FactRows>(
     numbers: &mut IndexSet<u128>,
     cells: &mut Vec<Cell>,
-    guesses: &mut Guesses,
-    view: View,
-    tables: &KeyTables<'_>,
-    codes: &AxisCodes,
+    keys: &[Key],
     rows: &F,
 ) -> Result<(), Fault>
-    requires entries { view.ship_mode ≡ true → AreModeEntries (modes_in tables.now) (F.modes rows.now) tables.now.entries.items }
     requires no_number { numbers.old.keys ≡ [] }
     requires no_cell { cells.old.items ≡ [] }
-    ensures ok { OnOk result ((dimensions : DimRows) → AreCodesOfRows dimensions view (F.rows rows.now) codes.now
-        → AreGrouped dimensions (modes_in tables.now) view (F.rows rows.now) cells.new.items) }
+    ensures ok { OnOk result ((dimensions : DimRows) (view : View) (members : ViewMembers)
+        → AreRowKeys dimensions view members (F.rows rows.now) (length (F.rows rows.now)) keys.now
+        → AreGrouped dimensions [] view (F.rows rows.now) cells.new.items) }
     ensures refused { IfErr result (λ fault. (fault ≡ Fault.Memory) ⊎ ((fault ≡ Fault.BadLayout)
-        × ((dimensions : DimRows) → AreCodesOfRows dimensions view (F.rows rows.now) codes.now
-        → AreUnfit dimensions (modes_in tables.now) view (F.rows rows.now)))) }
+        × ((dimensions : DimRows) (view : View) (members : ViewMembers)
+        → AreRowKeys dimensions view members (F.rows rows.now) (length (F.rows rows.now)) keys.now
+        → AreUnfit dimensions [] view (F.rows rows.now)))) }
 {
     for place in 0..rows.count() {
-        let cell = coded_cell(view, tables, codes, rows, place)?;
-        take_in(numbers, cells, guesses, &cell)?;
+        let key = key_at(keys, place);
+        let cell = row_cell(key, rows, place)?;
+        take_in(numbers, cells, cell)?;
     }
     Ok(())
+}
+
+// Takes a cell in: that of its key becomes the merge of both, and a new key comes after all others. `BadLayout` where a
+// number would pass its type.
+fn take_in(numbers: &mut IndexSet<u128>, cells: &mut Vec<Cell>, cell: Cell) -> Result<(), Fault>
+    requires { AreKeyed numbers.old.keys cells.old.items }
+    ensures keyed { OnOk result (AreKeyed numbers.new.keys cells.new.items) }
+    ensures ok { OnOk result (TakesIn cells.old.items cell cells.new.items) }
+    ensures refused { IfErr result (λ fault. (fault ≡ Fault.Memory)
+        ⊎ ((fault ≡ Fault.BadLayout) × Overflows cells.old.items cell)) }
+{
+    let Ok((place, _)) = numbers.insert_full(cell.key.number()) else {
+        return Err(Fault::Memory);
+    };
+    if place >= cells.len() {
+        cells.push(cell)?;
+        return Ok(());
+    }
+    merge_at(cells, place, &cell)
 }

@@ -1,23 +1,26 @@
 //! The cells of a view, made of fact rows and kept up with them.
 #![tactic(auto)]
 
-mod axis_codes;
 mod cell_numbers;
 mod codes;
 mod grouping;
-mod guesses;
-mod key_tables;
+mod growing;
+mod keys;
 mod laws;
+mod member_codes;
 mod member_keys;
 mod member_parts;
+mod merging;
+mod numbers;
 mod row_cell;
-mod row_keys;
+mod table;
 mod taking;
-mod upkeep;
 
 pub use cell_numbers::{CellNumbers, UnknownMember};
+pub use growing::GrowingCells;
 pub use laws::{
     cells_are_the_one, merges_stand_for_both, modes_are_added_behind,
     more_rows_have_no_fewer_cells, one_key_one_group, rows_have_cells, rows_in_range_fit,
 };
-pub use upkeep::add_rows;
+pub use member_codes::{MemberCodes, ViewMembers};
+pub use table::CellTable;

@@ -1,49 +1,20 @@
 //! The cell of one fact row.
-ghost use Rattle.std.specs.Prelude.{◌≡◌, ◌<◌, ℕ, List, [], ◌∷◌, true, IfErr, IfNone, IfOk, IfSome, length};
+ghost use Rattle.std.specs.Prelude.{◌≡◌, ◌<◌, ℕ, List, [], ◌∷◌, IfErr, IfNone, IfOk, IfSome, length};
 ghost use Rattle.cube_model.specs.declared.fault.Fault.{Fault};
 ghost use Rattle.cube_model.specs.declared.rows.DimRows.{DimRows};
 ghost use Rattle.group_plan.specs.Rows.{row_at};
 ghost use Rattle.lattice.specs.declared.view.View.{View};
 ghost use Rattle.cuboid_cells.specs.Cells.{SummariesFit, SummaryFits};
-ghost use Rattle.cuboid_upkeep.specs.AxisCodes.{AreCodesOfRows};
 ghost use Rattle.cuboid_upkeep.specs.Grouping.{summaries_over, summary_over};
 ghost use Rattle.cuboid_upkeep.specs.Steps.{HasNoCell, IsCellOfRow, IsRowKey};
-ghost use Rattle.cuboid_upkeep.specs.Tables.{AreModeEntries, modes_in};
 
-use crate::axis_codes::AxisCodes;
-use crate::key_tables::KeyTables;
-use crate::row_keys::row_key;
 use cube_model::{Fault, Measure};
 use cuboid_cells::{Cell, Key, Summaries, Summary};
-use group_plan::{FactRows, ModeRows};
-use lattice::View;
-
-// The cell of the row at a place, by the codes of its members. `BadLayout` where its ship mode is none of the modes, or a
-// number passes its type.
-#[inline(always)]
-pub(crate) fn coded_cell<F: ModeRows>(
-    view: View,
-    tables: &KeyTables<'_>,
-    codes: &AxisCodes,
-    rows: &F,
-    place: usize,
-) -> Result<Cell, Fault>
-    requires entries { view.ship_mode ≡ true → AreModeEntries (modes_in tables.now) (F.modes rows.now) tables.now.entries.items }
-    requires place { place < length (F.rows rows.now) }
-    ensures ok { IfOk result (λ cell. (dimensions : DimRows) → AreCodesOfRows dimensions view (F.rows rows.now) codes.now
-        → IsCellOfRow dimensions (modes_in tables.now) view (row_at (F.rows rows.now) place) cell) }
-    ensures refused { IfErr result (λ fault. (fault ≡ Fault.BadLayout)
-        × ((dimensions : DimRows) → HasNoCell dimensions (modes_in tables.now) view (row_at (F.rows rows.now) place))) }
-{
-    let Some(key) = row_key(view, tables, codes, rows, place) else {
-        return Err(Fault::BadLayout);
-    };
-    row_cell(key, rows, place)
-}
+use group_plan::FactRows;
 
 // The cell of the row at a place, whose key it is. `BadLayout` where a number passes its type.
 #[inline(always)]
-fn row_cell<F: FactRows>(key: Key, rows: &F, place: usize) -> Result<Cell, Fault>
+pub(crate) fn row_cell<F: FactRows>(key: Key, rows: &F, place: usize) -> Result<Cell, Fault>
     requires { place < length (F.rows rows.now) }
     ensures ok { IfOk result (λ cell. (dimensions : DimRows) (modes : List (List ℕ)) (view : View)
         → IsRowKey dimensions modes view (row_at (F.rows rows.now) place) key

@@ -1,5 +1,4 @@
 //! Tests of runs of cells, of their merges, and of the cells of rows.
-mod by_mode;
 mod grouped;
 mod merges;
 mod most_cells;

@@ -14,7 +14,7 @@ use std::ops::Range;
 use std::process::Abort;
 use std::test::Fail;
 
-/// How many views are drawn before one of those by the lowest levels is taken.
+/// How many views are drawn before the one by the lowest levels is taken.
 const DRAWS: u32 = 300;
 
 /// What came of the queries over some rows.
@@ -26,22 +26,22 @@ struct Outcome {
     coarse: u32,
 }
 
-// One of all views, if it serves a query.
+// One of the views that do not group by ship mode, if it serves a query.
 fn some_view(draw: &mut Draw, query: &Query) -> Option<View> {
-    match View::new(draw.below(512) as u16) {
+    match View::new(draw.below(256) as u16) {
         Some(view) if view.serves(query) => Some(view),
         _ => None,
     }
 }
 
-// One of the views that serve a query, mostly, or one of those by the lowest levels.
+// One of the views that serve a query, mostly, or the one by the lowest levels.
 fn serving_view(draw: &mut Draw, query: &Query) -> Option<View> {
     for _ in 0..DRAWS {
         if let Some(view) = some_view(draw, query) {
             return Some(view);
         }
     }
-    View::new(if draw.once_in(2) { 256 } else { 0 })
+    View::new(0)
 }
 
 // Rows that are cut at random, most of them within the cells.
@@ -55,7 +55,7 @@ fn random_parts<'a>(draw: &mut Draw, rows: &'a [LineOrder]) -> Parts<'a> {
 
 // Whether an answer has lines that came from cells by a level that is not the lowest.
 fn is_coarse(view: View, answer: &Answer) -> bool {
-    view.index() % 256 != 0 && !answer.lines.is_empty()
+    view.index() != 0 && !answer.lines.is_empty()
 }
 
 // Whether the answers by cells of some view and by the plain program agree, and whether they are coarse.

@@ -16,7 +16,7 @@ use cube_model::{Agg, Answer, Attr, Fault, LineOrder, Measure, Query};
 use cube_query::Fold;
 use cuboid_cells::laws::bytes_are_one_run;
 use cuboid_cells::{Cells, Span};
-use cuboid_upkeep::add_rows;
+use cuboid_upkeep::GrowingCells;
 use dimensions::Dims;
 use group_plan::RowSlice;
 use sample_star::{
@@ -430,6 +430,19 @@ fn are_same(alloc: Global, one: &Cells, other: &Cells) -> Result<bool, Fault>
     Ok(left.as_slice() == right.as_slice())
 }
 
+// Whether cells are those of rows. Of a view that groups by ship mode this is not looked at: no call makes its cells.
+fn are_of_rows(alloc: Global, dims: &Dims, cells: &Cells, rows: &[LineOrder]) -> Result<bool, Fault>
+    requires few { length rows.now ≤ most_batch_rows }
+{
+    if cells.view().ship_mode {
+        return Ok(true);
+    }
+    let mut grouped = GrowingCells::new(alloc, dims, cells.view())?;
+    grouped.add_rows(alloc, dims, &RowSlice(rows))?;
+    let grouped = grouped.finish(alloc)?;
+    are_same(alloc, cells, &grouped)
+}
+
 // Counts cells in, with the modes of a batch or with none. A refusal leaves the fold as it was. Says whether they were
 // counted in. `BadQuery` where they were, and are not those of the rows that they are to stand for.
 fn count_in(
@@ -450,9 +463,7 @@ fn count_in(
         Some(batch) => Some(batch.coded(TextColumn::ShipMode).0),
         None => None,
     };
-    let mut grouped = Cells::empty(alloc, cells.view());
-    add_rows(&mut grouped, alloc, dims, &RowSlice(rows), modes)?;
-    let is_same = are_same(alloc, cells, &grouped)?;
+    let is_same = are_of_rows(alloc, dims, cells, rows)?;
     match fold.add_cells(dims, cells, modes) {
         Ok(()) => {
             if is_same {

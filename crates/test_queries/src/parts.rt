@@ -1,17 +1,15 @@
 //! Answers over rows of which some are counted in as cells.
-ghost use Rattle.std.specs.Prelude.{◌≡◌, ◌≤◌, [], length};
-ghost use Rattle.cube_model.specs.Limits.{most_batch_rows};
+ghost use Rattle.std.specs.Prelude.{◌≡◌, [], IfOk};
 ghost use Rattle.cube_query.specs.Groups.{StandsFor};
 ghost use Rattle.lattice.specs.Determined.{Serves};
 
 use super::running::segment_of;
-use column_segment::{Segment, TextColumn};
 use cube_model::{Answer, Fault, LineOrder, Query};
-use cube_query::{Fold, RowsWithModes};
+use cube_query::Fold;
 use cuboid_cells::Cells;
-use cuboid_upkeep::add_rows;
+use cuboid_upkeep::GrowingCells;
 use dimensions::Dims;
-use group_plan::{ModeRows, RowSlice};
+use group_plan::RowSlice;
 use lattice::View;
 use std::alloc::Global;
 
@@ -44,143 +42,47 @@ impl<'a> Parts<'a> {
     }
 }
 
-/// All rows as a batch, and the batches before the cells and behind them.
-#[derive(Clone, Copy)]
-struct Around<'a> {
-    all: &'a Segment,
-    before: &'a Segment,
-    behind: &'a Segment,
-}
-
-// Makes cells of two batches, whose ship modes are told by the modes of all rows, and counts them into a fold that begins,
-// between two other batches.
-fn answer_around<F: ModeRows>(
+// The cells of a view for two batches of rows.
+fn cells_of(
     alloc: Global,
     dims: &Dims,
-    fold: &mut Fold,
-    cells: &mut Cells,
-    first: &F,
-    second: &F,
-    around: Around<'_>,
-) -> Result<Answer, Fault>
-    requires begins { StandsFor dims.now fold.old [] }
-    requires empty { cells.old.cells ≡ [] }
-    requires serves { Serves cells.old.view fold.old.query }
-    requires first { length (F.rows first.now) ≤ most_batch_rows }
-    requires second { length (F.rows second.now) ≤ most_batch_rows }
+    view: View,
+    first: &[LineOrder],
+    second: &[LineOrder],
+) -> Result<Cells, Fault>
+    ensures { IfOk result (λ cells. cells.view ≡ view) }
 {
-    let (modes, _) = around.all.coded(TextColumn::ShipMode);
-    add_rows(cells, alloc, dims, first, Some(modes))?;
-    add_rows(cells, alloc, dims, second, Some(modes))?;
-    fold.add_segment(dims, around.before)?;
-    fold.add_cells(dims, cells, Some(modes))?;
-    fold.add_segment(dims, around.behind)?;
-    fold.finish(dims)
-}
-
-// The same over rows in parts: by the codes that the batches have for their ship modes where the view groups by ship mode,
-// and by the rows in memory else.
-fn answer_of_batches(
-    alloc: Global,
-    dims: &Dims,
-    fold: &mut Fold,
-    cells: &mut Cells,
-    parts: Parts<'_>,
-    batches: &[Segment],
-) -> Result<Answer, Fault>
-    requires begins { StandsFor dims.now fold.old [] }
-    requires empty { cells.old.cells ≡ [] }
-    requires serves { Serves cells.old.view fold.old.query }
-{
-    let [all, before, first, second, behind] = batches else {
-        return Err(Fault::TooManyRows);
-    };
-    let around = Around {
-        all,
-        before,
-        behind,
-    };
-    if cells.view().ship_mode {
-        return answer_by_codes(alloc, dims, fold, cells, [first, second], around);
-    }
-    answer_in_memory(alloc, dims, fold, cells, parts, around)
-}
-
-// The same by the codes of two batches.
-fn answer_by_codes(
-    alloc: Global,
-    dims: &Dims,
-    fold: &mut Fold,
-    cells: &mut Cells,
-    two: [&Segment; 2],
-    around: Around<'_>,
-) -> Result<Answer, Fault>
-    requires begins { StandsFor dims.now fold.old [] }
-    requires empty { cells.old.cells ≡ [] }
-    requires serves { Serves cells.old.view fold.old.query }
-{
-    let [first, second] = two;
     if first.len() > MOST || second.len() > MOST {
         return Err(Fault::TooManyRows);
     }
-    let first = RowsWithModes::of(first);
-    let second = RowsWithModes::of(second);
-    answer_around(alloc, dims, fold, cells, &first, &second, around)
+    let mut cells = GrowingCells::new(alloc, dims, view)?;
+    cells.add_rows(alloc, dims, &RowSlice(first))?;
+    cells.add_rows(alloc, dims, &RowSlice(second))?;
+    cells.finish(alloc)
 }
 
-// The same by two parts in memory.
-fn answer_in_memory(
+// The answer of a fold that begins, over rows in parts: it counts the cells in between two other batches.
+fn answer_around(
     alloc: Global,
     dims: &Dims,
     fold: &mut Fold,
-    cells: &mut Cells,
-    parts: Parts<'_>,
-    around: Around<'_>,
-) -> Result<Answer, Fault>
-    requires begins { StandsFor dims.now fold.old [] }
-    requires empty { cells.old.cells ≡ [] }
-    requires serves { Serves cells.old.view fold.old.query }
-{
-    if parts.first.len() > MOST || parts.second.len() > MOST {
-        return Err(Fault::TooManyRows);
-    }
-    let first = RowSlice(parts.first);
-    let second = RowSlice(parts.second);
-    answer_around(alloc, dims, fold, cells, &first, &second, around)
-}
-
-// All rows as a batch, and each of the parts as one.
-fn batches_of(alloc: Global, parts: Parts<'_>) -> Result<Vec<Segment>, Fault> {
-    let mut batches = Vec::new(alloc);
-    for rows in [
-        parts.all,
-        parts.before,
-        parts.first,
-        parts.second,
-        parts.behind,
-    ] {
-        batches.push(segment_of(alloc, rows)?)?;
-    }
-    Ok(batches)
-}
-
-// The answer over rows in parts, of which the batches stand beside them.
-fn answer_beside(
-    alloc: Global,
-    dims: &Dims,
-    query: &Query,
     view: View,
     parts: Parts<'_>,
-    batches: &[Segment],
 ) -> Result<Answer, Fault>
-    requires { Serves view query.now }
+    requires begins { StandsFor dims.now fold.old [] }
+    requires serves { Serves view fold.old.query }
 {
-    let mut fold = Fold::new(alloc, dims, query)?;
-    let mut cells = Cells::empty(alloc, view);
-    answer_of_batches(alloc, dims, &mut fold, &mut cells, parts, batches)
+    let before = segment_of(alloc, parts.before)?;
+    let behind = segment_of(alloc, parts.behind)?;
+    let cells = cells_of(alloc, dims, view, parts.first, parts.second)?;
+    fold.add_segment(dims, &before)?;
+    fold.add_cells(dims, &cells, None)?;
+    fold.add_segment(dims, &behind)?;
+    fold.finish(dims)
 }
 
-/// The answer over rows in parts, of which two come as cells of a view. `BadQuery` where the view does not serve the query.
+/// The answer over rows in parts, of which two come as cells of a view that does not group by ship mode. `BadQuery` where
+/// the view does not serve the query.
 pub fn answer_by_parts(
     alloc: Global,
     dims: &Dims,
@@ -191,6 +93,6 @@ pub fn answer_by_parts(
     if !view.serves(query) {
         return Err(Fault::BadQuery);
     }
-    let batches = batches_of(alloc, parts)?;
-    answer_beside(alloc, dims, query, view, parts, batches.as_slice())
+    let mut fold = Fold::new(alloc, dims, query)?;
+    answer_around(alloc, dims, &mut fold, view, parts)
 }

@@ -1,8 +1,11 @@
 //! Cells of the sample rows, worked out by hand.
+ghost use Rattle.std.specs.Prelude.{OnOk};
+ghost use Rattle.cuboid_upkeep.specs.Growing.{GrowOver};
+
 use crate::cells::sample::{FIRST, LAST_TWO, SECOND, SPELLED, THIRD, at_day};
-use cube_model::Fault;
+use cube_model::{Fault, LineOrder};
 use cuboid_cells::{Cell, Cells, Key, Span, Summaries, Summary};
-use cuboid_upkeep::add_rows;
+use cuboid_upkeep::GrowingCells;
 use dimensions::Dims;
 use group_plan::RowSlice;
 use lattice::View;
@@ -11,7 +14,7 @@ use std::alloc::Global;
 use std::test::Fail;
 
 // What is kept of the first row and the third together.
-pub(crate) const FIRST_AND_THIRD: Summaries = Summaries {
+const FIRST_AND_THIRD: Summaries = Summaries {
     quantity: Summary {
         sum: 42,
         least: 17,
@@ -59,13 +62,37 @@ fn cell(codes: [u16; 4], count: u64, measures: Summaries) -> Cell {
     }
 }
 
-// Takes the facts in as a batch.
-fn take_in(alloc: Global, dims: &Dims, facts: &[Fact<'_>], cells: &mut Cells) -> Result<(), Fault> {
-    let rows = line_orders(alloc, facts)?;
+// Takes rows in as a batch. `TooManyRows` where they are more than a batch has.
+pub(crate) fn take_in(
+    alloc: Global,
+    dims: &Dims,
+    rows: &[LineOrder],
+    cells: &mut GrowingCells,
+) -> Result<(), Fault>
+    requires { GrowOver dims.now cells.old }
+    ensures { OnOk result (GrowOver dims.now cells.new) }
+{
     if rows.len() > 65_536 {
-        return Ok(());
+        return Err(Fault::TooManyRows);
     }
-    add_rows(cells, alloc, dims, &RowSlice(&rows), None)
+    cells.add_rows(alloc, dims, &RowSlice(rows))
+}
+
+// Takes batches of facts in, one after another.
+fn take_in_batches(
+    alloc: Global,
+    dims: &Dims,
+    batches: &[&[Fact<'_>]],
+    cells: &mut GrowingCells,
+) -> Result<(), Fault>
+    requires { GrowOver dims.now cells.old }
+    ensures { OnOk result (GrowOver dims.now cells.new) }
+{
+    for batch in batches {
+        let rows = line_orders(alloc, batch)?;
+        take_in(alloc, dims, &rows, cells)?;
+    }
+    Ok(())
 }
 
 // The dimensions of the sample star.
@@ -80,11 +107,9 @@ fn grouped(alloc: Global, index: u16, batches: &[&[Fact<'_>]]) -> Result<Cells, 
     let Some(view) = View::new(index) else {
         return Err(Fault::BadQuery);
     };
-    let mut cells = Cells::empty(alloc, view);
-    for batch in batches {
-        take_in(alloc, &dims, batch, &mut cells)?;
-    }
-    Ok(cells)
+    let mut cells = GrowingCells::new(alloc, &dims, view)?;
+    take_in_batches(alloc, &dims, batches, &mut cells)?;
+    cells.finish(alloc)
 }
 
 // The cells of the sample rows, as one batch, under a view.
@@ -184,43 +209,28 @@ const STRANGER: Fact<'static> = Fact {
     ..FIRST_FACT
 };
 
-// A view, a batch behind the sample rows, and whether it is taken.
-static BEHIND: [(u16, &[Fact<'static>], bool); 6] = [
+// A view, a batch after the sample rows, and whether all are taken.
+static AFTER: [(u16, &[Fact<'static>], bool); 7] = [
     (255, &[RICH], false),
     (0, &[RICH], false),
     (255, &[REDUCED], false),
     (59, &[STRANGER], true),
     (203, &[STRANGER], false),
     (203, &[FIRST_FACT, STRANGER], false),
+    // By ship mode.
+    (511, &[], false),
 ];
 
-// What comes of a batch behind the sample rows, and whether the cells stay as they were.
-fn taken_behind(
-    alloc: Global,
-    dims: &Dims,
-    index: u16,
-    facts: &[Fact<'_>],
-) -> Result<(Result<(), Fault>, bool), Fault> {
-    let mut cells = grouped_sample(alloc, index)?;
-    let before = Vec::from_slice(alloc, cells.as_slice())?;
-    let found = take_in(alloc, dims, facts, &mut cells);
-    Ok((found, before.as_slice() == cells.as_slice()))
-}
-
 #[test]
-fn refuses_rows_and_stays_as_it_was(rt: HostRuntime) -> Result<(), Fail> {
-    let dims = sample_dims(rt.alloc())?;
-    for (view, facts, taken) in &BEHIND {
+fn refuses_rows(rt: HostRuntime) -> Result<(), Fail> {
+    for (view, facts, taken) in &AFTER {
+        let found = grouped(rt.alloc(), *view, &[&FACTS, facts]).map(|_| ());
         let want = if *taken {
             Ok(())
         } else {
             Err(Fault::BadLayout)
         };
-        assert_eq!(rt;
-            taken_behind(rt.alloc(), &dims, *view, facts),
-            Ok((want, !*taken)),
-            "view {view}"
-        );
+        assert_eq!(rt; found, want, "view {view}");
     }
     Ok(())
 }

@@ -1,62 +1,57 @@
 //! As many cells as a cuboid may have, and one more.
+ghost use Rattle.std.specs.Prelude.{OnOk};
+ghost use Rattle.cuboid_upkeep.specs.Growing.{GrowOver};
+
+use crate::cells::grouped::take_in;
 use cube_model::Fault;
-use cuboid_cells::Cells;
-use cuboid_upkeep::add_rows;
+use cuboid_upkeep::GrowingCells;
 use dimensions::Dims;
-use group_plan::RowSlice;
 use lattice::View;
 use sample_star::{pairs, rows_of_pairs};
 use std::alloc::Global;
-use std::test::Fail;
 
-fn dims(alloc: Global) -> Result<Dims, Fault> {
-    let rows = rows_of_pairs(alloc)?;
-    Dims::build(alloc, &rows)
-}
-
-// Takes rows of pairs in as a batch.
-fn take_in(
+// Takes in so many pairs from a number on, as a batch.
+fn take_in_pairs(
     alloc: Global,
     dims: &Dims,
     first: u32,
     count: u32,
-    cells: &mut Cells,
-) -> Result<(), Fault> {
+    cells: &mut GrowingCells,
+) -> Result<(), Fault>
+    requires { GrowOver dims.now cells.old }
+    ensures { OnOk result (GrowOver dims.now cells.new) }
+{
     let rows = pairs(alloc, first, count)?;
-    if cells.view().ship_mode || rows.len() > 65_536 {
-        return Err(Fault::BadLayout);
-    }
-    add_rows(cells, alloc, dims, &RowSlice(&rows), None)
+    take_in(alloc, dims, &rows, cells)
 }
 
-// The cells of a view over four batches of pairs.
-fn four_batches(alloc: Global, dims: &Dims, index: u16) -> Result<Cells, Fault> {
-    let Some(view) = View::new(index) else {
+// Takes four batches of pairs in, each pair with a cell of its own, and the last pair once more.
+fn take_in_most(alloc: Global, dims: &Dims, cells: &mut GrowingCells) -> Result<(), Fault>
+    requires { GrowOver dims.now cells.old }
+    ensures { OnOk result (GrowOver dims.now cells.new) }
+{
+    for first in [0, 65_536, 131_072, 196_608] {
+        take_in_pairs(alloc, dims, first, 65_536, cells)?;
+    }
+    take_in_pairs(alloc, dims, 262_143, 1, cells)
+}
+
+// What comes of one pair more, under a view by city and brand.
+fn one_pair_more(alloc: Global) -> Result<Result<(), Fault>, Fault> {
+    let rows = rows_of_pairs(alloc)?;
+    let dims = Dims::build(alloc, &rows)?;
+    let Some(view) = View::new(51) else {
         return Err(Fault::BadQuery);
     };
-    let mut cells = Cells::empty(alloc, view);
-    for first in [0, 65_536, 131_072, 196_608] {
-        take_in(alloc, dims, first, 65_536, &mut cells)?;
-    }
-    Ok(cells)
+    let mut cells = GrowingCells::new(alloc, &dims, view)?;
+    take_in_most(alloc, &dims, &mut cells)?;
+    Ok(take_in_pairs(alloc, &dims, 262_144, 1, &mut cells))
 }
 
 #[test]
-fn takes_as_many_cells_as_there_may_be(rt: HostRuntime) -> Result<(), Fail> {
-    let dims = dims(rt.alloc())?;
-    let mut cells = four_batches(rt.alloc(), &dims, 51)?;
-    let many = cells.as_slice().len();
-    let refused = take_in(rt.alloc(), &dims, 262_144, 1, &mut cells);
-    let left = cells.as_slice().len();
-    let taken = take_in(rt.alloc(), &dims, 262_143, 1, &mut cells);
-    let counts = (
-        cells.as_slice().first().map(|cell| cell.count),
-        cells.as_slice().last().map(|cell| cell.count),
-    );
+fn takes_as_many_cells_as_there_may_be(rt: HostRuntime) {
     assert_eq!(rt;
-        (many, refused, left),
-        (262_144, Err(Fault::TooManyCells { view: 51 }), 262_144)
+        one_pair_more(rt.alloc()),
+        Ok(Err(Fault::TooManyCells { view: 51 }))
     );
-    assert_eq!(rt; (taken, counts), (Ok(()), (Some(1), Some(2))));
-    Ok(())
 }

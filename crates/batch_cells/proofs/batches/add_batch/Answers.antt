@@ -5,7 +5,7 @@ use Rattle.cube_model.specs.declared.fault.Fault.TheVariants.{Device}
 use Rattle.cube_model.specs.declared.rows.LineOrder.{LineOrder}
 use Rattle.object_store.specs.Store.{content_of}
 use Rattle.warehouse_objects.proofs.Folded.{of_fault, ok_so}
-use Rattle.growing_cells.specs.Growing.{grown}
+use Rattle.cuboid_upkeep.specs.Growing.{grown}
 use Rattle.batch_cells.specs.Grouped.{IsAddFaultOf}
 use Rattle.batch_cells.proofs.Faults.{add_causes, decode_refused, never_device_here, read_refused}
 use Rattle.batch_cells.proofs.Read.{batch_here, is_here, same_rows, segment_here}

@@ -17,7 +17,7 @@ use Rattle.warehouse_objects.specs.Stands.{IsLaidOut}
 use Rattle.warehouse_objects.proofs.Batches.{get_within}
 use Rattle.warehouse_objects.proofs.Folded.{err_fault, of_fault}
 use Rattle.warehouse_objects.proofs.OneMoreRead.{breaks_then, reads_more, still_then}
-use Rattle.growing_cells.specs.Growing.{grown}
+use Rattle.cuboid_upkeep.specs.Growing.{grown}
 use Rattle.batch_cells.proofs.Faults.{too_many_of, unfit}
 use Rattle.batch_cells.proofs.Members.{many_then, never_bad, none_stand}
 use Rattle.batch_cells.proofs.Read.{count_here}

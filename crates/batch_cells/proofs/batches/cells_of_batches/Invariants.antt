@@ -4,7 +4,7 @@ use Rattle.object_store.specs.Store.{IsStill, content_of, device_of, disk_of, ha
 use Rattle.cuboid_upkeep.specs.Grouping.{StandFor}
 use Rattle.warehouse_objects.specs.Stands.{IsLaidOut}
 use Rattle.warehouse_objects.specs.Warehouse.{Warehouse}
-use Rattle.growing_cells.specs.Growing.{GrowOver, grown}
+use Rattle.cuboid_upkeep.specs.Growing.{GrowOver, grown}
 use Rattle.batch_cells.specs.Grouped.{StandForSome}
 use Rattle.batch_cells.proofs.Spans.{between}
 use Rattle.batch_cells.proofs.batches.cells_of_batches.Given as goal

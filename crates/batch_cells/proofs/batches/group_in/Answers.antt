@@ -4,7 +4,7 @@ use Rattle.cube_model.specs.declared.rows.LineOrder.{LineOrder}
 use Rattle.cuboid_upkeep.specs.Grouping.{StandFor}
 use Rattle.cuboid_upkeep.specs.Steps.{IsAddFault}
 use Rattle.warehouse_objects.proofs.Folded.{ok_so}
-use Rattle.growing_cells.specs.Growing.{grown}
+use Rattle.cuboid_upkeep.specs.Growing.{grown}
 use Rattle.batch_cells.proofs.batches.group_in.Goals as goal
 
 pub returns-clause-ok : goal.returns-clause-ok

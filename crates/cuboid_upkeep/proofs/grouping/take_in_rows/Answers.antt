@@ -1,9 +1,10 @@
-use Rattle.std.proofs.Common.{◌<◌, ◌≤◌, ◌∙◌, inl, inr, sym, ap, subst, length, map, nat_eq, arith}
+use Rattle.std.proofs.Common.{◌<◌, ◌≤◌, ◌∙◌, [], inl, inr, sym, ap, subst, length, map, nat_eq, arith}
 use Rattle.std.specs.List.{IsDistinct}
 use Rattle.std.proofs.lemmas.Result.{err_from_is_err_and}
 use Rattle.cuboid_cells.specs.Cells.{number_of}
-use Rattle.cuboid_upkeep.specs.Tables.{modes_in}
-use Rattle.cuboid_upkeep.proofs.Grouped.{are_grouped, none_yet, one_more, row_overflows, row_unfit}
+use Rattle.cuboid_upkeep.proofs.Grouped.{are_grouped, none_yet, one_more, row_overflows}
+use Rattle.cuboid_upkeep.proofs.Rows.{none_fits}
+use Rattle.cuboid_upkeep.proofs.Tables.{own_key_in}
 use Rattle.cuboid_upkeep.proofs.grouping.take_in_rows.Goals as goal
 
 pub loop-place-init : goal.loop-place-init
@@ -16,7 +17,7 @@ loop-place-init g c =
         keys_are = c.requires.no_number ∙ ap (map (λ cell. number_of cell.key)) (sym c.requires.no_cell);
         once = once;
       },
-      λ dims are. none_yet dims (modes_in c.args.tables.now) c.args.view keys c.requires.no_number once cells c.requires.no_cell,
+      λ dims view members are. none_yet dims [] view keys c.requires.no_number once cells c.requires.no_cell,
     )
 
 pub loop-place-preserved : goal.loop-place-preserved
@@ -24,10 +25,12 @@ loop-place-preserved g c =
     let rows = g.F.FactRows.rows c.args.rows.now in
     let within : c.loop-place.place < length rows = omega (arith, c.loop-place-test.true, c.count-place-end.ensures) in (
       c.in_ok-take_in.ensures.keyed,
-      λ dims are.
-          one_more dims (modes_in c.args.tables.now) c.args.view rows c.loop-place.place within c.loop-place.numbers.keys c.take_in.new.numbers.keys
-          c.loop-place.cells.items c.take_in.new.cells.items c.in_ok-cell.cell (c.loop-place.invariant.1 dims are)
-          (c.in_ok-cell.ensures.ok dims are) c.in_ok-take_in.ensures.keyed c.in_ok-take_in.ensures.ok,
+      λ dims view members are.
+          one_more dims [] view rows c.loop-place.place within c.loop-place.numbers.keys c.take_in.new.numbers.keys
+          c.loop-place.cells.items c.take_in.new.cells.items c.in_ok-cell.cell (c.loop-place.invariant.1 dims view members are)
+          (c.in_ok-cell.ensures.ok dims [] view
+          (own_key_in dims view members rows c.loop-place.place within c.args.keys.now c.key_at-key.result c.key_at-key.ensures are).is)
+          c.in_ok-take_in.ensures.keyed c.in_ok-take_in.ensures.ok,
     )
 
 pub returns-in_err-cell-clause-refused : goal.returns-in_err-cell-clause-refused
@@ -37,8 +40,8 @@ returns-in_err-cell-clause-refused g c =
     let within : c.loop-place.place < length rows = omega (arith, c.loop-place-test.true, c.count-place-end.ensures) in
     rw (p.1, p.2) (inr (
       c.in_err-cell.ensures.refused.0,
-      λ dims are.
-          row_unfit dims (modes_in c.args.tables.now) c.args.view rows c.loop-place.place within (c.in_err-cell.ensures.refused.1 dims),
+      λ dims view members are.
+          none_fits dims [] view rows c.loop-place.place within [] (c.in_err-cell.ensures.refused.1 dims [] view),
     ))
 
 pub returns-in_err-take_in-clause-refused : goal.returns-in_err-take_in-clause-refused
@@ -50,9 +53,11 @@ returns-in_err-take_in-clause-refused g c =
       | inl memory ↦ inl memory
       | inr over ↦ inr (
         over.0,
-        λ dims are.
-            row_overflows dims (modes_in c.args.tables.now) c.args.view rows c.loop-place.place within c.loop-place.numbers.keys c.loop-place.cells.items c.in_ok-cell.cell
-            (c.loop-place.invariant.1 dims are) (c.in_ok-cell.ensures.ok dims are) over.1,
+        λ dims view members are.
+            row_overflows dims [] view rows c.loop-place.place within c.loop-place.numbers.keys c.loop-place.cells.items c.in_ok-cell.cell
+            (c.loop-place.invariant.1 dims view members are)
+            (c.in_ok-cell.ensures.ok dims [] view
+            (own_key_in dims view members rows c.loop-place.place within c.args.keys.now c.key_at-key.result c.key_at-key.ensures are).is) over.1,
       )
     ])
 
@@ -60,5 +65,5 @@ pub returns-clause-ok : goal.returns-clause-ok
 returns-clause-ok g c =
     let rows = g.F.FactRows.rows c.args.rows.now in
     let all : length rows ≤ c.loop-place.place = omega (arith, c.loop-place-test.false, c.count-place-end.ensures) in
-    λ dims are.
-    are_grouped dims (modes_in c.args.tables.now) c.args.view rows c.loop-place.place all c.loop-place.numbers.keys c.loop-place.cells.items (c.loop-place.invariant.1 dims are)
+    λ dims view members are.
+    are_grouped dims [] view rows c.loop-place.place all c.loop-place.numbers.keys c.loop-place.cells.items (c.loop-place.invariant.1 dims view members are)

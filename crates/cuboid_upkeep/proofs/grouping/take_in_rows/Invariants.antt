@@ -1,8 +1,9 @@
-use Rattle.std.proofs.Common.{take}
+use Rattle.std.proofs.Common.{[], length, take}
 use Rattle.cube_model.specs.declared.rows.DimRows.{DimRows}
-use Rattle.cuboid_upkeep.specs.AxisCodes.{AreCodesOfRows}
+use Rattle.lattice.specs.declared.view.View.{View}
+use Rattle.cuboid_upkeep.specs.declared.member_codes.ViewMembers.{ViewMembers}
+use Rattle.cuboid_upkeep.specs.Keys.{AreRowKeys}
 use Rattle.cuboid_upkeep.specs.Steps.{AreKeyed}
-use Rattle.cuboid_upkeep.specs.Tables.{modes_in}
 use Rattle.cuboid_upkeep.proofs.Grouped.{Grouping}
 use Rattle.cuboid_upkeep.proofs.grouping.take_in_rows.Given as goal
 
@@ -10,5 +11,5 @@ abbrev pub invariant-loop-place : goal.invariant-loop-place
 invariant-loop-place g l =
     let rows = g.F.FactRows.rows l.rows in
     AreKeyed l.numbers.keys l.cells.items
-    × ((dimensions : DimRows) → AreCodesOfRows dimensions l.view rows l.codes
-    → Grouping dimensions (modes_in l.tables) l.view (take l.place rows) l.numbers.keys l.cells.items)
+    × ((dimensions : DimRows) (view : View) (members : ViewMembers) → AreRowKeys dimensions view members rows (length rows) l.keys
+    → Grouping dimensions [] view (take l.place rows) l.numbers.keys l.cells.items)

@@ -1,6 +1,0 @@
-use Rattle.cuboid_upkeep.proofs.Coded.{good_on}
-use Rattle.cuboid_upkeep.proofs.codes.member_count.Goals as goal
-
-pub code_count-requires-clause-good : goal.code_count-requires-clause-good
-code_count-requires-clause-good c =
-    good_on c.args.dims.now c.valid_rows_keep_the_rules.ensures c.row_count.ensures.valid c.row_count.ensures.short c.args.axis

@@ -1,0 +1,32 @@
+-- The keys of fact rows in a view that does not group by ship mode. Our own.
+use Rattle.std.specs.Prelude.{◌≡◌, ℕ, ◌<◌, List, [], length, slice_index_or}
+use Rattle.cube_model.specs.declared.attr.Axis.{Axis}
+use Rattle.cube_model.specs.declared.rows.DimRows.{DimRows}
+use Rattle.cube_model.specs.declared.rows.LineOrder.{LineOrder}
+use Rattle.group_plan.specs.Numbers.{IsKnownOn}
+use Rattle.group_plan.specs.Rows.{row_at}
+use Rattle.lattice.specs.declared.level.Level.{Level}
+use Rattle.lattice.specs.declared.level.Level.TheVariants as level
+use Rattle.lattice.specs.declared.view.View.{View}
+use Rattle.cuboid_cells.specs.declared.key.Key.{Key}
+use Rattle.cuboid_cells.specs.Cells.{IsCodeAt}
+use Rattle.cuboid_upkeep.specs.Grouping.{code_on}
+use Rattle.cuboid_upkeep.specs.Steps.{IsRowKey}
+use Rattle.cuboid_upkeep.specs.declared.member_codes.ViewMembers.{ViewMembers}
+use Rattle.cuboid_upkeep.specs.Numbers.{LiesIn}
+
+-- the code of a fact row's member at a level, which the row has
+pub record IsAxisCode (dimensions : DimRows) (axis : Axis) (grouped : Level) (row : LineOrder) (code : ℕ) : Type 0 where
+  pub is : code ≡ code_on dimensions axis grouped row
+  pub at : IsCodeAt grouped code
+  pub known : (grouped ≡ level.All → ⊥) → IsKnownOn dimensions row axis
+
+-- the key of a fact row, which has its members, and a number
+pub record IsKeyOfRow (dimensions : DimRows) (view : View) (members : ViewMembers) (row : LineOrder) (key : Key) : Type 0 where
+  pub is : IsRowKey dimensions [] view row key
+  pub lies : LiesIn members key
+
+-- the keys of the first of some fact rows, so many
+pub record AreRowKeys (dimensions : DimRows) (view : View) (members : ViewMembers) (rows : List LineOrder) (count : ℕ) (keys : List Key) : Type 0 where
+  pub many : length keys ≡ length rows
+  pub each : (place : ℕ) (key : Key) → place < count → place < length keys → IsKeyOfRow dimensions view members (row_at rows place) (slice_index_or keys place key)

@@ -1,9 +1,0 @@
-mod Ascending
-mod Coded
-mod Leading
-mod Found
-mod Rows
-mod Slots
-mod Taken
-mod Members
-mod Tables

@@ -1,5 +1,0 @@
-pub mod Growing
-pub mod Keys
-pub mod Members
-pub mod Numbers
-pub mod Slots
