@@ -1,15 +1,20 @@
 #!/bin/sh
-# What stored cuboids cost and what they spare: a warehouse without cuboids and one with the K views of the greedy choice, over the
-# same tables. At the top of the repository, once crates/ssbcube/out/ssbcube is built: sh bench/cuboids.sh TABLES [K]
+# What stored cuboids cost and what they spare: a warehouse without cuboids and one with the K views of the greedy choice, or with
+# views by name, over the same tables. At the top of the repository, once crates/ssbcube/out/ssbcube is built:
 #
-# TABLES is a folder of the five tables, as bench/tables.rs writes them. It prints the elapsed seconds and the peak memory of choose,
+#     sh bench/cuboids.sh TABLES [K]           the greedy choice, 8 if left out
+#     sh bench/cuboids.sh TABLES VIEW..        views such as nation,nation,ALL,year
+#
+# TABLES is a folder of the five tables, as bench/tables.rs writes them. It prints the elapsed seconds and the peak memory of the choice,
 # upkeep and audit, and for each of the thirteen reports the median of five elapsed and CPU times by a scan and with the cuboids,
-# run in turn. Each report has to be the same byte by byte.
+# run in turn. Each report has to be the same byte by byte. Another program is taken from the folder SSBCUBE_AT.
 set -u
 cd "$(dirname "$0")/.." || exit 1
 tables=$(cd "$1" && pwd) || exit 1
-views=${2:-8}
-PATH=$PWD/crates/ssbcube/out:$PATH
+shift
+[ "$#" -gt 0 ] || set -- 8
+case $1 in *,*) how=views ;; *) how=choose ;; esac
+PATH=${SSBCUBE_AT:-$PWD/crates/ssbcube/out}:$PATH
 scratch=$(mktemp -d)
 trap 'rm -rf "$scratch"' EXIT
 cd "$scratch" || exit 1
@@ -34,7 +39,7 @@ ssbcube create scan.dev --sectors 4000000 --customer "$tables/customer.tbl" --su
     --part "$tables/part.tbl" --date "$tables/date.tbl" > out || exit 1
 timed load ssbcube load scan.dev --first 1 "$tables/lineorder.tbl"
 cp --sparse=always scan.dev cuboids.dev
-timed "choose $views" ssbcube choose cuboids.dev "$views"
+timed "$how $*" ssbcube "$how" cuboids.dev "$@"
 cat out
 timed upkeep ssbcube upkeep cuboids.dev
 timed audit ssbcube audit cuboids.dev

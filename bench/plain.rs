@@ -1,4 +1,4 @@
-//! Queries 1.1, 2.1 and 3.1 of the Star Schema Benchmark as one writes them by hand: the tables are read into memory, and the
+//! Queries 1.1, 2.1, 3.1 and 4.1 of the Star Schema Benchmark as one writes them by hand: the tables are read into memory, and the
 //! facts are scanned. It prints the reports that `ssbcube eval` prints, and checks nothing but that numbers are numbers.
 //!
 //! `plain FOLDER QUERY`
@@ -48,7 +48,7 @@ fn dimension(folder: &Path, name: &str, kept: &[usize]) -> Outcome<Dimension> {
     Ok(Dimension { places, rows })
 }
 
-/// A fact row, as far as the three queries look at it. Its keys are places in the dimensions.
+/// A fact row, as far as the four queries look at it. Its keys are places in the dimensions.
 struct Fact {
     customer: u32,
     supplier: u32,
@@ -58,6 +58,7 @@ struct Fact {
     discount: u8,
     price: u32,
     revenue: u32,
+    cost: u32,
 }
 
 struct Star {
@@ -110,6 +111,7 @@ fn star(folder: &Path) -> Outcome<Star> {
             discount: number(fields[11])? as u8,
             price: number(fields[9])?,
             revenue: number(fields[12])?,
+            cost: number(fields[13])?,
         });
         line.clear();
     }
@@ -161,6 +163,20 @@ impl Star {
         let lines: String = sorted.iter().map(|((from, to, year), sum)| format!("{from}|{to}|{year}|{sum}\n")).collect();
         format!("c_nation|s_nation|d_year|sum(revenue)\n{lines}rows {}\n", sorted.len())
     }
+
+    /// Profit within America by year and nation of the customer, of the parts of two manufacturers.
+    fn fourth(&self) -> String {
+        let mut groups: BTreeMap<(&str, &str), i64> = BTreeMap::new();
+        for fact in &self.facts {
+            let (from, to) = (&self.customer.rows[fact.customer as usize], &self.supplier.rows[fact.supplier as usize]);
+            let maker = self.part.rows[fact.part as usize][0].as_str();
+            if from[2] == "AMERICA" && to[2] == "AMERICA" && (maker == "MFGR#1" || maker == "MFGR#2") {
+                *groups.entry((self.year(fact), &from[1])).or_default() += i64::from(fact.revenue) - i64::from(fact.cost);
+            }
+        }
+        let lines: String = groups.iter().map(|((year, from), sum)| format!("{year}|{from}|{sum}\n")).collect();
+        format!("d_year|c_nation|sum(profit)\n{lines}rows {}\n", groups.len())
+    }
 }
 
 fn main() -> Outcome<()> {
@@ -173,7 +189,8 @@ fn main() -> Outcome<()> {
         "1.1" => star.first(),
         "2.1" => star.second(),
         "3.1" => star.third(),
-        _ => return Err("the queries are 1.1, 2.1 and 3.1".into()),
+        "4.1" => star.fourth(),
+        _ => return Err("the queries are 1.1, 2.1, 3.1 and 4.1".into()),
     });
     Ok(())
 }
