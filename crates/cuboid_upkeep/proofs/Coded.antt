@@ -17,10 +17,11 @@ use Rattle.dimensions.specs.Shapes.{attr_column, lower_of, lowers_of, row_limit_
 use Rattle.dimensions.specs.Shown.{rows_on}
 use Rattle.dimensions.specs.TextRows.{TextRow, column_of, text_in}
 use Rattle.dimensions.proofs.AttributeLaws.{has_column}
-use Rattle.dimensions.proofs.CallerLemmas.{good_customers, good_dates, good_parts, good_suppliers, good_texts}
+use Rattle.dimensions.proofs.CallerLemmas.{good_texts}
 use Rattle.dimensions.proofs.CodedRules.{determined, firsts_placed}
 use Rattle.dimensions.proofs.CodedTexts.{IsDetermined, firsts_at_places}
 use Rattle.dimensions.proofs.ColumnLaws.{code_at-text, code_at-within}
+use Rattle.group_plan.proofs.OneKind as kinds
 use Rattle.lattice.specs.declared.level.Level.{Level}
 use Rattle.lattice.specs.declared.level.Level.TheVariants.{Lowest, Middle, Highest, All}
 use Rattle.lattice.specs.Levels.{level_attribute}
@@ -77,10 +78,7 @@ module _ (axis : Axis) (rows : List TextRow) (good : AreGoodRows axis rows) (col
 
 module _ (rows : DimRows) (law : ValidRowsKeepTheRules) (valid : IsValid rows) (short : HaveShortTexts rows) where
   pub good_on : (axis : Axis) → AreGoodRows axis (rows_on rows axis)
-  good_on Customer = good_customers rows ((law rows).0 valid) short
-  good_on Supplier = good_suppliers rows ((law rows).0 valid) short
-  good_on Part = good_parts rows ((law rows).0 valid) short
-  good_on Date = good_dates rows ((law rows).0 valid) short
+  good_on = kinds.good_on rows law valid short
 
 -- a code of a member is not that of ALL
 pub not_all : (level : Level) (code : ℕ) → (level ≡ All → ⊥) → code < 65535 → IsCodeAt level code

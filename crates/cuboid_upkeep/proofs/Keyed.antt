@@ -9,12 +9,10 @@ use Rattle.cube_model.specs.declared.attr.Axis.{Axis}
 use Rattle.cube_model.specs.declared.attr.Axis.TheVariants.{Customer, Supplier, Part, Date}
 use Rattle.cube_model.specs.declared.rows.DimRows.{DimRows}
 use Rattle.cube_model.specs.Places.{row_count_of, row_index_of}
-use Rattle.dimensions.specs.Coded.{AreDistinct, AreGoodRows}
+use Rattle.dimensions.specs.Coded.{AreGoodRows}
 use Rattle.dimensions.specs.Shown.{rows_on}
 use Rattle.dimensions.specs.TextRows.{TextRow}
-use Rattle.dimensions.proofs.AttributeLaws.{count_on, index_on}
-use Rattle.dimensions.proofs.CodedRules.{pairs_map}
-use Rattle.dimensions.proofs.KeyLaws.{distinct_place}
+use Rattle.group_plan.proofs.Keys as key_laws
 use Rattle.lattice.specs.declared.level.Level.{Level}
 use Rattle.lattice.specs.declared.level.Level.TheVariants.{All}
 use Rattle.cuboid_cells.specs.Limits.{all_code}
@@ -94,22 +92,16 @@ at_first dimensions axis level old none = record {
 }
 
 -- ---- the rows of a dimension
-length_keys : (rows : List TextRow) → length (map (λ (row : TextRow). row.key) rows) ≡ length rows
-length_keys [] = refl
-length_keys (row ∷ rows) = ap suc (length_keys rows)
-
 module _ (dimensions : DimRows) (axis : Axis) (all : List ℕ) (is : all ≡ map (λ (row : TextRow). row.key) (rows_on dimensions axis)) where
   pub row_total : length all ≡ row_count_of dimensions axis
-  row_total = ap length is ∙ length_keys (rows_on dimensions axis) ∙ count_on dimensions axis
+  row_total = key_laws.row_total dimensions axis all is
 
   index_is : (key : ℕ) → position_or_len (λ other. other == key) all ≡ row_index_of dimensions axis key
-  index_is key = ap (position_or_len (λ other. other == key)) is ∙ index_on dimensions axis key
+  index_is = key_laws.index_is dimensions axis all is
 
   -- the key at a row is that of the row
   pub own_row : AreGoodRows axis (rows_on dimensions axis) → (place : ℕ) → place < length all → row_index_of dimensions axis (get_or all place 0) ≡ place
-  own_row good place within =
-      let distinct : AreDistinct all = subst AreDistinct (sym is) (pairs_map (λ key other. key ≢ other) (λ (row : TextRow). row.key) (rows_on dimensions axis) good.keep.keys_differ) in
-      sym (index_is (get_or all place 0)) ∙ distinct_place all place distinct within
+  own_row = key_laws.own_row dimensions axis all is
 
   first_row : (key : ℕ) (rest : List ℕ) → all ≡ key ∷ rest → row_index_of dimensions axis key < row_count_of dimensions axis
   first_row key rest there =

@@ -1,6 +1,5 @@
 -- Where two rows of a dimension have one member at a level, they have one text of each attribute that the level determines.
-use Rattle.std.proofs.Common.{◌≡◌, ◌∙◌, sym, ap, refl, subst, ℕ, ◌<◌, ◌≤◌, List, [], length, get_or, Some, arith}
-use Rattle.std.proofs.lemmas.List.{get_or-map}
+use Rattle.std.proofs.Common.{◌≡◌, ap, refl, ℕ, ◌<◌, ◌≤◌, Some, arith}
 use Rattle.cube_model.specs.declared.attr.Attr.{Attr}
 use Rattle.cube_model.specs.declared.attr.Attr.TheVariants.{CustomerCity, CustomerNation, CustomerRegion, SupplierCity, SupplierNation, SupplierRegion, PartBrand1, PartCategory, PartMfgr, DateKey, DateYearmonthnum, DateYear, DateYearmonth, DateWeeknuminyear}
 use Rattle.cube_model.specs.declared.rows.DimRows.{DimRows}
@@ -8,60 +7,26 @@ use Rattle.cube_model.specs.Attributes.{axis_of}
 use Rattle.cube_model.specs.Lawful.{ValidRowsKeepTheRules}
 use Rattle.cube_model.specs.Places.{row_count_of, text_at, texts_of}
 use Rattle.cube_model.specs.Validity.{HaveShortTexts, IsValid}
-use Rattle.dictionary.specs.Dictionary.{firsts}
-use Rattle.dimensions.specs.Coded.{text_beside}
 use Rattle.dimensions.specs.Columns.{code_at}
 use Rattle.dimensions.specs.Shapes.{attr_column, lower_of}
-use Rattle.dimensions.specs.Shown.{rows_on}
-use Rattle.dimensions.specs.TextRows.{column_of}
-use Rattle.dimensions.proofs.AttributeLaws.{has_column, texts_count}
-use Rattle.dimensions.proofs.CodedRules.{determined}
-use Rattle.dimensions.proofs.CodedTexts.{IsDetermined}
-use Rattle.dimensions.proofs.ColumnLaws.{code_at-text}
+use Rattle.group_plan.proofs.OneKind as kinds
 use Rattle.lattice.specs.declared.level.Level.{Level}
 use Rattle.lattice.specs.declared.level.Level.TheVariants.{Lowest, Middle, Highest}
 use Rattle.lattice.specs.Determined.{highest_level}
 use Rattle.lattice.specs.Levels.{height}
 use Rattle.cuboid_upkeep.specs.Codes.{member_code}
-use Rattle.cuboid_upkeep.proofs.Coded.{good_on}
-
--- a text is told by the lower text that determines it
-lifted : (lowers texts : List (List ℕ)) (one other : ℕ) → IsDetermined lowers texts → one < length lowers → other < length lowers
-    → get_or lowers one [] ≡ get_or lowers other [] → get_or texts one [] ≡ get_or texts other []
-lifted lowers texts one other is in_one in_other same =
-    ap (λ (l : List (List ℕ)). get_or l one []) is ∙ get_or-map (text_beside lowers texts) lowers one [] [] in_one
-    ∙ ap (text_beside lowers texts) same
-    ∙ sym (get_or-map (text_beside lowers texts) lowers other [] [] in_other) ∙ sym (ap (λ (l : List (List ℕ)). get_or l other []) is)
 
 module _ (dimensions : DimRows) (law : ValidRowsKeepTheRules) (valid : IsValid dimensions) (short : HaveShortTexts dimensions) (one other : ℕ) where
-  -- a code tells its text
+  -- rows of one code have one text
   own : (attr : Attr) → one < row_count_of dimensions (axis_of attr) → other < row_count_of dimensions (axis_of attr)
       → code_at (texts_of dimensions attr) one ≡ code_at (texts_of dimensions attr) other → text_at dimensions attr one ≡ text_at dimensions attr other
-  own attr in_one in_other same =
-      let texts : List (List ℕ) = texts_of dimensions attr in
-      let count = texts_count dimensions attr in
-      sym (code_at-text texts one (omega (arith, in_one, count)))
-      ∙ ap (λ (n : ℕ). get_or (firsts texts) n []) same
-      ∙ code_at-text texts other (omega (arith, in_other, count))
-
-  linked : (upper lower : Attr) (i j : ℕ) → attr_column upper ≡ Some i → attr_column lower ≡ Some j → axis_of lower ≡ axis_of upper
-      → lower_of (axis_of upper) i ≡ Some j → IsDetermined (texts_of dimensions lower) (texts_of dimensions upper)
-  linked upper lower i j upper_is lower_is axis e =
-      let rows = rows_on dimensions (axis_of upper) in
-      let up : texts_of dimensions upper ≡ column_of i rows = (has_column dimensions upper i upper_is).0 in
-      let low : texts_of dimensions lower ≡ column_of j rows = (has_column dimensions lower j lower_is).0 ∙ ap (λ a. column_of j (rows_on dimensions a)) axis in
-      subst (λ (l : List (List ℕ)). IsDetermined l (texts_of dimensions upper)) (sym low)
-      (subst (λ (l : List (List ℕ)). IsDetermined (column_of j rows) l) (sym up)
-      (determined (axis_of upper) rows (good_on dimensions law valid short (axis_of upper)).keep i j e))
+  own = kinds.own dimensions law valid short one other
 
   -- the text above
   above : (upper lower : Attr) (i j : ℕ) → attr_column upper ≡ Some i → attr_column lower ≡ Some j → axis_of lower ≡ axis_of upper
       → lower_of (axis_of upper) i ≡ Some j → one < row_count_of dimensions (axis_of lower) → other < row_count_of dimensions (axis_of lower)
       → text_at dimensions lower one ≡ text_at dimensions lower other → text_at dimensions upper one ≡ text_at dimensions upper other
-  above upper lower i j upper_is lower_is axis e in_one in_other same =
-      let count = texts_count dimensions lower in
-      lifted (texts_of dimensions lower) (texts_of dimensions upper) one other (linked upper lower i j upper_is lower_is axis e)
-      (omega (arith, in_one, count)) (omega (arith, in_other, count)) same
+  above = kinds.above dimensions law valid short one other
 
   pub tells : (attr : Attr) (level : Level) → height level ≤ height (highest_level attr)
       → one < row_count_of dimensions (axis_of attr) → other < row_count_of dimensions (axis_of attr)
