@@ -1,12 +1,8 @@
 -- The stored cuboids of a warehouse, as the planner looks at them.
-use Rattle.std.proofs.Common.{◌≡◌, ◌∙◌, ℕ, zero, suc, ◌+◌, ◌<◌, ◌≤◌, ◌==◌, List, [], ◌∷◌, ◌++◌, Option, Some, length, map, option_map, take, get_or, refl, sym, ap, subst, arith}
+use Rattle.std.proofs.Common.{◌≡◌, ◌∙◌, ℕ, zero, suc, ◌+◌, ◌<◌, ◌==◌, List, [], ◌∷◌, ◌++◌, Option, Some, length, map, option_map, take, get_or, refl, sym, ap, subst, arith}
 use Rattle.std.specs.List.{find}
 use Rattle.std.proofs.lemmas.List.{map-append, take_more}
-use Rattle.cube_model.specs.Admission.{all_rows}
 use Rattle.cube_model.specs.declared.query.Query.{Query}
-use Rattle.cube_model.specs.declared.rows.DimRows.{DimRows}
-use Rattle.cube_query.specs.Groups.{CanTake, FoldState, StandsFor}
-use Rattle.cube_query.specs.Limits.{AreFoldable}
 use Rattle.lattice.specs.declared.view.View.{View}
 use Rattle.lattice.specs.Views.{index_of}
 use Rattle.object_store.specs.Content.{Content}
@@ -16,8 +12,7 @@ use Rattle.planner.specs.declared.stored.Stored.{Stored}
 use Rattle.warehouse_root.specs.declared.cuboid.StoredCuboid.{StoredCuboid}
 use Rattle.warehouse_objects.specs.Stands.{Stands, said_of}
 use Rattle.warehouse_objects.specs.Warehouse.{Cuboid, Warehouse, cuboid_at}
-use Rattle.warehouse_objects.proofs.CallerLemmas.{find_said, foldable, laid_of, own_view}
-use Rattle.stored_cuboids.proofs.CallerLemmas.{is_proper}
+use Rattle.warehouse_objects.proofs.CallerLemmas.{find_said, own_view}
 use Rattle.planned_queries.specs.Planned.{IsOfCuboid, IsPlanOf, seen_of}
 
 -- one more
@@ -72,10 +67,3 @@ pub said_is : (w : Warehouse) (view : View) (entries : List StoredCuboid) (numbe
     → Some said ≡ find (λ (c : StoredCuboid). c.view == number) entries → cuboid_at (index_of view) w.cuboids ≡ Some cuboid → said_of cuboid ≡ said
 said_is w view entries number said cuboid same numbered is at =
     let both : Some (said_of cuboid) ≡ Some said = sym (said_found w view entries number (Some said) cuboid same numbered is at) in cc
-
--- cells of the first batches can be taken by a fold that represents no row
-pub can_take_first : (c : Content) (w : Warehouse) (view : ℕ) (cuboid : Cuboid) (mark : ℕ) (dims : DimRows) (fold : FoldState) → Stands c w → cuboid_at view w.cuboids ≡ Some cuboid → cuboid.mark ≡ mark → dims ≡ w.rows
-    → StandsFor dims fold [] → CanTake dims fold (all_rows (take mark w.batches))
-can_take_first c w view cuboid mark dims fold stands found marked same begun =
-    let within : mark ≤ length w.batches = omega (arith, marked, (is_proper c w view cuboid (laid_of c w stands) found).mark) in
-    ([], (begun, subst (λ (d : DimRows). AreFoldable d (all_rows (take mark w.batches))) (sym same) (foldable w.rows w.batches stands.batches mark within)))

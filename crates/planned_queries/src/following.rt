@@ -3,7 +3,7 @@ ghost use Rattle.std.specs.Prelude.{◌≡◌, ◌⊎◌, ◌==◌, [], false, t
 ghost use Rattle.std.specs.List.{find};
 ghost use Rattle.cube_model.specs.declared.fault.Fault.TheVariants.{BadLayout, Device, Memory};
 ghost use Rattle.cube_model.specs.Admission.{all_rows};
-ghost use Rattle.cube_query.specs.Groups.{IsOver, StandsFor, Takes};
+ghost use Rattle.cube_query.specs.Groups.{IsOver, StandsFor};
 ghost use Rattle.lattice.specs.Determined.{Serves};
 ghost use Rattle.lattice.specs.Views.{index_of};
 ghost use Rattle.object_store.specs.Disk.{Leaves};
@@ -16,12 +16,12 @@ ghost use Rattle.planned_queries.specs.Planned.{IsOfCuboid, ServesBy, mark_of};
 use cube_model::Fault;
 use cube_query::Fold;
 use dimensions::Dims;
-use lattice::{View, indexes_name_views};
+use lattice::View;
 use object_store::Store;
 use planner::Plan;
 use sector_device::Sectors;
 use std::alloc::Global;
-use stored_cuboids::merged_runs;
+use stored_cuboids::fold_runs;
 use warehouse_root::{Root, StoredCuboid};
 
 /// Counts the cells of a plan into a fold that represents no row yet. It answers how many of the first batches they hold: none
@@ -79,7 +79,7 @@ fn add_cuboid<D: Sectors>(
     requires begun { StandsFor dims.now fold.old [] }
     requires serves { Serves view fold.old.query }
     ensures ok { OnOk result (D.keeps_word (device_of store.new) → (w : Warehouse) → Stands (content_of D.Sectors store.old) w
-        → root.now ≡ root_of w → dims.now ≡ w.rows → IsOfCuboid w (plans.Cells view mark) → Takes dims.now fold.old (all_rows (take mark w.batches)) fold.new) }
+        → root.now ≡ root_of w → dims.now ≡ w.rows → IsOfCuboid w (plans.Cells view mark) → StandsFor dims.now fold.new (all_rows (take mark w.batches))) }
     ensures over { IsOver dims.now fold.new }
     ensures query { fold.new.query ≡ fold.old.query }
     ensures refused { IsErrOf result BadLayout → D.keeps_word (device_of store.new) → (w : Warehouse) → Stands (content_of D.Sectors store.old) w
@@ -89,13 +89,11 @@ fn add_cuboid<D: Sectors>(
     ensures device { IsErrOf result Device → Breaks D.Sectors store.old store.new }
     ensures causes { IfErr result (λ fault. (fault ≡ Memory) ⊎ ((fault ≡ Device) ⊎ (fault ≡ BadLayout))) }
 {
-    indexes_name_views();
     let _usable = store.is_broken();
     let Some(cuboid) = cuboid_of(root.cuboids(), view.index()) else {
         return Err(Fault::BadLayout);
     };
-    let cells = merged_runs(alloc, store, cuboid)?;
-    fold.add_cells(dims, &cells, None)
+    fold_runs(alloc, store, dims, fold, cuboid, view)
 }
 
 // The cuboid of the view of a number.

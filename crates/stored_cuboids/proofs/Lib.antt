@@ -1,5 +1,5 @@
 pub mod Auditing
-pub mod CallerLemmas
+pub mod CountedRuns
 pub mod Merging
 pub mod SameCells
 pub mod Standing

@@ -23,9 +23,9 @@ use Rattle.cuboid_upkeep.specs.Lawful.{MergesStandForBoth}
 use Rattle.warehouse_objects.specs.Warehouse.{Cuboid, StoredRun, Warehouse, cells_in, cuboid_at, modes_of}
 use Rattle.warehouse_objects.specs.Stands.{Follow, HoldsGroupings, IsLaid, IsLaidOut, Stands, object_of, run_bytes, said_of}
 use Rattle.warehouse_objects.proofs.CallerLemmas.{object_run}
-use Rattle.stored_cuboids.specs.declared.runs.Progress.{Progress}
+use Rattle.stored_cuboids.specs.declared.reading.Progress.{Progress}
 use Rattle.stored_cuboids.specs.Merged.{AreMergedWith, HasMerge, IsSound}
-use Rattle.stored_cuboids.specs.Steps.{AreMerged, GoesOn, HasRun, TakesRun}
+use Rattle.stored_cuboids.specs.Steps.{AreMerged, AreRead, GoesOn, HasRun, IsNextRun, TakesRun}
 use Rattle.stored_cuboids.proofs.Standing.{merge_stands}
 use Rattle.stored_cuboids.proofs.Merging.{cells_least, cells_more, follow_more, follow_next, follow_one, merged_more, merged_next, merged_view}
 
@@ -72,14 +72,20 @@ run_one None one other cells others is too = absurd is
 run_one (Some bytes) one other cells others is too = IsRun-one bytes one other cells others is too
 
 -- the run of an object, which another is said to be
-pub taken : (c : Content) (id : ℕ) (old new : PlainCells) (so_far next : Progress) (span : Span) (cells : PlainCells) → HasRun c id span cells → TakesRun c id old so_far new next
-    → GoesOn old.view so_far span cells next × IsMergeOf old cells new × AreProper new
-taken c id old new so_far next span cells is takes =
-    let one = run_one (bytes_of c id) takes.span span takes.cells cells takes.there is in (
-      subst (λ (s : Span). GoesOn old.view so_far s cells next) one.0 (subst (λ (m : PlainCells). GoesOn old.view so_far takes.span m next) one.1 takes.goes_on),
-      subst (λ (m : PlainCells). IsMergeOf old m new) one.1 takes.merge,
-      takes.proper,
+pub next_one : (c : Content) (id : ℕ) (view : View) (so_far next : Progress) (span : Span) (cells others : PlainCells) → HasRun c id span cells → IsNextRun c id view so_far others next
+    → GoesOn view so_far span cells next × (others ≡ cells)
+next_one c id view so_far next span cells others is goes =
+    let one = run_one (bytes_of c id) goes.span span others cells goes.there is in (
+      subst (λ (s : Span). GoesOn view so_far s cells next) one.0 (subst (λ (m : PlainCells). GoesOn view so_far goes.span m next) one.1 goes.goes_on),
+      one.1,
     )
+
+-- and merged
+pub taken : (c : Content) (id : ℕ) (old new : PlainCells) (so_far next after : Progress) (cells : PlainCells) → IsNextRun c id old.view so_far cells after → TakesRun c id old so_far new next
+    → IsMergeOf old cells new × AreProper new
+taken c id old new so_far next after cells is takes =
+    let one = next_one c id old.view so_far next is.span cells takes.cells is.there takes.read in
+    (subst (λ (m : PlainCells). IsMergeOf old m new) one.1 takes.merge, takes.proper)
 
 module _ (c : Content) (w : Warehouse) (view : ℕ) (stored : Cuboid) (laid : IsLaidOut c w) (found : cuboid_at view w.cuboids ≡ Some stored) where
   abbrev at : IsAt w.cuboids view stored
@@ -127,19 +133,46 @@ module _ (c : Content) (w : Warehouse) (view : ℕ) (stored : Cuboid) (laid : Is
     pub only_run : (span : Span) (cells : PlainCells) → HasRun c (run_id view r) span cells → (span ≡ run.span) × (cells ≡ cells_of stored.view run.cells)
     only_run span cells is = run_one (bytes_of c (run_id view r)) span run.span cells (cells_of stored.view run.cells) is has_run
 
+    module _ (so_far : Progress) (are : AreRead stored r so_far) where
+      pub begins : run.span.from ≡ so_far.end
+      begins = follow_next 0 stored.runs r run so_far.end stored.mark here are.follow is_laid.follow
+
+      -- the run was read
+      module _ (own : View) (cells : PlainCells) (next : Progress) (goes : IsNextRun c (run_id view r) own so_far cells next) where
+        only : (goes.span ≡ run.span) × (cells ≡ cells_of stored.view run.cells)
+        only = only_run goes.span cells goes.there
+
+        pub read_cells : cells ≡ cells_of stored.view run.cells
+        read_cells = only.1
+
+        pub read_to : next.end ≡ run.span.to
+        read_to = goes.goes_on.to ∙ ap (λ (s : Span). s.to) only.0
+
+        pub read_more : AreRead stored (suc r) next
+        read_more =
+            let list : cells.cells ≡ run.cells = ap (λ (m : PlainCells). m.cells) only.1 in record {
+              follow = subst (λ (n : ℕ). Follow 0 (take (suc r) stored.runs) n) (sym read_to) (follow_more 0 stored.runs r run so_far.end here are.follow begins);
+              left = omega (arith, are.left, goes.goes_on.left, ap length list, cells_more stored.runs r run here);
+            }
+
+      -- it can be read
+      pub can_read : (own : View) → own ≡ stored.view
+          → IsNextRun c (run_id view r) own so_far (cells_of stored.view run.cells) (record { end = run.span.to; left = so_far.left - length run.cells })
+      can_read own same =
+          let most : length run.cells ≤ so_far.left = omega (arith, are.left, cells_more stored.runs r run here, cells_least stored.runs (suc r)) in record {
+            span = run.span;
+            there = has_run;
+            goes_on = record { same = sym same; from = begins; to = refl; left = omega (arith, most) };
+          }
+
     module _ (cells : PlainCells) (so_far : Progress) (are : AreMerged stored r cells so_far) where
       same_view : cells.view ≡ stored.view
       same_view = merged_view (cells_of stored.view []) (take r stored.runs) cells are.merge
 
-      begins : run.span.from ≡ so_far.end
-      begins = follow_next 0 stored.runs r run so_far.end stored.mark here are.follow is_laid.follow
-
       -- the run was merged
       pub merged_with : (new : PlainCells) (next : Progress) → TakesRun c (run_id view r) cells so_far new next → AreMerged stored (suc r) new next
       merged_with new next takes =
-          let only = only_run takes.span takes.cells takes.there in
-          let list : takes.cells.cells ≡ run.cells = ap (λ (m : PlainCells). m.cells) only.1 in
-          let to : next.end ≡ run.span.to = takes.goes_on.to ∙ ap (λ (s : Span). s.to) only.0 in
+          let list : takes.cells.cells ≡ run.cells = ap (λ (m : PlainCells). m.cells) (read_cells so_far are.read cells.view takes.cells next takes.read) in
           let merge : IsMergeOf cells (cells_of cells.view run.cells) new = record {
             view = takes.merge.view;
             cells = record {
@@ -147,35 +180,28 @@ module _ (c : Content) (w : Warehouse) (view : ℕ) (stored : Cuboid) (laid : Is
               by_key = subst (λ (others : List Cell). (key : ℕ) → cell_at key new.cells ≡ merged_if_any (cell_at key cells.cells) (cell_at key others)) list takes.merge.cells.by_key;
             };
           } in record {
+            read = read_more so_far are.read cells.view takes.cells next takes.read;
             merge = merged_more (cells_of stored.view []) stored.runs r run cells new here are.merge merge takes.proper;
-            follow = subst (λ (n : ℕ). Follow 0 (take (suc r) stored.runs) n) (sym to) (follow_more 0 stored.runs r run so_far.end here are.follow begins);
-            left = omega (arith, are.left, takes.goes_on.left, ap length list, cells_more stored.runs r run here);
           }
 
       -- the run can be merged, where all of them have a merge
       pub can_merge : (whole : PlainCells) → HasMerge stored whole → (new : PlainCells) × (next : Progress) × TakesRun c (run_id view r) cells so_far new next
       can_merge whole merge =
-          let next = merged_next (cells_of stored.view []) stored.runs r run cells whole here are.merge merge in
-          let most : length run.cells ≤ so_far.left = omega (arith, are.left, cells_more stored.runs r run here, cells_least stored.runs (suc r)) in (
+          let next = merged_next (cells_of stored.view []) stored.runs r run cells whole here are.merge merge in (
             next.0,
             record { end = run.span.to; left = so_far.left - length run.cells },
             record {
-              span = run.span;
               cells = cells_of stored.view run.cells;
-              there = has_run;
-              goes_on = record { same = sym same_view; from = begins; to = refl; left = omega (arith, most) };
+              read = can_read so_far are.read cells.view same_view;
               merge = record { view = next.1.view; cells = next.1.cells };
               proper = next.2;
             },
           )
 
-  -- all runs were merged
-  module _ (cells : PlainCells) (so_far : Progress) (count : ℕ) (all : count ≡ length stored.runs) (are : AreMerged stored count cells so_far) where
+  -- all runs were read
+  module _ (so_far : Progress) (count : ℕ) (all : count ≡ length stored.runs) (are : AreRead stored count so_far) where
     whole : take count stored.runs ≡ stored.runs
     whole = take_all count stored.runs (omega (arith, all))
-
-    pub has_merge : HasMerge stored cells
-    has_merge = subst (λ (runs : List StoredRun). AreMergedWith (cells_of stored.view []) runs cells) whole are.merge
 
     pub at_mark : so_far.end ≡ stored.mark
     at_mark = follow_one 0 stored.runs so_far.end stored.mark (subst (λ (runs : List StoredRun). Follow 0 runs so_far.end) whole are.follow) is_laid.follow
@@ -183,10 +209,19 @@ module _ (c : Content) (w : Warehouse) (view : ℕ) (stored : Cuboid) (laid : Is
     pub none_left : so_far.left ≡ 0
     none_left = omega (arith, are.left, ap cells_in whole)
 
+  -- and merged
+  pub has_merge : (cells : PlainCells) (so_far : Progress) (count : ℕ) → count ≡ length stored.runs → AreMerged stored count cells so_far → HasMerge stored cells
+  has_merge cells so_far count all are = subst (λ (runs : List StoredRun). AreMergedWith (cells_of stored.view []) runs cells) (whole so_far count all are.read) are.merge
+
 -- before the first run
-pub none_merged : (stored : Cuboid) (view : View) (cells : PlainCells) (so_far : Progress) → index_of view ≡ index_of stored.view → cells ≡ cells_of view [] → so_far ≡ record { end = 0; left = cells_in stored.runs } → AreMerged stored 0 cells so_far
-none_merged stored view cells so_far same is begins = record {
-  merge = is ∙ ap (λ (v : View). cells_of v []) (one_view view stored.view same);
+pub none_read : (stored : Cuboid) (so_far : Progress) → so_far ≡ record { end = 0; left = cells_in stored.runs } → AreRead stored 0 so_far
+none_read stored so_far begins = record {
   follow = ap (λ (p : Progress). p.end) begins;
   left = omega (arith, ap (λ (p : Progress). p.left) begins);
+}
+
+pub none_merged : (stored : Cuboid) (view : View) (cells : PlainCells) (so_far : Progress) → index_of view ≡ index_of stored.view → cells ≡ cells_of view [] → so_far ≡ record { end = 0; left = cells_in stored.runs } → AreMerged stored 0 cells so_far
+none_merged stored view cells so_far same is begins = record {
+  read = none_read stored so_far begins;
+  merge = is ∙ ap (λ (v : View). cells_of v []) (one_view view stored.view same);
 }

@@ -1,3 +1,4 @@
+pub mod Counted
 pub mod Lawful
 pub mod Merged
 pub mod Steps

@@ -1,4 +1,4 @@
--- What one run adds to the merge of those before it. Our own.
+-- What one run adds to those before it. Our own.
 use Rattle.std.specs.Prelude.{◌≡◌, ℕ, ◌+◌, [], length, take}
 use Rattle.std.specs.Option.{IsSomeAnd}
 use Rattle.object_store.specs.Content.{Content, bytes_of}
@@ -10,7 +10,7 @@ use Rattle.cuboid_cells.specs.Spelled.{IsRun}
 use Rattle.cuboid_cells.specs.Steps.{cells_of}
 use Rattle.warehouse_objects.specs.Warehouse.{Cuboid, cells_in}
 use Rattle.warehouse_objects.specs.Stands.{Follow}
-use Rattle.stored_cuboids.specs.declared.runs.Progress.{Progress}
+use Rattle.stored_cuboids.specs.declared.reading.Progress.{Progress}
 use Rattle.stored_cuboids.specs.Merged.{AreMergedWith}
 
 -- an object of a content is a run
@@ -24,17 +24,25 @@ pub record GoesOn (view : View) (at : Progress) (span : Span) (cells : PlainCell
   pub to : next.end ≡ span.to
   pub left : next.left + length cells.cells ≡ at.left
 
+-- an object of a content is the run that goes on where the runs so far end
+pub record IsNextRun (content : Content) (id : ℕ) (view : View) (at : Progress) (cells : PlainCells) (next : Progress) : Type 0 where
+  pub span : Span
+  pub there : HasRun content id span cells
+  pub goes_on : GoesOn view at span cells next
+
 -- a run of a content is merged into the cells of those before it
 pub record TakesRun (content : Content) (id : ℕ) (old : PlainCells) (at : Progress) (new : PlainCells) (next : Progress) : Type 0 where
-  pub span : Span
   pub cells : PlainCells
-  pub there : HasRun content id span cells
-  pub goes_on : GoesOn old.view at span cells next
+  pub read : IsNextRun content id old.view at cells next
   pub merge : IsMergeOf old cells new
   pub proper : AreProper new
 
--- so many runs of a cuboid are merged
-pub record AreMerged (cuboid : Cuboid) (count : ℕ) (cells : PlainCells) (at : Progress) : Type 0 where
-  pub merge : AreMergedWith (cells_of cuboid.view []) (take count cuboid.runs) cells
+-- so many runs of a cuboid are read
+pub record AreRead (cuboid : Cuboid) (count : ℕ) (at : Progress) : Type 0 where
   pub follow : Follow 0 (take count cuboid.runs) at.end
   pub left : at.left + cells_in (take count cuboid.runs) ≡ cells_in cuboid.runs
+
+-- and merged
+pub record AreMerged (cuboid : Cuboid) (count : ℕ) (cells : PlainCells) (at : Progress) : Type 0 where
+  pub read : AreRead cuboid count at
+  pub merge : AreMergedWith (cells_of cuboid.view []) (take count cuboid.runs) cells

@@ -1,5 +1,5 @@
-//! Reading the runs of a stored cuboid.
-ghost use Rattle.std.specs.Prelude.{◌≡◌, ◌⊎◌, Some, false, take, IfErr, IfNone, IfOk, IfSome, IsErrOf, OnOk};
+//! The runs of a stored cuboid, merged.
+ghost use Rattle.std.specs.Prelude.{◌≡◌, ◌⊎◌, Some, false, take, IfErr, IfOk, IsErrOf, OnOk};
 ghost use Rattle.cube_model.specs.declared.fault.Fault.TheVariants.{BadLayout, Device, Memory};
 ghost use Rattle.cube_model.specs.Admission.{all_rows};
 ghost use Rattle.object_store.specs.Disk.{Leaves};
@@ -7,32 +7,23 @@ ghost use Rattle.object_store.specs.Store.{Breaks, IsStill, content_of, device_o
 ghost use Rattle.lattice.specs.Views.{index_of};
 ghost use Rattle.cuboid_cells.specs.Merges.{IsMergeOf};
 ghost use Rattle.cuboid_cells.specs.Cells.{AreProper, PlainCells};
-ghost use Rattle.cuboid_cells.specs.declared.span.Span.{Span};
 ghost use Rattle.cuboid_upkeep.specs.Grouping.{StandFor};
 ghost use Rattle.warehouse_objects.specs.Warehouse.{Cuboid, Warehouse, cuboid_at, modes_of};
 ghost use Rattle.warehouse_objects.specs.Stands.{IsLaidOut, Stands, said_of};
 ghost use Rattle.stored_cuboids.specs.Merged.{HasMerge, IsSound};
-ghost use Rattle.stored_cuboids.specs.Steps.{GoesOn, HasRun, TakesRun};
-ghost use Rattle.stored_cuboids.specs.declared.runs.Progress.{Progress};
+ghost use Rattle.stored_cuboids.specs.Steps.{TakesRun};
+ghost use Rattle.stored_cuboids.specs.declared.reading.Progress.{Progress};
 
 use crate::laws::kept_cuboids_are_sound;
+use crate::reading::{Progress, read_next};
 use cube_model::Fault;
-use cuboid_cells::{Cells, Span, decode_from};
+use cuboid_cells::Cells;
 use cuboid_upkeep::merges_stand_for_both;
 use lattice::View;
 use object_store::Store;
 use sector_device::Sectors;
 use std::alloc::Global;
 use warehouse_root::{StoredCuboid, run_id};
-
-// How far the runs of a cuboid are merged.
-#[derive(Clone, Copy)]
-struct Progress {
-    // The last batch of the runs so far.
-    end: u32,
-    // How many cells the other runs are to have.
-    left: u32,
-}
 
 /// The cells of a stored cuboid: its runs, merged one after another. One run is in memory at a time, and the cells.
 ///
@@ -100,7 +91,7 @@ fn merge_all<D: Sectors>(
     for run in 0..cuboid.runs {
         at = merge_run(alloc, store, &mut cells, at, run_id(cuboid.view, run))?;
     }
-    if at.end != cuboid.mark || at.left != 0 {
+    if !at.is_whole(cuboid) {
         return Err(Fault::BadLayout);
     }
     Ok(cells)
@@ -124,47 +115,9 @@ fn merge_run<D: Sectors>(
     ensures device { IsErrOf result Device → Breaks D.Sectors store.old store.new }
     ensures causes { IfErr result (λ fault. (fault ≡ Memory) ⊎ ((fault ≡ Device) ⊎ (fault ≡ BadLayout))) }
 {
-    let (span, read) = read_run(alloc, store, id)?;
-    let Some(next) = go_on(cells.view(), at, span, &read) else {
-        return Err(Fault::BadLayout);
-    };
+    let (read, next) = read_next(alloc, store, cells.view(), at, id)?;
     merge_in(alloc, cells, &read)?;
     Ok(next)
-}
-
-// The run that an object has: its batches, and its cells.
-fn read_run<D: Sectors>(
-    alloc: Global,
-    store: &mut Store<D>,
-    id: u32,
-) -> Result<(Span, Cells), Fault>
-    requires fine { has_failed store.old ≡ false }
-    ensures ok { IfOk result (λ run. D.keeps_word (device_of store.new) → HasRun (content_of D.Sectors store.old) id run.0 run.1) }
-    ensures refused { IsErrOf result BadLayout → D.keeps_word (device_of store.new) → (span : Span) (cells : PlainCells)
-        → HasRun (content_of D.Sectors store.old) id span cells → ⊥ }
-    ensures leaves { Leaves (disk_of D.Sectors store.old) (disk_of D.Sectors store.new) (λ c. c ≡ content_of D.Sectors store.old) }
-    ensures stays { (IsErrOf result Device → ⊥) → IsStill D.Sectors store.old store.new }
-    ensures device { IsErrOf result Device → Breaks D.Sectors store.old store.new }
-    ensures causes { IfErr result (λ fault. (fault ≡ Memory) ⊎ ((fault ≡ Device) ⊎ (fault ≡ BadLayout))) }
-{
-    decode_from(alloc, store, id)
-}
-
-// How far the runs are merged with one more. Nothing where it is none of this view, does not begin where the others end, or
-// has more cells than are left.
-fn go_on(view: View, at: Progress, span: Span, cells: &Cells) -> Option<Progress>
-    ensures some { IfSome result (GoesOn view at span cells.now) }
-    ensures none { IfNone result ((next : Progress) → GoesOn view at span cells.now next → ⊥) }
-{
-    let count = cells.as_slice().len();
-    let (own, number) = (cells.view().index(), view.index());
-    if own != number || span.from != at.end || count > at.left as usize {
-        return None;
-    }
-    Some(Progress {
-        end: span.to,
-        left: at.left - count as u32,
-    })
 }
 
 // Merges cells into others of their view. `BadLayout` where a number would exceed its type, or the cells would be too many.

@@ -1,4 +1,4 @@
-use Rattle.std.proofs.Common.{Err, ◌≡◌, ◌<◌, ◌∙◌, ℕ, add-one, ap, arith, length, refl, subst, sym}
+use Rattle.std.proofs.Common.{Err, ◌≡◌, ◌<◌, ◌∙◌, ℕ, IsTrue, add-one, ap, arith, length, refl, subst, sym}
 use Rattle.std.proofs.lemmas.Result.{err_from_is_err_and}
 use Rattle.cube_model.specs.declared.fault.Fault.{Fault}
 use Rattle.cube_model.specs.declared.fault.Fault.TheVariants.{BadLayout}
@@ -12,7 +12,6 @@ use Rattle.warehouse_objects.proofs.OneMoreRead.{reads_more, still_then}
 use Rattle.stored_cuboids.specs.Steps.{AreMerged, TakesRun}
 use Rattle.stored_cuboids.proofs.StoredRuns.{at_mark, can_merge, has_merge, merged_with, none_left, none_merged}
 use Rattle.stored_cuboids.proofs.runs.merge_all.Goals as goal
-use Rattle.stored_cuboids.proofs.runs.merge_all.Goals.{then-at-cuboid-via-then-at-cuboid, then-at-cuboid-via-else-at-cuboid+then-at-ne0}
 
 pub loop-run-init : goal.loop-run-init
 loop-run-init g c = record {
@@ -66,18 +65,14 @@ pub returns-in_err-at-clause-leaves : goal.returns-in_err-at-clause-leaves
 returns-in_err-at-clause-leaves g c =
     reads_more g.D.Sectors c.args.store.now c.loop-run.store c.merge_run.new.store c.loop-run.invariant.still c.loop-run.invariant.leaves c.in_err-at.ensures.leaves
 
-pub returns-then-at-cuboid-clause-unsound : goal.returns-then-at-cuboid-clause-unsound
-returns-then-at-cuboid-clause-unsound g c = λ is k w stored laid found said sound.
+pub returns-then-not-is_whole-clause-unsound : goal.returns-then-not-is_whole-clause-unsound
+returns-then-not-is_whole-clause-unsound g c = λ is k w stored laid found said sound.
     let content = content_of g.D.Sectors c.args.store.now in
-    let are = c.loop-run.invariant.own k w stored laid found said in
+    let are = (c.loop-run.invariant.own k w stored laid found said).read in
     let all : c.loop-run.run ≡ length stored.runs = omega (arith, c.loop-run-test.false, c.loop-run.auto.run-end, ap (λ (s : StoredCuboid). s.runs) said) in
-    let ends = at_mark content w c.args.cuboid.view stored laid found c.loop-run.cells c.loop-run.at c.loop-run.run all are in
-    let none = none_left content w c.args.cuboid.view stored laid found c.loop-run.cells c.loop-run.at c.loop-run.run all are in
-    let mark = ap (λ (s : StoredCuboid). s.mark) said in
-    elim c.then-at-cuboid.branch [
-      | then-at-cuboid-via-then-at-cuboid v ↦ v.if-at-cuboid.true (ends ∙ mark)
-      | then-at-cuboid-via-else-at-cuboid+then-at-ne0 v ↦ v.if-at-ne0.true none
-    ]
+    let ends = at_mark content w c.args.cuboid.view stored laid found c.loop-run.at c.loop-run.run all are in
+    let none = none_left content w c.args.cuboid.view stored laid found c.loop-run.at c.loop-run.run all are in
+    let yes : IsTrue c.is_whole.result = c.is_whole.ensures.1 (ends ∙ ap (λ (s : StoredCuboid). s.mark) said, none) in cc c.if-not-is_whole.true
 
 pub returns-clause-ok : goal.returns-clause-ok
 returns-clause-ok g c = λ k w stored laid found said.

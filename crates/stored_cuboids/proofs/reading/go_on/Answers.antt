@@ -1,7 +1,7 @@
 use Rattle.std.proofs.Common.{◌∙◌, List, ap, arith, length, refl, sym}
 use Rattle.cuboid_cells.specs.declared.cell.Cell.{Cell}
 use Rattle.lattice.proofs.Places.{one_view}
-use Rattle.stored_cuboids.proofs.runs.go_on.Goals as goal
+use Rattle.stored_cuboids.proofs.reading.go_on.Goals as goal
 
 pub returns-clause-some : goal.returns-clause-some
 returns-clause-some c = record {

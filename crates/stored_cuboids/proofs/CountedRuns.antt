@@ -1,0 +1,91 @@
+-- The runs of a cuboid, counted into a fold one after another.
+use Rattle.std.proofs.Common.{◌≡◌, ◌∙◌, zero, suc, sym, ap, refl, subst, arith, ℕ, ◌<◌, ◌≤◌, List, [], ◌∷◌, ◌++◌, length, take, get_or, slice_get, Some, All}
+use Rattle.std.proofs.lemmas.List.Elements.{All-head, All-tail}
+use Rattle.std.proofs.lemmas.Option.{get_or_from_slice_get, slice_get_within}
+use Rattle.cube_model.specs.Admission.{all_rows}
+use Rattle.cube_model.specs.declared.rows.DimRows.{DimRows}
+use Rattle.cube_model.specs.declared.rows.LineOrder.{LineOrder}
+use Rattle.cube_query.specs.Groups.{CanTake, FoldState, StandsFor}
+use Rattle.cube_query.specs.Limits.{AreFoldable}
+use Rattle.cuboid_cells.specs.Cells.{PlainCells}
+use Rattle.cuboid_cells.specs.Spelled.{IsSpan}
+use Rattle.cuboid_cells.specs.Steps.{cells_of}
+use Rattle.cuboid_upkeep.specs.Grouping.{StandFor}
+use Rattle.lattice.specs.declared.view.View.{View}
+use Rattle.object_store.specs.Content.{Content}
+use Rattle.warehouse_root.specs.Objects.{run_id}
+use Rattle.warehouse_objects.proofs.CallerLemmas.{foldable, laid_of}
+use Rattle.warehouse_objects.specs.Stands.{Follow, HoldsGroupings, IsLaidOut, Stands, rows_in}
+use Rattle.warehouse_objects.specs.Warehouse.{Cuboid, StoredRun, Warehouse, cuboid_at, modes_of}
+use Rattle.stored_cuboids.specs.Counted.{AreCounted, CountsRun}
+use Rattle.stored_cuboids.specs.Steps.{AreRead}
+use Rattle.stored_cuboids.specs.declared.reading.Progress.{Progress}
+use Rattle.stored_cuboids.proofs.Standing.{follow_up, rows_after}
+use Rattle.stored_cuboids.proofs.StoredRuns.{IsAt, begins, is_at, is_proper, read_cells, read_more, read_to}
+
+-- no run goes beyond the mark
+ends_within : (from : ℕ) (runs : List StoredRun) (r : ℕ) (run : StoredRun) (mark : ℕ) → slice_get runs r ≡ Some run → Follow from runs mark → All (λ x. IsSpan x.span) runs → run.span.to ≤ mark
+ends_within from [] r run mark here follow spans = absurd cc
+ends_within from (first ∷ runs) zero run mark here follow spans =
+    let same : first ≡ run = cc in
+    subst (λ (x : StoredRun). x.span.to ≤ mark) same (follow_up first.span.to runs mark follow.1 (All-tail (λ (x : StoredRun). IsSpan x.span) first runs spans))
+ends_within from (first ∷ runs) (suc r) run mark here follow spans =
+    ends_within first.span.to runs r run mark here follow.1 (All-tail (λ (x : StoredRun). IsSpan x.span) first runs spans)
+
+module _ (c : Content) (w : Warehouse) (view : ℕ) (stored : Cuboid) (stands : Stands c w) (found : cuboid_at view w.cuboids ≡ Some stored) where
+  abbrev at : IsAt w.cuboids view stored
+  at = is_at w.cuboids view stored found
+
+  abbrev laid : IsLaidOut c w
+  laid = laid_of c w stands
+
+  holds : HoldsGroupings w stored
+  holds = subst (HoldsGroupings w) at.is (stands.cuboids at.place stored at.within)
+
+  module _ (r : ℕ) (run : StoredRun) (here : slice_get stored.runs r ≡ Some run) (dims : DimRows) (same : dims ≡ w.rows) (so_far : Progress) (read : AreRead stored r so_far) where
+    inside : r < length stored.runs
+    inside = slice_get_within stored.runs r run here
+
+    this : (d : StoredRun) → get_or stored.runs r d ≡ run
+    this d = get_or_from_slice_get stored.runs r run d here
+
+    span : IsSpan run.span
+    span = subst (λ (x : StoredRun). IsSpan x.span) (this run) (holds.laid.spans r run inside)
+
+    -- the cells of the run stand for the rows of its batches
+    pub grouping : StandFor dims [] (rows_in w.batches run.span) (cells_of stored.view run.cells)
+    grouping =
+        subst (λ (rows : DimRows). StandFor rows [] (rows_in w.batches run.span) (cells_of stored.view run.cells)) (sym same)
+        (subst (λ (x : StoredRun). StandFor w.rows (modes_of w) (rows_in w.batches x.span) (cells_of stored.view x.cells)) (this run) (holds.groupings r run inside))
+
+    -- which come after those of the runs so far
+    rows_next : all_rows (take so_far.end w.batches) ++ rows_in w.batches run.span ≡ all_rows (take run.span.to w.batches)
+    rows_next =
+        ap (λ (n : ℕ). all_rows (take n w.batches) ++ rows_in w.batches run.span) (sym (begins c w view stored laid found r run here so_far read))
+        ∙ rows_after w.batches run.span.from run.span.to (omega (arith, span.some))
+
+    module _ (fold : FoldState) (so_far_stands : StandsFor dims fold (all_rows (take so_far.end w.batches))) where
+      -- the run was counted
+      pub counted_more : (own : View) (new : FoldState) (next : Progress) → CountsRun c (run_id view r) own so_far dims fold new next → AreCounted w stored dims (suc r) new next
+      counted_more own new next counts =
+          let cells = read_cells c w view stored laid found r run here so_far read own counts.cells next counts.read in
+          let to = read_to c w view stored laid found r run here so_far read own counts.cells next counts.read in
+          let takes = counts.takes (rows_in w.batches run.span) (subst (λ (m : PlainCells). StandFor dims [] (rows_in w.batches run.span) m) (sym cells) grouping) in
+          record {
+            read = read_more c w view stored laid found r run here so_far read own counts.cells next counts.read;
+            stands = subst (λ (n : ℕ). StandsFor dims new (all_rows (take n w.batches))) (sym to)
+                (subst (λ (rows : List LineOrder). StandsFor dims new rows) rows_next (takes.stands (all_rows (take so_far.end w.batches)) so_far_stands));
+          }
+
+      -- the fold can take its rows
+      pub can_count : CanTake dims fold (rows_in w.batches run.span)
+      can_count =
+          let ends = ends_within 0 stored.runs r run stored.mark here holds.laid.follow holds.laid.spans in
+          let within : run.span.to ≤ length w.batches = omega (arith, ends, (is_proper c w view stored laid found).mark) in (
+            all_rows (take so_far.end w.batches),
+            (
+              so_far_stands,
+              subst (λ (d : DimRows). AreFoldable d (all_rows (take so_far.end w.batches) ++ rows_in w.batches run.span)) (sym same)
+                  (subst (λ (rows : List LineOrder). AreFoldable w.rows rows) (sym rows_next) (foldable w.rows w.batches stands.batches run.span.to within)),
+            ),
+          )

@@ -1,0 +1,104 @@
+//! The runs of a stored cuboid, counted into a fold.
+ghost use Rattle.std.specs.Prelude.{◌≡◌, ◌⊎◌, [], List, Some, false, take, IfErr, IfOk, IsErrOf, OnOk};
+ghost use Rattle.cube_model.specs.declared.fault.Fault.TheVariants.{BadLayout, Device, Memory};
+ghost use Rattle.cube_model.specs.declared.rows.LineOrder.{LineOrder};
+ghost use Rattle.cube_model.specs.Admission.{all_rows};
+ghost use Rattle.object_store.specs.Disk.{Leaves};
+ghost use Rattle.object_store.specs.Store.{Breaks, IsStill, content_of, device_of, disk_of, has_failed};
+ghost use Rattle.lattice.specs.Determined.{Serves};
+ghost use Rattle.lattice.specs.Views.{index_of};
+ghost use Rattle.cuboid_cells.specs.Cells.{PlainCells};
+ghost use Rattle.cuboid_upkeep.specs.Grouping.{StandFor};
+ghost use Rattle.cube_query.specs.Groups.{CanTake, IsOver, StandsFor};
+ghost use Rattle.warehouse_objects.specs.Warehouse.{Cuboid, Warehouse, cuboid_at};
+ghost use Rattle.warehouse_objects.specs.Stands.{Stands, said_of};
+ghost use Rattle.stored_cuboids.specs.Counted.{CountsRun};
+ghost use Rattle.stored_cuboids.specs.Steps.{IsNextRun};
+ghost use Rattle.stored_cuboids.specs.declared.reading.Progress.{Progress};
+
+use crate::reading::{Progress, read_next};
+use cube_model::Fault;
+use cube_query::Fold;
+use dimensions::Dims;
+use lattice::View;
+use object_store::Store;
+use sector_device::Sectors;
+use std::alloc::Global;
+use warehouse_root::{StoredCuboid, run_id};
+
+/// Counts the cells of the stored cuboid of a view into a fold that stands for no row yet: its runs, one after another. One run is
+/// in memory at a time.
+///
+/// `BadLayout` where a run is missing or is none of this view, where the runs do not follow each other from the first batch to
+/// the mark or have another count of cells than the root says, and where the fold cannot take their cells. It can also run out of
+/// memory, or fail because the device does. After a refusal the fold is to be dropped.
+pub fn fold_runs<D: Sectors>(
+    alloc: Global,
+    store: &mut Store<D>,
+    dims: &Dims,
+    fold: &mut Fold,
+    cuboid: StoredCuboid,
+    view: View,
+) -> Result<(), Fault>
+    requires fine { has_failed store.old ≡ false }
+    requires begun { StandsFor dims.now fold.old [] }
+    requires serves { Serves view fold.old.query }
+    requires view { index_of view ≡ cuboid.view }
+
+    // Then it stands for the rows of the batches up to the mark.
+    ensures ok { OnOk result (D.keeps_word (device_of store.new) → (w : Warehouse) (stored : Cuboid) → Stands (content_of D.Sectors store.old) w
+        → dims.now ≡ w.rows → cuboid_at cuboid.view w.cuboids ≡ Some stored → said_of stored ≡ cuboid
+        → StandsFor dims.now fold.new (all_rows (take cuboid.mark w.batches))) }
+    ensures over { IsOver dims.now fold.new }
+    ensures query { fold.new.query ≡ fold.old.query }
+    ensures refused { IsErrOf result BadLayout → D.keeps_word (device_of store.new) → (w : Warehouse) (stored : Cuboid) → Stands (content_of D.Sectors store.old) w
+        → dims.now ≡ w.rows → cuboid_at cuboid.view w.cuboids ≡ Some stored → said_of stored ≡ cuboid → ⊥ }
+
+    // The content stays, at each moment.
+    ensures leaves { Leaves (disk_of D.Sectors store.old) (disk_of D.Sectors store.new) (λ c. c ≡ content_of D.Sectors store.old) }
+    ensures stays { (IsErrOf result Device → ⊥) → IsStill D.Sectors store.old store.new }
+    ensures device { IsErrOf result Device → Breaks D.Sectors store.old store.new }
+    ensures causes { IfErr result (λ fault. (fault ≡ Memory) ⊎ ((fault ≡ Device) ⊎ (fault ≡ BadLayout))) }
+{
+    let _usable = store.is_broken();
+    let mut at = Progress {
+        end: 0,
+        left: cuboid.cells,
+    };
+    for run in 0..cuboid.runs {
+        at = fold_run(alloc, store, dims, fold, view, at, run_id(cuboid.view, run))?;
+    }
+    if !at.is_whole(cuboid) {
+        return Err(Fault::BadLayout);
+    }
+    Ok(())
+}
+
+// Counts the cells of the run of a view that an object has into a fold.
+fn fold_run<D: Sectors>(
+    alloc: Global,
+    store: &mut Store<D>,
+    dims: &Dims,
+    fold: &mut Fold,
+    view: View,
+    at: Progress,
+    id: u32,
+) -> Result<Progress, Fault>
+    requires fine { has_failed store.old ≡ false }
+    requires over { IsOver dims.now fold.old }
+    requires serves { Serves view fold.old.query }
+    ensures ok { IfOk result (λ next. D.keeps_word (device_of store.new)
+        → CountsRun (content_of D.Sectors store.old) id view at dims.now fold.old fold.new next) }
+    ensures over { IsOver dims.now fold.new }
+    ensures query { fold.new.query ≡ fold.old.query }
+    ensures refused { IsErrOf result BadLayout → D.keeps_word (device_of store.new) → (cells : PlainCells) (next : Progress) (rows : List LineOrder)
+        → IsNextRun (content_of D.Sectors store.old) id view at cells next → StandFor dims.now [] rows cells → CanTake dims.now fold.old rows → ⊥ }
+    ensures leaves { Leaves (disk_of D.Sectors store.old) (disk_of D.Sectors store.new) (λ c. c ≡ content_of D.Sectors store.old) }
+    ensures stays { (IsErrOf result Device → ⊥) → IsStill D.Sectors store.old store.new }
+    ensures device { IsErrOf result Device → Breaks D.Sectors store.old store.new }
+    ensures causes { IfErr result (λ fault. (fault ≡ Memory) ⊎ ((fault ≡ Device) ⊎ (fault ≡ BadLayout))) }
+{
+    let (cells, next) = read_next(alloc, store, view, at, id)?;
+    fold.add_cells(dims, &cells, None)?;
+    Ok(next)
+}

@@ -1,0 +1,98 @@
+//! Reading the runs of a stored cuboid, one after another.
+ghost use Rattle.std.specs.Prelude.{◌≡◌, ◌⊎◌, ◌↔◌, false, IfErr, IfNone, IfOk, IfSome, IsErrOf, IsTrue};
+ghost use Rattle.cube_model.specs.declared.fault.Fault.TheVariants.{BadLayout, Device, Memory};
+ghost use Rattle.object_store.specs.Disk.{Leaves};
+ghost use Rattle.object_store.specs.Store.{Breaks, IsStill, content_of, device_of, disk_of, has_failed};
+ghost use Rattle.cuboid_cells.specs.Cells.{PlainCells};
+ghost use Rattle.cuboid_cells.specs.declared.span.Span.{Span};
+ghost use Rattle.stored_cuboids.specs.Steps.{GoesOn, HasRun, IsNextRun};
+ghost use Rattle.stored_cuboids.specs.declared.reading.Progress.{Progress};
+
+use cube_model::Fault;
+use cuboid_cells::{Cells, Span, decode_from};
+use lattice::View;
+use object_store::Store;
+use sector_device::Sectors;
+use std::alloc::Global;
+use warehouse_root::StoredCuboid;
+
+// How far the runs of a cuboid are read.
+#[derive(Clone, Copy)]
+pub(crate) struct Progress {
+    // The last batch of the runs so far.
+    pub(crate) end: u32,
+    // How many cells the other runs are to have.
+    pub(crate) left: u32,
+}
+
+impl Progress {
+    // Whether the runs end at the mark of their cuboid, and have as many cells as it is to have.
+    pub(crate) fn is_whole(self, cuboid: StoredCuboid) -> bool
+        ensures { IsTrue result ↔ (self.end ≡ cuboid.mark) × (self.left ≡ 0) }
+    {
+        self.end == cuboid.mark && self.left == 0
+    }
+}
+
+// The cells of the run of a view that an object has, and how far the runs are read with it.
+//
+// `BadLayout` where there is no run, and where it is none of this view, does not begin where the others end, or has more cells than
+// are left.
+pub(crate) fn read_next<D: Sectors>(
+    alloc: Global,
+    store: &mut Store<D>,
+    view: View,
+    at: Progress,
+    id: u32,
+) -> Result<(Cells, Progress), Fault>
+    requires fine { has_failed store.old ≡ false }
+    ensures ok { IfOk result (λ run. D.keeps_word (device_of store.new) → IsNextRun (content_of D.Sectors store.old) id view at run.0 run.1) }
+    ensures view { IfOk result (λ run. run.0.view ≡ view) }
+    ensures refused { IsErrOf result BadLayout → D.keeps_word (device_of store.new) → (cells : PlainCells) (next : Progress)
+        → IsNextRun (content_of D.Sectors store.old) id view at cells next → ⊥ }
+    ensures leaves { Leaves (disk_of D.Sectors store.old) (disk_of D.Sectors store.new) (λ c. c ≡ content_of D.Sectors store.old) }
+    ensures stays { (IsErrOf result Device → ⊥) → IsStill D.Sectors store.old store.new }
+    ensures device { IsErrOf result Device → Breaks D.Sectors store.old store.new }
+    ensures causes { IfErr result (λ fault. (fault ≡ Memory) ⊎ ((fault ≡ Device) ⊎ (fault ≡ BadLayout))) }
+{
+    let (span, cells) = read_run(alloc, store, id)?;
+    match go_on(view, at, span, &cells) {
+        Some(next) => Ok((cells, next)),
+        None => Err(Fault::BadLayout),
+    }
+}
+
+// The run that an object has: its batches, and its cells.
+fn read_run<D: Sectors>(
+    alloc: Global,
+    store: &mut Store<D>,
+    id: u32,
+) -> Result<(Span, Cells), Fault>
+    requires fine { has_failed store.old ≡ false }
+    ensures ok { IfOk result (λ run. D.keeps_word (device_of store.new) → HasRun (content_of D.Sectors store.old) id run.0 run.1) }
+    ensures refused { IsErrOf result BadLayout → D.keeps_word (device_of store.new) → (span : Span) (cells : PlainCells)
+        → HasRun (content_of D.Sectors store.old) id span cells → ⊥ }
+    ensures leaves { Leaves (disk_of D.Sectors store.old) (disk_of D.Sectors store.new) (λ c. c ≡ content_of D.Sectors store.old) }
+    ensures stays { (IsErrOf result Device → ⊥) → IsStill D.Sectors store.old store.new }
+    ensures device { IsErrOf result Device → Breaks D.Sectors store.old store.new }
+    ensures causes { IfErr result (λ fault. (fault ≡ Memory) ⊎ ((fault ≡ Device) ⊎ (fault ≡ BadLayout))) }
+{
+    decode_from(alloc, store, id)
+}
+
+// How far the runs are read with one more. Nothing where it is none of this view, does not begin where the others end, or
+// has more cells than are left.
+fn go_on(view: View, at: Progress, span: Span, cells: &Cells) -> Option<Progress>
+    ensures some { IfSome result (GoesOn view at span cells.now) }
+    ensures none { IfNone result ((next : Progress) → GoesOn view at span cells.now next → ⊥) }
+{
+    let count = cells.as_slice().len();
+    let (own, number) = (cells.view().index(), view.index());
+    if own != number || span.from != at.end || count > at.left as usize {
+        return None;
+    }
+    Some(Progress {
+        end: span.to,
+        left: at.left - count as u32,
+    })
+}
