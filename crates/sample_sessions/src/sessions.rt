@@ -1,14 +1,10 @@
 //! Sessions over the sample star.
-ghost use Rattle.std.specs.Prelude.{◌≤◌, ◌+◌, length, IfOk};
-ghost use Rattle.cube_model.specs.Limits.{most_batch_rows};
-ghost use Rattle.warehouse.specs.Growing.{IsOfSession};
-
-use cube_model::{Fault, LineOrder};
+use cube_model::Fault;
 use dimensions::Dims;
 use sample_star::{FACTS, Fact, STAR, dim_rows, line_orders};
 use sector_device::{MemDisk, Sectors};
 use std::alloc::Global;
-use warehouse::{GrowingBatch, Session, Status, create, open, open_as_is};
+use warehouse::{Session, Status, create, open, open_as_is};
 
 /// The dimensions of the sample star.
 pub fn sample_dims(alloc: Global) -> Result<Dims, Fault> {
@@ -16,21 +12,34 @@ pub fn sample_dims(alloc: Global) -> Result<Dims, Fault> {
     Dims::build(alloc, &rows)
 }
 
-/// A warehouse without batches on a device.
-pub fn created<D: Sectors + Drop>(alloc: Global, device: D) -> Result<Session<D>, Fault> {
-    let dims = sample_dims(alloc)?;
-    match create(alloc, device, dims) {
+/// A session, or why there is none.
+fn session_of<D: Sectors + Drop>(
+    made: Result<Session<D>, (Fault, D)>,
+) -> Result<Session<D>, Fault> {
+    match made {
         Ok(session) => Ok(session),
         Err((fault, _)) => Err(fault),
     }
 }
 
-/// The warehouse that stands on a device.
+/// A warehouse without batches over dimensions on a device.
+pub fn created_over<D: Sectors + Drop>(
+    alloc: Global,
+    device: D,
+    dims: Dims,
+) -> Result<Session<D>, Fault> {
+    session_of(create(alloc, device, dims))
+}
+
+/// A warehouse without batches on a device.
+pub fn created<D: Sectors + Drop>(alloc: Global, device: D) -> Result<Session<D>, Fault> {
+    let dims = sample_dims(alloc)?;
+    created_over(alloc, device, dims)
+}
+
+/// The warehouse of a device.
 pub fn opened<D: Sectors + Drop>(alloc: Global, device: D) -> Result<Session<D>, Fault> {
-    match open(alloc, device) {
-        Ok(session) => Ok(session),
-        Err((fault, _)) => Err(fault),
-    }
+    session_of(open(alloc, device))
 }
 
 /// The warehouse of a device, where the first opening may fail: it is then opened once more.
@@ -43,10 +52,7 @@ pub fn opened_again<D: Sectors + Drop>(alloc: Global, device: D) -> Result<Sessi
 
 /// The warehouse of a disk as the disk has it, without the end of an upkeep that was cut off.
 pub fn as_is(alloc: Global, disk: MemDisk) -> Result<Session<MemDisk>, Fault> {
-    match open_as_is(alloc, disk) {
-        Ok(session) => Ok(session),
-        Err((fault, _)) => Err(fault),
-    }
+    session_of(open_as_is(alloc, disk))
 }
 
 /// Submits fact rows.
@@ -58,49 +64,6 @@ pub fn submit<D: Sectors>(
 ) -> Result<(), Fault> {
     let rows = line_orders(alloc, facts)?;
     session.submit(alloc, number, rows.as_slice())
-}
-
-/// Rows as a batch that grows by one part of them, and then by the other.
-fn grown<D: Sectors>(
-    alloc: Global,
-    session: &Session<D>,
-    first: &[LineOrder],
-    second: &[LineOrder],
-) -> Result<GrowingBatch, Fault>
-    requires { length first.now + length second.now ≤ most_batch_rows }
-    ensures { IfOk result (IsOfSession session.now) }
-{
-    let mut batch = session.begin_batch(alloc, 2)?;
-    session.add_rows(alloc, &mut batch, first)?;
-    session.add_rows(alloc, &mut batch, second)?;
-    Ok(batch)
-}
-
-/// Submits rows as such a batch.
-fn submit_parts<D: Sectors>(
-    alloc: Global,
-    session: &mut Session<D>,
-    number: u32,
-    first: &[LineOrder],
-    second: &[LineOrder],
-) -> Result<(), Fault> {
-    if first.len() > 9 || second.len() > 9 {
-        return Err(Fault::TooManyRows);
-    }
-    let batch = grown(alloc, session, first, second)?;
-    session.submit_batch(alloc, number, &batch)
-}
-
-/// Submits fact rows as a batch that grows by one half of them, and then by the other.
-pub fn submit_grown<D: Sectors>(
-    alloc: Global,
-    session: &mut Session<D>,
-    number: u32,
-    facts: &[Fact<'_>],
-) -> Result<(), Fault> {
-    let rows = line_orders(alloc, facts)?;
-    let half = rows.len() / 2;
-    submit_parts(alloc, session, number, &rows[..half], &rows[half..])
 }
 
 /// A warehouse without batches on a memory disk of 64 sectors.

@@ -10,8 +10,9 @@ use sector_device::{MemDisk, Sectors};
 use std::alloc::Global;
 use warehouse::{MOST_CUBOIDS, Session, Status, StoredCuboid};
 
-/// A cuboid of two cells in one run, which holds the first batch.
-const TWO_CELLS: StoredCuboid = StoredCuboid {
+/// The first of the three cuboids that are chosen over the three sample rows: two cells in one run, which holds the
+/// first batch.
+pub const TWO_CELLS: StoredCuboid = StoredCuboid {
     view: 59,
     runs: 1,
     mark: 1,

@@ -41,18 +41,6 @@ impl Draw {
         self.words.next_u64() % limit
     }
 
-    /// A number below 2 ^ 63, of any number of digits.
-    pub fn amount(&mut self) -> u64 {
-        (self.words.next_u64() >> 1) >> self.below(63)
-    }
-
-    /// Whether something happens that happens once in some times.
-    pub fn once_in(&mut self, times: u32) -> bool
-        requires { 0 < times }
-    {
-        self.below(times) == 0
-    }
-
     /// One of some items, if there are any.
     pub fn pick<'a, T>(&mut self, items: &'a [T]) -> Option<&'a T> {
         let place = self.words.next_u32() as usize;

@@ -22,7 +22,7 @@ pub use queries::{
 pub use readers::{Pieces, byte_by_byte, in_pieces, in_sevens, whole};
 pub use stars::{
     Day, FIRST_CUSTOMER, FIRST_DAY, FIRST_PART, FIRST_SUPPLIER, Location, Product, STAR, Star,
-    customer_row, date_row, dim_rows, no_rows, part_row, supplier_row, text,
+    dim_rows, text,
 };
 pub use tables::{TABLES, Tables};
 pub use turning::Turning;

@@ -8,7 +8,7 @@ use cube_model::{CustomerRow, DateRow, DimRows, Fault, Items, PartRow, SupplierR
 use std::alloc::Global;
 
 /// A row of customers or suppliers.
-#[derive(Clone, Copy, Debug)]
+#[derive(Clone, Copy)]
 pub struct Location<'a> {
     pub key: u32,
     pub city: &'a str,
@@ -17,7 +17,7 @@ pub struct Location<'a> {
 }
 
 /// A row of parts.
-#[derive(Clone, Copy, Debug)]
+#[derive(Clone, Copy)]
 pub struct Product<'a> {
     pub key: u32,
     pub brand1: &'a str,
@@ -26,7 +26,7 @@ pub struct Product<'a> {
 }
 
 /// A row of days.
-#[derive(Clone, Copy, Debug)]
+#[derive(Clone, Copy)]
 pub struct Day<'a> {
     pub key: u32,
     pub year: &'a str,
@@ -36,7 +36,7 @@ pub struct Day<'a> {
 }
 
 /// The rows of the four dimensions.
-#[derive(Clone, Copy, Debug)]
+#[derive(Clone, Copy)]
 pub struct Star<'a> {
     pub customers: &'a [Location<'a>],
     pub suppliers: &'a [Location<'a>],
@@ -116,18 +116,6 @@ pub const STAR: Star<'static> = Star {
     ],
 };
 
-/// No row in any dimension.
-pub fn no_rows(alloc: Global) -> DimRows
-    ensures { HaveShortTexts result }
-{
-    DimRows {
-        customers: Items::new(alloc),
-        suppliers: Items::new(alloc),
-        parts: Items::new(alloc),
-        dates: Items::new(alloc),
-    }
-}
-
 /// A text as a value, of which more than 255 bytes are cut off. Only memory can fail.
 pub fn text(alloc: Global, text: &str) -> Result<Text, Fault>
     ensures { IfOk result (λ kept. length kept ≤ longest_text) }
@@ -137,10 +125,9 @@ pub fn text(alloc: Global, text: &str) -> Result<Text, Fault>
     Ok(Items::from_vec(Vec::from_slice(alloc, &bytes[..count])?))
 }
 
-/// A row of customers as a value. Only memory can fail.
-pub fn customer_row(alloc: Global, row: &Location<'_>) -> Result<CustomerRow, Fault>
-    ensures key { IfOk result (λ made. made.key ≡ row.now.key) }
-    ensures short { IfOk result (HasShortTexts customer_rules) }
+// A row of customers as a value.
+fn customer_row(alloc: Global, row: &Location<'_>) -> Result<CustomerRow, Fault>
+    ensures { IfOk result (HasShortTexts customer_rules) }
 {
     let city = text(alloc, row.city)?;
     let nation = text(alloc, row.nation)?;
@@ -153,10 +140,9 @@ pub fn customer_row(alloc: Global, row: &Location<'_>) -> Result<CustomerRow, Fa
     })
 }
 
-/// A row of suppliers as a value. Only memory can fail.
-pub fn supplier_row(alloc: Global, row: &Location<'_>) -> Result<SupplierRow, Fault>
-    ensures key { IfOk result (λ made. made.key ≡ row.now.key) }
-    ensures short { IfOk result (HasShortTexts supplier_rules) }
+// A row of suppliers as a value.
+fn supplier_row(alloc: Global, row: &Location<'_>) -> Result<SupplierRow, Fault>
+    ensures { IfOk result (HasShortTexts supplier_rules) }
 {
     let city = text(alloc, row.city)?;
     let nation = text(alloc, row.nation)?;
@@ -169,10 +155,9 @@ pub fn supplier_row(alloc: Global, row: &Location<'_>) -> Result<SupplierRow, Fa
     })
 }
 
-/// A row of parts as a value. Only memory can fail.
-pub fn part_row(alloc: Global, row: &Product<'_>) -> Result<PartRow, Fault>
-    ensures key { IfOk result (λ made. made.key ≡ row.now.key) }
-    ensures short { IfOk result (HasShortTexts part_rules) }
+// A row of parts as a value.
+fn part_row(alloc: Global, row: &Product<'_>) -> Result<PartRow, Fault>
+    ensures { IfOk result (HasShortTexts part_rules) }
 {
     let brand1 = text(alloc, row.brand1)?;
     let category = text(alloc, row.category)?;
@@ -185,10 +170,9 @@ pub fn part_row(alloc: Global, row: &Product<'_>) -> Result<PartRow, Fault>
     })
 }
 
-/// A row of days as a value. Only memory can fail.
-pub fn date_row(alloc: Global, row: &Day<'_>) -> Result<DateRow, Fault>
-    ensures key { IfOk result (λ made. made.key ≡ row.now.key) }
-    ensures short { IfOk result (HasShortTexts date_rules) }
+// A row of days as a value.
+fn date_row(alloc: Global, row: &Day<'_>) -> Result<DateRow, Fault>
+    ensures { IfOk result (HasShortTexts date_rules) }
 {
     let year = text(alloc, row.year)?;
     let yearmonthnum = text(alloc, row.yearmonthnum)?;

@@ -1,7 +1,7 @@
 //! The five sample tables as texts.
 
 /// The texts of the five tables.
-#[derive(Clone, Copy, Debug)]
+#[derive(Clone, Copy)]
 pub struct Tables<'a> {
     pub customer: &'a [u8],
     pub supplier: &'a [u8],

@@ -5,7 +5,7 @@ use std::alloc::Global;
 use std::io::{self, Write};
 
 /// What a writer does once it has taken all the bytes that it takes.
-#[derive(Clone, Copy, Debug, PartialEq, Eq)]
+#[derive(Clone, Copy, PartialEq, Eq)]
 pub enum WhenFull {
     /// Each write and each flush fails.
     Fails,

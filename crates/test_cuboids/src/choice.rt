@@ -1,3 +1,2 @@
 //! Tests of the choice of cuboids.
-mod bound;
 mod chosen;

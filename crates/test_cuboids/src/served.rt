@@ -7,8 +7,8 @@ use std::alloc::Global;
 use std::process::Abort;
 use std::test::Fail;
 
-/// The benchmark's queries, each with the coarsest view that serves it. A view serves the query where it answers that one,
-/// and none does where a condition is on quantity or discount.
+/// The benchmark's queries, each with the coarsest view that serves it. A view serves the query where it answers that
+/// one, and none does where a condition is on quantity or discount.
 static BENCHMARK: [(QNumber, Option<u16>); 13] = [
     (QNumber::Q11, None),
     (QNumber::Q12, None),
@@ -23,18 +23,6 @@ static BENCHMARK: [(QNumber, Option<u16>); 13] = [
     (QNumber::Q41, Some(106)),
     (QNumber::Q42, Some(150)),
     (QNumber::Q43, Some(130)),
-];
-
-/// The views that are chosen for the benchmark at scale 1 where eight may be stored, each with the queries that it serves.
-static CHOSEN: [(u16, &[QNumber]); 8] = [
-    (86, &[QNumber::Q31, QNumber::Q41, QNumber::Q42]),
-    (105, &[QNumber::Q41]),
-    (26, &[QNumber::Q31, QNumber::Q41]),
-    (74, &[QNumber::Q31, QNumber::Q41]),
-    (162, &[QNumber::Q21, QNumber::Q22, QNumber::Q23]),
-    (213, &[]),
-    (172, &[]),
-    (38, &[QNumber::Q41]),
 ];
 
 /// Columns and conditions of other queries, and the coarsest view that serves them.
@@ -107,27 +95,6 @@ fn the_benchmarks_queries_are_served_by_the_views_that_tell_their_attributes(
         let query = query_of(rt.alloc(), *number)?;
         let wrong = wrong(rt.alloc(), &query, *coarsest)?;
         assert_eq!(rt; wrong.as_slice(), [0u16; 0].as_slice());
-    }
-    Ok(())
-}
-
-// The queries of the benchmark that the view of a number serves.
-fn served_by(alloc: Global, index: u16) -> Result<Vec<QNumber>, Fault> {
-    let mut served = Vec::new(alloc);
-    for number in QNumber::ALL {
-        let query = query_of(alloc, number)?;
-        if serves(index, &query) {
-            served.push(number)?;
-        }
-    }
-    Ok(served)
-}
-
-#[test]
-fn the_chosen_views_serve_these_queries(rt: HostRuntime) -> Result<(), Fail> {
-    for (index, numbers) in &CHOSEN {
-        let served = served_by(rt.alloc(), *index)?;
-        assert_eq!(rt; served.as_slice(), *numbers);
     }
     Ok(())
 }

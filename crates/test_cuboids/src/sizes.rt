@@ -99,35 +99,3 @@ fn sizes_are_products_cut_at_the_rows(rt: HostRuntime) {
         );
     }
 }
-
-// The lattice of counts with ship modes has this view, and that of counts without has it.
-static LATTICES: [(u16, bool, bool); 6] = [
-    (0, true, true),
-    (255, true, true),
-    (256, true, false),
-    (511, true, false),
-    (512, false, false),
-    (65_535, false, false),
-];
-
-#[test]
-fn a_count_of_ship_modes_makes_the_greater_lattice(rt: HostRuntime) {
-    let with = counts(&SMALL, Some(2));
-    let without = counts(&SMALL, None);
-    for (index, in_five, in_four) in LATTICES {
-        assert_eq!(rt;
-            with.view(index).map(|view| view.index()),
-            in_five.then_some(index)
-        );
-        assert_eq!(rt;
-            without.view(index).map(|view| view.index()),
-            in_four.then_some(index)
-        );
-    }
-}
-
-#[test]
-fn lattices_have_so_many_views(rt: HostRuntime) {
-    assert_eq!(rt; counts(&SMALL, Some(2)).view_count(), 512);
-    assert_eq!(rt; counts(&SMALL, None).view_count(), 256);
-}

@@ -1,6 +1,5 @@
-//! The numbers, names and order of views.
-use cube_model::{Attr, Axis};
-use lattice::{Level, View, ViewName};
+//! The names and the order of views.
+use lattice::{View, ViewName};
 use std::alloc::Global;
 use std::process::Abort;
 use std::test::Fail;
@@ -85,14 +84,6 @@ static ORDER: [(u16, u16, bool, bool); 12] = [
     (507, 511, true, false),
 ];
 
-/// The levels of view 59 on the axes, and the attributes that they have.
-static LEVELS: [(Axis, Level, Option<Attr>); 4] = [
-    (Axis::Customer, Level::Lowest, Some(Attr::CustomerCity)),
-    (Axis::Supplier, Level::All, None),
-    (Axis::Part, Level::Highest, Some(Attr::PartMfgr)),
-    (Axis::Date, Level::All, None),
-];
-
 // How the view of a number prints, or nothing where there is none.
 fn printed(alloc: Global, index: u16, ship_modes: bool) -> Result<String, Fail> {
     match View::new(index) {
@@ -109,19 +100,6 @@ fn answers(index: u16, other: u16) -> bool {
     }
 }
 
-// How many pairs of views below a number there are of which the first answers the second.
-fn answering_pairs(count: u16) -> u32 {
-    let mut pairs: u32 = 0;
-    for index in 0..count {
-        for other in 0..count {
-            if answers(index, other) {
-                pairs = pairs.saturating_add(1);
-            }
-        }
-    }
-    pairs
-}
-
 #[test]
 fn views_print_their_levels(rt: HostRuntime) -> Result<(), Fail> {
     for (index, four, five) in &NAMES {
@@ -134,34 +112,9 @@ fn views_print_their_levels(rt: HostRuntime) -> Result<(), Fail> {
 }
 
 #[test]
-fn only_the_upper_half_groups_by_ship_mode(rt: HostRuntime) {
-    for (index, grouped) in [(0, false), (255, false), (256, true), (511, true)] {
-        assert_eq!(rt;
-            View::new(index).map(|view| view.groups_ship_mode()),
-            Some(grouped)
-        );
-    }
-}
-
-#[test]
 fn finer_views_answer_coarser_ones(rt: HostRuntime) {
     for (index, other, down, up) in ORDER {
         assert_eq!(rt; answers(index, other), down);
         assert_eq!(rt; answers(other, index), up);
-    }
-}
-
-// Two levels of four are in order in ten ways, and ship mode is in three.
-#[test]
-fn as_many_pairs_answer_as_there_are_ordered_levels(rt: HostRuntime) {
-    assert_eq!(rt; answering_pairs(256), 10_000);
-    assert_eq!(rt; answering_pairs(512), 30_000);
-}
-
-#[test]
-fn levels_have_their_attributes(rt: HostRuntime) {
-    for (axis, level, attribute) in LEVELS {
-        assert_eq!(rt; View::new(59).map(|view| view.level(axis)), Some(level));
-        assert_eq!(rt; level.attribute(axis), attribute);
     }
 }

@@ -1,10 +1,8 @@
 // What a cache reads of its device, and what it keeps over writes.
-use crate::bytes::{get, get_each, get_four, put, put_four};
-use crate::calls::answers;
+use crate::bytes::{get, get_each, get_four, put};
 use cube_model::Fault;
-use sample_star::Turning;
 use sector_cache::Cached;
-use sector_device::{DeviceError, Fuse, MemDisk, Sectors};
+use sector_device::{Fuse, MemDisk, Sectors};
 use std::test::Fail;
 
 type Behind = Cached<Fuse<MemDisk>>;
@@ -79,66 +77,17 @@ fn keeps_its_sectors_over_a_run(rt: HostRuntime) -> Result<(), Fail> {
     Ok(())
 }
 
-// Sectors are read, four are written at once by calls of which the n-th fails or not, and they are read again. Whether
-// the writes succeed, the sectors then, and how often the disk was read.
-fn rewritten(
-    rt: &HostRuntime,
-    n: u64,
-    reaches: bool,
-) -> Result<(bool, [Option<u8>; 4], u64), Fail> {
-    let mut disk = cached(rt, 8, n, reaches)?;
-    get_each(&mut disk, 8)?;
-    let write = put_four(&mut disk, 9, [1, 2, 3, 4]).is_ok();
-    let sectors = get_each(&mut disk, 8)?;
-    Ok((write, sectors, reads(disk)))
-}
-
-// Which call fails, whether it reaches the disk, whether the writes succeed, and what is read then.
-const REWRITES: [(u64, bool, bool, [u8; 4]); 4] = [
-    (0, false, true, [0, 1, 2, 3]),
-    (5, false, false, [0, 0, 0, 0]),
-    (6, false, false, [0, 1, 0, 0]),
-    (6, true, false, [0, 1, 2, 0]),
-];
-
-#[test]
-fn drops_the_sectors_of_a_run_that_is_written(rt: HostRuntime) -> Result<(), Fail> {
-    for (n, reaches, write, bytes) in REWRITES {
-        let sectors = bytes.map(|byte| Some(byte));
-        assert_eq!(rt;
-            rewritten(&rt, n, reaches)?,
-            (write, sectors, 7),
-            "call {n}, reaches {reaches}"
-        );
-    }
-    Ok(())
-}
-
-// What a cache and its disk did.
-#[derive(Clone, Copy, Debug, PartialEq)]
-struct AfterWrite {
-    write: bool,
-    first: Option<u8>,
-    second: Option<u8>,
-    reads: u64,
-    failures: u64,
-}
+// Whether a write succeeds, what is read twice after it, how often the disk was read, and the failures.
+type Written = (bool, [Option<u8>; 2], u64, u64);
 
 // Sector 5 is read, written with sevens by a call that fails or not, and read twice.
-fn written(rt: &HostRuntime, n: u64, reaches: bool) -> Result<AfterWrite, Fail> {
+fn written(rt: &HostRuntime, n: u64, reaches: bool) -> Result<Written, Fail> {
     let mut disk = cached(rt, 4, n, reaches)?;
     get(&mut disk, 5)?;
     let write = put(&mut disk, 5, 7).is_ok();
-    let first = get(&mut disk, 5)?;
-    let second = get(&mut disk, 5)?;
+    let found = [get(&mut disk, 5)?, get(&mut disk, 5)?];
     let failures = disk.failures();
-    Ok(AfterWrite {
-        write,
-        first,
-        second,
-        reads: reads(disk),
-        failures,
-    })
+    Ok((write, found, reads(disk), failures))
 }
 
 // Which call fails, whether it reaches the disk, whether the write succeeds, what is read then, and the counts.
@@ -151,59 +100,11 @@ const WRITES: [(u64, bool, bool, u8, u64, u64); 3] = [
 #[test]
 fn drops_a_sector_whose_write_failed(rt: HostRuntime) -> Result<(), Fail> {
     for (n, reaches, write, byte, reads, failures) in WRITES {
-        let expected = AfterWrite {
-            write,
-            first: Some(byte),
-            second: Some(byte),
-            reads,
-            failures,
-        };
         assert_eq!(rt;
             written(&rt, n, reaches)?,
-            expected,
+            (write, [Some(byte), Some(byte)], reads, failures),
             "call {n}, reaches {reaches}"
         );
     }
-    Ok(())
-}
-
-// A sector is written, and synced or not, and the disk stops. What it then holds, and how often it was read before.
-fn left(rt: &HostRuntime, sync: bool) -> Result<(Option<u8>, u64), Fail> {
-    let mut disk = cached(rt, 4, 0, false)?;
-    put(&mut disk, 9, 3)?;
-    get(&mut disk, 9)?;
-    if sync {
-        disk.sync()?;
-    }
-    let inner = disk.close().close();
-    let reads = inner.reads();
-    Ok((get(&mut inner.crash(&[]), 9)?, reads))
-}
-
-#[test]
-fn writes_and_syncs_go_through(rt: HostRuntime) -> Result<(), Fail> {
-    assert_eq!(rt; left(&rt, false)?, (Some(0), 0));
-    assert_eq!(rt; left(&rt, true)?, (Some(3), 0));
-    Ok(())
-}
-
-// What a cache before a device that does not keep its word answers, and the failures in the end.
-fn answers_behind_lies(rt: &HostRuntime) -> Result<([Result<(), DeviceError>; 6], u32, u64), Fail> {
-    match Cached::new(rt.alloc(), Turning::lying(u64::MAX - 1), 3) {
-        Ok(mut cached) => Ok((
-            answers(&mut cached),
-            cached.count(),
-            cached.device().failures(),
-        )),
-        Err((fault, _)) => Err(Fail::from(fault)),
-    }
-}
-
-// The read in between is served by the cache, since the write before it went well.
-#[test]
-fn goes_through_a_device_that_does_not_keep_its_word(rt: HostRuntime) -> Result<(), Fail> {
-    let failed = Err(DeviceError);
-    let expected = [failed, Ok(()), failed, Ok(()), Ok(()), failed];
-    assert_eq!(rt; answers_behind_lies(&rt)?, (expected, 64, u64::MAX));
     Ok(())
 }

@@ -1,6 +1,5 @@
 // A device over a file of the system.
 use crate::bytes::{get, put};
-use crate::fake_file::Torn;
 use crate::folders::fresh;
 use cube_model::Fault;
 use file_device::{Existing, FileDisk, Host, OpenError, Unread};
@@ -59,48 +58,12 @@ fn taken(rt: &HostRuntime, path: &str, sectors: u32) -> Result<(u32, Option<u8>)
 fn takes_a_file_of_its_length_as_it_is(rt: HostRuntime) -> Result<(), Fail> {
     fresh(&rt, "takes")?;
     filled(&rt, "takes/disk", 64)?;
-    assert_eq!(rt; taken(&rt, "takes/disk", 64)?, (64, Some(1)));
+    let found = [
+        taken(&rt, "takes/disk", 64)?,
+        taken(&rt, "takes/other", 66)?,
+    ];
+    assert_eq!(rt; found, [(64, Some(1)), (66, Some(0))]);
     Ok(fs::remove_dir_all(&rt, "takes")?)
-}
-
-#[test]
-fn makes_a_file_of_zeros(rt: HostRuntime) -> Result<(), Fail> {
-    fresh(&rt, "zeros")?;
-    assert_eq!(rt; taken(&rt, "zeros/disk", 66)?, (66, Some(0)));
-    assert_eq!(rt; fs::metadata(&rt, "zeros/disk")?.len(), 33_792);
-    Ok(fs::remove_dir_all(&rt, "zeros")?)
-}
-
-// The first sector, one in the middle and the last of a device of 2 GB.
-const FAR: [u32; 3] = [0, 2_097_152, 4_194_303];
-
-// What these sectors of a device give.
-fn far(disk: &mut Disk) -> Result<[Option<u8>; 3], Fail> {
-    Ok([get(disk, FAR[0])?, get(disk, FAR[1])?, get(disk, FAR[2])?])
-}
-
-// Makes a device of 2 GB of which the first sector and the last are written.
-fn sparse(rt: &HostRuntime, path: &str) -> Result<(), Fail> {
-    let mut disk = Disk::make(rt, path, 4_194_304, Existing::Any)?.disk;
-    put(&mut disk, FAR[0], 1)?;
-    put(&mut disk, FAR[2], 2)?;
-    Ok(disk.sync()?)
-}
-
-// How many sectors a device has, and what those give.
-fn found_far(rt: &HostRuntime, path: &str) -> Result<(u32, [Option<u8>; 3]), Fail> {
-    let mut disk = Disk::open(rt, path)?;
-    let bytes = far(&mut disk)?;
-    Ok((disk.count(), bytes))
-}
-
-#[test]
-fn keeps_what_is_written_at_the_ends_of_2_gb(rt: HostRuntime) -> Result<(), Fail> {
-    fresh(&rt, "sparse")?;
-    sparse(&rt, "sparse/disk")?;
-    let found = found_far(&rt, "sparse/disk")?;
-    assert_eq!(rt; found, (4_194_304, [Some(1), Some(0), Some(2)]));
-    Ok(fs::remove_dir_all(&rt, "sparse")?)
 }
 
 fn sectors_or_fault(disk: Result<Disk, OpenError>) -> Result<u32, Fault> {
@@ -193,21 +156,4 @@ fn reads_what_is_left_of_a_file_that_was_cut(rt: HostRuntime) -> Result<(), Fail
         fs::remove_file(&rt, "cut/disk")?;
     }
     Ok(fs::remove_dir_all(&rt, "cut")?)
-}
-
-// Whether a read, a write, a sync, a read and a write succeed where syncs fail, and the failures.
-fn torn(writes: bool) -> ([bool; 5], u64) {
-    let mut disk: FileDisk<Host<Torn>, Unread> = FileDisk::over(Host::new(Torn { writes }), 64);
-    let read = get(&mut disk, 0).is_ok();
-    let write = put(&mut disk, 0, 1).is_ok();
-    let sync = disk.sync().is_ok();
-    let again = get(&mut disk, 0).is_ok();
-    let last = put(&mut disk, 0, 1).is_ok();
-    ([read, write, sync, again, last], disk.failures())
-}
-
-#[test]
-fn fails_each_call_after_a_failed_write_or_sync(rt: HostRuntime) {
-    assert_eq!(rt; torn(false), ([true, false, false, false, false], 4));
-    assert_eq!(rt; torn(true), ([true, true, false, false, false], 3));
 }

@@ -1,4 +1,4 @@
-//! Tests of `sector_device`, `sector_cache` and `file_device`: the memory disk, the fuse, the cache, and the device over a file.
+//! Tests of `sector_device`, `sector_cache` and `file_device`: the memory disk, the cache, and the device over a file.
 #![tactic(auto)]
 
 #[cfg(test)]
@@ -6,22 +6,14 @@ mod bytes;
 #[cfg(test)]
 mod cache;
 #[cfg(test)]
-mod calls;
-#[cfg(test)]
 mod fake_file;
 #[cfg(test)]
 mod file;
 #[cfg(test)]
 mod folders;
 #[cfg(test)]
-mod fuse;
-#[cfg(test)]
-mod length;
-#[cfg(test)]
 mod locks;
 #[cfg(test)]
 mod memory;
 #[cfg(test)]
 mod runs;
-#[cfg(test)]
-mod said;

@@ -1,11 +1,10 @@
-// Neighbouring sectors of a device over a file, which one call of the system reads or writes.
+// Neighbouring sectors of a device over a file, which one call of the system reads or writes, and calls that fail.
 use crate::bytes::{get, get_each, get_four, put, put_four};
-use crate::fake_file::{Counting, Numbered};
-use crate::folders::fresh;
-use file_device::{Existing, FileDisk, Host, Unread};
+use crate::fake_file::{Calls, Numbered};
+use file_device::{FileDisk, Host, Unread};
 use sector_device::Sectors;
 use std::cell::Cell;
-use std::fs::{self, File};
+use std::io;
 use std::test::Fail;
 
 type Disk<'a> = FileDisk<Host<Numbered<'a>>, Unread>;
@@ -13,24 +12,25 @@ type Disk<'a> = FileDisk<Host<Numbered<'a>>, Unread>;
 // No sector of the tests.
 const NONE: u64 = 4_294_967_295;
 
-// A device of 1,000 sectors.
-fn disk<'a>(piece: usize, bad: u64, reads: &'a Cell<u64>) -> Disk<'a> {
+const NO_CALL: Calls = Calls {
+    reads: 0,
+    writes: 0,
+};
+
+// A device of 1,000 sectors over a file that gives at most so many bytes in a call, and cannot read a sector.
+fn disk<'a>(piece: usize, bad: u64, calls: &'a Cell<Calls>) -> Disk<'a> {
     let file = Numbered {
         piece,
         bad,
-        reads,
-        written: Cell::new(None),
+        writes: true,
+        syncs: true,
+        calls,
     };
     FileDisk::over(Host::new(file), 1000)
 }
 
 // What came of a read of four sectors, the failures, and the calls of the system.
-#[derive(Clone, Copy, Debug, PartialEq)]
-struct OfRead {
-    sectors: Option<[Option<u8>; 4]>,
-    failures: u64,
-    calls: u64,
-}
+type OfRead = (Option<[Option<u8>; 4]>, u64, u64);
 
 // How many bytes the system gives at most in a call, a sector that it cannot read, the first of four, whether they are
 // read at once, what they are, the failures, and the calls of the system.
@@ -52,31 +52,23 @@ const READINGS: [(usize, u64, u32, bool, Option<[u8; 4]>, u64, u64); 6] = [
 ];
 
 fn reading(piece: usize, bad: u64, first: u32, at_once: bool) -> OfRead {
-    let reads = Cell::new(0);
-    let mut disk = disk(piece, bad, &reads);
+    let calls = Cell::new(NO_CALL);
+    let mut disk = disk(piece, bad, &calls);
     let sectors = if at_once {
-        get_four(&mut disk, first)
+        get_four(&mut disk, first).ok()
     } else {
-        get_each(&mut disk, first)
+        get_each(&mut disk, first).ok()
     };
-    OfRead {
-        sectors: sectors.ok(),
-        failures: disk.failures(),
-        calls: reads.get(),
-    }
+    (sectors, disk.failures(), calls.get().reads)
 }
 
 #[test]
 fn reads_a_run_in_one_call(rt: HostRuntime) {
     for (piece, bad, first, at_once, bytes, failures, calls) in READINGS {
-        let expected = OfRead {
-            sectors: bytes.map(|four| four.map(|byte| Some(byte))),
-            failures,
-            calls,
-        };
+        let sectors = bytes.map(|four| four.map(|byte| Some(byte)));
         assert_eq!(rt;
             reading(piece, bad, first, at_once),
-            expected,
+            (sectors, failures, calls),
             "from {first} on, at once {at_once}, bad {bad}"
         );
     }
@@ -84,17 +76,14 @@ fn reads_a_run_in_one_call(rt: HostRuntime) {
 
 // The calls of the system after a sector was written, after four at once, and after a sync.
 fn writes() -> Result<[u64; 3], Fail> {
-    let writes = Cell::new(0);
-    let mut disk: FileDisk<Host<Counting<'_>>, Unread> = FileDisk::over(
-        Host::new(Counting { writes: &writes }),
-        1000,
-    );
+    let calls = Cell::new(NO_CALL);
+    let mut disk = disk(usize::MAX, NONE, &calls);
     put(&mut disk, 5, 1)?;
-    let one = writes.get();
+    let one = calls.get().writes;
     put_four(&mut disk, 6, [1, 2, 3, 4])?;
-    let four = writes.get();
+    let four = calls.get().writes;
     disk.sync()?;
-    Ok([one, four, writes.get()])
+    Ok([one, four, calls.get().writes])
 }
 
 #[test]
@@ -103,22 +92,32 @@ fn writes_a_run_in_one_call_at_once(rt: HostRuntime) -> Result<(), Fail> {
     Ok(())
 }
 
-// Four sectors are written at once, and read one by one and at once, by the device and by one that opens the file again.
-fn round(rt: &HostRuntime, path: &str) -> Result<[[Option<u8>; 4]; 3], Fail> {
-    let before = {
-        let mut disk = FileDisk::<Host<File>, Unread>::make(rt, path, 64, Existing::Any)?.disk;
-        put_four(&mut disk, 60, [7, 8, 9, 10])?;
-        put(&mut disk, 62, 1)?;
-        [get_each(&mut disk, 60)?, get_four(&mut disk, 60)?]
+// Whether a read, a write, a sync, a read and a write succeed where syncs fail, the failures, and what the system
+// said of the last.
+type Torn = ([bool; 5], u64, Option<io::ErrorKind>);
+
+fn torn(writes: bool) -> Torn {
+    let calls = Cell::new(NO_CALL);
+    let file = Numbered {
+        piece: usize::MAX,
+        bad: NONE,
+        writes,
+        syncs: false,
+        calls: &calls,
     };
-    let mut again = FileDisk::<Host<File>, Unread>::open(rt, path)?;
-    Ok([before[0], before[1], get_four(&mut again, 60)?])
+    let mut disk: Disk<'_> = FileDisk::over(Host::new(file), 64);
+    let read = get(&mut disk, 0).is_ok();
+    let write = put(&mut disk, 0, 1).is_ok();
+    let sync = disk.sync().is_ok();
+    let again = get(&mut disk, 0).is_ok();
+    let last = put(&mut disk, 0, 1).is_ok();
+    let said = disk.file().failure().map(|error| error.kind());
+    ([read, write, sync, again, last], disk.failures(), said)
 }
 
 #[test]
-fn reads_what_was_written(rt: HostRuntime) -> Result<(), Fail> {
-    fresh(&rt, "runs")?;
-    let four = [Some(7), Some(8), Some(1), Some(10)];
-    assert_eq!(rt; round(&rt, "runs/disk")?, [four, four, four]);
-    Ok(fs::remove_dir_all(&rt, "runs")?)
+fn fails_each_call_after_a_failed_write_or_sync(rt: HostRuntime) {
+    let other = Some(io::ErrorKind::Other);
+    assert_eq!(rt; torn(false), ([true, false, false, false, false], 4, other));
+    assert_eq!(rt; torn(true), ([true, true, false, false, false], 3, other));
 }

@@ -1,5 +1,2 @@
-//! Tests of dictionaries, hierarchies and dimensions.
-mod limits;
-mod parts;
+//! Tests of dimensions.
 mod reads;
-mod star;

@@ -1,5 +1,4 @@
-//! Tests of dimensions as they stand on disk: bytes by hand, each broken rule, and rows beside the limits.
+//! Tests of dimensions as they are on disk: bytes by hand, and a broken rule.
 mod broken;
 mod fixture;
-mod limits;
 mod spelled;

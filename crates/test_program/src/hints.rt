@@ -1,7 +1,200 @@
-//! Tests of what is said after a refusal.
-mod all_names;
-mod limits;
-mod loads;
-mod long_texts;
-mod names;
-mod texts;
+//! What is said after a refusal that no page shows, and the names that hints know.
+use cube_model::{Axis, Fault};
+use query_words::read_query;
+use sample_star::{Pieces, TABLES, whole};
+use std::alloc::Global;
+use std::test::Fail;
+use table_hints::{Cut, Table, TableFiles, load_hint, table_hint};
+use word_hints::{Known, nearest};
+
+/// The sample tables.
+#[derive(Clone, Copy)]
+struct Sample;
+
+impl TableFiles for Sample {
+    type Reader = Pieces<'static>;
+
+    fn path(&self, table: Table) -> &str {
+        match table {
+            Table::Customer => "customer.tbl",
+            Table::Supplier => "supplier.tbl",
+            Table::Part => "part.tbl",
+            Table::Date => "date.tbl",
+            Table::Lineorder => "lineorder.tbl",
+        }
+    }
+
+    fn open(&self, table: Table) -> Option<Pieces<'static>> {
+        let text = match table {
+            Table::Customer => TABLES.customer,
+            Table::Supplier => TABLES.supplier,
+            Table::Part => TABLES.part,
+            Table::Date => TABLES.date,
+            Table::Lineorder => TABLES.lineorder,
+        };
+        Some(whole(text))
+    }
+}
+
+/// A fault, of a load the cut of the file and how many batches are there, and what is said.
+type Case = (Fault, Option<(Cut, u32)>, &'static str);
+
+const ONE_EACH: Cut = Cut { first: 1, rows: 1 };
+
+static CASES: [Case; 11] = [
+    (
+        Fault::TooManyRows,
+        None,
+        "a customer, supplier or part table has at most 4194304 rows, and a date table 65535",
+    ),
+    (
+        Fault::TooManyBatches,
+        None,
+        "lineorder.tbl: more than 268435456 lines",
+    ),
+    (
+        Fault::TooManyMembers {
+            axis: Axis::Customer,
+            row: 70_000,
+        },
+        None,
+        "customer.tbl line 70000: the 65536th member of a column, and there may be 65535",
+    ),
+    (
+        Fault::TooManyMembers {
+            axis: Axis::Part,
+            row: 65_536,
+        },
+        None,
+        "part.tbl line 65536: the 65536th member of a column, and there may be 65535",
+    ),
+    (
+        Fault::UnknownCustomer { row: 2 },
+        Some((
+            Cut {
+                first: 1,
+                rows: 65_536,
+            },
+            0,
+        )),
+        "batch 1, line 2 of lineorder.tbl: customer 2 is in no customer row of the warehouse",
+    ),
+    (
+        Fault::UnknownDate { row: 1 },
+        Some((Cut { first: 5, rows: 2 }, 5)),
+        "batch 6, line 3 of lineorder.tbl: date 19971202 is in no date row of the warehouse",
+    ),
+    (
+        Fault::UnknownPart { row: 9 },
+        Some((Cut { first: 1, rows: 9 }, 0)),
+        "nothing",
+    ),
+    (
+        Fault::UnknownSupplier { row: 1 },
+        Some((Cut { first: 3, rows: 1 }, 1)),
+        "nothing",
+    ),
+    (
+        Fault::Gap,
+        Some((Cut { first: 4, rows: 1 }, 1)),
+        "--first 4: the next batch of the warehouse is 2",
+    ),
+    (
+        Fault::TooManyBatches,
+        Some((ONE_EACH, 4096)),
+        "a warehouse has at most 4096 batches; larger ones hold more rows",
+    ),
+    (Fault::Full, Some((ONE_EACH, 1)), "nothing"),
+];
+
+fn hint(alloc: Global, case: &Case) -> Result<Option<String>, Fault> {
+    match case.1 {
+        None => table_hint(alloc, &Sample, case.0),
+        Some((cut, batches)) => load_hint(alloc, &Sample, case.0, cut, batches),
+    }
+}
+
+// Whether just this is said.
+fn is_said(alloc: Global, case: &Case) -> Result<bool, Fault> {
+    match hint(alloc, case)? {
+        None => Ok(case.2 == "nothing"),
+        Some(hint) => Ok(hint.as_str() == case.2),
+    }
+}
+
+#[test]
+fn each_refusal_has_its_line(rt: HostRuntime) -> Result<(), Fail> {
+    for case in &CASES {
+        assert!(rt; is_said(rt.alloc(), case)?, "{}", case.2);
+    }
+    Ok(())
+}
+
+// Whether a name is read where it may be: that of an aggregate before what it is of, but for a count, which is of
+// nothing.
+fn is_read(alloc: Global, known: Known, name: &str) -> Result<bool, Fault> {
+    let (before, after) = match known {
+        Known::Aggregate if name != "count" => ("", ":revenue"),
+        Known::Measure => ("sum:", ""),
+        Known::Ranged => ("", ":1|2"),
+        _ => ("", ""),
+    };
+    let word = format!(in alloc; "{before}{name}{after}")?;
+    let word = word.as_str();
+    let count = Some("count");
+    let read = match known {
+        Known::Query => read_query(alloc, Some(word), None, None, None, &[]),
+        Known::Set => read_query(alloc, None, Some(word), None, count, &[]),
+        Known::Attribute => read_query(alloc, None, None, Some(word), count, &[]),
+        Known::Aggregate | Known::Measure => read_query(alloc, None, None, None, Some(word), &[]),
+        Known::Ranged => read_query(alloc, None, None, None, count, &[word]),
+    };
+    Ok(read.is_ok())
+}
+
+// Whether names are so many, no two of them equal, and each is read.
+fn are_known(alloc: Global, known: Known, count: usize) -> Result<bool, Fault> {
+    let names = known.names();
+    let mut right = names.len() == count;
+    for (place, name) in names.iter().enumerate() {
+        let again = names.iter().take(place).any(|other| other == name);
+        right = right && !again && is_read(alloc, known, name)?;
+    }
+    Ok(right)
+}
+
+static COUNTS: [(Known, usize); 6] = [
+    (Known::Query, 13),
+    (Known::Set, 3),
+    (Known::Attribute, 14),
+    (Known::Aggregate, 5),
+    (Known::Measure, 6),
+    (Known::Ranged, 16),
+];
+
+#[test]
+fn all_names_are_known(rt: HostRuntime) -> Result<(), Fail> {
+    for (known, count) in COUNTS {
+        assert!(rt; are_known(rt.alloc(), known, count)?, "{known:?}");
+    }
+    Ok(())
+}
+
+static NEAR: [(&str, Option<&str>); 7] = [
+    ("kitten", Some("sitting")),
+    ("kit", Some("sin")),
+    ("dog", None),
+    ("sit", Some("sin")),
+    ("sin", Some("sin")),
+    ("", None),
+    ("s", None),
+];
+
+#[test]
+fn the_nearest_name_is_found(rt: HostRuntime) -> Result<(), Fail> {
+    for (word, want) in NEAR {
+        let found = nearest(rt.alloc(), word, &["sin", "sitting"])?;
+        assert_eq!(rt; found, want);
+    }
+    Ok(())
+}

@@ -1,5 +1,4 @@
 //! Tests of the jobs on a warehouse: what each writes, and what is stored when a reader, a writer or the device fails.
-mod answers;
 mod failures;
 mod given;
 mod loads;

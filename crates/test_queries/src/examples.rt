@@ -24,9 +24,6 @@ pub const SAMPLE: Example = Example {
     lines: "3|\n",
 };
 
-/// How many sample rows there are.
-pub static OVER_SAMPLE: Example = SAMPLE;
-
 /// Three brands whose texts begin alike.
 const BRANDS: Star<'static> = Star {
     parts: &[
@@ -75,6 +72,126 @@ const PROFITS: Asked<'static> = Asked {
 };
 
 const HALF: u64 = 4_611_686_018_427_387_904;
+
+/// Queries that are not proper.
+pub static IMPROPER: [Asked<'static>; 4] = [
+    Asked {
+        columns: &[Attr::DateYear],
+        aggregates: &[],
+        ..EVERY_ROW
+    },
+    Asked {
+        columns: &[
+            Attr::CustomerCity,
+            Attr::CustomerNation,
+            Attr::CustomerRegion,
+            Attr::SupplierCity,
+            Attr::SupplierNation,
+            Attr::SupplierRegion,
+            Attr::DateYear,
+        ],
+        ..EVERY_ROW
+    },
+    Asked {
+        columns: &[Attr::DateYear, Attr::DateYear],
+        ..EVERY_ROW
+    },
+    Asked {
+        columns: &[Attr::DateYear],
+        conditions: &[Condition::OneOf(Attr::DateYear, &[])],
+        ..EVERY_ROW
+    },
+];
+
+/// An order by year, and then falling by an aggregate.
+const BY_YEAR: Asked<'static> = Asked {
+    columns: &[Attr::CustomerRegion, Attr::DateYear],
+    order: Some(Order {
+        column: 1,
+        aggregate: 0,
+    }),
+    ..EVERY_ROW
+};
+
+/// Three customers, of whom the third lives in a city of suppliers.
+const MORE_CUSTOMERS: Star<'static> = Star {
+    customers: &[
+        FIRST_CUSTOMER,
+        Location {
+            key: 2,
+            city: "UNITED ST3",
+            nation: "UNITED STATES",
+            region: "AMERICA",
+        },
+        Location {
+            key: 3,
+            city: "UNITED KI5",
+            ..FIRST_CUSTOMER
+        },
+    ],
+    ..STAR
+};
+
+/// Two regions: of one the name is the empty text, and that of the other begins as the word for all.
+const ODD_REGIONS: Star<'static> = Star {
+    customers: &[
+        Location {
+            region: "",
+            ..FIRST_CUSTOMER
+        },
+        Location {
+            key: 2,
+            city: "",
+            nation: "ALLEGORY",
+            region: "ALLIED",
+        },
+    ],
+    ..STAR
+};
+
+/// A cube, or a rollup, by region.
+const BY_REGION: Asked<'static> = Asked {
+    kind: Kind::Cube,
+    columns: &[Attr::CustomerRegion],
+    ..EVERY_ROW
+};
+
+/// A cube of six columns, as many as there may be.
+pub static SIX_COLUMNS: Asked<'static> = Asked {
+    kind: Kind::Cube,
+    columns: &[
+        Attr::CustomerCity,
+        Attr::CustomerRegion,
+        Attr::SupplierCity,
+        Attr::PartBrand1,
+        Attr::DateKey,
+        Attr::DateYear,
+    ],
+    ..EVERY_ROW
+};
+
+/// Rows of which all but the first have a key that no row has, each in another dimension.
+const STRANGERS: [Fact<'static>; 5] = [
+    FIRST_FACT,
+    Fact {
+        custkey: 9,
+        quantity: 18,
+        ..FIRST_FACT
+    },
+    Fact {
+        suppkey: 9,
+        ..FIRST_FACT
+    },
+    Fact {
+        partkey: 9,
+        quantity: 20,
+        ..FIRST_FACT
+    },
+    Fact {
+        orderdate: 19990101,
+        ..FIRST_FACT
+    },
+];
 
 /// Plain queries with no average and no order.
 pub static PLAIN: [Example; 5] = [
@@ -158,36 +275,6 @@ pub static BOUNDARIES: [Example; 4] = [
     },
 ];
 
-/// Queries that are not proper.
-pub static IMPROPER: [Asked<'static>; 4] = [
-    Asked {
-        columns: &[Attr::DateYear],
-        aggregates: &[],
-        ..EVERY_ROW
-    },
-    Asked {
-        columns: &[
-            Attr::CustomerCity,
-            Attr::CustomerNation,
-            Attr::CustomerRegion,
-            Attr::SupplierCity,
-            Attr::SupplierNation,
-            Attr::SupplierRegion,
-            Attr::DateYear,
-        ],
-        ..EVERY_ROW
-    },
-    Asked {
-        columns: &[Attr::DateYear, Attr::DateYear],
-        ..EVERY_ROW
-    },
-    Asked {
-        columns: &[Attr::DateYear],
-        conditions: &[Condition::OneOf(Attr::DateYear, &[])],
-        ..EVERY_ROW
-    },
-];
-
 /// Averages, in lowest terms.
 pub static AVERAGED: [Example; 3] = [
     Example {
@@ -225,35 +312,6 @@ pub static AVERAGED: [Example; 3] = [
         ..SAMPLE
     },
 ];
-
-/// An order by year, and then falling by an aggregate.
-const BY_YEAR: Asked<'static> = Asked {
-    columns: &[Attr::CustomerRegion, Attr::DateYear],
-    order: Some(Order {
-        column: 1,
-        aggregate: 0,
-    }),
-    ..EVERY_ROW
-};
-
-/// Three customers, of whom the third lives in a city of suppliers.
-const MORE_CUSTOMERS: Star<'static> = Star {
-    customers: &[
-        FIRST_CUSTOMER,
-        Location {
-            key: 2,
-            city: "UNITED ST3",
-            nation: "UNITED STATES",
-            region: "AMERICA",
-        },
-        Location {
-            key: 3,
-            city: "UNITED KI5",
-            ..FIRST_CUSTOMER
-        },
-    ],
-    ..STAR
-};
 
 /// Queries with an order.
 pub static ORDERED: [Example; 3] = [
@@ -301,30 +359,6 @@ pub static ORDERED: [Example; 3] = [
     },
 ];
 
-/// Two regions: of one the name is the empty text, and that of the other begins as the word for all.
-const ODD_REGIONS: Star<'static> = Star {
-    customers: &[
-        Location {
-            region: "",
-            ..FIRST_CUSTOMER
-        },
-        Location {
-            key: 2,
-            city: "",
-            nation: "ALLEGORY",
-            region: "ALLIED",
-        },
-    ],
-    ..STAR
-};
-
-/// A cube, or a rollup, by region.
-const BY_REGION: Asked<'static> = Asked {
-    kind: Kind::Cube,
-    columns: &[Attr::CustomerRegion],
-    ..EVERY_ROW
-};
-
 /// Cubes and rollups.
 pub static COARSER: [Example; 5] = [
     Example {
@@ -360,7 +394,8 @@ pub static COARSER: [Example; 5] = [
     },
 ];
 
-/// Cubes and rollups whose coarser groups are no sums of finer ones, or reach the limit of a sum, or stand beside odd texts.
+/// Cubes and rollups whose coarser groups are no sums of finer ones, or reach the limit of a sum, or stand beside
+/// odd texts.
 pub static COARSER_BOUNDARIES: [Example; 4] = [
     Example {
         star: ODD_REGIONS,
@@ -413,16 +448,21 @@ pub static COARSER_BOUNDARIES: [Example; 4] = [
     },
 ];
 
-/// A cube of six columns, as many as there may be.
-pub static SIX_COLUMNS: Asked<'static> = Asked {
-    kind: Kind::Cube,
-    columns: &[
-        Attr::CustomerCity,
-        Attr::CustomerRegion,
-        Attr::SupplierCity,
-        Attr::PartBrand1,
-        Attr::DateKey,
-        Attr::DateYear,
-    ],
-    ..EVERY_ROW
-};
+/// Such queries look at no dimension: rows of unknown keys count as the others do.
+pub static UNKNOWN_KEYS: [Example; 2] = [
+    Example {
+        facts: &STRANGERS,
+        lines: "5|\n",
+        ..SAMPLE
+    },
+    Example {
+        facts: &STRANGERS,
+        asked: Asked {
+            conditions: &[Condition::Quantity(18, 255)],
+            aggregates: &[Agg::Count, Agg::Sum(Measure::Quantity)],
+            ..EVERY_ROW
+        },
+        lines: "2|38|\n",
+        ..SAMPLE
+    },
+];

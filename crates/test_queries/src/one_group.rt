@@ -1,16 +1,11 @@
-//! Queries of one group over numbered rows: no column, and no condition on a dimension. Their answers were worked out by
-//! hand.
+//! Queries of one group over numbered rows: no column, and no condition on a dimension. Their answers were worked out
+//! by hand.
 
-use super::examples::{Example, SAMPLE};
-use super::printing::has_lines;
-use super::running::{agreed_answer, is_as_worked};
-use super::two_batches::answer_by_halves;
-use cube_model::{Agg, DimRows, Fault, LineOrder, Measure, Query};
-use sample_star::{
-    Asked, Condition, EVERY_ROW, FIRST_FACT, Fact, STAR, dim_rows, line_order, query,
-};
+use super::running::{dims_of, is_answered};
+use cube_model::{Agg, Fault, LineOrder, Measure};
+use dimensions::Dims;
+use sample_star::{Asked, Condition, EVERY_ROW, FIRST_FACT, Fact, STAR, line_order};
 use std::alloc::Global;
-use std::process::Abort;
 use std::test::Fail;
 
 /// The rows with the numbers from 0 on. Number n has a quantity of n, a discount of n modulo 5, a price of 1000 - 10 n,
@@ -67,7 +62,6 @@ static LISTS: [&[Agg]; 4] = [
 ];
 
 /// So many numbered rows, conditions on them, and the answers to the four queries.
-#[derive(Clone, Copy, Debug)]
 struct Worked {
     count: u8,
     conditions: &'static [Condition<'static>],
@@ -79,7 +73,7 @@ const NO_LINES: [&str; 4] = ["", "", "", ""];
 /// Where c rows are selected whose numbers add up to s, the sums are: quantities s, prices 1000 c - 10 s, revenues 7 s,
 /// costs 200 c - 2 s, profits 9 s - 200 c. The lines below say which numbers are selected, and then s. Prices times
 /// discounts are added one by one, or by fives: the numbers 5 k to 5 k + 4 give 9700 - 500 k.
-static WHOLE: [Worked; 6] = [
+static WORKED: [Worked; 20] = [
     Worked {
         count: 0,
         conditions: &[],
@@ -138,9 +132,6 @@ static WHOLE: [Worked; 6] = [
             "32/1|1340/1|88/1|\n",
         ],
     },
-];
-
-static CHOSEN: [Worked; 7] = [
     // 20 to 32: 338. Two fives give 14900, and 690 and 1360 come behind them.
     Worked {
         count: 33,
@@ -218,9 +209,6 @@ static CHOSEN: [Worked; 7] = [
             "55/2|1200/1|95/2|\n",
         ],
     },
-];
-
-static FEW: [Worked; 7] = [
     // 32 alone, behind the first 32 rows.
     Worked {
         count: 33,
@@ -276,127 +264,36 @@ static FEW: [Worked; 7] = [
     },
 ];
 
-/// Rows of which all but the first have a key that no row has, each in another dimension.
-const STRANGERS: [Fact<'static>; 5] = [
-    FIRST_FACT,
-    Fact {
-        custkey: 9,
-        quantity: 18,
-        ..FIRST_FACT
-    },
-    Fact {
-        suppkey: 9,
-        ..FIRST_FACT
-    },
-    Fact {
-        partkey: 9,
-        quantity: 20,
-        ..FIRST_FACT
-    },
-    Fact {
-        orderdate: 19990101,
-        ..FIRST_FACT
-    },
-];
-
-/// Such queries look at no dimension: rows of unknown keys count as the others do.
-static UNKNOWN_KEYS: [Example; 2] = [
-    Example {
-        facts: &STRANGERS,
-        lines: "5|\n",
-        ..SAMPLE
-    },
-    Example {
-        facts: &STRANGERS,
-        asked: Asked {
-            conditions: &[Condition::Quantity(18, 255)],
-            aggregates: &[Agg::Count, Agg::Sum(Measure::Quantity)],
-            ..EVERY_ROW
-        },
-        lines: "2|38|\n",
-        ..SAMPLE
-    },
-];
-
-// Whether all ways agree on an answer, and its lines are those that were worked out.
-fn is_agreed_on(
-    alloc: Global,
-    dimensions: &DimRows,
-    rows: &[LineOrder],
-    query: &Query,
-    lines: &str,
-) -> Result<bool, Fault> {
-    let Some(answer) = agreed_answer(alloc, dimensions, rows, query)? else {
-        return Ok(false);
-    };
-    let by_halves = answer_by_halves(alloc, dimensions, rows, query)?;
-    Ok(by_halves == answer && has_lines(alloc, &answer, lines)?)
-}
-
-// The same of a query over the sample dimensions.
-fn is_as_told(
-    alloc: Global,
-    rows: &[LineOrder],
-    asked: &Asked<'_>,
-    lines: &str,
-) -> Result<bool, Fault> {
-    let dimensions = dim_rows(alloc, &STAR)?;
-    is_as_told_over(alloc, &dimensions, rows, asked, lines)
-}
-
-fn is_as_told_over(
-    alloc: Global,
-    dimensions: &DimRows,
-    rows: &[LineOrder],
-    asked: &Asked<'_>,
-    lines: &str,
-) -> Result<bool, Fault> {
-    let query = query(alloc, asked)?;
-    is_agreed_on(alloc, dimensions, rows, &query, lines)
-}
-
 // Whether the answers to the four queries are those that were worked out.
-fn are_as_worked(alloc: Global, worked: &Worked) -> Result<bool, Fault> {
-    let rows = numbered(alloc, worked.count)?;
+fn are_answered(
+    alloc: Global,
+    dims: &Dims,
+    rows: &[LineOrder],
+    worked: &Worked,
+) -> Result<bool, Fault> {
     for place in 0..4 {
         let asked = Asked {
             conditions: worked.conditions,
             aggregates: LISTS[place],
             ..EVERY_ROW
         };
-        if !is_as_told(alloc, rows.as_slice(), &asked, worked.lines[place])? {
+        if !is_answered(alloc, dims, rows, &asked, worked.lines[place])? {
             return Ok(false);
         }
     }
     Ok(true)
 }
 
-fn all_are_as_worked(rt: &impl Abort, alloc: Global, table: &[Worked]) -> Result<(), Fail> {
-    for worked in table {
-        assert!(rt; are_as_worked(alloc, worked)?, "{worked:?}");
-    }
-    Ok(())
+fn are_as_worked(alloc: Global, dims: &Dims, worked: &Worked) -> Result<bool, Fault> {
+    let rows = numbered(alloc, worked.count)?;
+    are_answered(alloc, dims, rows.as_slice(), worked)
 }
 
 #[test]
-fn answers_over_all_rows_are_as_worked(rt: HostRuntime) -> Result<(), Fail> {
-    all_are_as_worked(&rt, rt.alloc(), &WHOLE)
-}
-
-#[test]
-fn answers_over_chosen_rows_are_as_worked(rt: HostRuntime) -> Result<(), Fail> {
-    all_are_as_worked(&rt, rt.alloc(), &CHOSEN)
-}
-
-#[test]
-fn answers_over_one_row_or_none_are_as_worked(rt: HostRuntime) -> Result<(), Fail> {
-    all_are_as_worked(&rt, rt.alloc(), &FEW)
-}
-
-#[test]
-fn rows_of_unknown_keys_count(rt: HostRuntime) -> Result<(), Fail> {
-    for example in &UNKNOWN_KEYS {
-        assert!(rt; is_as_worked(rt.alloc(), example)?, "{:?}", example.asked);
+fn answers_over_numbered_rows_are_as_worked(rt: HostRuntime) -> Result<(), Fail> {
+    let dims = dims_of(rt.alloc(), &STAR)?;
+    for (place, worked) in WORKED.iter().enumerate() {
+        assert!(rt; are_as_worked(rt.alloc(), &dims, worked)?, "case {place}");
     }
     Ok(())
 }

@@ -1,4 +1,4 @@
-//! Free sectors: the first fit, many extents, and memory that is refused.
+//! Free sectors: the first fit.
 ghost use Rattle.std.specs.Prelude.{◌≡◌, ℕ, ◌<◌, IfSome};
 ghost use Rattle.extents.specs.Extents.{Holds, IsInRange};
 ghost use Rattle.extents.specs.Runs.{IsFree};
@@ -56,42 +56,17 @@ fn takes_the_first_fit(rt: HostRuntime) -> Result<(), Fail> {
     Ok(())
 }
 
-// What comes of giving back one sector, and the sector that is taken then.
-fn given_back(alloc: Global) -> Result<(Option<Extent>, Result<(), Fault>, Option<Extent>), Fault> {
+// What is answered after the first sectors that were taken are given back, and by a copy that was made before.
+fn given_back(alloc: Global) -> Result<(Option<Extent>, Option<Extent>), Fault> {
     let mut free = in_part_used(alloc)?;
-    let first = free.take(1)?;
-    let second = taken(&mut free, 1);
-    let mut free = free.copy()?;
-    let given = free.give_back(first);
-    Ok((second, given, taken(&mut free, 1)))
+    let mut copied = free.copy()?;
+    let first = free.take(2)?;
+    free.give_back(first)?;
+    Ok((taken(&mut free, 2), taken(&mut copied, 2)))
 }
 
 #[test]
-fn keeps_its_sectors_where_memory_is_refused(rt: HostRuntime) {
-    if let Ok((second, given, third)) = given_back(rt.alloc()) {
-        let want = match given {
-            Ok(()) => (Ok(()), Some(extent(3, 1))),
-            Err(_) => (Err(Fault::Memory), Some(extent(7, 1))),
-        };
-        assert_eq!(rt; second, Some(extent(4, 1)));
-        assert_eq!(rt; (given, third), want);
-    }
-}
-
-// Every other one of so many sectors.
-fn every_other(alloc: Global) -> Result<Vec<Extent>, Fault> {
-    let mut used = Vec::new(alloc);
-    for i in 0..65_536 {
-        used.push(extent(131_072 - 2 * i, 1))?;
-    }
-    Ok(used)
-}
-
-#[test]
-fn holds_many_extents(rt: HostRuntime) -> Result<(), Fail> {
-    let used = every_other(rt.alloc())?;
-    let mut free = Free::from_used(rt.alloc(), 131_074, &used)?;
-    let found = [taken(&mut free, 2), taken(&mut free, 1)];
-    assert_eq!(rt; found, [None, Some(extent(3, 1))]);
-    Ok(())
+fn takes_again_what_was_given_back(rt: HostRuntime) {
+    let three = Some(extent(3, 2));
+    assert_eq!(rt; given_back(rt.alloc()), Ok((three, three)));
 }

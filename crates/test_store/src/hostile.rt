@@ -1,6 +1,5 @@
 // Disks that keep not all rules of the layout.
 use crate::planted::{CATALOGUE, catalogue, superblock, write};
-use crate::steps::opened;
 use cube_model::Fault;
 use object_store::Store;
 use sector_device::{MemDisk, Sectors};
@@ -38,20 +37,11 @@ fn refusal_of(alloc: Global, image: &Image) -> Result<Option<Fault>, Fault> {
     Ok(refusal(alloc, disk))
 }
 
-static SOUND: [Image; 3] = [
+// Images, of which the first three keep the rules.
+static IMAGES: [Image; 18] = [
     (&[], 0, 0, 0),
     (&[(1, 2, 1), (2, 3, 3584), (9, 11, 27136)], 0, 0, 0),
     (&[(0, 11, 512), (4_294_967_295, 9, 512)], 0, 0, 0),
-];
-
-#[test]
-fn opens_what_keeps_the_rules(rt: HostRuntime) {
-    for (i, image) in SOUND.iter().enumerate() {
-        assert_eq!(rt; refusal_of(rt.alloc(), image), Ok(None), "image {i}");
-    }
-}
-
-static BROKEN: [Image; 15] = [
     // Two objects share a sector.
     (&[(1, 4, 600), (2, 5, 10)], 0, 0, 0),
     (&[(1, 4, 10), (2, 4, 10)], 0, 0, 0),
@@ -77,12 +67,9 @@ static BROKEN: [Image; 15] = [
 
 #[test]
 fn refuses_each_broken_rule(rt: HostRuntime) {
-    for (i, image) in BROKEN.iter().enumerate() {
-        assert_eq!(rt;
-            refusal_of(rt.alloc(), image),
-            Ok(Some(Fault::BadLayout)),
-            "image {i}"
-        );
+    for (i, image) in IMAGES.iter().enumerate() {
+        let want = if i < 3 { None } else { Some(Fault::BadLayout) };
+        assert_eq!(rt; refusal_of(rt.alloc(), image), Ok(want), "image {i}");
     }
 }
 
@@ -128,35 +115,5 @@ fn tells_why_there_is_no_store(rt: HostRuntime) {
             refusal_of_headed(rt.alloc(), sectors, even, odd),
             Ok(Some(fault))
         );
-    }
-}
-
-// A disk with superblocks of two generations, the even one with layout 2.
-fn of_generations(alloc: Global, even: u64, odd: u64) -> Result<MemDisk, Fault> {
-    let even = encode(&Super {
-        layout: 2,
-        ..superblock(even, 16)
-    });
-    let mut disk = headed(alloc, 64, &even, &encode(&superblock(odd, 16)))?;
-    write(&mut disk, CATALOGUE, &catalogue(alloc, &[])?)?;
-    Ok(disk)
-}
-
-// The layout that stands on a disk, and whether its root is the one that was written.
-fn layout_on(alloc: Global, disk: MemDisk) -> Result<(u32, bool), Fault> {
-    let store = opened(alloc, disk)?;
-    Ok((store.layout(), store.root() == b"root".as_slice()))
-}
-
-fn newer_layout(alloc: Global, even: u64, odd: u64) -> Result<(u32, bool), Fault> {
-    let disk = of_generations(alloc, even, odd)?;
-    layout_on(alloc, disk)
-}
-
-// The newer superblock stands, in either slot.
-#[test]
-fn opens_the_newer(rt: HostRuntime) {
-    for (even, odd, layout) in [(2, 1, 2), (2, 3, 1), (4, 5, 1), (6, 5, 2)] {
-        assert_eq!(rt; newer_layout(rt.alloc(), even, odd), Ok((layout, true)));
     }
 }

@@ -41,12 +41,3 @@ fn opens_as_many_as_there_may_be(rt: HostRuntime) -> Result<(), Fail> {
     }
     Ok(())
 }
-
-#[test]
-fn refuses_one_more(rt: HostRuntime) -> Result<(), Fail> {
-    match store_of(rt.alloc(), 65_537) {
-        Ok(_) => assert!(rt; false),
-        Err(fault) => assert_eq!(rt; fault, Fault::BadLayout),
-    }
-    Ok(())
-}

@@ -5,8 +5,7 @@ use object_store::Store;
 use sector_device::{DeviceError, MemDisk, Sectors};
 use std::alloc::Global;
 use std::test::Fail;
-use superblock::{Super, decode};
-use wire::Source;
+use superblock::Super;
 
 // A store whose object 1 was replaced so many times.
 fn replaced(alloc: Global, times: u8) -> Result<Store<MemDisk>, Fault> {
@@ -78,15 +77,6 @@ fn takes_the_first_fits(rt: HostRuntime) {
     }
 }
 
-#[test]
-fn reads_back_its_superblocks(rt: HostRuntime) {
-    for (_, generation, slot, catalogue, _, _) in &PLACES {
-        let superblock = superblock(*generation, *catalogue);
-        let written = superblock::encode(&superblock);
-        assert_eq!(rt; decode(&written, *slot), Some(superblock));
-    }
-}
-
 // The catalogue of object 1 of five bytes in sector 2, with an empty root.
 const CATALOGUE: [u8; 28] = [
     0x43, 0x41, 0x54, 0x31, 1, 0, 0, 0, 0, 0, 0, 0, 1, 0, 0, 0, 2, 0, 0, 0, 5, 0, 0, 0, 0, 0, 0, 0,
@@ -98,42 +88,6 @@ fn spells_the_catalogue(rt: HostRuntime) -> Result<(), Fail> {
     assert_eq!(rt; sector(&mut disk, 3), Ok(padded(&CATALOGUE)));
     assert_eq!(rt; sector(&mut disk, 0), Ok([0; 512]));
     Ok(())
-}
-
-// How many objects a store has, the sizes of two of them, its layout, and the length of its root.
-type Told = (u32, Option<u64>, Option<u64>, u32, usize);
-
-fn told(store: &Store<MemDisk>) -> Told {
-    (
-        store.objects(),
-        store.size(1),
-        store.size(2),
-        store.layout(),
-        store.root().len(),
-    )
-}
-
-// Whether object 1 has just these bytes.
-fn has_bytes(alloc: Global, store: &mut Store<MemDisk>, bytes: &[u8]) -> Result<bool, Fault> {
-    match store.get(alloc, 1)? {
-        Some(found) => Ok(found.as_slice() == bytes),
-        None => Ok(false),
-    }
-}
-
-// What a store tells whose object 1 was replaced twice, and whether it has the bytes that came last.
-fn told_and_held(alloc: Global) -> Result<(Told, bool), Fault> {
-    let mut store = replaced(alloc, 2)?;
-    let told = told(&store);
-    Ok((told, has_bytes(alloc, &mut store, b"bbbbb")?))
-}
-
-#[test]
-fn tells_what_it_holds(rt: HostRuntime) {
-    assert_eq!(rt;
-        told_and_held(rt.alloc()),
-        Ok(((1, Some(5), None, 1, 0), true))
-    );
 }
 
 // A place, a number of bytes, and whether an object of 1,025 bytes has them, with the sectors that are read.
@@ -177,32 +131,4 @@ fn first_other_range(alloc: Global) -> Result<Option<(u64, usize)>, Fault> {
 #[test]
 fn reads_the_sectors_of_a_range(rt: HostRuntime) {
     assert_eq!(rt; first_other_range(rt.alloc()), Ok(None));
-}
-
-// Two bytes of a text, where it has them.
-fn part<S: Source>(source: &mut S, id: u32, at: u64) -> Result<Option<[u8; 2]>, Fault> {
-    let Some(total) = source.total(id) else {
-        return Ok(None);
-    };
-    if at > total || total - at < 2 {
-        return Ok(None);
-    }
-    let mut to = [0; 2];
-    source.read_part(id, at, &mut to)?;
-    Ok(Some(to))
-}
-
-#[test]
-fn is_a_source_of_its_objects(rt: HostRuntime) -> Result<(), Fail> {
-    let mut store = replaced(rt.alloc(), 0)?;
-    let cases = [
-        (1, 0, Some(*b"fi")),
-        (1, 3, Some(*b"st")),
-        (1, 4, None),
-        (2, 0, None),
-    ];
-    for (id, at, bytes) in cases {
-        assert_eq!(rt; part(&mut store, id, at), Ok(bytes), "{id} at {at}");
-    }
-    Ok(())
 }

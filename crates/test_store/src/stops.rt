@@ -9,17 +9,13 @@ use std::alloc::Global;
 const OPENING: u64 = 4;
 
 // The answer of a replacement that is stopped after so many calls, and the disk then.
-fn stopped(
-    alloc: Global,
-    calls: u64,
-    reaches: bool,
-) -> Result<(Result<(), Fault>, MemDisk), Fault> {
+fn stopped(alloc: Global, calls: u64) -> Result<(Result<(), Fault>, MemDisk), Fault> {
     let disk = made(alloc, 64, 1, b"first")?.close();
     let fuse = Fuse::new(
         disk,
         OPENING.saturating_add(calls).saturating_add(1),
         true,
-        reaches,
+        false,
     );
     let mut store = opened(alloc, fuse)?;
     let answer = put(alloc, &mut store, 1, b"other");
@@ -64,10 +60,9 @@ static STOPS: [(u64, &[u32], Option<[u8; 5]>); 20] = [
 fn refused_and_left(
     alloc: Global,
     calls: u64,
-    reaches: bool,
     picks: &[u32],
 ) -> Result<(Option<Fault>, Option<[u8; 5]>), Fault> {
-    let (answer, disk) = stopped(alloc, calls, reaches)?;
+    let (answer, disk) = stopped(alloc, calls)?;
     Ok((answer.err(), left(alloc, disk, picks)?))
 }
 
@@ -80,22 +75,9 @@ fn leaves_the_old_or_the_new_object(rt: HostRuntime) {
             None
         };
         assert_eq!(rt;
-            refused_and_left(rt.alloc(), *calls, false, picks),
+            refused_and_left(rt.alloc(), *calls, picks),
             Ok((refused, *object)),
             "after {calls} at {picks:?}"
-        );
-    }
-}
-
-// A write that fails may have reached the disk: the superblock's is then one of two candidates.
-#[test]
-fn leaves_either_where_a_failing_write_reaches(rt: HostRuntime) {
-    let stops = [(0, OLD), (1, OLD), (2, OLD), (3, NEW)];
-    for (calls, object) in stops {
-        assert_eq!(rt;
-            refused_and_left(rt.alloc(), calls, true, &[1, 1, 1]),
-            Ok((Some(Fault::Device), object)),
-            "after {calls}"
         );
     }
 }
@@ -110,48 +92,21 @@ fn unsynced(alloc: Global) -> Result<Store<Fuse<MemDisk>>, Fault> {
     }
 }
 
-// The answers to a read of a byte of object 1, a replacement of it, and a read of the whole.
-type Answers = (
-    Result<bool, Fault>,
-    Result<(), Fault>,
-    Result<Option<Vec<u8>>, Fault>,
-);
+// How it refuses a read, what is found of object 1 where its device is opened again, and what a stop leaves of it then.
+type Found = (Option<Fault>, Option<[u8; 5]>, Option<[u8; 5]>);
 
-// What a store answers to these, in this order.
-fn answers(alloc: Global, store: &mut Store<Fuse<MemDisk>>) -> Answers {
-    let mut to = [0; 1];
-    let read = store.read_at(1, 0, &mut to);
-    let replaced = put(alloc, store, 1, b"third");
-    (read, replaced, store.get(alloc, 1))
-}
-
-// The answers of a store whose last sync failed.
-fn answers_unsynced(alloc: Global) -> Result<Answers, Fault> {
+fn found_again(alloc: Global) -> Result<Found, Fault> {
     let mut store = unsynced(alloc)?;
-    Ok(answers(alloc, &mut store))
-}
-
-#[test]
-fn answers_failed_after_a_failed_sync(rt: HostRuntime) {
-    assert_eq!(rt;
-        answers_unsynced(rt.alloc()),
-        Ok((Err(Fault::Failed), Err(Fault::Failed), Err(Fault::Failed)))
-    );
-}
-
-// The store that is opened on the device of one whose last sync failed.
-fn opened_unsynced(alloc: Global) -> Result<Store<Fuse<MemDisk>>, Fault> {
-    opened(alloc, unsynced(alloc)?.close())
-}
-
-// What is found there of object 1, and what a stop leaves of it then.
-fn found_and_left(alloc: Global) -> Result<(Option<[u8; 5]>, Option<[u8; 5]>), Fault> {
-    let mut store = opened_unsynced(alloc)?;
+    let refused = store.read_at(1, 0, &mut [0; 1]).err();
+    let mut store = opened(alloc, store.close())?;
     let found = five(&mut store)?;
-    Ok((found, left(alloc, store.close().close(), &[0])?))
+    Ok((refused, found, left(alloc, store.close().close(), &[0])?))
 }
 
 #[test]
 fn opens_what_was_not_synced_and_syncs_it(rt: HostRuntime) {
-    assert_eq!(rt; found_and_left(rt.alloc()), Ok((NEW, NEW)));
+    assert_eq!(rt;
+        found_again(rt.alloc()),
+        Ok((Some(Fault::Failed), NEW, NEW))
+    );
 }

@@ -54,14 +54,13 @@ fn sample_tables_are_read(rt: HostRuntime) -> Result<(), Fail> {
 }
 
 /// A text in parts, by table, and why it is refused.
-#[derive(Clone, Copy, Debug)]
 struct Refused {
     table: Table,
     parts: &'static [&'static [u8]],
     fault: Fault,
 }
 
-#[derive(Clone, Copy, Debug)]
+#[derive(Clone, Copy)]
 enum Table {
     Customer,
     Supplier,
@@ -138,12 +137,12 @@ fn outcome(alloc: Global, table: Table, text: &[u8]) -> Result<(), Fault> {
 
 #[test]
 fn first_faults_are_told(rt: HostRuntime) -> Result<(), Fail> {
-    for case in &REFUSED {
+    for (place, case) in REFUSED.iter().enumerate() {
         let text = joined(rt.alloc(), case.parts)?;
         assert_eq!(rt;
             outcome(rt.alloc(), case.table, text.as_slice()),
             Err(case.fault),
-            "{case:?}"
+            "text {place}"
         );
     }
     Ok(())

@@ -1,16 +1,13 @@
 //! Fact rows and the lines that spell them.
 use crate::joined::{FRONT, LONGEST_TEXT, ROW, ZEROS, joined};
-use crate::outcomes::{has_rows, rows_in};
+use crate::outcomes::has_rows;
 use batch_loader::{Lines, read_batch};
-use cube_model::{Fault, LineOrder, RowText};
-use sample_star::{
-    FACTS, FIRST_FACT, Fact, Pieces, TABLES, in_sevens, line_order, line_orders, whole,
-};
+use cube_model::{Fault, LineOrder};
+use sample_star::{FACTS, FIRST_FACT, Fact, Pieces, TABLES, in_sevens, line_orders, whole};
 use std::alloc::Global;
 use std::test::Fail;
 
 /// A text in parts, and its rows.
-#[derive(Clone, Copy, Debug)]
 struct Spelled {
     parts: &'static [&'static [u8]],
     rows: &'static [Fact<'static>],
@@ -57,7 +54,11 @@ const SHORTEST: Fact<'static> = Fact {
     shipmode: "",
 };
 
-static SPELLED: [Spelled; 13] = [
+/// As many characters as a text may have.
+const LONGEST: &str =
+    "yyyyyyyyyyyyyyyyyyyyyyyyyyyyyyyyyyyyyyyyyyyyyyyyyyyyyyyyyyyyyyyyyyyyyyyyyyyyyyyyyyyyyyyyyyyyyyyyyyyyyyyyyyyyyyyyyyyyyyyyyyyyyyyyyyyyyyyyyyyyyyyyyyyyyyyyyyyyyyyyyyyyyyyyyyyyyyyyyyyyyyyyyyyyyyyyyyyyyyyyyyyyyyyyyyyyyyyyyyyyyyyyyyyyyyyyyyyyyyyyyyyyyyyyyyyyyyy";
+
+static SPELLED: [Spelled; 14] = [
     Spelled {
         parts: &[],
         rows: &[],
@@ -90,6 +91,13 @@ static SPELLED: [Spelled; 13] = [
         parts: &[FRONT, b"\n"],
         rows: &[Fact {
             shipmode: "",
+            ..FIRST_FACT
+        }],
+    },
+    Spelled {
+        parts: &[FRONT, LONGEST_TEXT, b"|\n"],
+        rows: &[Fact {
+            shipmode: LONGEST,
             ..FIRST_FACT
         }],
     },
@@ -138,8 +146,8 @@ fn is_spelled(alloc: Global, case: &Spelled) -> Result<bool, Fault> {
 
 #[test]
 fn lines_spell_rows(rt: HostRuntime) -> Result<(), Fail> {
-    for case in &SPELLED {
-        assert!(rt; is_spelled(rt.alloc(), case)?, "{case:?}");
+    for (place, case) in SPELLED.iter().enumerate() {
+        assert!(rt; is_spelled(rt.alloc(), case)?, "text {place}");
     }
     Ok(())
 }
@@ -148,38 +156,6 @@ fn lines_spell_rows(rt: HostRuntime) -> Result<(), Fail> {
 fn the_sample_text_is_read(rt: HostRuntime) -> Result<(), Fail> {
     let want = line_orders(rt.alloc(), &FACTS)?;
     assert!(rt; has_rows(rt.alloc(), TABLES.lineorder, want.as_slice())?);
-    Ok(())
-}
-
-/// The first sample row with another priority.
-fn with_priority(alloc: Global, priority: &[u8]) -> Result<LineOrder, Fault> {
-    let mut row = line_order(alloc, &FIRST_FACT)?;
-    row.orderpriority = RowText::from_slice(alloc, priority)?;
-    Ok(row)
-}
-
-/// Whether a row with a priority of some bytes is read from its line.
-fn is_moved(alloc: Global, priority: &[u8]) -> Result<bool, Fault> {
-    let row = with_priority(alloc, priority)?;
-    let text = joined(
-        alloc,
-        &[
-            b"1|1|1|1|1|19930105|",
-            priority,
-            b"|0|17|1000|1000|2|980|600|0|19930201|AIR|\n",
-        ],
-    )?;
-    has_rows(alloc, text.as_slice(), &[row])
-}
-
-#[test]
-fn fields_stand_anywhere_in_a_line(rt: HostRuntime) -> Result<(), Fail> {
-    for count in 0..=LONGEST_TEXT.len() {
-        assert!(rt;
-            is_moved(rt.alloc(), &LONGEST_TEXT[..count])?,
-            "{count} bytes"
-        );
-    }
     Ok(())
 }
 
@@ -229,21 +205,5 @@ fn a_refused_text_stays_refused(rt: HostRuntime) -> Result<(), Fail> {
         refusals(rt.alloc(), text.as_slice()),
         Ok(([fault; 3], fault, 2))
     );
-    Ok(())
-}
-
-/// How many rows are read in a batch of one.
-fn count_of_one(alloc: Global, text: &[u8]) -> Result<usize, Fault> {
-    let mut lines = Lines::new(alloc, whole(text))?;
-    let rows = read_batch(alloc, &mut lines, 1)?;
-    Ok(rows.len())
-}
-
-#[test]
-fn rows_before_a_refused_line_are_taken_alone(rt: HostRuntime) -> Result<(), Fail> {
-    let text = joined(rt.alloc(), &[ROW, b"\n1|\n"])?;
-    let one = count_of_one(rt.alloc(), text.as_slice());
-    let all = rows_in(rt.alloc(), whole(text.as_slice())).err();
-    assert_eq!(rt; (one, all), (Ok(1), Some(Fault::FieldCount { line: 2 })));
     Ok(())
 }

@@ -1,5 +1,5 @@
-//! Tests of `wire` and `batch_loader`: numbers as bytes, sources, and the texts of the tables: what is read, what is refused,
-//! and readers that cut and fail.
+//! Tests of `wire` and `batch_loader`: numbers as bytes, sources, and the texts of the tables: what is read, what is
+//! refused, and readers that cut and fail.
 #![tactic(auto)]
 
 #[cfg(test)]
@@ -15,14 +15,8 @@ mod numbers;
 #[cfg(test)]
 mod outcomes;
 #[cfg(test)]
-mod random_text;
-#[cfg(test)]
-mod random_texts;
-#[cfg(test)]
 mod reads;
 #[cfg(test)]
 mod refusals;
-#[cfg(test)]
-mod slow_reader;
 #[cfg(test)]
 mod sources;

@@ -1,10 +1,7 @@
 //! Bytes and numbers that were written down by hand.
 use cube_model::Fault;
 use std::test::Fail;
-use wire::{
-    Cursor, push_bytes, push_i64, push_u8, push_u16, push_u32, push_u64, write_bytes, write_i64,
-    write_u8, write_u16, write_u32, write_u64,
-};
+use wire::{Cursor, write_bytes, write_i64, write_u8, write_u16, write_u32, write_u64};
 
 // A name, and then 1, 64, 6 and 140 in four bytes each, 1 in eight, 400 in two, 255 in one, and -2.
 const SPELLED: [u8; 43] = [
@@ -30,17 +27,6 @@ const NUMBERS: Numbers = Numbers {
     signed: -2,
 };
 
-fn push(out: &mut Vec<u8>) -> Result<(), Fault> {
-    push_bytes(out, b"SSBCUBE1")?;
-    for number in NUMBERS.words {
-        push_u32(out, number)?;
-    }
-    push_u64(out, NUMBERS.long)?;
-    push_u16(out, NUMBERS.short)?;
-    push_u8(out, NUMBERS.byte)?;
-    push_i64(out, NUMBERS.signed)
-}
-
 fn read(cursor: &mut Cursor<'_>) -> Result<Numbers, Fault> {
     Ok(Numbers {
         words: [cursor.u32()?, cursor.u32()?, cursor.u32()?, cursor.u32()?],
@@ -49,14 +35,6 @@ fn read(cursor: &mut Cursor<'_>) -> Result<Numbers, Fault> {
         byte: cursor.u8()?,
         signed: cursor.i64()?,
     })
-}
-
-#[test]
-fn spells_by_pushing(rt: HostRuntime) -> Result<(), Fail> {
-    let mut out = Vec::new(rt.alloc());
-    push(&mut out)?;
-    assert_eq!(rt; out.as_slice(), SPELLED.as_slice());
-    Ok(())
 }
 
 #[test]

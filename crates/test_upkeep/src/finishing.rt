@@ -121,8 +121,8 @@ fn a_stopped_opening_is_finished_by_the_next(rt: HostRuntime) {
     }
 }
 
-/// The three cuboids over so many batches on 64 sectors, after an upkeep that was stopped right after the commit of the target. A
-/// catalogue has three sectors then, two more than over one batch.
+/// The three cuboids over so many batches on 64 sectors, after an upkeep that was stopped right after the commit of
+/// the target. A catalogue has three sectors then, two more than over one batch.
 fn crowded(alloc: Global, batches: u32) -> Result<MemDisk, Fault> {
     let mut session = with_views(alloc)?;
     for number in 2..=batches {
@@ -146,8 +146,8 @@ fn told_when_crowded(alloc: Global, batches: u32) -> Result<Told, Fault> {
     told(alloc, disk)
 }
 
-/// How many batches there are, the generation that an opening reaches, and how many cuboids find an extent: first fits by hand, of
-/// one sector for each object and three for a catalogue.
+/// How many batches there are, the generation that an opening reaches, and how many cuboids find an extent: first
+/// fits by hand, of one sector for each object and three for a catalogue.
 static CROWDED: [(u32, u64, usize); 4] = [(47, 53, 3), (48, 53, 2), (49, 53, 1), (51, 54, 0)];
 
 #[test]

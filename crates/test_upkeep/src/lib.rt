@@ -1,11 +1,9 @@
-//! Tests of stored cuboids: which are chosen, their upkeep and its stops, audits, and random calls and queries over
-//! them, by plans and step by step.
+//! Tests of stored cuboids: runs of commands that choose, fill and audit them, random calls against plain counting,
+//! openings that finish an upkeep, and random queries, by plans and step by step.
 #![tactic(auto)]
 
 #[cfg(test)]
 mod audits;
-#[cfg(test)]
-mod choices;
 #[cfg(test)]
 mod finishing;
 #[cfg(test)]
@@ -19,10 +17,8 @@ mod random;
 #[cfg(test)]
 mod random_queries;
 #[cfg(test)]
-mod script;
+mod scripts;
 #[cfg(test)]
 mod stepping;
 #[cfg(test)]
 mod upkeep_memory;
-#[cfg(test)]
-mod upkeep_stops;

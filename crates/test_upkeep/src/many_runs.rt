@@ -6,7 +6,8 @@ use sector_device::MemDisk;
 use std::alloc::Global;
 use warehouse::{Session, Status, StoredCuboid};
 
-/// A session whose cuboid of months and manufacturers was brought to each of so many batches of the sample rows in turn.
+/// A session whose cuboid of months and manufacturers was brought to each of so many batches of the sample rows in
+/// turn.
 fn kept_up(alloc: Global, batches: u32) -> Result<Session<MemDisk>, Fault> {
     let mut session = loaded(alloc, 1)?;
     store_views(alloc, &mut session, &[248])?;
@@ -18,6 +19,12 @@ fn kept_up(alloc: Global, batches: u32) -> Result<Session<MemDisk>, Fault> {
     Ok(session)
 }
 
+const BY_YEAR: Asked<'static> = Asked {
+    columns: &[Attr::DateYear],
+    aggregates: &[Agg::Sum(Measure::Revenue)],
+    ..EVERY_ROW
+};
+
 /// The status with so many batches, the generation then, and how many runs and cells the cuboid has.
 const STATUSES: [(u32, u64, u16, u32); 4] = [
     (1, 5, 1, 2),
@@ -26,9 +33,15 @@ const STATUSES: [(u32, u64, u16, u32); 4] = [
     (9, 29, 1, 2),
 ];
 
-fn outcome(alloc: Global, batches: u32) -> Result<(Status, bool), Fault> {
+/// The revenues by year of one batch of the sample rows.
+const REVENUES: Lines = &[(&["1993"], 980), (&["1997"], 2435)];
+
+/// The status with so many batches, what an audit answers, and the revenues by year.
+fn outcome(alloc: Global, batches: u32) -> Result<(Status, bool, Answer), Fault> {
     let mut session = kept_up(alloc, batches)?;
-    Ok((session.status()?, session.audit(alloc)?))
+    let yes = session.audit(alloc)?;
+    let revenues = ask(alloc, &mut session, batches, &BY_YEAR)?;
+    Ok((session.status()?, yes, revenues))
 }
 
 /// The status that is wanted.
@@ -47,37 +60,17 @@ fn wanted(batches: u32, generation: u64, runs: u16, cells: u32) -> Status {
     with_cuboids(plain, &[cuboid])
 }
 
+/// Whether that is so for so many batches.
+fn is_right(alloc: Global, of: (u32, u64, u16, u32)) -> Result<bool, Fault> {
+    let (batches, generation, runs, cells) = of;
+    let wanted = wanted(batches, generation, runs, cells);
+    let revenues = answer(alloc, REVENUES, batches)?;
+    Ok(outcome(alloc, batches)? == (wanted, true, revenues))
+}
+
 #[test]
 fn a_ninth_run_merges_all(rt: HostRuntime) {
-    for (batches, generation, runs, cells) in STATUSES {
-        assert_eq!(rt;
-            outcome(rt.alloc(), batches),
-            Ok((wanted(batches, generation, runs, cells), true))
-        );
-    }
-}
-
-const BY_YEAR: Asked<'static> = Asked {
-    columns: &[Attr::DateYear],
-    aggregates: &[Agg::Sum(Measure::Revenue)],
-    ..EVERY_ROW
-};
-
-/// The revenues by year of one batch of the sample rows.
-const REVENUES: Lines = &[(&["1993"], 980), (&["1997"], 2435)];
-
-/// The revenues by year over so many batches.
-fn revenues(alloc: Global, batches: u32) -> Result<Answer, Fault> {
-    let mut session = kept_up(alloc, batches)?;
-    ask(alloc, &mut session, batches, &BY_YEAR)
-}
-
-#[test]
-fn revenues_by_year_are_those_of_all_batches(rt: HostRuntime) {
-    for (batches, _, _, _) in STATUSES {
-        assert_eq!(rt;
-            revenues(rt.alloc(), batches),
-            answer(rt.alloc(), REVENUES, batches)
-        );
+    for of in STATUSES {
+        assert_eq!(rt; is_right(rt.alloc(), of), Ok(true), "{of:?}");
     }
 }

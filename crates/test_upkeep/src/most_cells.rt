@@ -1,11 +1,11 @@
 //! A cuboid of as many cells as there may be, and one more.
 use cube_model::Fault;
 use dimensions::Dims;
-use sample_sessions::{status, store_views, with_cuboids};
+use sample_sessions::{created_over, status, store_views, with_cuboids};
 use sample_star::{pairs, rows_of_pairs};
 use sector_device::MemDisk;
 use std::alloc::Global;
-use warehouse::{Session, Status, StoredCuboid, create};
+use warehouse::{Session, Status, StoredCuboid};
 
 /// The dimensions of more pairs of a city and a brand than a cuboid may have cells.
 fn dims(alloc: Global) -> Result<Dims, Fault> {
@@ -14,11 +14,8 @@ fn dims(alloc: Global) -> Result<Dims, Fault> {
 }
 
 fn created(alloc: Global) -> Result<Session<MemDisk>, Fault> {
-    let disk = MemDisk::new(alloc, 262_144)?;
-    match create(alloc, disk, dims(alloc)?) {
-        Ok(session) => Ok(session),
-        Err((fault, _)) => Err(fault),
-    }
+    let dims = dims(alloc)?;
+    created_over(alloc, MemDisk::new(alloc, 262_144)?, dims)
 }
 
 /// A batch: its number, its first pair of city and brand, and how many rows it has, each of the next pair.

@@ -1,12 +1,12 @@
 //! Random calls of a session, and its numbers by plain counting.
-use crate::plain::{Row, SEVERAL, draw_row, groups};
+use crate::plain::{Row, draw_row, groups};
+use crate::random_queries::created;
 use cube_model::Fault;
-use dimensions::Dims;
 use sample_sessions::{opened, status, store_views};
-use sample_star::{Draw, dim_rows, line_order};
+use sample_star::{Draw, line_order};
 use sector_device::MemDisk;
 use std::alloc::Global;
-use warehouse::{MOST_CUBOIDS, Session, Status, StoredCuboid, create};
+use warehouse::{MOST_CUBOIDS, Session, Status, StoredCuboid};
 
 /// A session, what its status is to be, the rows of its batches, and whether each audit answered yes.
 #[derive(Drop)]
@@ -16,16 +16,6 @@ struct Run {
     status: Status,
     rows: Vec<Row>,
     is_audited: bool,
-}
-
-/// A warehouse without batches over the star of several members, on a disk of 2,048 sectors.
-pub(crate) fn created(alloc: Global) -> Result<Session<MemDisk>, Fault> {
-    let rows = dim_rows(alloc, &SEVERAL)?;
-    let disk = MemDisk::new(alloc, 2_048)?;
-    match create(alloc, disk, Dims::build(alloc, &rows)?) {
-        Ok(session) => Ok(session),
-        Err((fault, _)) => Err(fault),
-    }
 }
 
 fn begun(alloc: Global, seed: u64) -> Result<Run, Fault> {

@@ -1,11 +1,12 @@
-//! Random queries over warehouses whose cuboids have different marks, at once and step by step with other calls between the steps,
-//! against one pass over the same rows.
+//! Random queries over warehouses whose cuboids have different marks, at once and step by step with other calls
+//! between the steps, against one pass over the same rows.
+ghost use Rattle.std.specs.Prelude.{◌≤◌};
+
 use crate::plain::{Row, SEVERAL, draw_row};
-use crate::random::created;
 use cube_model::{Agg, Answer, Attr, Fault, Kind, LineOrder, Measure, Query};
 use cube_query::fold;
 use dimensions::Dims;
-use sample_sessions::store_views;
+use sample_sessions::{created_over, store_views};
 use sample_star::{ATTRIBUTES, Asked, Condition, Draw, dim_rows, line_order, query};
 use sector_device::MemDisk;
 use std::alloc::Global;
@@ -30,8 +31,8 @@ struct Run {
     outcome: Outcome,
 }
 
-/// How many queries were answered at once and in steps, how many of all had the answer of one pass over the rows, and how many of
-/// those at once were answered from a cuboid.
+/// How many queries were answered at once and in steps, how many of all had the answer of one pass over the rows, and
+/// how many of those at once were answered from a cuboid.
 #[derive(Clone, Copy, Debug, PartialEq, Eq)]
 struct Outcome {
     at_once: u32,
@@ -47,12 +48,25 @@ const NONE_YET: Outcome = Outcome {
     by_cuboid: 0,
 };
 
-fn begun(alloc: Global, seed: u64) -> Result<Run, Fault> {
+/// The dimensions of the star of several members.
+fn several_dims(alloc: Global) -> Result<Dims, Fault> {
     let rows = dim_rows(alloc, &SEVERAL)?;
+    Dims::build(alloc, &rows)
+}
+
+/// A warehouse without batches over them, on a disk of 2,048 sectors.
+pub(crate) fn created(alloc: Global) -> Result<Session<MemDisk>, Fault> {
+    let dims = several_dims(alloc)?;
+    created_over(alloc, MemDisk::new(alloc, 2_048)?, dims)
+}
+
+fn begun(alloc: Global, seed: u64) -> Result<Run, Fault> {
+    let dims = several_dims(alloc)?;
+    let session = created(alloc)?;
     Ok(Run {
         draw: Draw::new(seed),
-        session: created(alloc)?,
-        dims: Dims::build(alloc, &rows)?,
+        session,
+        dims,
         batches: 0,
         rows: Vec::new(alloc),
         walkers: Vec::new(alloc),
@@ -60,16 +74,26 @@ fn begun(alloc: Global, seed: u64) -> Result<Run, Fault> {
     })
 }
 
+/// The rows of the batches after some of them, up to another.
+fn rows_of(alloc: Global, rows: &[Row], after: u32, last: u32) -> Result<Vec<LineOrder>, Fault> {
+    let mut found = Vec::new(alloc);
+    for row in rows {
+        if after < row.batch && row.batch <= last {
+            found.push(line_order(alloc, &row.fact())?)?;
+        }
+    }
+    Ok(found)
+}
+
 /// Submits a batch of up to twelve random rows.
 fn load(alloc: Global, run: &mut Run) -> Result<(), Fault> {
-    let number = run.batches.saturating_add(1);
-    let mut facts = Vec::new(alloc);
+    let before = run.batches;
+    let number = before.saturating_add(1);
     for _ in 0..run.draw.up_to(12) {
-        let row = draw_row(&mut run.draw, number);
-        facts.push(line_order(alloc, &row.fact())?)?;
-        run.rows.push(row)?;
+        run.rows.push(draw_row(&mut run.draw, number))?;
     }
-    run.session.submit(alloc, number, facts.as_slice())?;
+    let rows = rows_of(alloc, run.rows.as_slice(), before, number)?;
+    run.session.submit(alloc, number, rows.as_slice())?;
     run.batches = number;
     Ok(())
 }
@@ -117,69 +141,73 @@ fn kind(draw: &mut Draw) -> Kind {
     }
 }
 
-/// Up to so many of some items, each once.
-fn some_of<T: Copy + PartialEq>(
-    alloc: Global,
-    draw: &mut Draw,
-    items: &[T],
-    most: u32,
-) -> Result<Vec<T>, Fault> {
-    let mut picked = Vec::new(alloc);
-    for _ in 0..draw.up_to(most) {
-        match draw.pick(items) {
-            Some(item) if !picked.contains(item) => picked.push(*item)?,
-            _ => {}
-        }
+/// One of some items, or another where there are none.
+fn one_of<T: Copy>(draw: &mut Draw, items: &[T], other: T) -> T {
+    match draw.pick(items) {
+        Some(item) => *item,
+        None => other,
     }
-    Ok(picked)
 }
 
-/// Up to two conditions.
-fn conditions(alloc: Global, draw: &mut Draw) -> Result<Vec<Condition<'static>>, Fault> {
-    let mut picked = Vec::new(alloc);
-    for _ in 0..draw.up_to(2) {
-        if let Some(condition) = draw.pick(&CONDITIONS) {
-            picked.push(*condition)?;
-        }
-    }
-    Ok(picked)
+/// Three columns, of which the second and the third may be equal to others.
+fn three_columns(draw: &mut Draw) -> [Attr; 3] {
+    [
+        one_of(draw, &ATTRIBUTES, Attr::DateYear),
+        one_of(draw, &ATTRIBUTES, Attr::DateYear),
+        one_of(draw, &ATTRIBUTES, Attr::DateYear),
+    ]
 }
 
-/// A proper query of up to three columns.
+/// How many of the first columns differ from each other.
+fn different(columns: [Attr; 3]) -> usize
+    ensures { result ≤ 3 }
+{
+    let [first, second, third] = columns;
+    if first == second {
+        1
+    } else if third == first || third == second {
+        2
+    } else {
+        3
+    }
+}
+
+/// A proper query of up to three columns, up to two conditions, and one aggregate to three.
 fn random_query(alloc: Global, draw: &mut Draw) -> Result<Query, Fault> {
-    let columns = some_of(alloc, draw, &ATTRIBUTES, 3)?;
-    let conditions = conditions(alloc, draw)?;
-    let mut aggregates = some_of(alloc, draw, &AGGREGATES, 3)?;
-    if aggregates.is_empty() {
-        aggregates.push(Agg::Count)?;
-    }
+    let columns = three_columns(draw);
+    let count = (draw.below(4) as usize).min(different(columns));
+    let conditions = [
+        one_of(draw, &CONDITIONS, CONDITIONS[0]),
+        one_of(draw, &CONDITIONS, CONDITIONS[0]),
+    ];
+    let most = draw.below(3) as usize;
+    let aggregates = [
+        one_of(draw, &AGGREGATES, Agg::Count),
+        one_of(draw, &AGGREGATES, Agg::Count),
+        one_of(draw, &AGGREGATES, Agg::Count),
+    ];
+    let least = draw.below(3) as usize;
     let asked = Asked {
         kind: kind(draw),
-        columns: columns.as_slice(),
-        conditions: conditions.as_slice(),
-        aggregates: aggregates.as_slice(),
+        columns: &columns[..count],
+        conditions: &conditions[..most],
+        aggregates: &aggregates[least..],
         order: None,
     };
     query(alloc, &asked)
 }
 
-/// The rows of the first batches.
-fn first_rows(alloc: Global, run: &Run, as_of: u32) -> Result<Vec<LineOrder>, Fault> {
-    let mut rows = Vec::new(alloc);
-    for row in &run.rows {
-        if row.batch <= as_of {
-            rows.push(line_order(alloc, &row.fact())?)?;
-        }
-    }
-    Ok(rows)
+/// The answer of one pass over the rows of the first batches.
+fn wanted_of(alloc: Global, run: &Run, as_of: u32, query: &Query) -> Result<Answer, Fault> {
+    let rows = rows_of(alloc, run.rows.as_slice(), 0, as_of)?;
+    fold(alloc, &run.dims, rows.as_slice(), query)
 }
 
 /// A random query over some of the batches, and the answer of one pass over their rows.
 fn drawn(alloc: Global, run: &mut Run) -> Result<(Query, u32, Answer), Fault> {
-    let query = random_query(alloc, &mut run.draw)?;
     let as_of = run.draw.up_to(run.batches);
-    let rows = first_rows(alloc, run, as_of)?;
-    let wanted = fold(alloc, &run.dims, rows.as_slice(), &query)?;
+    let query = random_query(alloc, &mut run.draw)?;
+    let wanted = wanted_of(alloc, run, as_of, &query)?;
     Ok((query, as_of, wanted))
 }
 
@@ -268,7 +296,8 @@ fn outcome_of_runs(alloc: Global) -> Result<Outcome, Fault> {
     Ok(all)
 }
 
-/// Whether many queries were answered at once and in steps, all of them as one pass over the rows does, and many from a cuboid.
+/// Whether many queries were answered at once and in steps, all of them as one pass over the rows does, and many from
+/// a cuboid.
 fn is_right(outcome: &Result<Outcome, Fault>) -> bool {
     match outcome {
         Ok(all) => {

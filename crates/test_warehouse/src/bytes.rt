@@ -1,8 +1,7 @@
 //! The bytes of the device, by hand.
 use cube_model::Fault;
-use sample_sessions::{loaded, sector, status};
+use sample_sessions::{loaded, sector};
 use std::alloc::Global;
-use warehouse::Status;
 
 /// A sector of some bytes and zeros.
 fn padded(bytes: &[u8]) -> [u8; 512] {
@@ -100,21 +99,5 @@ fn the_objects_of_two_batches_have_their_places(rt: HostRuntime) {
             Ok(**wanted),
             "sector {place}"
         );
-    }
-}
-
-/// How many batches, and how many rows they have together.
-const COUNTS: [(u32, u64); 3] = [(0, 0), (1, 3), (2, 6)];
-
-/// The status of a warehouse of so many batches of the three sample rows.
-fn told(alloc: Global, batches: u32) -> Result<Status, Fault> {
-    let session = loaded(alloc, batches)?;
-    session.status()
-}
-
-#[test]
-fn the_status_counts(rt: HostRuntime) {
-    for (batches, rows) in COUNTS {
-        assert_eq!(rt; told(rt.alloc(), batches), Ok(status(batches, rows)));
     }
 }

@@ -1,5 +1,4 @@
-//! A submit whose last sync fails, and a failure of each device call in turn.
-use crate::calls::{Answers, Restart, answers_with_failure, is_allowed, may_be_found};
+//! A submit whose last sync fails.
 use cube_model::Fault;
 use sample_sessions::{OPENING, SUBMIT, found, is_found, loaded, opened, report, submit};
 use sample_star::FACTS;
@@ -10,7 +9,7 @@ use std::test::Fail;
 use warehouse::Session;
 
 /// A session whose submit of a second batch met a failure of its last sync. With `all` each later call fails too.
-pub(crate) fn unsynced(alloc: Global, all: bool) -> Result<Session<Fuse<MemDisk>>, Fault> {
+fn unsynced(alloc: Global, all: bool) -> Result<Session<Fuse<MemDisk>>, Fault> {
     let disk = loaded(alloc, 1)?.close();
     let mut session = opened(alloc, Fuse::new(disk, OPENING + SUBMIT, all, false))?;
     match submit(alloc, &mut session, 2, &FACTS) {
@@ -71,37 +70,5 @@ fn an_opening_finds_what_was_not_synced_and_syncs_it(rt: HostRuntime) {
 fn an_opening_whose_sync_fails_answers_device(rt: HostRuntime) -> Result<(), Fail> {
     let device = unsynced(rt.alloc(), true)?.close();
     assert_eq!(rt; found(rt.alloc(), device), Err(Fault::Device));
-    Ok(())
-}
-
-/// The calls of a creation, three submits and a query over three batches: 11, 15 and 3, and one more that is not made.
-const CALLS: u64 = 30;
-
-/// How the calls go of which the n-th fails, and whether what is found then may be found.
-fn outcome(
-    alloc: Global,
-    n: u64,
-    reaches: bool,
-    restart: Restart,
-) -> Result<(Answers, bool), Fault> {
-    let (answers, disk) = answers_with_failure(alloc, n, reaches)?;
-    let found = found(alloc, restart.of(disk));
-    let allowed = may_be_found(alloc, &answers, &found);
-    Ok((answers, allowed))
-}
-
-#[test]
-fn a_failing_call_leaves_what_may_be_found(rt: HostRuntime) -> Result<(), Fail> {
-    for n in 1..=CALLS {
-        for reaches in [false, true] {
-            for restart in [Restart::Not, Restart::Oldest, Restart::Newest] {
-                let (answers, allowed) = outcome(rt.alloc(), n, reaches, restart)?;
-                assert!(rt;
-                    is_allowed(&answers.used) && allowed,
-                    "call {n}, {restart:?}: {answers:?}"
-                );
-            }
-        }
-    }
     Ok(())
 }

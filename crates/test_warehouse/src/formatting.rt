@@ -1,8 +1,7 @@
 //! Devices on which nothing can be made or opened.
 use cube_model::Fault;
 use sample_sessions::{
-    Change, changed, created, is_found, loaded, opened, refused_opening, sample_dims, status,
-    submit,
+    Change, changed, created, is_found, loaded, opened, sample_dims, status, submit,
 };
 use sample_star::FACTS;
 use sector_device::MemDisk;
@@ -49,25 +48,6 @@ fn a_device_has_at_least_64_sectors(rt: HostRuntime) {
     let empty = Some(Fault::NotFormatted);
     assert_eq!(rt; outcomes(rt.alloc(), 63), Ok((size, size)));
     assert_eq!(rt; outcomes(rt.alloc(), 64), Ok((None, empty)));
-}
-
-/// Changes of a superblock, and how the opening is refused: the name, the layout, another number of sectors, an even
-/// generation in the odd slot, generation 0, a catalogue in a superblock, and one that is too short.
-static SUPERBLOCKS: [(Change, Fault); 7] = [
-    ((1, 0, b"\x00"), Fault::NotFormatted),
-    ((1, 8, b"\x00"), Fault::NotFormatted),
-    ((1, 12, b"\x41"), Fault::DeviceSize),
-    ((1, 16, b"\x02"), Fault::NotFormatted),
-    ((1, 16, b"\x00"), Fault::NotFormatted),
-    ((1, 24, b"\x01"), Fault::NotFormatted),
-    ((1, 28, b"\x0b"), Fault::NotFormatted),
-];
-
-#[test]
-fn an_invalid_superblock_is_not_opened(rt: HostRuntime) {
-    for (change, fault) in &SUPERBLOCKS {
-        assert_eq!(rt; refused_opening(rt.alloc(), 0, *change), Ok(Some(*fault)));
-    }
 }
 
 /// The greatest generation, which is odd.

@@ -34,11 +34,12 @@ fn told(
     Ok((refused, other, session.status()?))
 }
 
-/// What is told of a full session after a first and a second refusal.
+/// What is found of a full session after a refusal, and once it was stopped and opened again.
 fn told_twice(alloc: Global) -> Result<(Told, Told), Fault> {
     let mut session = loaded(alloc, MOST)?;
     let refused = refusal(alloc, &mut session);
     let first = told(alloc, &mut session, refused)?;
+    let mut session = opened(alloc, session.close().crash(&[]))?;
     let refused = refusal(alloc, &mut session);
     Ok((first, told(alloc, &mut session, refused)?))
 }
@@ -46,23 +47,4 @@ fn told_twice(alloc: Global) -> Result<(Told, Told), Fault> {
 #[test]
 fn one_batch_too_many_leaves_each_answer(rt: HostRuntime) {
     assert_eq!(rt; told_twice(rt.alloc()), Ok((wanted(), wanted())));
-}
-
-/// A full session that was opened again, and how it refused a batch before.
-fn opened_again(alloc: Global) -> Result<(Option<Fault>, Session<MemDisk>), Fault> {
-    let mut session = loaded(alloc, MOST)?;
-    let refused = refusal(alloc, &mut session);
-    let disk = session.close().crash(&[]);
-    Ok((refused, opened(alloc, disk)?))
-}
-
-/// What is told of it.
-fn told_again(alloc: Global) -> Result<Told, Fault> {
-    let (refused, mut session) = opened_again(alloc)?;
-    told(alloc, &mut session, refused)
-}
-
-#[test]
-fn a_full_device_is_opened_again(rt: HostRuntime) {
-    assert_eq!(rt; told_again(rt.alloc()), Ok(wanted()));
 }

@@ -1,5 +1,5 @@
-//! Devices with one batch that keep not all rules of the layout.
-use cube_model::{Attr, Fault};
+//! Devices that keep not all rules of the layout.
+use cube_model::{Agg, Attr, Fault, Measure};
 use sample_sessions::{Change, ask, changed, opened, refused_opening, status};
 use sample_star::{Asked, EVERY_ROW};
 use sector_device::MemDisk;
@@ -17,37 +17,48 @@ const SUPERBLOCK: u32 = 0;
 
 const BY_REGION: Asked<'static> = Asked {
     columns: &[Attr::CustomerRegion],
+    aggregates: &[Agg::Sum(Measure::Revenue)],
     ..EVERY_ROW
 };
 
-/// Changes after which nothing is opened.
-static UNOPENED: [Change; 12] = [
+/// How many batches there are, a change after which nothing is opened, and the refusal: of the superblock of no batch, and of the
+/// catalogue and an object of one.
+static UNOPENED: [(u32, Change, Fault); 19] = [
+    // The name, the layout, another number of sectors, an even generation in the odd slot, generation 0, a catalogue in a superblock,
+    // and one that is too short.
+    (0, (1, 0, b"\x00"), Fault::NotFormatted),
+    (0, (1, 8, b"\x00"), Fault::NotFormatted),
+    (0, (1, 12, b"\x41"), Fault::DeviceSize),
+    (0, (1, 16, b"\x02"), Fault::NotFormatted),
+    (0, (1, 16, b"\x00"), Fault::NotFormatted),
+    (0, (1, 24, b"\x01"), Fault::NotFormatted),
+    (0, (1, 28, b"\x0b"), Fault::NotFormatted),
     // The first object lies on the second, in the catalogue, past the end, and in a superblock.
-    (CATALOGUE, 16, b"\x03\x00\x00\x00"),
-    (CATALOGUE, 16, b"\x08\x00\x00\x00"),
-    (CATALOGUE, 16, b"\x40\x00\x00\x00"),
-    (CATALOGUE, 16, b"\x01\x00\x00\x00"),
+    (1, (CATALOGUE, 16, b"\x03\x00\x00\x00"), Fault::BadLayout),
+    (1, (CATALOGUE, 16, b"\x08\x00\x00\x00"), Fault::BadLayout),
+    (1, (CATALOGUE, 16, b"\x40\x00\x00\x00"), Fault::BadLayout),
+    (1, (CATALOGUE, 16, b"\x01\x00\x00\x00"), Fault::BadLayout),
     // The root is longer than what is left of the catalogue.
-    (CATALOGUE, 8, b"\x45\x00\x00\x00"),
+    (1, (CATALOGUE, 8, b"\x45\x00\x00\x00"), Fault::BadLayout),
     // The code of a city is out of range.
-    (CUSTOMERS, 108, b"\x02\x00"),
+    (1, (CUSTOMERS, 108, b"\x02\x00"), Fault::BadLayout),
     // The segment is that of batch 2.
-    (CATALOGUE, 76, b"\x02\x00\x01\x00"),
+    (1, (CATALOGUE, 76, b"\x02\x00\x01\x00"), Fault::BadLayout),
     // The root tells of two batches, of a target past them, of 4,097 additions, and of a cuboid.
-    (CATALOGUE, 92, b"\x02\x00\x00\x00"),
-    (CATALOGUE, 96, b"\x02\x00\x00\x00"),
-    (CATALOGUE, 100, b"\x01\x10\x00\x00"),
-    (CATALOGUE, 104, b"\x01\x00\x00\x00"),
+    (1, (CATALOGUE, 92, b"\x02\x00\x00\x00"), Fault::BadLayout),
+    (1, (CATALOGUE, 96, b"\x02\x00\x00\x00"), Fault::BadLayout),
+    (1, (CATALOGUE, 100, b"\x01\x10\x00\x00"), Fault::BadLayout),
+    (1, (CATALOGUE, 104, b"\x01\x00\x00\x00"), Fault::BadLayout),
     // A sum of quantities past the limit.
-    (CATALOGUE, 115, b"\x80"),
+    (1, (CATALOGUE, 115, b"\x80"), Fault::BadLayout),
 ];
 
 #[test]
 fn nothing_is_opened(rt: HostRuntime) {
-    for change in &UNOPENED {
+    for (batches, change, fault) in &UNOPENED {
         assert_eq!(rt;
-            refused_opening(rt.alloc(), 1, *change),
-            Ok(Some(Fault::BadLayout)),
+            refused_opening(rt.alloc(), *batches, *change),
+            Ok(Some(*fault)),
             "{} at {}",
             change.0,
             change.1
@@ -55,9 +66,9 @@ fn nothing_is_opened(rt: HostRuntime) {
     }
 }
 
-/// Changes of the segment, which no opening reads, and of what the root tells of it, and how a query by customers is refused
-/// then. It looks at no text and no order key.
-static UNREAD: [(Change, Option<Fault>); 9] = [
+/// Changes of the segment, which no opening reads, and of what the root tells of it, and how the revenue by region is
+/// refused then. It looks at no text and no order key.
+static UNREAD: [(Change, Option<Fault>); 10] = [
     // Another name, another batch, a row more and one fewer.
     ((SEGMENT, 0, b"seg1"), Some(Fault::BadLayout)),
     ((SEGMENT, 4, b"\x02\x00\x00\x00"), Some(Fault::BadLayout)),
@@ -68,7 +79,11 @@ static UNREAD: [(Change, Option<Fault>); 9] = [
     ((SEGMENT, 279, b"\x01\x00"), None),
     // An orderkey out of range.
     ((SEGMENT, 12, b"\xff\xff\xff\xff\xff\xff\xff\xff"), None),
-    // A customer that there is not.
+    // A revenue out of range, and a customer that there is not.
+    (
+        (SEGMENT, 150, b"\xff\xff\xff\xff\xff\xff\xff\xff"),
+        Some(Fault::BadLayout),
+    ),
     ((SEGMENT, 48, b"\x09\x00\x00\x00"), Some(Fault::BadLayout)),
     // The root tells of four rows.
     (

@@ -1,11 +1,8 @@
-//! Tests of warehouses: the root, creation and opening, batches, queries and their plans, stops at each device call, the bytes on
-//! the device, images that break a rule, memory that is refused, and warehouses of the greatest size.
+//! Tests of warehouses: the root, creation and opening, runs of commands, plans, a submit that stops at each device
+//! call, the bytes on the device, images that break a rule, memory that is refused, and warehouses of the greatest
+//! size.
 #![tactic(auto)]
 
-#[cfg(test)]
-mod batches;
-#[cfg(test)]
-mod behind;
 #[cfg(test)]
 mod bytes;
 #[cfg(test)]
@@ -23,9 +20,9 @@ mod hostile;
 #[cfg(test)]
 mod many_batches;
 #[cfg(test)]
-mod memory;
+mod many_rows;
 #[cfg(test)]
-mod objects;
+mod memory;
 #[cfg(test)]
 mod planned;
 #[cfg(test)]
@@ -33,10 +30,8 @@ mod queries;
 #[cfg(test)]
 mod roots;
 #[cfg(test)]
-mod runs;
+mod scripts;
 #[cfg(test)]
 mod sparse;
 #[cfg(test)]
 mod stops;
-#[cfg(test)]
-mod turning;

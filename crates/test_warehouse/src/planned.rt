@@ -17,13 +17,8 @@ const BY_WEEK: Asked<'static> = Asked {
     ..BY_YEAR
 };
 
-const NO_AGGREGATE: Asked<'static> = Asked {
-    aggregates: &[],
-    ..EVERY_ROW
-};
-
 /// A warehouse with three cuboids, of which that of days and manufacturers serves a query by dates alone.
-#[derive(Clone, Copy, Debug)]
+#[derive(Clone, Copy)]
 enum Made {
     /// One batch of the three sample rows, which the cuboids hold.
     Three,
@@ -204,35 +199,6 @@ fn queries_are_answered_by_the_plan_that_reads_least(rt: HostRuntime) {
             outcome_of(rt.alloc(), case),
             wanted(rt.alloc(), case.lines),
             "case {place}"
-        );
-    }
-}
-
-/// Queries over so many of one batch, and how their plans are refused. That of the query comes first.
-static REFUSED: [(u32, Asked<'static>, Fault); 3] = [
-    (2, BY_YEAR, Fault::NoSuchPrefix),
-    (1, NO_AGGREGATE, Fault::BadQuery),
-    (2, NO_AGGREGATE, Fault::BadQuery),
-];
-
-/// How the plan and the plans of a query are refused, if they are.
-fn refusals(
-    alloc: Global,
-    as_of: u32,
-    asked: &Asked<'_>,
-) -> Result<(Option<Fault>, Option<Fault>), Fault> {
-    let session = loaded(alloc, 1)?;
-    let query = query(alloc, asked)?;
-    let plan = session.plan(alloc, as_of, &query).err();
-    Ok((plan, session.plans(alloc, as_of, &query).err()))
-}
-
-#[test]
-fn plans_are_refused_as_queries_are(rt: HostRuntime) {
-    for (as_of, asked, fault) in &REFUSED {
-        assert_eq!(rt;
-            refusals(rt.alloc(), *as_of, asked),
-            Ok((Some(*fault), Some(*fault)))
         );
     }
 }

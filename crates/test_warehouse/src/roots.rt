@@ -1,19 +1,8 @@
 //! Roots that were written down by hand.
 use cube_model::Fault;
-use cube_model::limits::MOST_BATCHES;
 use std::alloc::Global;
 use std::test::Fail;
-use warehouse_root::{Layout, Root, StoredCuboid, StoredTotals};
-use wire::{push_u16, push_u32, push_u64};
-
-const NOTHING: StoredTotals = StoredTotals {
-    quantity: 0,
-    extendedprice: 0,
-    revenue: 0,
-    supplycost: 0,
-    discounted: 0,
-    profit: 0,
-};
+use warehouse_root::{Layout, Root, StoredCuboid, StoredTotals, run_id, segment_id};
 
 // Six totals that differ in each byte place that they use.
 const TOTALS: StoredTotals = StoredTotals {
@@ -66,31 +55,6 @@ fn refusal(alloc: Global, layout: Layout, bytes: &[u8]) -> Option<Fault> {
 }
 
 #[test]
-fn is_zero_before_the_first_batch(rt: HostRuntime) -> Result<(), Fail> {
-    for layout in [Layout::First, Layout::Second] {
-        let bytes = Root::new(rt.alloc(), layout).encode(rt.alloc())?;
-        assert_eq!(rt; bytes.as_slice(), [0; 64].as_slice());
-    }
-    Ok(())
-}
-
-#[test]
-fn reads_zeros_as_no_batch(rt: HostRuntime) -> Result<(), Fail> {
-    let root = Root::decode(rt.alloc(), Layout::First, &[0; 64])?;
-    assert_eq!(rt; (root.batches().len(), root.cuboids().len()), (0, 0));
-    assert_eq!(rt;
-        (
-            root.layout(),
-            root.target(),
-            root.additions(),
-            root.totals()
-        ),
-        (Layout::First, 0, 0, NOTHING)
-    );
-    Ok(())
-}
-
-#[test]
 fn reads_what_is_spelled(rt: HostRuntime) -> Result<(), Fail> {
     let root = Root::decode(rt.alloc(), Layout::First, &SPELLED)?;
     assert_eq!(rt;
@@ -106,36 +70,6 @@ fn reads_what_is_spelled(rt: HostRuntime) -> Result<(), Fail> {
         ),
         (Layout::First, 2, 1, TOTALS)
     );
-    Ok(())
-}
-
-#[test]
-fn spells_what_was_read(rt: HostRuntime) -> Result<(), Fail> {
-    let root = Root::decode(rt.alloc(), Layout::Second, &SPELLED)?;
-    let bytes = root.encode(rt.alloc())?;
-    assert_eq!(rt; bytes.as_slice(), SPELLED.as_slice());
-    Ok(())
-}
-
-// A batch of 7 rows behind those of `SPELLED`, with its totals.
-fn one_more(alloc: Global) -> Result<Vec<u8>, Fault> {
-    let root = Root::decode(alloc, Layout::First, &SPELLED)?;
-    if root.batches().len() >= MOST_BATCHES {
-        return Err(Fault::TooManyBatches);
-    }
-    root.with_batch(alloc, 7, NOTHING)?.encode(alloc)
-}
-
-#[test]
-fn takes_one_batch_more(rt: HostRuntime) -> Result<(), Fail> {
-    let bytes = one_more(rt.alloc())?;
-    let mut want = [0; 112];
-    want[..16].copy_from_slice(&SPELLED[..16]);
-    want[0] = 3;
-    want[64..72].copy_from_slice(&SPELLED[64..72]);
-    want[72] = 7;
-    want[76..].copy_from_slice(&SPELLED[72..]);
-    assert_eq!(rt; bytes.as_slice(), want.as_slice());
     Ok(())
 }
 
@@ -213,99 +147,23 @@ fn refuses_what_breaks_a_rule(rt: HostRuntime) {
     }
 }
 
-#[test]
-fn refuses_each_beginning(rt: HostRuntime) {
-    for length in 0..108 {
-        let found = refusal(rt.alloc(), Layout::First, &SPELLED[..length]);
-        assert_eq!(rt; found, Some(Fault::BadLayout), "length {length}");
-    }
-}
+// The ids of what the root of `SPELLED` asks for.
+static IDS: [u32; 9] = [1, 2, 3, 4, 65_537, 65_538, 132_016, 135_040, 135_041];
 
 #[test]
-fn refuses_a_byte_behind_the_end(rt: HostRuntime) {
-    let mut bytes = [0; 109];
-    bytes[..108].copy_from_slice(&SPELLED);
+fn asks_for_dimensions_segments_and_runs(rt: HostRuntime) -> Result<(), Fail> {
+    let root = Root::decode(rt.alloc(), Layout::First, &SPELLED)?;
+    assert_eq!(rt; root.object_ids(rt.alloc())?.as_slice(), IDS.as_slice());
     assert_eq!(rt;
-        refusal(rt.alloc(), Layout::First, &bytes),
-        Some(Fault::BadLayout)
+        [segment_id(2), run_id(59, 0), run_id(248, 1)],
+        [65_538, 132_016, 135_041]
     );
-}
-
-// A root of so many batches and cuboids, at its other limits.
-fn great(alloc: Global, batches: u32, cuboids: u16) -> Result<Vec<u8>, Fault> {
-    let mut out = Vec::new(alloc);
-    for count in [batches, batches, 4096, u32::from(cuboids)] {
-        push_u32(&mut out, count)?;
-    }
-    for _ in 0..6 {
-        push_u64(&mut out, 9_223_372_036_854_775_807)?;
-    }
-    push_great_batches(&mut out, batches)?;
-    push_great_cuboids(&mut out, batches, cuboids)?;
-    Ok(out)
-}
-
-fn push_great_batches(out: &mut Vec<u8>, batches: u32) -> Result<(), Fault> {
-    for _ in 0..batches {
-        push_u32(out, 65_536)?;
-    }
     Ok(())
 }
 
-fn push_great_cuboids(out: &mut Vec<u8>, mark: u32, cuboids: u16) -> Result<(), Fault> {
-    for view in 0..cuboids {
-        push_u16(out, view)?;
-        push_u16(out, 8)?;
-        push_u32(out, mark)?;
-        push_u32(out, 262_144)?;
-    }
+#[test]
+fn spells_what_was_read(rt: HostRuntime) -> Result<(), Fail> {
+    let bytes = Root::decode(rt.alloc(), Layout::Second, &SPELLED)?.encode(rt.alloc())?;
+    assert_eq!(rt; bytes.as_slice(), SPELLED.as_slice());
     Ok(())
-}
-
-// How many batches, how many cuboids, and why they are refused.
-const MANY: [(u32, u16, Option<Fault>); 4] = [
-    (1, 1, None),
-    (4096, 16, None),
-    (4097, 16, Some(Fault::BadLayout)),
-    (4096, 17, Some(Fault::BadLayout)),
-];
-
-// Why a root of so many batches and cuboids is refused.
-fn refusal_of_many(alloc: Global, batches: u32, cuboids: u16) -> Result<Option<Fault>, Fault> {
-    let bytes = great(alloc, batches, cuboids)?;
-    Ok(refusal(alloc, Layout::First, &bytes))
-}
-
-#[test]
-fn keeps_the_limits_of_many(rt: HostRuntime) {
-    for (batches, cuboids, want) in MANY {
-        assert_eq!(rt;
-            refusal_of_many(rt.alloc(), batches, cuboids),
-            Ok(want),
-            "{batches} {cuboids}"
-        );
-    }
-}
-
-#[test]
-fn spells_the_greatest(rt: HostRuntime) -> Result<(), Fail> {
-    let great = great(rt.alloc(), 4096, 16)?;
-    let bytes = Root::decode(rt.alloc(), Layout::First, &great)?.encode(rt.alloc())?;
-    assert_eq!(rt; bytes.len(), 16_640);
-    assert_eq!(rt; bytes.as_slice(), great.as_slice());
-    Ok(())
-}
-
-// The objects of the root of `SPELLED` with one batch more.
-fn objects(alloc: Global) -> Result<Vec<u32>, Fault> {
-    let bytes = one_more(alloc)?;
-    Root::decode(alloc, Layout::First, &bytes)?.object_ids(alloc)
-}
-
-#[test]
-fn answers_memory_alone_where_it_is_refused(rt: HostRuntime) {
-    match objects(rt.alloc()) {
-        Ok(ids) => assert_eq!(rt; ids.get(6), Some(&65_539)),
-        Err(fault) => assert_eq!(rt; fault, Fault::Memory),
-    }
 }

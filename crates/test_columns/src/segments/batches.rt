@@ -1,8 +1,8 @@
 //! Batches that were written down by hand.
 
-use column_segment::{BatchColumns, encode, is_batch};
-use cube_model::{Fault, LineOrder, RowText};
-use sample_star::{FACTS, Fact, line_order, line_orders};
+use column_segment::{encode, is_batch};
+use cube_model::{Fault, LineOrder};
+use sample_star::{FACTS, Fact, line_orders};
 use std::alloc::Global;
 use std::test::Fail;
 
@@ -61,12 +61,6 @@ pub(crate) static SPELLED: [u8; 285] = [
     0x00, 0x00, 0x01, 0x00, 0x00, 0x00,
 ];
 
-// No rows, as batch 7.
-pub(crate) static EMPTY: [u8; 28] = [
-    0x53, 0x45, 0x47, 0x31, 0x07, 0x00, 0x00, 0x00, 0x00, 0x00, 0x00, 0x00, 0x00, 0x00, 0x00, 0x00,
-    0x00, 0x00, 0x00, 0x00, 0x00, 0x00, 0x00, 0x00, 0x00, 0x00, 0x00, 0x00,
-];
-
 // A row of zeros and of empty texts.
 pub(crate) const ZEROS: Fact<'static> = Fact {
     orderkey: 0,
@@ -101,75 +95,5 @@ fn spells_the_sample(rt: HostRuntime) -> Result<(), Fail> {
     let rows = line_orders(rt.alloc(), &FACTS)?;
     let bytes = spelled(rt.alloc(), 1, &rows)?;
     assert!(rt; bytes.as_slice() == SPELLED.as_slice());
-    Ok(())
-}
-
-// The bytes of rows that are added in two pieces. `Full` where they cannot be a batch.
-fn spelled_in_pieces(
-    alloc: Global,
-    number: u32,
-    first: &[LineOrder],
-    second: &[LineOrder],
-) -> Result<Vec<u8>, Fault> {
-    if first.len() > 9 || second.len() > 9 || !is_batch(first) || !is_batch(second) {
-        return Err(Fault::Full);
-    }
-    let mut columns = BatchColumns::new(alloc, 2)?;
-    columns.push(alloc, first)?;
-    columns.push(alloc, second)?;
-    columns.encode(alloc, number)
-}
-
-#[test]
-fn spells_the_sample_in_pieces(rt: HostRuntime) -> Result<(), Fail> {
-    let rows = line_orders(rt.alloc(), &FACTS)?;
-    let bytes = spelled_in_pieces(rt.alloc(), 1, &rows[..1], &rows[1..])?;
-    assert!(rt; bytes.as_slice() == SPELLED.as_slice());
-    Ok(())
-}
-
-// A row of zeros with a text for its ship mode.
-pub(crate) fn row_with(alloc: Global, shipmode: &[u8]) -> Result<LineOrder, Fault> {
-    let mut row = line_order(alloc, &ZEROS)?;
-    row.shipmode = RowText::from_slice(alloc, shipmode)?;
-    Ok(row)
-}
-
-// So many rows, each with a ship mode of its own: two bytes that spell the row's number.
-pub(crate) fn different_rows(alloc: Global, count: usize) -> Result<Vec<LineOrder>, Fault> {
-    let mut rows = Vec::with_capacity(alloc, count)?;
-    for i in 0..count {
-        rows.push(row_with(alloc, &(i as u64).to_le_bytes()[..2])?)?;
-    }
-    Ok(rows)
-}
-
-// Whether codes of two bytes each count up from 0.
-fn count_up(codes: &[u8]) -> bool {
-    codes
-        .as_chunks::<2>()
-        .0
-        .iter()
-        .enumerate()
-        .all(|(i, code)| usize::from(u16::from_le_bytes(*code)) == i)
-}
-
-// 63 bytes of numbers a row, three columns with one empty text, and one in which each text takes three bytes.
-const MODES_BYTES: usize = 12 + 63 * 65536 + 3 * (4 + 1 + 2 * 65536) + 4 + (3 + 2) * 65536;
-
-// The bytes of as many rows as a batch may have, each with a ship mode of its own.
-fn mode_bytes(alloc: Global) -> Result<Vec<u8>, Fault> {
-    let rows = different_rows(alloc, 65536)?;
-    spelled(alloc, 1, &rows)
-}
-
-#[test]
-fn spells_65536_ship_modes(rt: HostRuntime) -> Result<(), Fail> {
-    let bytes = mode_bytes(rt.alloc())?;
-    assert_eq!(rt; bytes.len(), MODES_BYTES);
-    assert_eq!(rt;
-        bytes.get(MODES_BYTES - 2 * 65536..).map(count_up),
-        Some(true)
-    );
     Ok(())
 }

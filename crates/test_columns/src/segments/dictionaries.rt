@@ -19,21 +19,9 @@ fn spelled_again(alloc: Global, bytes: &[u8], limit: u32) -> Result<Vec<u8>, Fau
     Ok(out)
 }
 
-// Whether the bytes begin with no texts.
-fn is_refused(alloc: Global, bytes: &[u8], limit: u32) -> bool {
-    matches!(spelled_again(alloc, bytes, limit), Err(Fault::BadLayout))
-}
-
 #[test]
 fn spells_what_was_read(rt: HostRuntime) -> Result<(), Fail> {
     let bytes = spelled_again(rt.alloc(), &TWO, 2)?;
     assert!(rt; bytes.as_slice() == &TWO[..13]);
-    Ok(())
-}
-
-#[test]
-fn refuses_a_text_twice(rt: HostRuntime) -> Result<(), Fail> {
-    assert!(rt; is_refused(rt.alloc(), &[2, 0, 0, 0, 1, 65, 1, 65], 9));
-    assert!(rt; !is_refused(rt.alloc(), &[2, 0, 0, 0, 1, 65, 1, 66], 9));
     Ok(())
 }

@@ -1,13 +1,13 @@
 //! Columns of batches that are read without the others.
 
-use crate::segments::batches::{EMPTY, SPELLED, spelled};
+use crate::segments::batches::spelled;
 use crate::segments::sources::Refusing;
 use column_segment::{
     AmountColumn, ByteColumn, ColumnBuffer, FactColumn, FactColumns, NumberColumn,
 };
 use cube_model::Fault;
 use sample_star::{FACTS, line_orders};
-use std::alloc::{AllocError, Global};
+use std::alloc::Global;
 use wire::SliceSource;
 
 // Each column, and what the three sample rows have in it. The first of the taxes is made 5.
@@ -43,17 +43,6 @@ const PRICES: [FactColumn; 2] = [
     FactColumn::Amount(AmountColumn::ExtendedPrice),
     FactColumn::Figure(ByteColumn::Discount),
 ];
-
-const ORDERS: [FactColumn; 1] = [FactColumn::Amount(AmountColumn::OrderKey)];
-
-// The sample rows' bytes with a byte at a place.
-fn with_byte(alloc: Global, place: usize, byte: u8) -> Result<Vec<u8>, AllocError> {
-    let mut bytes = Vec::from_slice(alloc, &SPELLED)?;
-    if let Some(at) = bytes.get_mut(place) {
-        *at = byte;
-    }
-    Ok(bytes)
-}
 
 // The number of a row in a column.
 fn number_at(columns: &FactColumns, column: FactColumn, row: usize) -> Option<u64> {
@@ -104,7 +93,8 @@ fn repeated(alloc: Global, times: u32) -> Result<Vec<u8>, Fault> {
     Ok(bytes)
 }
 
-// What a new buffer has of the first three rows in each column, after one was read of a batch of the sample rows so many times.
+// What a new buffer has of the first three rows in each column, after one was read of a batch of the sample rows so
+// many times.
 fn after_reading(
     alloc: Global,
     times: u32,
@@ -145,7 +135,8 @@ fn numbers_of(
     Ok(wanted)
 }
 
-// How many times a batch has the sample rows, and whether all its columns are read at once: those of 64 rows take 4,044 bytes.
+// How many times a batch has the sample rows, and whether all its columns are read at once: those of 64 rows take
+// 4,044 bytes.
 static BATCHES: [(u32, bool); 3] = [(1, true), (21, true), (22, false)];
 
 // The first column of which another one is read than it should, if there is one.
@@ -168,8 +159,8 @@ fn of_a_large_batch_one_column_is_read_and_no_other(rt: HostRuntime) {
     }
 }
 
-// Why prices are refused of a source that has so many of the bytes of a batch, if any, of which so many parts can be read, where
-// they are to be those of a number and of so many rows.
+// Why prices are refused of a source that has so many of the bytes of a batch, if any, of which so many parts can be
+// read, where they are to be those of a number and of so many rows.
 fn refusal_of(
     alloc: Global,
     batch: &[u8],
@@ -190,8 +181,8 @@ fn refusal_of(
         .err()
 }
 
-// How many times the batch has the sample rows, how many bytes of it there are, how many reads are not refused, the number and how
-// many rows are wanted, and what is answered. The columns of 66 rows take 4,170 bytes.
+// How many times the batch has the sample rows, how many bytes of it there are, how many reads are not refused, the
+// number and how many rows are wanted, and what is answered. The columns of 66 rows take 4,170 bytes.
 type Source = (u32, (Option<usize>, usize), (u32, u32), Option<Fault>);
 
 static SOURCES: [Source; 16] = [
@@ -223,62 +214,4 @@ fn each_refusal_has_its_cause(rt: HostRuntime) {
     for source in &SOURCES {
         assert!(rt; refusal(rt.alloc(), source) == Ok(source.3), "{source:?}");
     }
-}
-
-// What reading a column answers where the first price of the sample is no amount.
-fn refusal_with_no_price(alloc: Global, columns: &[FactColumn]) -> Option<Fault> {
-    let bytes = with_byte(alloc, 106, 0x80).ok()?;
-    let mut buffer = ColumnBuffer::new(alloc).ok()?;
-    buffer
-        .read(&mut SliceSource::new(&bytes), 9, 1, 3, columns)
-        .err()
-}
-
-#[test]
-fn only_amounts_that_are_read_are_checked(rt: HostRuntime) {
-    assert!(rt; refusal_with_no_price(rt.alloc(), &PRICES) == Some(Fault::BadLayout));
-    assert!(rt; refusal_with_no_price(rt.alloc(), &ORDERS) == None);
-}
-
-// Whether the sample is read next, or the batch without rows, by which number, whether it is refused, and the order keys that
-// are shown then, where it is not: 0 where there is no row.
-static TURNS: [(bool, u32, bool, [u64; 3]); 6] = [
-    (true, 1, false, [1, 2, 3]),
-    (false, 7, false, [0, 0, 0]),
-    (true, 1, false, [1, 2, 3]),
-    (true, 2, true, [0, 0, 0]),
-    (false, 7, false, [0, 0, 0]),
-    (true, 1, false, [1, 2, 3]),
-];
-
-// Reads the order keys of one of two batches. It answers whether that is refused, and the keys that are shown where it is not.
-fn turn(buffer: &mut ColumnBuffer, sample: bool, number: u32) -> (bool, [u64; 3]) {
-    let (bytes, rows): (&[u8], u32) = if sample { (&SPELLED, 3) } else { (&EMPTY, 0) };
-    let [column] = ORDERS;
-    if buffer
-        .read(&mut SliceSource::new(bytes), 9, number, rows, &ORDERS)
-        .is_err()
-    {
-        return (true, [0, 0, 0]);
-    }
-    let [first, second, third] = numbers_in(&buffer.columns(), column);
-    (
-        false,
-        [first.unwrap_or(0), second.unwrap_or(0), third.unwrap_or(0)],
-    )
-}
-
-// Whether a buffer that is used again shows in each turn what it should.
-fn serves(alloc: Global) -> Result<bool, Fault> {
-    let mut buffer = ColumnBuffer::new(alloc)?;
-    let mut right = true;
-    for (sample, number, refused, keys) in &TURNS {
-        right &= turn(&mut buffer, *sample, *number) == (*refused, *keys);
-    }
-    Ok(right)
-}
-
-#[test]
-fn a_buffer_serves_batches_of_other_counts(rt: HostRuntime) {
-    assert_eq!(rt; serves(rt.alloc()), Ok(true));
 }

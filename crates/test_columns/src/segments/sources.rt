@@ -1,17 +1,15 @@
 //! Batches that are read from a source.
 
-use crate::segments::batches::{SPELLED, spelled};
-use crate::segments::decoding::pushed;
+use crate::segments::batches::spelled;
 use crate::segments::lengths::rows_of;
-use column_segment::{Segment, decode_from};
-use cube_model::{Fault, LineOrder};
-use sample_star::{FACTS, line_orders};
+use column_segment::decode_from;
+use cube_model::Fault;
 use std::alloc::Global;
 use std::test::Fail;
-use wire::{SliceSource, Source};
+use wire::Source;
 
 // Bytes that stand at every id, if there are any, of which so many parts can be read before a read is refused.
-#[derive(Debug, Drop)]
+#[derive(Drop)]
 pub(crate) struct Refusing<'a> {
     pub(crate) bytes: Option<&'a [u8]>,
     pub(crate) left: usize,
@@ -67,43 +65,13 @@ impl<'a> Source for Refusing<'a> {
     ghost fails_later = { λ fault old mid new first second. tt };
 }
 
-// The number and the rows of a batch.
-fn number_and_rows(alloc: Global, segment: &Segment) -> Result<(u32, Vec<LineOrder>), Fault> {
-    let rows = pushed(alloc, segment, 0, 65_536)?;
-    Ok((segment.number(), rows))
-}
-
-// The same of the batch that a source has.
-fn found<S: Source>(alloc: Global, source: &mut S) -> Result<(u32, Vec<LineOrder>), Fault> {
-    let segment = decode_from(alloc, source, 9)?;
-    number_and_rows(alloc, &segment)
-}
-
-#[test]
-fn reads_the_sample_from_a_source(rt: HostRuntime) -> Result<(), Fail> {
-    let rows = line_orders(rt.alloc(), &FACTS)?;
-    let (number, read) = found(rt.alloc(), &mut SliceSource::new(&SPELLED))?;
-    assert!(rt; number == 1 && read.as_slice() == rows.as_slice());
-    Ok(())
-}
-
-// Why a source has no batch, if it has none.
-fn refusal<S: Source>(alloc: Global, source: &mut S) -> Option<Fault> {
-    match found(alloc, source) {
-        Ok(_) => None,
-        Err(fault) => Some(fault),
-    }
-}
-
-// The same of bytes, of which so many parts can be read.
+// Why a source of these bytes has no batch, if it has none, where so many parts can be read.
 fn refusal_after(alloc: Global, bytes: &[u8], left: usize) -> Option<Fault> {
-    refusal(
-        alloc,
-        &mut Refusing {
-            bytes: Some(bytes),
-            left,
-        },
-    )
+    let mut source = Refusing {
+        bytes: Some(bytes),
+        left,
+    };
+    decode_from(alloc, &mut source, 9).err()
 }
 
 // The bytes of so many rows.

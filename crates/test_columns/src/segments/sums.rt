@@ -1,9 +1,10 @@
 //! Masks of a batch, and sums of what they select.
 
-use crate::segments::batches::{SPELLED, row_with, spelled};
+use crate::segments::batches::{SPELLED, spelled};
 use crate::segments::decoding::segment_of;
 use column_segment::{Segment, decode};
-use cube_model::{Amount, Fault, LineOrder, Measure};
+use cube_model::{Fault, LineOrder, Measure};
+use sample_star::{FIRST_FACT, Fact, line_order};
 use std::alloc::Global;
 
 // The sum of a measure over the rows that ranges of quantities and of discounts select.
@@ -54,26 +55,25 @@ fn adds_up_the_sample(rt: HostRuntime) {
     assert_eq!(rt; first_wrong_of_sample(rt.alloc()), Ok(None));
 }
 
-// As many rows as a batch may have, each with the greatest revenue.
+// The first sample row with the greatest revenue.
+const DEAR: Fact<'static> = Fact {
+    revenue: 9_223_372_036_854_775_807,
+    ..FIRST_FACT
+};
+
+// As many rows as a batch may have, each of them this one.
 fn dear_rows(alloc: Global) -> Result<Vec<LineOrder>, Fault> {
     let mut rows = Vec::with_capacity(alloc, 65536)?;
     for _ in 0..65536 {
-        let mut row = row_with(alloc, b"")?;
-        row.revenue = Amount::new(9223372036854775807);
-        rows.push(row)?;
+        rows.push(line_order(alloc, &DEAR)?)?;
     }
     Ok(rows)
 }
 
-// A batch of them.
-fn dear_segment(alloc: Global) -> Result<Segment, Fault> {
-    let rows = dear_rows(alloc)?;
-    decode(alloc, spelled(alloc, 1, &rows)?)
-}
-
 // The sum of all their revenues.
 fn dear_sum(alloc: Global) -> Result<i128, Fault> {
-    let segment = dear_segment(alloc)?;
+    let bytes = spelled(alloc, 1, &dear_rows(alloc)?)?;
+    let segment = decode(alloc, bytes)?;
     sum_of(alloc, &segment, Measure::Revenue, (0, 255), (0, 255))
 }
 

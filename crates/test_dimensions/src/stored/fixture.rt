@@ -1,9 +1,4 @@
 //! The four objects of the sample rows, with each byte by hand.
-use cube_model::{Axis, Fault};
-use dimension_objects::{decode, encode};
-use dimensions::Dims;
-use std::alloc::Global;
-
 /// The customers: 12 bytes of header, cities, nations, regions, nations of cities, regions of nations, keys, cities.
 pub const CUSTOMERS: &[u8] = b"DIM1\x00\x00\x00\x00\x02\x00\x00\x00\
 \x02\x00\x00\x00\x0aUNITED KI1\x0aUNITED ST3\
@@ -45,13 +40,4 @@ pub fn sample(object: usize) -> &'static [u8] {
         2 => PARTS,
         _ => DATES,
     }
-}
-
-/// The same dimensions, by way of their objects.
-pub fn copied(alloc: Global, dims: &Dims) -> Result<Dims, Fault> {
-    let customers = encode(alloc, dims, Axis::Customer)?;
-    let suppliers = encode(alloc, dims, Axis::Supplier)?;
-    let parts = encode(alloc, dims, Axis::Part)?;
-    let dates = encode(alloc, dims, Axis::Date)?;
-    decode(alloc, &customers, &suppliers, &parts, &dates)
 }

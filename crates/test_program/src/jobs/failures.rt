@@ -1,5 +1,5 @@
 //! Readers and writers that fail.
-use crate::jobs::given::{asked, load};
+use crate::jobs::given::load;
 use cube_model::Fault;
 use sample_sessions::fresh;
 use sample_star::{Pieces, TABLES, Taker, in_sevens};
@@ -8,7 +8,7 @@ use std::alloc::Global;
 use std::io::Write;
 use std::test::Fail;
 use warehouse::Session;
-use warehouse_jobs::{Job, perform};
+use warehouse_jobs::perform;
 
 static LINES: &[u8] = b"batch 1 rows 1\nbatch 2 rows 1\nbatch 3 rows 1\nbatches 3\n";
 
@@ -36,8 +36,8 @@ fn outcome<W: Write>(
     loaded_from(alloc, &mut session, reader, out)
 }
 
-/// Whether a load whose writer has so much room leaves a beginning of the lines, and as many batches as lines were begun.
-/// With just the room of a line its flush fails.
+/// Whether a load whose writer has so much room leaves a beginning of the lines, and as many batches as lines were
+/// begun. With just the room of a line its flush fails.
 fn is_taken(alloc: Global, room: usize) -> Result<bool, Fault> {
     let mut taker = Taker::new(alloc, room);
     let (done, batches) = outcome(alloc, in_sevens(TABLES.lineorder), &mut taker)?;
@@ -101,31 +101,5 @@ fn first_wrong_read(alloc: Global) -> Result<Option<u32>, Fault> {
 #[test]
 fn a_failing_reader_is_answered_behind_whole_batches(rt: HostRuntime) -> Result<(), Fail> {
     assert_eq!(rt; first_wrong_read(rt.alloc())?, None);
-    Ok(())
-}
-
-static NUMBERS: &[u8] = b"batches 0\nrows 0\ntarget 0\ngeneration 1\n";
-
-/// Whether a writer with so much room fails in a status, behind a beginning of it.
-fn is_cut(alloc: Global, session: &mut Session<MemDisk>, room: usize) -> bool {
-    let mut taker = Taker::new(alloc, room);
-    let done = asked(alloc, session, Job::Status, &mut taker);
-    done == Err(Fault::Output) && Some(taker.bytes.as_slice()) == NUMBERS.get(..room)
-}
-
-/// The least room at which a writer that fails in a status is not answered.
-fn first_wrong_number(alloc: Global) -> Result<Option<usize>, Fault> {
-    let mut session = fresh(alloc)?;
-    for room in 0..=NUMBERS.len() {
-        if !is_cut(alloc, &mut session, room) {
-            return Ok(Some(room));
-        }
-    }
-    Ok(None)
-}
-
-#[test]
-fn a_failing_writer_has_a_beginning_of_the_status(rt: HostRuntime) -> Result<(), Fail> {
-    assert_eq!(rt; first_wrong_number(rt.alloc())?, None);
     Ok(())
 }

@@ -1,5 +1,5 @@
 //! Loads one after the other, each with what it writes and what comes of it.
-use crate::jobs::given::{first_lines, loaded};
+use crate::jobs::given::loaded;
 use crate::jobs::loads::File::{Sample, Text};
 use cube_model::{Fault, Measure};
 use sample_sessions::{created, fresh};
@@ -198,23 +198,19 @@ fn loads_write_a_line_a_batch(rt: HostRuntime) -> Result<(), Fail> {
     Ok(())
 }
 
-/// The sample's first fact line, so many times.
-fn repeated(alloc: Global, count: usize) -> Result<Vec<u8>, Fault> {
-    let line = first_lines(TABLES.lineorder, 1);
-    let mut text = Vec::new(alloc);
-    for _ in 0..count {
-        text.extend_from_slice(line)?;
-    }
-    Ok(text)
-}
+/// The first fact line of the sample.
+const LINE: &[u8] = b"1|1|1|1|1|19930105|1-URGENT|0|17|1000|1000|2|980|600|0|19930201|AIR|\n";
 
-/// What a load of so many lines writes, so many rows a batch, and what comes of it.
+/// What a load of so many such lines writes, so many rows a batch, and what comes of it.
 fn loaded_lines(
     alloc: Global,
     count: usize,
     rows: usize,
 ) -> Result<(Vec<u8>, Result<bool, Fault>), Fault> {
-    let text = repeated(alloc, count)?;
+    let mut text = Vec::new(alloc);
+    for _ in 0..count {
+        text.extend_from_slice(LINE)?;
+    }
     let mut session = created(alloc, MemDisk::new(alloc, 512)?)?;
     loaded(alloc, &mut session, 1, rows, text.as_slice())
 }
@@ -225,33 +221,4 @@ fn a_batch_is_read_in_pieces(rt: HostRuntime) -> Result<(), Fail> {
     assert!(rt; out.as_slice() == b"batch 1 rows 1026\nbatch 2 rows 4\nbatches 2\n".as_slice());
     assert_eq!(rt; done, Ok(true));
     Ok(())
-}
-
-#[test]
-fn a_batch_may_end_with_a_piece(rt: HostRuntime) -> Result<(), Fail> {
-    let (out, done) = loaded_lines(rt.alloc(), 2_048, 2_048)?;
-    assert!(rt; out.as_slice() == b"batch 1 rows 2048\nbatches 1\n".as_slice());
-    assert_eq!(rt; done, Ok(true));
-    Ok(())
-}
-
-/// How many rows the batches of the numbers 0 to 3 have where the sample was loaded in batches of two rows.
-fn rows_of_batches(alloc: Global) -> Result<[Option<u32>; 4], Fault> {
-    let mut session = fresh(alloc)?;
-    let (_, done) = loaded(alloc, &mut session, 1, 2, TABLES.lineorder)?;
-    let _all = done?;
-    Ok([
-        session.batch_rows(0),
-        session.batch_rows(1),
-        session.batch_rows(2),
-        session.batch_rows(3),
-    ])
-}
-
-#[test]
-fn batches_have_their_rows(rt: HostRuntime) {
-    assert_eq!(rt;
-        rows_of_batches(rt.alloc()),
-        Ok([None, Some(2), Some(1), None])
-    );
 }

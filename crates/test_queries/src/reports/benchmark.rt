@@ -236,11 +236,6 @@ fn first_other(
 }
 
 #[test]
-fn the_table_has_each_query(rt: HostRuntime) {
-    assert_eq!(rt; TABLE.len(), QNumber::ALL.len());
-}
-
-#[test]
 fn thirteen_queries_are_the_benchmarks(rt: HostRuntime) -> Result<(), Fail> {
     assert_eq!(rt; first_other(rt.alloc(), &TABLE)?, None);
     Ok(())

@@ -1,0 +1,130 @@
+//! Runs of commands: batches that are taken or refused, queries over the first batches, and the numbers of the
+//! warehouse.
+use cube_model::{Agg, Fault, Measure};
+use sample_sessions::{Expected, Given, first_other_reply};
+use sample_star::{Asked, DISCOUNTED, EVERY_ROW, FACTS, FIRST_FACT, Fact, SECOND_FACT, THIRD_FACT};
+
+/// The second sample row, of a customer that there is not.
+const STRANGER: Fact<'static> = Fact {
+    custkey: 3,
+    ..SECOND_FACT
+};
+
+/// A row without any money.
+const NO_MONEY: Fact<'static> = Fact {
+    extendedprice: 0,
+    revenue: 0,
+    supplycost: 0,
+    ..FIRST_FACT
+};
+
+/// The greatest revenue, a cost, and a gain and a loss that are together as great.
+const RICH: Fact<'static> = Fact {
+    revenue: 9_223_372_036_854_775_807,
+    ..NO_MONEY
+};
+
+const COST: Fact<'static> = Fact {
+    supplycost: 1,
+    ..NO_MONEY
+};
+
+const GAIN: Fact<'static> = Fact {
+    revenue: 4_611_686_018_427_387_904,
+    ..NO_MONEY
+};
+
+const LOSS: Fact<'static> = Fact {
+    supplycost: 4_611_686_018_427_387_903,
+    ..NO_MONEY
+};
+
+/// A loss as great as the gain.
+const GREATER_LOSS: Fact<'static> = Fact {
+    supplycost: 4_611_686_018_427_387_904,
+    ..NO_MONEY
+};
+
+const PROFIT: Asked<'static> = Asked {
+    aggregates: &[Agg::Sum(Measure::Profit)],
+    ..EVERY_ROW
+};
+
+const NO_AGGREGATE: Asked<'static> = Asked {
+    aggregates: &[],
+    ..EVERY_ROW
+};
+
+const PROFIT_RANGE: Expected = Expected::Refused(Fault::SumRange {
+    measure: Measure::Profit,
+});
+
+/// Batches and queries in turn. A refused batch leaves its number to the next.
+static RUN: [(Given, Expected); 22] = [
+    (Given::Status, Expected::Plain(0, 0)),
+    (
+        Given::Submit(1, &[FIRST_FACT, STRANGER]),
+        Expected::Refused(Fault::UnknownCustomer { row: 2 }),
+    ),
+    (Given::Status, Expected::Plain(0, 0)),
+    (Given::Submit(1, &FACTS), Expected::Done),
+    (Given::Status, Expected::Plain(1, 3)),
+    (Given::Submit(1, &FACTS), Expected::Refused(Fault::Repeated)),
+    (Given::Submit(0, &FACTS), Expected::Refused(Fault::Repeated)),
+    (Given::Submit(3, &FACTS), Expected::Refused(Fault::Gap)),
+    (
+        Given::Submit(4_294_967_295, &[STRANGER]),
+        Expected::Refused(Fault::Gap),
+    ),
+    (
+        Given::Query(2, DISCOUNTED),
+        Expected::Refused(Fault::NoSuchPrefix),
+    ),
+    (Given::Submit(2, &FACTS), Expected::Done),
+    (Given::Query(0, DISCOUNTED), Expected::Answer(&[])),
+    (
+        Given::Query(1, DISCOUNTED),
+        Expected::Answer(&[(&[], 2000)]),
+    ),
+    (
+        Given::Query(2, DISCOUNTED),
+        Expected::Answer(&[(&[], 4000)]),
+    ),
+    (
+        Given::Query(4_294_967_295, DISCOUNTED),
+        Expected::Refused(Fault::NoSuchPrefix),
+    ),
+    (
+        Given::Query(3, NO_AGGREGATE),
+        Expected::Refused(Fault::BadQuery),
+    ),
+    (Given::Submit(3, &[]), Expected::Done),
+    (Given::Submit(4, &[THIRD_FACT]), Expected::Done),
+    (Given::Query(4, EVERY_ROW), Expected::Answer(&[(&[], 7)])),
+    (Given::Status, Expected::Plain(4, 7)),
+    (Given::Audit, Expected::Audited(true)),
+    (Given::Upkeep, Expected::Done),
+];
+
+/// The sum of the profits is at its limit, and one past it.
+static AT_THE_LIMIT: [(Given, Expected); 4] = [
+    (Given::Submit(1, &[RICH]), Expected::Done),
+    (Given::Submit(2, &[COST]), PROFIT_RANGE),
+    (Given::Submit(2, &[NO_MONEY]), Expected::Done),
+    (Given::Status, Expected::Plain(2, 2)),
+];
+
+/// Absolute values are added up, and not the profits themselves.
+static ABSOLUTE: [(Given, Expected); 4] = [
+    (Given::Submit(1, &[GAIN, GREATER_LOSS]), PROFIT_RANGE),
+    (Given::Submit(1, &[GAIN, LOSS]), Expected::Done),
+    (Given::Query(1, PROFIT), Expected::Answer(&[(&[], 1)])),
+    (Given::Status, Expected::Plain(1, 2)),
+];
+
+#[test]
+fn the_replies_are_as_worked_by_hand(rt: HostRuntime) {
+    assert_eq!(rt; first_other_reply(rt.alloc(), 64, &RUN), Ok(None));
+    assert_eq!(rt; first_other_reply(rt.alloc(), 64, &AT_THE_LIMIT), Ok(None));
+    assert_eq!(rt; first_other_reply(rt.alloc(), 64, &ABSOLUTE), Ok(None));
+}
