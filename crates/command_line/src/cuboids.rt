@@ -1,4 +1,5 @@
 //! The command `choose`.
+use crate::demand::demanded;
 use crate::device::Access;
 use crate::exit::NO_COMMAND;
 use crate::job::perform_job;
@@ -13,8 +14,8 @@ use std::rt::Files;
 use warehouse::MOST_CUBOIDS;
 use warehouse_jobs::Job;
 
-/// Chooses the cuboids of a warehouse, and prints them.
-pub fn choose<R: Files + AllocGlobal + Print + Eprint>(
+/// Chooses the cuboids of a warehouse, for the queries of a file if one is named, and prints them.
+pub fn choose<R: Files + AllocGlobal + Print + Eprint + Input>(
     rt: &R,
     given: &ArgMatches<'_>,
 ) -> Result<u8, Refusal>
@@ -24,7 +25,14 @@ where
     let Some(views) = given.get_one::<u8>("views") else {
         return Ok(NO_COMMAND);
     };
-    match perform_job(rt, given, Access::Commit, Job::Choose(views), io::empty()) {
+    let job = match given.get_str("for") {
+        None => Job::Choose(views),
+        Some(path) => Job::ChooseFor {
+            k: views,
+            demanded: demanded(rt, path)?,
+        },
+    };
+    match perform_job(rt, given, Access::Commit, job, io::empty()) {
         Ok(status) => Ok(status),
         Err(refusal) => Err(with_limit(rt.alloc(), refusal, views)),
     }

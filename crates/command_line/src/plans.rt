@@ -4,7 +4,7 @@ use crate::exit::DONE;
 use crate::job::{met_in, unasked};
 use crate::notes::note_conditions;
 use crate::output::{cut_short, output};
-use crate::query::{benchmark_word, query_of};
+use crate::query::{NOTHING_ASKED, asks_nothing, query_of};
 use crate::refusal::{Refusal, explained};
 use crate::unfinished::note_unfinished;
 use clap::ArgMatches;
@@ -30,13 +30,10 @@ where
 
 // The refusal of words that spell no query. Where nothing is asked it says both ways to ask.
 fn unspelled<R: Files + AllocGlobal>(rt: &R, given: &ArgMatches<'_>, fault: Fault) -> Refusal {
-    let asks = given.get_str("agg").is_some() || benchmark_word(given).is_some();
-    if asks || fault != Fault::BadQuery {
+    if !asks_nothing(given) || fault != Fault::BadQuery {
         return unasked(rt, given, fault);
     }
-    let hint = format!(in rt.alloc();
-        "nothing is asked: give a query of the benchmark, such as 3.1, or --agg G,G, such as --agg count,sum:revenue"
-    );
+    let hint = format!(in rt.alloc(); "{NOTHING_ASKED}");
     Refusal {
         fault,
         hint: hint.ok(),

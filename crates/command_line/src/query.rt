@@ -18,6 +18,15 @@ pub fn query_of(alloc: Global, given: &ArgMatches<'_>) -> Result<Query, Fault> {
     )
 }
 
+/// What is said where neither a query of the benchmark nor one of one's own is given.
+pub const NOTHING_ASKED: &str =
+    "nothing is asked: give a query of the benchmark, such as 3.1, or --agg G,G, such as --agg count,sum:revenue";
+
+/// Whether words give neither a query of the benchmark nor aggregates.
+pub fn asks_nothing(given: &ArgMatches<'_>) -> bool {
+    given.get_str("agg").is_none() && benchmark_word(given).is_none()
+}
+
 /// What is wrong with words that spell no query.
 pub fn query_hint(alloc: Global, given: &ArgMatches<'_>) -> Result<Option<String>, Fault> {
     let words = words_of(given);

@@ -80,7 +80,7 @@ where
 }
 
 // The status of a command that asks a warehouse.
-fn consult<R: Files + AllocGlobal + Print + Eprint>(
+fn consult<R: Files + AllocGlobal + Print + Eprint + Input>(
     rt: &R,
     name: &str,
     given: &ArgMatches<'_>,

@@ -1,12 +1,12 @@
 //! The words of the commands `choose`, `upkeep` and `audit`.
-use crate::options::on_device;
+use crate::options::{on_device, option};
 use clap::builder::ValueParser;
 use clap::{Arg, ArgAction, Command};
 use std::alloc::{AllocError, Global};
 
 const CHOOSE_ABOUT: &str = "Chooses the cuboids that a warehouse stores.";
 
-const CHOOSE_USAGE: &str = "ssbcube choose DEV K";
+const CHOOSE_USAGE: &str = "ssbcube choose DEV K [--for FILE]";
 
 const CHOOSE_HELP: &str =
     "A cuboid holds the fact rows grouped by one level of each dimension, ALL where
@@ -20,8 +20,17 @@ It prints a line for each, in the order of choice, such as
 that is stored already keeps its cells, a new one is empty until the next
 upkeep, and all others are dropped. K of 0 drops all.
 
+With --for it chooses for the queries of a file, one a line: a query of the
+benchmark, such as 3.1, or the words of 'ssbcube cube' but --as-of, quoted as for
+a shell. A number before them says how often the query is asked; a line given
+twice counts twice. '#' begins a comment. A query needs the coarsest view that
+serves it, and only these views count in a benefit. A query with a condition on
+quantity or discount needs none: a note names it, and it does not count. At a
+tie the view of the greatest number is taken. FILE of - is standard input.
+
 Examples:
   ssbcube choose star.dev 8
+  ssbcube choose star.dev 4 --for queries.txt
   ssbcube upkeep star.dev";
 
 const UPKEEP_ABOUT: &str = "Brings each stored cuboid to all batches.";
@@ -59,7 +68,10 @@ pub fn choose_words<'a>(alloc: Global) -> Result<Command<'a>, AllocError> {
         .required(true)
         .value_parser(ValueParser::unsigned(0, u64::from(u8::MAX)))
         .help("How many views, 0 to 16");
-    on_device(alloc, "choose", CHOOSE_ABOUT, CHOOSE_USAGE, CHOOSE_HELP)?.arg(views)
+    let queries = "A file of queries, one a line, to choose for; - is standard input";
+    on_device(alloc, "choose", CHOOSE_ABOUT, CHOOSE_USAGE, CHOOSE_HELP)?
+        .arg(views)?
+        .arg(option(alloc, "for", "FILE", queries))
 }
 
 /// The words of `upkeep`.

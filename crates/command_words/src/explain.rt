@@ -34,8 +34,8 @@ pub fn words<'a>(alloc: Global) -> Result<Command<'a>, AllocError> {
     cube_options(alloc, explain)?.arg(asked(alloc))
 }
 
-// The number of a query of the benchmark, or the conditions of a query of one's own.
-fn asked<'a>(alloc: Global) -> Arg<'a> {
+/// The number of a query of the benchmark, or the conditions of a query of one's own.
+pub fn asked<'a>(alloc: Global) -> Arg<'a> {
     Arg::new(alloc, "asked")
         .value_name("Q|CONDITION")
         .num_args(0..)

@@ -8,6 +8,7 @@ mod cuboids;
 mod demo;
 mod eval;
 mod explain;
+mod listed;
 mod load;
 mod options;
 mod report;
@@ -15,3 +16,4 @@ mod status;
 mod views;
 
 pub use commands::command;
+pub use listed::listed_query;

@@ -3,3 +3,4 @@ pub mod Order
 pub mod Places
 pub mod Serving
 pub mod Products
+pub mod Needing

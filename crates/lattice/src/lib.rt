@@ -5,6 +5,7 @@ mod counts;
 mod laws;
 mod level;
 mod name;
+mod needed;
 mod query;
 mod view;
 

@@ -8,7 +8,7 @@ use crate::view::View;
 use cube_model::{Attr, Cond, Query};
 
 // The highest level of its axis that determines an attribute. A month has no one week.
-fn highest_level(attr: Attr) -> Level
+pub(crate) fn highest_level(attr: Attr) -> Level
     ensures { result ≡ highest_level attr }
 {
     match attr {

@@ -1,2 +1,3 @@
 //! Tests of the choice of cuboids.
 mod chosen;
+mod demanded;

@@ -95,8 +95,17 @@ fn the_benchmarks_queries_are_served_by_the_views_that_tell_their_attributes(
         let query = query_of(rt.alloc(), *number)?;
         let wrong = wrong(rt.alloc(), &query, *coarsest)?;
         assert_eq!(rt; wrong.as_slice(), [0u16; 0].as_slice());
+        assert_eq!(rt; needed_by(&query), *coarsest);
     }
     Ok(())
+}
+
+// The number of the view that a query needs.
+fn needed_by(query: &cube_model::Query) -> Option<u16> {
+    match View::needed_by(query) {
+        Some(view) => Some(view.index()),
+        None => None,
+    }
 }
 
 // The numbers of the views that serve such a query wrongly.

@@ -32,17 +32,17 @@ pub total_benefit-push : {V : Type 0} (lattice : Lattice V) (chosen : List V) (v
 total_benefit-push lattice chosen view = sum_by-parts (λ other. lattice.rows - cost lattice chosen other) (λ other. cost lattice chosen other - lattice.size view)
     (λ other. lattice.rows - cost lattice (chosen ++ view ∷ []) other) (lattice.answers view)
     (λ other. ap (λ n. lattice.rows - n) (cost-push lattice chosen view other) ∙ saved-push lattice.rows (cost lattice chosen other) (lattice.size view) (lattice.answers view other) (cost-le lattice chosen other))
-    lattice.views
+    lattice.demanded
 
 -- a view's benefit is no greater under a longer choice
 pub benefit-append_le : {V : Type 0} (lattice : Lattice V) (chosen more : List V) (view : V) → benefit lattice (chosen ++ more) view ≤ benefit lattice chosen view
 benefit-append_le lattice chosen more view = sum_by-le-sum_by (λ other. cost lattice (chosen ++ more) other - lattice.size view) (λ other. cost lattice chosen other - lattice.size view)
-    (filter (lattice.answers view) lattice.views) (λ other. omega (arith, cost-append_le_left lattice chosen more other))
+    (filter (lattice.answers view) lattice.demanded) (λ other. omega (arith, cost-append_le_left lattice chosen more other))
 
 -- the benefit of a choice is no greater than that of one that it ends
 pub total_benefit-append_le : {V : Type 0} (lattice : Lattice V) (chosen more : List V) → total_benefit lattice more ≤ total_benefit lattice (chosen ++ more)
 total_benefit-append_le lattice chosen more = sum_by-le-sum_by (λ view. lattice.rows - cost lattice more view) (λ view. lattice.rows - cost lattice (chosen ++ more) view)
-    lattice.views (λ view. omega (arith, cost-append_le_right lattice chosen more view))
+    lattice.demanded (λ view. omega (arith, cost-append_le_right lattice chosen more view))
 
 -- where no candidate's benefit is above a number, each candidate more adds at most that number
 total_benefit-append_at_most : {V : Type 0} (lattice : Lattice V) (chosen more : List V) (most : ℕ) → ((view : V) → IsCandidate lattice view → benefit lattice chosen view ≤ most)
@@ -62,7 +62,7 @@ total_benefit_at_most lattice chosen others most below all =
 
 -- nothing chosen has no benefit
 pub total_benefit-nil : {V : Type 0} (lattice : Lattice V) → total_benefit lattice [] ≡ 0
-total_benefit-nil {V} lattice = none lattice.views where
+total_benefit-nil {V} lattice = none lattice.demanded where
   none : (views : List V) → sum_by (λ view. lattice.rows - cost lattice [] view) views ≡ 0
   none [] = refl
   none (view ∷ views) = omega (arith, sum_by-cons (λ other. lattice.rows - cost lattice [] other) view views, none views)

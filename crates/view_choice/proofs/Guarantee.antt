@@ -1,12 +1,15 @@
 -- The greedy guarantee: each greedy step makes up at least a k-th of what is missing from the benefit of any other choice.
-use Rattle.std.proofs.Common.{◌≡◌, ◌∙◌, ap, sym, subst, ℕ, suc, ◌+◌, ◌-◌, ◌*◌, ◌^◌, ◌<◌, ◌≤◌, List, [], ◌∷◌, length, take, get_or, arith, ⊎_elim}
+use Rattle.std.proofs.Common.{◌≡◌, ◌∙◌, ap, sym, subst, ℕ, suc, ◌+◌, ◌-◌, ◌*◌, ◌^◌, ◌<◌, ◌≤◌, List, [], ◌∷◌, length, take, get_or, arith, ⊎_elim, Result, Ok, Err, IfOk}
 use Rattle.std.specs.List.{All}
 use Rattle.std.proofs.Math.Nat.{mul-zero}
 use Rattle.std.proofs.lemmas.Bool.{cases_lt}
 use Rattle.std.proofs.lemmas.List.{take_all}
 use Rattle.std.proofs.lemmas.List.Elements.{recursion_from_All}
 use Rattle.std.proofs.lemmas.Nat.{mul-le}
+use Rattle.std.specs.declared.alloc.Global.{Global}
+use Rattle.std.specs.declared.vec.Vec.{Vec}
 use Rattle.view_choice.specs.Choice.{Lattice, benefit, total_benefit, IsCandidate, IsGreedy}
+use Rattle.view_choice.specs.Lawful.{HasGuarantee}
 use Rattle.view_choice.proofs.BenefitLaws.{total_benefit-push, total_benefit_at_most}
 use Rattle.view_choice.proofs.Members.{take-suc}
 use Rattle.view_choice.proofs.Shrinking.{missing_after, missing_shrinks, have_at_least, have_all}
@@ -54,3 +57,9 @@ pub guarantee : {V : Type 0} (lattice : Lattice V) (k : ℕ) (chosen others : Li
     → (k ^ k - (k - 1) ^ k) * total_benefit lattice others ≤ k ^ k * total_benefit lattice chosen
 guarantee lattice k [] others positive greedy all few = early lattice k [] others positive greedy all few positive
 guarantee lattice k (view ∷ chosen) others positive greedy all few = early_or_full lattice k (view ∷ chosen) others positive greedy all few view
+
+-- so where the answer is a greedy list, it has that part
+pub guaranteed : {V E : Type 0} (lattice : Lattice V) (k : ℕ) (found : Result (Vec V Global) E) → 1 ≤ k → IfOk found (λ chosen. IsGreedy lattice k chosen.items)
+    → IfOk found (λ chosen. HasGuarantee lattice k chosen.items)
+guaranteed lattice k (Ok chosen) positive greedy = λ others all few. guarantee lattice k chosen.items others positive greedy all few
+guaranteed lattice k (Err fault) positive greedy = greedy

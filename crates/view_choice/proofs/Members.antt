@@ -74,7 +74,7 @@ benefit-push_same lattice chosen view = sum_by-none (λ other. cost lattice (cho
     let lowered : cost lattice (chosen ++ view ∷ []) other ≡ min (cost lattice chosen other) (lattice.size view)
     = cost-push lattice chosen view other ∙ ap (λ b. cond b (min (cost lattice chosen other) (lattice.size view)) (cost lattice chosen other)) answers in
     omega (arith, lowered))
-    lattice.views
+    lattice.demanded
 
 -- nor has it further on
 benefit-chosen : {V : Type 0} (lattice : Lattice V) (chosen : List V) (i j : ℕ) (default : V) → i < j → j < length chosen → benefit lattice (take j chosen) (get_or chosen i default) ≡ 0

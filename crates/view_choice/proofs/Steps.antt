@@ -22,7 +22,7 @@ abbrev pub no_view : View
 no_view = record { customer = Lowest; supplier = Lowest; part = Lowest; date = Lowest; ship_mode = false }
 
 abbrev pub no_costed : Costed
-no_costed = record { view = no_view; size = 0; cost = 0 }
+no_costed = record { view = no_view; cost = 0 }
 
 -- a slice that is written as a whole
 pub whole_slice : {X : Type 0} (n : ℕ) (new old : List X) → length new ≡ n → length old ≡ n → take n (new ++ drop (length new) old) ≡ new
@@ -32,14 +32,12 @@ whole_slice n new old long short =
     ∙ take_all n new (omega (arith, long))
 
 -- the next view of the lattice is kept too
-pub push_view : (rows : ℕ) (counts : Counts) (i : ℕ) (view : View) (size : ℕ) (all : List Costed) → slice_get (lattice_of counts) i ≡ Some view
-    → size ≡ size_of rows counts view → all ≡ map (costed_view (cuboids rows counts) []) (take i (lattice_of counts))
-    → all ++ record { view = view; size = size; cost = rows } ∷ [] ≡ map (costed_view (cuboids rows counts) []) (take (i + 1) (lattice_of counts))
-push_view rows counts i view size all here sized so_far =
-    ap (λ items. items ++ record { view = view; size = size; cost = rows } ∷ []) so_far
-    ∙ ap (λ (n : ℕ). map (costed_view (cuboids rows counts) []) (take i (lattice_of counts)) ++ record { view = view; size = n; cost = rows } ∷ []) sized
-    ∙ ap (λ v. map (costed_view (cuboids rows counts) []) (take i (lattice_of counts)) ++ costed_view (cuboids rows counts) [] v ∷ []) (sym (get_or_from_slice_get (lattice_of counts) i view view here))
-    ∙ sym (map_more (costed_view (cuboids rows counts) []) (lattice_of counts) i view (slice_get_within (lattice_of counts) i view here))
+pub push_view : (counts : Counts) (i : ℕ) (view : View) (views : List View) → slice_get (lattice_of counts) i ≡ Some view
+    → views ≡ take i (lattice_of counts) → views ++ view ∷ [] ≡ take (i + 1) (lattice_of counts)
+push_view counts i view views here so_far =
+    ap (λ items. items ++ view ∷ []) so_far
+    ∙ ap (λ v. take i (lattice_of counts) ++ v ∷ []) (sym (get_or_from_slice_get (lattice_of counts) i view view here))
+    ∙ sym (take_more (lattice_of counts) i view (slice_get_within (lattice_of counts) i view here))
 
 -- there is a view at each place of the lattice
 pub some_view : (counts : Counts) (i : ℕ) → i < length (lattice_of counts) → slice_get (lattice_of counts) i ≡ None → ⊥

@@ -4,11 +4,13 @@
 use Rattle.std.specs.Prelude.{◌≡◌, ℕ, ◌-◌, ◌<◌, ◌≤◌, min, Bool, List, [], ◌∷◌, ◌++◌, map, length, take, slice_index_or}
 use Rattle.std.specs.List.{fold, sum_by, filter, Contains}
 
--- what a choice is made from: the fact rows, the views, their numbers, their sizes in cells, which view answers which
--- (its cells suffice to work out those of the other), and the most cells that a stored view may have
+-- what a choice is made from: the fact rows, the views, those that are asked for, each as often as it is, the numbers and
+-- sizes in cells of views, which view answers which (its cells suffice to work out those of the other), and the most cells
+-- that a stored view may have
 pub record Lattice (V : Type 0) : Type 0 where
   pub rows : ℕ
   pub views : List V
+  pub demanded : List V
   pub index : V → ℕ
   pub size : V → ℕ
   pub answers : V → V → Bool
@@ -19,14 +21,14 @@ abbrev pub cost : {V : Type 0} → Lattice V → List V → V → ℕ
 cost lattice chosen view =
     fold min lattice.rows (map lattice.size (filter (λ other. lattice.answers other view) chosen))
 
--- the benefit of a view under a choice: by how much it lowers the cost of the views that it answers, in all
+-- the benefit of a view under a choice: by how much it lowers the cost of the views asked for that it answers, in all
 abbrev pub benefit : {V : Type 0} → Lattice V → List V → V → ℕ
 benefit lattice chosen view =
-    sum_by (λ other. cost lattice chosen other - lattice.size view) (filter (lattice.answers view) lattice.views)
+    sum_by (λ other. cost lattice chosen other - lattice.size view) (filter (lattice.answers view) lattice.demanded)
 
--- the benefit of a whole choice: by how much it lowers the cost of all views from the fact rows, in all
+-- the benefit of a whole choice: by how much it lowers the cost of the views asked for from the fact rows, in all
 abbrev pub total_benefit : {V : Type 0} → Lattice V → List V → ℕ
-total_benefit lattice chosen = sum_by (λ view. lattice.rows - cost lattice chosen view) lattice.views
+total_benefit lattice chosen = sum_by (λ view. lattice.rows - cost lattice chosen view) lattice.demanded
 
 -- the benefit of each view under those before it, where some are before the first
 abbrev pub benefits_after : {V : Type 0} → Lattice V → List V → List V → List ℕ

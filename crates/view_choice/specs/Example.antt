@@ -21,6 +21,7 @@ abbrev pub paper_lattice : Lattice ℕ
 paper_lattice = record {
   rows = 100;
   views = 0 ∷ 1 ∷ 2 ∷ 3 ∷ 4 ∷ 5 ∷ 6 ∷ 7 ∷ [];
+  demanded = 0 ∷ 1 ∷ 2 ∷ 3 ∷ 4 ∷ 5 ∷ 6 ∷ 7 ∷ [];
   index = λ view. view;
   size = λ view. slice_index_or (100 ∷ 50 ∷ 75 ∷ 20 ∷ 30 ∷ 40 ∷ 1 ∷ 10 ∷ []) view 0;
   answers = λ view other. list_any (λ one. one == other) (slice_index_or answered view []);

@@ -5,7 +5,7 @@ use Rattle.std.specs.List.{All, sum}
 use Rattle.lattice.specs.declared.counts.Counts.{Counts}
 use Rattle.lattice.specs.declared.view.View.{View}
 use Rattle.view_choice.specs.Choice.{Lattice, benefit, benefits, total_benefit, IsCandidate, IsGreedy}
-use Rattle.view_choice.specs.Cuboids.{cuboids}
+use Rattle.view_choice.specs.Cuboids.{cuboids, cuboids_for}
 
 -- a choice has at least (1 - ((k - 1) / k) ^ k) of the benefit of any choice of at most k candidates; here both sides
 -- are times k ^ k
@@ -35,6 +35,12 @@ OneGreedyList V = (lattice : Lattice V) (k : ℕ) (chosen others : List V) → H
 abbrev pub OneGreedyChoice : Type 0
 OneGreedyChoice = (rows : ℕ) (counts : Counts) (k : ℕ) (chosen others : List View)
     → IsGreedy (cuboids rows counts) k chosen → IsGreedy (cuboids rows counts) k others → chosen ≡ others
+
+-- and one where only some views are asked for
+abbrev pub OneGreedyChoiceFor : Type 0
+OneGreedyChoiceFor = (rows : ℕ) (counts : Counts) (demanded : List View) (k : ℕ) (chosen others : List View)
+    → IsGreedy (cuboids_for rows counts demanded) k chosen → IsGreedy (cuboids_for rows counts demanded) k others
+    → chosen ≡ others
 
 -- the members of a list are candidates, and no view is in it twice
 pub record AreCandidatesOnce {V : Type 0} (lattice : Lattice V) (chosen : List V) : Type 0 where

@@ -1,7 +1,8 @@
-//! The views of the lattice with their sizes and with their costs under the views chosen so far.
-ghost use Rattle.std.specs.Prelude.{◌≡◌, ◌<◌, ◌^◌, [], map, IfOk};
-ghost use Rattle.view_choice.specs.Costs.{costed, saved_by, benefit_among, gain_among, costs_in_all, lowered, IsFirstGreatest};
-ghost use Rattle.view_choice.specs.Cuboids.{cuboids, most_stored_cells};
+//! The views of the lattice with their sizes, and those that are asked for with their costs under the views chosen so far.
+ghost use Rattle.std.specs.Prelude.{◌≡◌, ◌<◌, ◌^◌, map, IfOk};
+ghost use Rattle.lattice.specs.Sizes.{size_of};
+ghost use Rattle.view_choice.specs.Costs.{sized, costs_all_rows, saved_by, benefit_among, gain_among, costs_in_all, lowered, IsFirstGreatest};
+ghost use Rattle.view_choice.specs.Cuboids.{most_stored_cells};
 
 use lattice::{Counts, View};
 use std::alloc::{AllocError, Global};
@@ -9,28 +10,47 @@ use std::alloc::{AllocError, Global};
 /// The most cells of a view that may be stored.
 pub const MOST_STORED_CELLS: u64 = 262_144;
 
-/// A view, the most cells that it can have, and its cost under the views chosen so far.
+/// A view, and the most cells that it can have.
+#[derive(Clone, Copy, Debug, PartialEq, Eq)]
+pub struct Candidate {
+    pub view: View,
+    pub size: u64,
+}
+
+/// A view that is asked for, and its cost under the views chosen so far.
 #[derive(Clone, Copy, Debug, PartialEq, Eq)]
 pub struct Costed {
     pub view: View,
-    pub size: u64,
     pub cost: u64,
 }
 
-/// All views, before one is chosen.
-pub fn all_costed(alloc: Global, rows: u64, counts: &Counts) -> Result<Vec<Costed>, AllocError>
-    ensures { IfOk result (λ all. all.items ≡ costed (cuboids rows counts.now) []) }
+/// Views with their sizes over so many fact rows.
+pub fn all_candidates(
+    alloc: Global,
+    rows: u64,
+    counts: &Counts,
+    views: &[View],
+) -> Result<Vec<Candidate>, AllocError>
+    ensures { IfOk result (λ all. all.items ≡ map (sized (size_of rows counts.now)) views.now) }
 {
-    let mut all = Vec::with_capacity(alloc, usize::from(counts.view_count()))?;
-    for index in 0..counts.view_count() {
-        if let Some(view) = counts.view(index) {
-            let size = view.size(rows, counts);
-            all.push(Costed {
-                view,
-                size,
-                cost: rows,
-            })?;
-        }
+    let mut all = Vec::with_capacity(alloc, views.len())?;
+    for view in views {
+        let size = view.size(rows, counts);
+        all.push(Candidate { view: *view, size })?;
+    }
+    Ok(all)
+}
+
+/// Views with their costs before one is chosen: the fact rows.
+pub fn all_costed(alloc: Global, rows: u64, views: &[View]) -> Result<Vec<Costed>, AllocError>
+    ensures { IfOk result (λ all. all.items ≡ map (costs_all_rows rows) views.now) }
+{
+    let mut all = Vec::with_capacity(alloc, views.len())?;
+    for view in views {
+        all.push(Costed {
+            view: *view,
+            cost: rows,
+        })?;
     }
     Ok(all)
 }
@@ -59,7 +79,7 @@ pub fn benefit_among(all: &[Costed], view: View, size: u64) -> u64
 }
 
 // The benefit of a view that may be stored, 0 of one that may not.
-fn gain_among(all: &[Costed], candidate: &Costed) -> u64
+fn gain_among(all: &[Costed], candidate: &Candidate) -> u64
     requires { costs_in_all all.now < 2 ^ 64 }
     ensures { result ≡ gain_among all.now candidate.now }
 {
@@ -71,14 +91,14 @@ fn gain_among(all: &[Costed], candidate: &Costed) -> u64
 }
 
 /// The first place of the views of greatest benefit that may be stored, or nothing where none has a benefit.
-pub fn first_greatest(all: &[Costed]) -> Option<usize>
+pub fn first_greatest(all: &[Costed], candidates: &[Candidate]) -> Option<usize>
     requires { costs_in_all all.now < 2 ^ 64 }
-    ensures { IsFirstGreatest (gain_among all.now) all.now result }
+    ensures { IsFirstGreatest (gain_among all.now) candidates.now result }
 {
     let mut best = None;
     let mut most = 0;
-    for place in 0..all.len() {
-        let gain = gain_among(all, &all[place]);
+    for place in 0..candidates.len() {
+        let gain = gain_among(all, &candidates[place]);
         if gain > most {
             best = Some(place);
             most = gain;

@@ -1,6 +1,6 @@
 //! Laws of the choice, most of them over views of any kind: each function proves the statement that its contract names,
 //! and does nothing.
-ghost use Rattle.view_choice.specs.Lawful.{GreedyGuarantee, SomeGreedyList, OneGreedyList, OneGreedyChoice, GreedyMembers, BenefitsAddUp, BenefitsFall};
+ghost use Rattle.view_choice.specs.Lawful.{GreedyGuarantee, SomeGreedyList, OneGreedyList, OneGreedyChoice, OneGreedyChoiceFor, GreedyMembers, BenefitsAddUp, BenefitsFall};
 ghost use Rattle.view_choice.specs.Example.{PaperExample};
 
 /// A greedy list for k has at least `1 - ((k - 1) / k) ^ k` of the benefit of any choice of as many candidates.
@@ -21,6 +21,11 @@ pub fn one_greedy_list<V>()
 /// There is only one greedy list of the views of the warehouse for each k.
 pub fn one_greedy_choice()
     ensures { OneGreedyChoice }
+{}
+
+/// There is only one greedy list for some views that are asked for, for each k.
+pub fn one_greedy_choice_for()
+    ensures { OneGreedyChoiceFor }
 {}
 
 /// The members of a greedy list are candidates, each once.

@@ -1,9 +1,19 @@
 -- What a choice of cuboids looks at.
-use Rattle.std.proofs.Common.{◌≡◌, ◌≤◌, ◌+◌, ◌*◌, ℕ, suc, List, [], ◌∷◌, ◌++◌, length, All, refl, ap, arith}
+use Rattle.std.proofs.Common.{◌≡◌, ◌⊎◌, ◌<◌, ◌≤◌, ◌+◌, ◌*◌, ℕ, suc, List, [], ◌∷◌, ◌++◌, length, All, Some, refl, ap, subst, inl, inr, ⊎_elim, arith}
 use Rattle.std.specs.List.{sum_by}
+use Rattle.std.proofs.lemmas.Bool.{cases_lt}
 use Rattle.std.proofs.lemmas.List.Elements.{All-head, All-tail}
 use Rattle.std.proofs.lemmas.List.Sums.{sum_by-cons}
+use Rattle.lattice.specs.declared.view.View.{View}
 use Rattle.view_choice.specs.Choice.{Lattice, benefits_after}
+use Rattle.view_choice.specs.Cuboids.{most_demanded}
+use Rattle.object_store.specs.Content.{Content}
+use Rattle.object_store.specs.Disk.{Disk, Leaves}
+use Rattle.object_store.specs.Moments.{leaves_weaker}
+use Rattle.warehouse_objects.specs.Warehouse.{Warehouse, with_views}
+use Rattle.warehouse_objects.specs.Stands.{Stands}
+use Rattle.warehouse.specs.declared.chosen.Chosen.{Chosen}
+use Rattle.warehouse.specs.Choosing.{AreTooMany, views_of}
 
 -- batches of at most 65,536 rows
 pub rows_at_most : (batches : List ℕ) → All (λ rows. rows ≤ 65536) batches → sum_by (λ rows. rows) batches ≤ length batches * 65536
@@ -18,3 +28,14 @@ rows_at_most (rows ∷ batches) all =
 pub many_benefits : {V : Type 0} (lattice : Lattice V) (before views : List V) → length (benefits_after lattice before views) ≡ length views
 many_benefits lattice before [] = refl
 many_benefits lattice before (view ∷ views) = ap suc (many_benefits lattice (before ++ view ∷ []) views)
+
+-- where a choice of views is stored, a stop leaves the warehouse as it was, or with the views of the choice
+pub leaves_chosen : (w : Warehouse) (old new : Disk) (Is : List Chosen → Type 0) (chosen : List Chosen) (views : List View) → (old.keeps_word → Is chosen) → views ≡ views_of chosen
+    → Leaves old new (λ x. Stands x w ⊎ Stands x (with_views w views)) → Leaves old new (λ x. Stands x w ⊎ ((some : List Chosen) × Is some × Stands x (with_views w (views_of some))))
+leaves_chosen w old new Is chosen views is are = leaves_weaker (λ (x : Content). Stands x w ⊎ Stands x (with_views w views))
+    (λ (x : Content). Stands x w ⊎ ((some : List Chosen) × Is some × Stands x (with_views w (views_of some)))) old new
+    (λ k x. ⊎_elim (λ before. inl before) (λ after. inr (chosen, is k, subst (λ (vs : List View). Stands x (with_views w vs)) are after)))
+
+-- where neither too many are chosen nor asked for, few enough are asked for
+pub few_asked : (k : ℕ) (demanded : List View) → (AreTooMany k (Some demanded) → ⊥) → length demanded ≤ most_demanded
+few_asked k demanded not_many = ⊎_elim (λ (more : most_demanded < length demanded). absurd (not_many (inr more))) (λ le. le) (cases_lt most_demanded (length demanded))

@@ -1,5 +1,5 @@
 -- What cuboids are chosen from, and the choice (Harinarayan, Rajaraman and Ullman 1996).
-use Rattle.std.specs.Prelude.{◌≡◌, ◌⊎◌, ◌<◌, ℕ, None, List, [], length, map}
+use Rattle.std.specs.Prelude.{◌≡◌, ◌⊎◌, ◌<◌, ℕ, Option, None, Some, List, [], length, map}
 use Rattle.sector_device.specs.declared.device.Sectors.{Ghosts}
 use Rattle.cube_model.specs.declared.attr.Attr.{Attr}
 use Rattle.cube_model.specs.declared.attr.Attr.TheVariants.{CustomerCity, CustomerNation, CustomerRegion, SupplierCity, SupplierNation, SupplierRegion, PartBrand1, PartCategory, PartMfgr, DateKey, DateYearmonthnum, DateYear}
@@ -12,7 +12,7 @@ use Rattle.lattice.specs.declared.counts.Counts.{Counts}
 use Rattle.lattice.specs.declared.counts.LevelCounts.{LevelCounts}
 use Rattle.lattice.specs.declared.view.View.{View}
 use Rattle.view_choice.specs.Choice.{IsGreedy, Lattice, benefits}
-use Rattle.view_choice.specs.Cuboids.{cuboids}
+use Rattle.view_choice.specs.Cuboids.{cuboids, cuboids_for, most_demanded}
 use Rattle.object_store.specs.Store as stores
 use Rattle.warehouse_root.specs.Limits.{most_cuboids}
 use Rattle.warehouse_root.specs.Root as roots
@@ -44,13 +44,38 @@ counts_of rows = record {
 abbrev pub choices : Warehouse → Lattice View
 choices w = cuboids (length (all_rows w.batches)) (counts_of w.rows)
 
+-- the same where only some views are asked for, each as often as it is among them
+abbrev pub choices_for : Warehouse → List View → Lattice View
+choices_for w demanded = cuboids_for (length (all_rows w.batches)) (counts_of w.rows) demanded
+
+-- what is chosen from where all views are asked for, or some
+abbrev pub lattice_asked : ℕ → Counts → Option (List View) → Lattice View
+lattice_asked rows counts None = cuboids rows counts
+lattice_asked rows counts (Some demanded) = cuboids_for rows counts demanded
+
+abbrev pub choices_asked : Warehouse → Option (List View) → Lattice View
+choices_asked w asked = lattice_asked (length (all_rows w.batches)) (counts_of w.rows) asked
+
+-- more are to be chosen than may be stored, or more are asked for than are counted
+abbrev pub AreTooMany : ℕ → Option (List View) → Type 0
+AreTooMany k None = most_cuboids < k
+AreTooMany k (Some demanded) = (most_cuboids < k) ⊎ (most_demanded < length demanded)
+
 abbrev pub views_of : List Chosen → List View
 views_of chosen = map (λ one. one.view) chosen
 
--- the greedy list for k over the fact rows and the members of a warehouse, each view with its benefit under those before it
-pub record IsChoice (w : Warehouse) (k : ℕ) (chosen : List Chosen) : Type 0 where
-  pub greedy : IsGreedy (choices w) k (views_of chosen)
-  pub benefits_are : map (λ one. one.benefit) chosen ≡ benefits (choices w) (views_of chosen)
+-- the greedy list for k, each view with its benefit under those before it
+pub record IsChosenFrom (lattice : Lattice View) (k : ℕ) (chosen : List Chosen) : Type 0 where
+  pub greedy : IsGreedy lattice k (views_of chosen)
+  pub benefits_are : map (λ one. one.benefit) chosen ≡ benefits lattice (views_of chosen)
+
+-- that over the fact rows and the members of a warehouse
+abbrev pub IsChoice : Warehouse → ℕ → List Chosen → Type 0
+IsChoice w k chosen = IsChosenFrom (choices w) k chosen
+
+-- and that for some views that are asked for
+abbrev pub IsChoiceFor : Warehouse → List View → ℕ → List Chosen → Type 0
+IsChoiceFor w demanded k chosen = IsChosenFrom (choices_for w demanded) k chosen
 
 -- why the commit of a choice of views is refused where the device has not failed
 abbrev pub ViewsRefuse : {D : Type 0} (g : Ghosts D) → Session D g → Warehouse → List View → Fault → Type 0
@@ -62,3 +87,9 @@ abbrev pub ChooseRefuses : {D : Type 0} (g : Ghosts D) → Session D g → Wareh
 ChooseRefuses g session w k fault =
     ((fault ≡ BadQuery) × (most_cuboids < k))
     ⊎ ((fault ≡ Memory) ⊎ ((chosen : List Chosen) × IsChoice w k chosen × ViewsRefuse g session w (views_of chosen) fault))
+
+-- the same where some views are asked for: they may also be too many
+abbrev pub ChooseForRefuses : {D : Type 0} (g : Ghosts D) → Session D g → Warehouse → List View → ℕ → Fault → Type 0
+ChooseForRefuses g session w demanded k fault =
+    ((fault ≡ BadQuery) × ((most_cuboids < k) ⊎ (most_demanded < length demanded)))
+    ⊎ ((fault ≡ Memory) ⊎ ((chosen : List Chosen) × IsChoiceFor w demanded k chosen × ViewsRefuse g session w (views_of chosen) fault))

@@ -1,14 +1,15 @@
 //! Which cuboids a warehouse stores.
-ghost use Rattle.std.specs.Prelude.{◌≡◌, ◌≢◌, ◌⊎◌, ◌↔◌, ◌<◌, ◌≤◌, All, Err, List, true, false, length, map, IfErr, IfOk, IsErrOf, OnOk};
+ghost use Rattle.std.specs.Prelude.{◌≡◌, ◌≢◌, ◌⊎◌, ◌↔◌, ◌<◌, ◌≤◌, All, Err, List, true, false, length, map, IfErr, IfOk, IsErrOf, IsTrue, OnOk};
+ghost use Rattle.std.specs.Option.{option_map};
 ghost use Rattle.cube_model.specs.declared.fault.Fault.TheVariants.{BadQuery, Device, Failed, Memory};
 ghost use Rattle.lattice.specs.Views.{index_of};
 ghost use Rattle.view_choice.specs.Choice.{IsGreedy, benefits};
-ghost use Rattle.view_choice.specs.Cuboids.{cuboids, most_fact_rows};
+ghost use Rattle.view_choice.specs.Cuboids.{most_demanded, most_fact_rows};
 ghost use Rattle.object_store.specs.Disk.{Leaves};
 ghost use Rattle.warehouse_root.specs.Limits.{most_cuboids};
 ghost use Rattle.warehouse_objects.specs.Warehouse.{Warehouse, with_views};
 ghost use Rattle.warehouse_objects.specs.Stands.{Stands};
-ghost use Rattle.warehouse.specs.Choosing.{ChooseRefuses, IsChoice, ViewsRefuse, counts_of, members_on, views_of};
+ghost use Rattle.warehouse.specs.Choosing.{AreTooMany, ChooseForRefuses, ChooseRefuses, IsChoice, IsChoiceFor, IsChosenFrom, ViewsRefuse, choices_asked, counts_of, lattice_asked, members_on, views_of};
 ghost use Rattle.warehouse.specs.declared.chosen.Chosen.{Chosen};
 ghost use Rattle.warehouse.specs.Session.{Breaks, CommitsOnce, IsAt, KeepsContent, device_of, disk_of, has_failed};
 
@@ -21,7 +22,7 @@ use dimensions::Dims;
 use lattice::{Counts, LevelCounts, View};
 use sector_device::Sectors;
 use std::alloc::Global;
-use view_choice::{benefits, greedy};
+use view_choice::{MOST_DEMANDED, benefits, benefits_for, greedy, greedy_for};
 use warehouse_root::limits::MOST_CUBOIDS;
 
 impl<D: Sectors> Session<D> {
@@ -78,12 +79,53 @@ impl<D: Sectors> Session<D> {
         ensures device { IsErrOf result Device → Breaks D.Sectors self.old self.new }
         ensures word { D.keeps_word (device_of self.new) → D.keeps_word (device_of self.old) }
     {
-        let chosen = match self.choice(alloc, k) {
+        let chosen = match self.choice(alloc, k, None) {
             Ok(chosen) => chosen,
             Err(fault) => return Err(fault),
         };
         match self.store_views(alloc, chosen.views.as_slice()) {
             Ok(()) => Ok(chosen.chosen),
+            Err(fault) => Err(fault),
+        }
+    }
+
+    /// Stores the cuboids of the greedy list of k views where only some views are asked for, as often as each is among them, as
+    /// `choose` does, and answers the list with the benefit of each view: by how much it lowers the costs of these. At most 16
+    /// views, and 65,536 that are asked for.
+    ///
+    /// `BadQuery` exactly where there are more. It can also fail for want of memory or room, at the last generation, and because
+    /// the device does.
+    pub fn choose_for(
+        &mut self,
+        alloc: Global,
+        k: u8,
+        demanded: &[View],
+    ) -> Result<Vec<Chosen>, Fault>
+        // A crash leaves the cuboids as they were, or those of the choice.
+        ensures leaves { (w : Warehouse) → IsAt D.Sectors self.old w → Leaves (disk_of D.Sectors self.old) (disk_of D.Sectors self.new)
+            (λ c. Stands c w ⊎ ((chosen : List Chosen) × IsChoiceFor w demanded.now k chosen × Stands c (with_views w (views_of chosen)))) }
+        ensures ok { IfOk result (λ chosen. (w : Warehouse) → IsAt D.Sectors self.old w → IsAt D.Sectors self.new (with_views w (views_of chosen.items))
+            × CommitsOnce D.Sectors self.old self.new × (D.keeps_word (device_of self.new) → IsChoiceFor w demanded.now k chosen.items)) }
+
+        // After a refusal, unless the device failed, all is as it was, at each moment.
+        ensures refused { IfErr result (λ fault. fault ≢ Device → (w : Warehouse) → IsAt D.Sectors self.old w →
+            IsAt D.Sectors self.new w × KeepsContent D.Sectors self.old self.new × Leaves (disk_of D.Sectors self.old) (disk_of D.Sectors self.new) (λ c. Stands c w)) }
+
+        // When each error comes.
+        ensures causes { IfErr result (λ fault. fault ≢ Device → (w : Warehouse) → IsAt D.Sectors self.old w → D.keeps_word (device_of self.new)
+            → ChooseForRefuses D.Sectors self.old w demanded.now k fault) }
+        ensures many { has_failed self.old ≡ false → (most_cuboids < k) ⊎ (most_demanded < length demanded.now) → result ≡ Err BadQuery }
+        ensures failed { IsErrOf result Failed ↔ (has_failed self.old ≡ true) }
+        ensures unmoved { IsErrOf result Failed → self.new ≡ self.old }
+        ensures device { IsErrOf result Device → Breaks D.Sectors self.old self.new }
+        ensures word { D.keeps_word (device_of self.new) → D.keeps_word (device_of self.old) }
+    {
+        let choice = match self.choice(alloc, k, Some(demanded)) {
+            Ok(choice) => choice,
+            Err(fault) => return Err(fault),
+        };
+        match self.store_views(alloc, choice.views.as_slice()) {
+            Ok(()) => Ok(choice.chosen),
             Err(fault) => Err(fault),
         }
     }
@@ -113,29 +155,42 @@ impl<D: Sectors> Session<D> {
         }
     }
 
-    // The greedy list of k views over the fact rows and the members of now. No device call is made.
-    fn choice(&self, alloc: Global, k: u8) -> Result<Choice, Fault>
-        ensures ok { IfOk result (λ choice. (w : Warehouse) → IsAt D.Sectors self.now w → D.keeps_word (device_of self.now) → IsChoice w k choice.chosen.items) }
+    // The greedy list of k views over the fact rows and the members of now, where all views are asked for, or some. No device
+    // call is made.
+    fn choice(&self, alloc: Global, k: u8, asked: Option<&[View]>) -> Result<Choice, Fault>
+        ensures ok { IfOk result (λ choice. (w : Warehouse) → IsAt D.Sectors self.now w → D.keeps_word (device_of self.now)
+            → IsChosenFrom (choices_asked w (option_map (λ views. views.now) asked.entry)) k choice.chosen.items) }
         ensures views { IfOk result (λ choice. choice.views.items ≡ views_of choice.chosen.items) }
         ensures few { IfOk result (λ choice. length choice.views.items ≤ most_cuboids) }
         ensures fine { IfOk result (λ _. has_failed self.now ≡ false) }
-        ensures many { has_failed self.now ≡ false → most_cuboids < k → result ≡ Err BadQuery }
+        ensures many { has_failed self.now ≡ false → AreTooMany k (option_map (λ views. views.now) asked.entry) → result ≡ Err BadQuery }
         ensures failed { IsErrOf result Failed ↔ (has_failed self.now ≡ true) }
-        ensures causes { IfErr result (λ fault. (fault ≡ Failed) ⊎ (((fault ≡ BadQuery) × (most_cuboids < k)) ⊎ (fault ≡ Memory))) }
+        ensures causes { IfErr result (λ fault. (fault ≡ Failed)
+            ⊎ (((fault ≡ BadQuery) × AreTooMany k (option_map (λ views. views.now) asked.entry)) ⊎ (fault ≡ Memory))) }
         ensures leaves { (w : Warehouse) → IsAt D.Sectors self.now w → Leaves (disk_of D.Sectors self.now) (disk_of D.Sectors self.now) (λ c. Stands c w) }
     {
         if self.is_broken() {
             return Err(Fault::Failed);
         }
-        if usize::from(k) > MOST_CUBOIDS {
+        if are_too_many(k, asked) {
             return Err(Fault::BadQuery);
         }
         kept_is_what_stands(&self.dims, &self.root);
         let rows = row_total(self.root.batches());
-        match Choice::of(alloc, rows, &counts_of(&self.dims), k) {
+        match Choice::of(alloc, rows, &counts_of(&self.dims), k, asked) {
             Ok(choice) => Ok(choice),
             Err(fault) => Err(fault),
         }
+    }
+}
+
+// Whether more views are to be chosen than may be stored, or more are asked for than are counted.
+fn are_too_many(k: u8, asked: Option<&[View]>) -> bool
+    ensures { IsTrue result ↔ AreTooMany k (option_map (λ views. views.now) asked.entry) }
+{
+    match asked {
+        None => usize::from(k) > MOST_CUBOIDS,
+        Some(demanded) => usize::from(k) > MOST_CUBOIDS || demanded.len() > MOST_DEMANDED,
     }
 }
 
@@ -147,18 +202,65 @@ struct Choice {
 }
 
 impl Choice {
-    // That over so many fact rows and members.
-    fn of(alloc: Global, rows: u64, counts: &Counts, k: u8) -> Result<Choice, Fault>
+    // That over so many fact rows and members, where all views are asked for, or some.
+    fn of(
+        alloc: Global,
+        rows: u64,
+        counts: &Counts,
+        k: u8,
+        asked: Option<&[View]>,
+    ) -> Result<Choice, Fault>
         requires rows { rows ≤ most_fact_rows }
-        ensures greedy { IfOk result (λ choice. IsGreedy (cuboids rows counts.now) k choice.views.items) }
-        ensures benefits { IfOk result (λ choice. map (λ one. one.benefit) choice.chosen.items ≡ benefits (cuboids rows counts.now) choice.views.items) }
+        requires few { AreTooMany k (option_map (λ views. views.now) asked) → ⊥ }
+        ensures greedy { IfOk result (λ choice. IsGreedy (lattice_asked rows counts.now (option_map (λ views. views.now) asked.entry)) k choice.views.items) }
+        ensures benefits { IfOk result (λ choice. map (λ one. one.benefit) choice.chosen.items
+            ≡ benefits (lattice_asked rows counts.now (option_map (λ views. views.now) asked.entry)) choice.views.items) }
         ensures views { IfOk result (λ choice. choice.views.items ≡ views_of choice.chosen.items) }
         ensures memory { IfErr result (λ fault. fault ≡ Memory) }
     {
-        let views = greedy(alloc, rows, counts, k)?;
-        let benefits = benefits(alloc, rows, counts, views.as_slice())?;
+        let views = greedy_asked(alloc, rows, counts, k, asked)?;
+        let benefits = benefits_asked(alloc, rows, counts, k, asked, views.as_slice())?;
         let chosen = paired(alloc, views.as_slice(), benefits.as_slice())?;
         Ok(Choice { views, chosen })
+    }
+}
+
+// The greedy list where all views are asked for, or some.
+fn greedy_asked(
+    alloc: Global,
+    rows: u64,
+    counts: &Counts,
+    k: u8,
+    asked: Option<&[View]>,
+) -> Result<Vec<View>, Fault>
+    requires rows { rows ≤ most_fact_rows }
+    requires few { AreTooMany k (option_map (λ views. views.now) asked) → ⊥ }
+    ensures greedy { IfOk result (λ views. IsGreedy (lattice_asked rows counts.now (option_map (λ views. views.now) asked.entry)) k views.items) }
+    ensures memory { IfErr result (λ fault. fault ≡ Memory) }
+{
+    match asked {
+        None => greedy(alloc, rows, counts, k),
+        Some(demanded) => greedy_for(alloc, rows, counts, demanded, k),
+    }
+}
+
+// The benefits of views where all views are asked for, or some.
+fn benefits_asked(
+    alloc: Global,
+    rows: u64,
+    counts: &Counts,
+    k: u8,
+    asked: Option<&[View]>,
+    views: &[View],
+) -> Result<Vec<u64>, Fault>
+    requires rows { rows ≤ most_fact_rows }
+    requires few { AreTooMany k (option_map (λ views. views.now) asked) → ⊥ }
+    ensures benefits { IfOk result (λ found. found.items ≡ benefits (lattice_asked rows counts.now (option_map (λ views. views.now) asked.entry)) views.now) }
+    ensures memory { IfErr result (λ fault. fault ≡ Memory) }
+{
+    match asked {
+        None => benefits(alloc, rows, counts, views),
+        Some(demanded) => benefits_for(alloc, rows, counts, demanded, views),
     }
 }
 

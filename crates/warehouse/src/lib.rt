@@ -38,5 +38,6 @@ pub use running::run;
 pub use session::Session;
 pub use status::Status;
 pub use stepping::Stepped;
+pub use view_choice::MOST_DEMANDED;
 pub use warehouse_root::StoredCuboid;
 pub use warehouse_root::limits::MOST_CUBOIDS;

@@ -9,22 +9,22 @@ use Rattle.warehouse_objects.specs.Warehouse.{Warehouse}
 use Rattle.cuboid_commits.specs.Keeping.{IsKeptUp}
 use Rattle.warehouse.specs.declared.chosen.Chosen.{Chosen}
 use Rattle.warehouse.specs.declared.session.Session.{Session}
-use Rattle.warehouse.specs.Choosing.{ChooseRefuses}
 use Rattle.warehouse.specs.Session.{IsAt, has_failed}
 use Rattle.warehouse.specs.Upkeep.{UpkeepRefuses}
 use Rattle.warehouse.proofs.Refusing.{device_or}
-use Rattle.warehouse_jobs.specs.Cuboids.{AuditEnds, ChooseEnds, IsChosen, IsUpToDate, UpkeepEnds}
+use Rattle.warehouse_jobs.specs.Cuboids.{AuditEnds, ChoiceEnds, IsChosen, IsUpToDate, UpkeepEnds}
 use Rattle.warehouse_jobs.specs.Printed.{audit_text, choice_text, upkeep_text}
 
 module _ {D : Type 0} (g : Ghosts D) (w : Warehouse) (old new : Session D g) (before after : Option (List ℕ)) where
-  pub choose-refused : (k : ℕ) (fault : Fault) (result : Result Unit Fault) → (fault ≡ Device → has_failed new ≡ true)
-      → ((fault ≡ Device → ⊥) → ChooseRefuses g old w k fault × IsAt g new w) → (other : Fault) × (result ≡ Err other) × (other ≡ fault) → ChooseEnds g w k old new before before result
-  choose-refused k fault result failed causes stop =
+  pub choose-refused : (IsIt : List Chosen → Type 0) (refuses : Fault → Type 0) (fault : Fault) (result : Result Unit Fault) → (fault ≡ Device → has_failed new ≡ true)
+      → ((fault ≡ Device → ⊥) → refuses fault × IsAt g new w) → (other : Fault) × (result ≡ Err other) × (other ≡ fault) → ChoiceEnds g w IsIt refuses new before before result
+  choose-refused IsIt refuses fault result failed causes stop =
       rw (stop.1, stop.2) (inr (Keeps-refl before, ⊎_elim (λ e. inl (e, failed e)) (λ no. inr (causes no)) (device_or fault)))
 
-  pub choose-written : (k : ℕ) (chosen : List Chosen) (result : Result Unit Fault) → IsChosen g w k new chosen → Writes before after result (choice_text chosen) → ChooseEnds g w k old new before after result
-  choose-written k chosen (Ok done) is written = (chosen, is, written)
-  choose-written k chosen (Err fault) is written = inl (written.0, chosen, is, written.1)
+  pub choose-written : (IsIt : List Chosen → Type 0) (refuses : Fault → Type 0) (chosen : List Chosen) (result : Result Unit Fault) → IsChosen g w IsIt new chosen
+      → Writes before after result (choice_text chosen) → ChoiceEnds g w IsIt refuses new before after result
+  choose-written IsIt refuses chosen (Ok done) is written = (chosen, is, written)
+  choose-written IsIt refuses chosen (Err fault) is written = inl (written.0, chosen, is, written.1)
 
   pub upkeep-refused : (fault : Fault) (result : Result Unit Fault) → (fault ≡ Device → has_failed new ≡ true)
       → ((fault ≡ Device → ⊥) → (v : Warehouse) × IsKeptUp w v × IsAt g new v × UpkeepRefuses g new v fault) → (other : Fault) × (result ≡ Err other) × (other ≡ fault) → UpkeepEnds g w new before before result

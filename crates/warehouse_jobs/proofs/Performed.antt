@@ -5,8 +5,9 @@ use Rattle.sector_device.specs.declared.device.Sectors.{Ghosts}
 use Rattle.cube_model.specs.declared.fault.Fault.{Fault}
 use Rattle.cube_model.specs.declared.query.Query.{Query}
 use Rattle.warehouse_objects.specs.Warehouse.{Warehouse}
+use Rattle.warehouse.specs.declared.chosen.Chosen.{Chosen}
 use Rattle.warehouse.specs.declared.session.Session.{Session}
-use Rattle.warehouse_jobs.specs.Cuboids.{Chooses, KeepsUp}
+use Rattle.warehouse_jobs.specs.Cuboids.{KeepsUp, StoresChoice}
 use Rattle.warehouse_jobs.specs.Loading.{Loads}
 use Rattle.warehouse_jobs.specs.Reporting.{Reports, Tells}
 
@@ -48,9 +49,10 @@ module _ {D : Type 0} (g : Ghosts D) (w : Warehouse) (old new : Session D g) (be
   yes-tells (Ok wrote) result is tells = rw is tells
   yes-tells (Err fault) result is tells = rw is tells
 
-  pub yes-chooses : (k : ℕ) (done : Result Unit Fault) (result : Result Bool Fault) → Says done result → Chooses g w k old new before after done → Chooses g w k old new before after result
-  yes-chooses k (Ok wrote) result is chooses = rw is (record { ends = chooses.ends; leaves = chooses.leaves })
-  yes-chooses k (Err fault) result is chooses = rw is (record { ends = chooses.ends; leaves = chooses.leaves })
+  pub yes-chooses : (IsIt : List Chosen → Type 0) (refuses : Fault → Type 0) (done : Result Unit Fault) (result : Result Bool Fault) → Says done result
+      → StoresChoice g w IsIt refuses old new before after done → StoresChoice g w IsIt refuses old new before after result
+  yes-chooses IsIt refuses (Ok wrote) result is chooses = rw is (record { ends = chooses.ends; leaves = chooses.leaves })
+  yes-chooses IsIt refuses (Err fault) result is chooses = rw is (record { ends = chooses.ends; leaves = chooses.leaves })
 
   pub yes-keeps : (done : Result Unit Fault) (result : Result Bool Fault) → Says done result → KeepsUp g w old new before after done → KeepsUp g w old new before after result
   yes-keeps (Ok wrote) result is keeps = rw is (record { ends = keeps.ends; leaves = keeps.leaves })

@@ -5,8 +5,8 @@ use Rattle.cube_model.specs.declared.fault.Fault.{Fault}
 use Rattle.warehouse_objects.specs.Warehouse.{Warehouse}
 use Rattle.warehouse.specs.declared.session.Session.{Session}
 use Rattle.warehouse_jobs.specs.declared.job.Job.{Job}
-use Rattle.warehouse_jobs.specs.declared.job.Job.TheVariants.{Load, Report, Status, Choose, Upkeep, Audit}
-use Rattle.warehouse_jobs.specs.Cuboids.{Audits, Chooses, KeepsUp}
+use Rattle.warehouse_jobs.specs.declared.job.Job.TheVariants.{Load, Report, Status, Choose, ChooseFor, Upkeep, Audit}
+use Rattle.warehouse_jobs.specs.Cuboids.{Audits, Chooses, ChoosesFor, KeepsUp}
 use Rattle.warehouse_jobs.specs.Loading.{Loads}
 use Rattle.warehouse_jobs.specs.Reporting.{Reports, Tells}
 
@@ -16,6 +16,7 @@ Performs g w text (Load first rows) old new before after result = Loads g w firs
 Performs g w text (Report as_of query) old new before after result = Reports g w as_of query old new before after result
 Performs g w text Status old new before after result = Tells g w old new before after result
 Performs g w text (Choose k) old new before after result = Chooses g w k old new before after result
+Performs g w text (ChooseFor k demanded) old new before after result = ChoosesFor g w demanded.items k old new before after result
 Performs g w text Upkeep old new before after result = KeepsUp g w old new before after result
 Performs g w text Audit old new before after result = Audits g w old new before after result
 

@@ -2,10 +2,11 @@
 ghost use Rattle.std.specs.Prelude.{◌≡◌};
 ghost use Rattle.warehouse_objects.specs.Warehouse.{Warehouse};
 ghost use Rattle.warehouse.specs.Session.{device_of, IsAt};
-ghost use Rattle.warehouse_jobs.specs.Cuboids.{Chooses};
+ghost use Rattle.warehouse_jobs.specs.Cuboids.{Chooses, ChoosesFor};
 
 use crate::printing::write_choice;
 use cube_model::Fault;
+use lattice::View;
 use sector_device::Sectors;
 use std::alloc::Global;
 use std::io::Write;
@@ -23,5 +24,22 @@ pub(crate) fn choose<D: Sectors, W: Write>(
     ensures word { D.keeps_word (device_of session.new) → D.keeps_word (device_of session.old) }
 {
     let chosen = session.choose(alloc, k)?;
+    write_choice(out, chosen.as_slice())
+}
+
+/// Stores the cuboids of the greedy list of k views where only some views are asked for, and writes a line for each, in the order
+/// of choice.
+pub(crate) fn choose_for<D: Sectors, W: Write>(
+    alloc: Global,
+    session: &mut Session<D>,
+    k: u8,
+    demanded: &[View],
+    out: &mut W,
+) -> Result<(), Fault>
+    ensures chooses { (w : Warehouse) → IsAt D.Sectors session.old w → D.keeps_word (device_of session.new)
+        → ChoosesFor D.Sectors w demanded.now k session.old session.new (W.contents out.old) (W.contents out.new) result }
+    ensures word { D.keeps_word (device_of session.new) → D.keeps_word (device_of session.old) }
+{
+    let chosen = session.choose_for(alloc, k, demanded)?;
     write_choice(out, chosen.as_slice())
 }

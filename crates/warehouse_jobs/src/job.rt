@@ -4,6 +4,7 @@ ghost use Rattle.cube_model.specs.Limits.{most_batch_rows};
 
 use cube_model::Query;
 use cube_model::limits::MOST_BATCH_ROWS;
+use lattice::View;
 use std::marker::Model;
 
 /// The number of a batch. Batches are numbered from 1.
@@ -99,6 +100,8 @@ pub enum Job {
     Status,
     /// Stores the cuboids of the greedy list of so many views.
     Choose(u8),
+    /// Stores those of the greedy list of so many views where only some views are asked for, each as often as it is among them.
+    ChooseFor { k: u8, demanded: Vec<View> },
     /// Brings each stored cuboid to all batches.
     Upkeep,
     /// Says whether each stored cuboid is the grouping of the batches up to its mark.

@@ -9,7 +9,7 @@ ghost use Rattle.warehouse.specs.Upkeep.{IsLaidAt};
 ghost use Rattle.warehouse_jobs.specs.Jobs.{MayAnswerNo, Performs};
 ghost use Rattle.warehouse_jobs.specs.Printed.{audit_text};
 
-use crate::choosing::choose;
+use crate::choosing::{choose, choose_for};
 use crate::job::Job;
 use crate::keeping::{audit, keep_up};
 use crate::loading::load;
@@ -81,6 +81,9 @@ fn do_job<D: Sectors, R: Read + Drop, W: Write>(
         Job::Report { as_of, query } => yes(report(alloc, session, as_of, &query, out)),
         Job::Status => yes(tell(session, out)),
         Job::Choose(k) => yes(choose(alloc, session, k, out)),
+        Job::ChooseFor { k, demanded } => {
+            yes(choose_for(alloc, session, k, demanded.as_slice(), out))
+        }
         Job::Upkeep => yes(keep_up(alloc, session, out)),
         Job::Audit => audit(alloc, session, out),
     }

@@ -1,8 +1,6 @@
-use Rattle.std.proofs.Common.{◌≡◌, take, map, []}
-use Rattle.lattice.specs.Sizes.{lattice_of}
-use Rattle.view_choice.specs.Costs.{costed_view}
-use Rattle.view_choice.specs.Cuboids.{cuboids}
+use Rattle.std.proofs.Common.{◌≡◌, take, map}
+use Rattle.view_choice.specs.Costs.{costs_all_rows}
 use Rattle.view_choice.proofs.costs.all_costed.Given as goal
 
-abbrev pub invariant-loop-index : goal.invariant-loop-index
-invariant-loop-index l = l.all.items ≡ map (costed_view (cuboids l.rows l.counts) []) (take l.index (lattice_of l.counts))
+abbrev pub invariant-loop-view : goal.invariant-loop-view
+invariant-loop-view l = l.all.items ≡ map (costs_all_rows l.rows) (take l.view-index l.views)

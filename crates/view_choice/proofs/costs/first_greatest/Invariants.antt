@@ -3,4 +3,4 @@ use Rattle.view_choice.proofs.Greatest.{IsBestSoFar}
 use Rattle.view_choice.proofs.costs.first_greatest.Given as goal
 
 abbrev pub invariant-loop-place : goal.invariant-loop-place
-invariant-loop-place l = IsBestSoFar (gain_among l.all) l.all l.place l.best l.most
+invariant-loop-place l = IsBestSoFar (gain_among l.all) l.candidates l.place l.best l.most

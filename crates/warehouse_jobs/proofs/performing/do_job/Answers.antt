@@ -1,3 +1,7 @@
+use Rattle.std.proofs.Common.{List, subst}
+use Rattle.lattice.specs.declared.view.View.{View}
+use Rattle.warehouse.specs.Choosing.{ChooseForRefuses, ChooseRefuses, IsChoice, IsChoiceFor}
+use Rattle.warehouse_jobs.specs.Cuboids.{ChoosesFor}
 use Rattle.warehouse_jobs.proofs.Performed.{yes-chooses, yes-keeps, yes-loads, yes-reports, yes-tells}
 use Rattle.warehouse_jobs.proofs.performing.do_job.Goals as goal
 
@@ -15,7 +19,14 @@ returns-in-Status-clause-performs g c w at k =
 
 pub returns-in-Choose-clause-performs : goal.returns-in-Choose-clause-performs
 returns-in-Choose-clause-performs g c w at k =
-    rw c.in-Choose.is (yes-chooses g.D.Sectors w c.args.session.now c.choose.new.session (g.W.Write.contents c.args.out.now) (g.W.Write.contents c.choose.new.out) c.in-Choose.k c.choose.result c.yes-in-Choose.result c.yes-in-Choose.ensures (c.choose.ensures.chooses w at k))
+    rw c.in-Choose.is (yes-chooses g.D.Sectors w c.args.session.now c.choose.new.session (g.W.Write.contents c.args.out.now) (g.W.Write.contents c.choose.new.out) (IsChoice w c.in-Choose.k) (ChooseRefuses g.D.Sectors c.args.session.now w c.in-Choose.k) c.choose.result c.yes-in-Choose.result c.yes-in-Choose.ensures (c.choose.ensures.chooses w at k))
+
+pub returns-in-ChooseFor-clause-performs : goal.returns-in-ChooseFor-clause-performs
+returns-in-ChooseFor-clause-performs g c w at k =
+    let demanded = c.in-ChooseFor.demanded.items in
+    rw c.in-ChooseFor.is (yes-chooses g.D.Sectors w c.args.session.now c.choose_for.new.session (g.W.Write.contents c.args.out.now) (g.W.Write.contents c.choose_for.new.out)
+    (IsChoiceFor w demanded c.in-ChooseFor.k) (ChooseForRefuses g.D.Sectors c.args.session.now w demanded c.in-ChooseFor.k) c.choose_for.result c.yes-in-ChooseFor.result c.yes-in-ChooseFor.ensures
+    (subst (λ (views : List View). ChoosesFor g.D.Sectors w views c.in-ChooseFor.k c.args.session.now c.choose_for.new.session (g.W.Write.contents c.args.out.now) (g.W.Write.contents c.choose_for.new.out) c.choose_for.result) c.as_slice.ensures.value (c.choose_for.ensures.chooses w at k)))
 
 pub returns-in-Upkeep-clause-performs : goal.returns-in-Upkeep-clause-performs
 returns-in-Upkeep-clause-performs g c w at k =

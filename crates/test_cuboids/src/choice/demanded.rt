@@ -1,0 +1,82 @@
+//! Choices for some views that are asked for, worked out by hand.
+ghost use Rattle.std.specs.Prelude.{◌≤◌, length};
+ghost use Rattle.view_choice.specs.Cuboids.{most_demanded, most_fact_rows};
+
+use cube_model::Fault;
+use lattice::{Counts, LevelCounts, View};
+use std::alloc::Global;
+use std::test::Fail;
+use view_choice::{MOST_DEMANDED, benefits_for, greedy_for};
+
+const ONE: LevelCounts = LevelCounts {
+    lowest: 1,
+    middle: 1,
+    highest: 1,
+};
+
+// Only parts and dates have several members.
+const COUNTS: Counts = Counts {
+    customer: ONE,
+    supplier: ONE,
+    part: LevelCounts {
+        lowest: 40,
+        middle: 10,
+        highest: 3,
+    },
+    date: LevelCounts {
+        lowest: 30,
+        middle: 12,
+        highest: 2,
+    },
+    ship_modes: None,
+};
+
+// The views asked for, how many are to be chosen of 500 rows, those chosen and their benefits. View 246 has a category and a year
+// (20 cells), 253 a month (12), 245 a category and a month (120), 240 a brand and a day (500 at most).
+static CHOICES: [(&[u16], u8, &[u16], &[u64]); 7] = [
+    (&[246, 246, 253], 1, &[245], &[1140]),
+    (&[246, 246, 253], 3, &[245, 246, 253], &[1140, 200, 108]),
+    (&[246, 246, 253], 16, &[245, 246, 253], &[1140, 200, 108]),
+    (&[253], 2, &[253], &[488]),
+    (&[253, 253, 253], 2, &[253], &[1464]),
+    (&[240], 2, &[], &[]),
+    (&[], 2, &[], &[]),
+];
+
+// The views of some numbers.
+fn views_of(alloc: Global, numbers: &[u16]) -> Result<Vec<View>, Fault> {
+    let mut views = Vec::new(alloc);
+    for number in numbers {
+        if let Some(view) = View::new(*number) {
+            views.push(view)?;
+        }
+    }
+    Ok(views)
+}
+
+// The numbers of the views that are chosen, and their benefits.
+fn chosen(alloc: Global, asked: &[u16], k: u8) -> Result<(Vec<u16>, Vec<u64>), Fault> {
+    let demanded = views_of(alloc, asked)?;
+    if demanded.len() > MOST_DEMANDED {
+        return Err(Fault::BadQuery);
+    }
+    let views = greedy_for(alloc, 500, &COUNTS, demanded.as_slice(), k)?;
+    let gained = benefits_for(alloc, 500, &COUNTS, demanded.as_slice(), views.as_slice())?;
+    let mut numbers = Vec::new(alloc);
+    for view in views.as_slice() {
+        numbers.push(view.index())?;
+    }
+    Ok((numbers, gained))
+}
+
+#[test]
+fn chooses_for_the_views_asked_for(rt: HostRuntime) -> Result<(), Fail> {
+    for (asked, k, numbers, gained) in &CHOICES {
+        let found = chosen(rt.alloc(), asked, *k)?;
+        assert_eq!(rt;
+            (found.0.as_slice(), found.1.as_slice()),
+            (*numbers, *gained)
+        );
+    }
+    Ok(())
+}
