@@ -19,7 +19,7 @@ from read_device import SECTOR, Device
 
 FAULTS = {"fault 1 Memory", "fault 5 NotFormatted", "fault 7 BadLayout", "fault 8 DeviceSize"}
 CHANGED = "changed.dev"
-COMMANDS = [["status"], ["audit"], ["views"], ["upkeep"], ["explain", "4.1"], ["cube", "--by", "s_nation,p_mfgr", "--agg", "count", "--cube"]]
+COMMANDS = [["status"], ["audit"], ["views"], ["upkeep"], ["explain", "4.1"], ["cube", "--set", "cube", "--by", "s_nation,p_mfgr", "--agg", "count"]]
 COMMANDS += [["report", query] for query in crashes.QUERIES]
 
 
@@ -48,7 +48,10 @@ class Warehouse:
 
     def after(self, words):
         Path(CHANGED).write_bytes(self.image)
-        return run(words)[:2]
+        status, out, note = run(words)
+        if status != 0:
+            sys.exit(f"{self.name}: {' '.join(words)} ended with status {status}: {note}")
+        return status, out
 
     def changed(self, random):
         """Another image, and whether a byte in use was changed."""

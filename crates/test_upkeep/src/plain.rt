@@ -108,7 +108,7 @@ pub(crate) const SEVERAL: Star<'static> = Star {
 };
 
 /// A row: its batch, and its members on each axis.
-#[derive(Clone, Copy, Debug)]
+#[derive(Clone, Copy)]
 pub(crate) struct Row {
     pub(crate) batch: u32,
     customer: Location<'static>,
