@@ -394,8 +394,8 @@ pub static COARSER: [Example; 5] = [
     },
 ];
 
-/// Cubes and rollups whose coarser groups are no sums of finer ones, or reach the limit of a sum, or stand beside
-/// odd texts.
+/// Cubes and rollups whose coarser groups are no sums of finer ones, or reach the limit of a sum, or have
+/// odd texts next to them.
 pub static COARSER_BOUNDARIES: [Example; 4] = [
     Example {
         star: ODD_REGIONS,

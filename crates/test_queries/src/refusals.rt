@@ -153,7 +153,7 @@ static AT_LIMITS: [Case; 7] = [
 ];
 
 /// Rows with a key that no row has, in a dimension with a column or a condition: before the keys of its rows, among
-/// them and behind.
+/// them and after them.
 static UNKNOWN: [Case; 2] = [
     Case {
         asked: BY_REGION,
