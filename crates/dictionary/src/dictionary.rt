@@ -1,7 +1,7 @@
 //! The texts that were seen, and their codes.
-ghost use Rattle.std.specs.Prelude.{◌≡◌, ◌⊎◌, ◌<◌, ◌≤◌, ◌^◌, ◌++◌, [], length, slice_get, Some, IfOk, IfSome, IfErr, IsOkUnless, IsTrue, OnErr, OnOk};
+ghost use Rattle.std.specs.Prelude.{◌≡◌, ◌⊎◌, ◌<◌, ◌≤◌, ◌^◌, ◌++◌, [], length, map, slice_get, Some, IfOk, IfSome, IfErr, IsOkUnless, IsTrue, OnErr, OnOk};
 ghost use Rattle.std.specs.Option.{option_map};
-ghost use Rattle.dictionary.specs.Dictionary.{code_of, Adds};
+ghost use Rattle.dictionary.specs.Dictionary.{code_of, Adds, EachOnce};
 ghost use Rattle.dictionary.specs.Spelling.{AreShort, BeginsWithNone, ReadsTexts, texts_spelling};
 
 use crate::memo::Memo;
@@ -45,6 +45,16 @@ impl Dictionary {
             limit,
             memo: Memo::new(alloc),
         }
+    }
+
+    /// The same texts again, with the same codes and the same limit. It can only fail for want of memory.
+    pub fn copied(&self, alloc: Global) -> Result<Dictionary, Fault>
+        ensures ok { IfOk result (λ copy. copy ≡ self.now) }
+        ensures memory { IfErr result (λ fault. fault ≡ Fault.Memory) }
+    {
+        let mut copy = Dictionary::new(alloc, self.limit);
+        copy.add_each(alloc, self.texts.as_slice())?;
+        Ok(copy)
     }
 
     /// How many texts there are.
@@ -127,6 +137,20 @@ impl Dictionary {
         let text = Vec::from_slice(alloc, text)?;
         self.texts.insert(text)?;
         Ok(Some(next as u32))
+    }
+
+    // Adds texts that are all different to none, as many as the limit allows.
+    fn add_each(&mut self, alloc: Global, texts: &[Vec<u8>]) -> Result<(), Fault>
+        requires none { self.old.texts ≡ [] }
+        requires once { EachOnce (map (λ text. text.items) texts.now) }
+        requires few { length texts.now ≤ self.old.limit }
+        ensures ok { OnOk result (self.new ≡ record { texts = map (λ text. text.items) texts.now; limit = self.old.limit }) }
+        ensures memory { IfErr result (λ fault. fault ≡ Fault.Memory) }
+    {
+        for text in texts {
+            self.add_unkept(alloc, text)?;
+        }
+        Ok(())
     }
 
     // Whether a text is the one at a place.

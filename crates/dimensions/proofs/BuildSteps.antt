@@ -37,7 +37,7 @@ module _ {Row : Type 0} (rules_of : Rules Row) (all : List Row) (i : ℕ) (row :
       ∙ ap (λ cause. first_cause (cause ∷ rows_cause rules_of (take i all ++ row ∷ []) (drop (i + 1) all) ∷ [])) some
 
 -- the cause of a dimension with few rows is that of its rows
-few_rows : {Row : Type 0} (rules_of : Rules Row) (all : List Row) → length all ≤ rules_of.row_limit → dimension_cause rules_of all ≡ rows_cause rules_of [] all
+pub few_rows : {Row : Type 0} (rules_of : Rules Row) (all : List Row) → length all ≤ rules_of.row_limit → dimension_cause rules_of all ≡ rows_cause rules_of [] all
 few_rows rules_of all le =
     let few : nat_lt rules_of.row_limit (length all) ≡ false = grind arith in
     (λ i. first_cause (cause_if (few i) TooManyRows ∷ rows_cause rules_of [] all ∷ [])) ∙ first_alone (rows_cause rules_of [] all)

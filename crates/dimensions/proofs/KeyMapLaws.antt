@@ -4,7 +4,10 @@ use Rattle.std.specs.List.{AllWithin}
 use Rattle.std.proofs.lemmas.Grind.{common_steps}
 use Rattle.std.proofs.lemmas.List.Quantifiers.{position-Some}
 use Rattle.dimensions.proofs.Keys.{position_or_len-le}
+use Rattle.std.specs.Map.{lookup}
+use Rattle.dimensions.specs.declared.key_map.KeyMap.{KeyMap}
 use Rattle.dimensions.specs.Entries.{entry_row}
+use Rattle.dimensions.specs.KeyMaps.{row_index_in}
 
 -- one more than a place is its entry
 entry_next : (place : ℕ) → entry_row (place + 1) ≡ Some place
@@ -156,3 +159,8 @@ places_of_window keys first width window o long within entries empty key =
           let out : (nat_le first key && nat_lt (key - first) width) ≡ false = sym (ap (λ n. nat_le first key && nat_lt (key - first) n) long) ∙ e in
           empty key ∙ sym (none_outside keys first width key within out)
     ] refl
+
+-- a map does not hang on where its parts are
+pub same_rows : (old new : KeyMap) → new.first ≡ old.first → new.direct.items ≡ old.direct.items → new.hashed.entries ≡ old.hashed.entries → (key : ℕ) → row_index_in new key ≡ row_index_in old key
+same_rows old new first direct hashed key = λ i.
+    if nat_le (first i) key && nat_lt (key - first i) (length (direct i)) then entry_row (get_or (direct i) (key - first i) 0) else lookup (nat_eq key) (hashed i)

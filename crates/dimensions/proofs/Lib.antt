@@ -1,3 +1,5 @@
+pub mod AdditionLaws
+pub mod Additions
 pub mod AttributeLaws
 pub mod BuildSteps
 pub mod CallerLemmas
@@ -8,6 +10,7 @@ pub mod CodedTexts
 pub mod ColumnLaws
 pub mod CountedKeys
 pub mod GoodLaws
+pub mod KeptLaws
 pub mod KeyLaws
 pub mod KeyMapLaws
 pub mod Keys

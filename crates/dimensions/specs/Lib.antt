@@ -1,6 +1,8 @@
+pub mod Added
 pub mod Coded
 pub mod Columns
 pub mod Entries
+pub mod KeptCodes
 pub mod KeyMaps
 pub mod Made
 pub mod Ranked

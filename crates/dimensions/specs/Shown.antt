@@ -1,5 +1,5 @@
 -- A dimension with the ranks of its members, and the rows for which four dimensions stand.
-use Rattle.std.specs.Prelude.{◌≡◌, ℕ, zero, suc, ◌<◌, ◌⊎◌, Some, None, Result, MatchResult, List, [], ◌∷◌, map, length, slice_index_or, unwrap_or}
+use Rattle.std.specs.Prelude.{◌≡◌, ℕ, zero, suc, ◌<◌, ◌⊎◌, Some, None, Result, MatchResult, List, [], ◌∷◌, ◌++◌, map, length, slice_index_or, unwrap_or}
 use Rattle.std.specs.Option.{option_map}
 use Rattle.std.specs.Fmt.{decimal}
 use Rattle.cube_model.specs.declared.attr.Axis.{Axis}
@@ -14,6 +14,7 @@ use Rattle.cube_model.specs.declared.rows.DimRows.{DimRows}
 use Rattle.cube_model.specs.Validity.{HaveShortTexts, IsValid, dimension_cause}
 use Rattle.dimensions.specs.declared.table.Table.{Table}
 use Rattle.dimensions.specs.declared.dimension.Dimension.{Dimension}
+use Rattle.dimensions.specs.Added.{added_cause}
 use Rattle.dimensions.specs.TextRows.{TextRow, row_of_customer, row_of_supplier, row_of_part, row_of_date}
 use Rattle.dimensions.specs.Shapes.{lowers_of, text_rules}
 use Rattle.dimensions.specs.Tables.{column_at, IsTable}
@@ -33,6 +34,20 @@ abbrev pub BuildsDimension : Axis → List TextRow → Result Dimension Fault �
 BuildsDimension axis rows result = MatchResult result
     (λ dimension. IsDimension axis rows dimension × (dimension_cause (text_rules axis) rows ≡ None))
     (λ fault. (fault ≡ Memory) ⊎ (dimension_cause (text_rules axis) rows ≡ Some fault))
+
+-- a dimension is that of rows which there is no cause to refuse
+abbrev pub HoldsDimension : Axis → List TextRow → Dimension → Type 0
+HoldsDimension axis rows dimension = IsDimension axis rows dimension × (dimension_cause (text_rules axis) rows ≡ None)
+
+-- the same of some rows that a caller does not name
+abbrev pub HoldsSomeDimension : Axis → Dimension → Type 0
+HoldsSomeDimension axis dimension = (rows : List TextRow) × HoldsDimension axis rows dimension
+
+-- a dimension of rows and of others after them, or the first cause to refuse the others
+abbrev pub ExtendsDimension : Axis → List TextRow → List TextRow → Result Dimension Fault → Type 0
+ExtendsDimension axis old new result = MatchResult result
+    (HoldsDimension axis (old ++ new))
+    (λ fault. (fault ≡ Memory) ⊎ (added_cause (text_rules axis) old new ≡ Some fault))
 
 -- the rows of a dimension as texts by column
 abbrev pub rows_on : DimRows → Axis → List TextRow

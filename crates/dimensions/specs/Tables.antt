@@ -9,6 +9,7 @@ use Rattle.cube_model.specs.Validity.{row_cause, dimension_cause}
 use Rattle.dimensions.specs.declared.coded.CodedColumn.{CodedColumn}
 use Rattle.dimensions.specs.declared.column.Column.{Column}
 use Rattle.dimensions.specs.declared.table.Table.{Table}
+use Rattle.dimensions.specs.Added.{added_cause}
 use Rattle.dimensions.specs.TextRows.{TextRow, text_in, column_of}
 use Rattle.dimensions.specs.Shapes.{lowers_of, lower_of, text_rules}
 use Rattle.dimensions.specs.Columns.{IsColumn, HasCode, LacksRoom, Enters}
@@ -69,3 +70,17 @@ abbrev pub BuildsTable : Axis → List TextRow → Result Table Fault → Type 0
 BuildsTable axis rows result = MatchResult result
     (λ table. IsTable axis rows table × (dimension_cause (text_rules axis) rows ≡ None))
     (λ fault. (fault ≡ Memory) ⊎ (dimension_cause (text_rules axis) rows ≡ Some fault))
+
+-- a table is that of rows which there is no cause to refuse
+abbrev pub HoldsRows : Axis → List TextRow → Table → Type 0
+HoldsRows axis rows table = IsTable axis rows table × (dimension_cause (text_rules axis) rows ≡ None)
+
+-- the same of some rows that a caller does not name
+abbrev pub HoldsSomeRows : Axis → Table → Type 0
+HoldsSomeRows axis table = (rows : List TextRow) × HoldsRows axis rows table
+
+-- what adding rows comes to: a table of all of them, or the first cause to refuse those added
+abbrev pub AddsRows : Axis → List TextRow → List TextRow → Table → Result (Unit {0}) Fault → Type 0
+AddsRows axis old new table result = MatchResult result
+    (λ _. HoldsRows axis (old ++ new) table)
+    (λ fault. (fault ≡ Memory) ⊎ (added_cause (text_rules axis) old new ≡ Some fault))

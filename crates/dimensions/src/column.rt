@@ -59,6 +59,20 @@ impl Column {
         }
     }
 
+    /// The same column again. It can only fail for want of memory.
+    pub fn copied(&self, alloc: Global) -> Result<Column, Fault>
+        ensures ok { IfOk result (λ copy. copy ≡ self.now) }
+        ensures memory { IfErr result (λ fault. fault ≡ Fault.Memory) }
+    {
+        let texts = self.texts.copied(alloc)?;
+        let codes = Vec::from_slice(alloc, self.codes.uppers())?;
+        Ok(Column {
+            lower: self.lower,
+            texts,
+            codes: Hierarchy::of(codes),
+        })
+    }
+
     /// The lower column, if there is one.
     pub fn lower(&self) -> Option<usize>
         ensures { result ≡ self.now.lower }

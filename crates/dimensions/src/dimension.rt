@@ -31,7 +31,7 @@ impl Dimension {
     ghost use Rattle.dimensions.specs.Tables.{column_at};
     ghost use Rattle.dimensions.specs.Coded.{HaveTexts};
     ghost use Rattle.dimensions.specs.Made.{MakesDimension};
-    ghost use Rattle.dimensions.specs.Shown.{IsDimension, IsSomeDimension, BuildsDimension};
+    ghost use Rattle.dimensions.specs.Shown.{IsDimension, IsSomeDimension, BuildsDimension, ExtendsDimension, HoldsDimension, HoldsSomeDimension};
 
     /// The dimension of some rows, or the first cause to refuse them: first for too many rows, and then row by row.
     pub fn build<R: TableRow>(alloc: Global, axis: Axis, rows: &[R]) -> Result<Dimension, Fault>
@@ -50,6 +50,24 @@ impl Dimension {
         ensures { MakesDimension axis coded result }
     {
         let table = Table::of_coded(alloc, axis, coded)?;
+        let ranks = table.ranks(alloc)?;
+        Ok(Dimension { table, ranks })
+    }
+
+    /// The dimension of these rows and of others after them, or the first cause to refuse the others: first for too many
+    /// rows, and then row by row. Rows count from 1 among the others.
+    pub fn with_rows<R: TableRow>(
+        &self,
+        alloc: Global,
+        axis: Axis,
+        rows: &[R],
+    ) -> Result<Dimension, Fault>
+        requires sound { HoldsSomeDimension axis self.now }
+        requires texts { (row : R) → length (R.shown row).texts ≡ length (lowers_of axis) }
+        ensures { (old : List TextRow) → HoldsDimension axis old self.now → ExtendsDimension axis old (map R.shown rows.now) result }
+    {
+        let mut table = self.table.copied(alloc)?;
+        table.extend(alloc, axis, rows)?;
         let ranks = table.ranks(alloc)?;
         Ok(Dimension { table, ranks })
     }

@@ -8,6 +8,8 @@ ghost use Rattle.cube_model.specs.Validity.{HaveShortTexts, IsValid, invalid_cau
 ghost use Rattle.dictionary.specs.Columns.{codes_of};
 ghost use Rattle.dictionary.specs.Dictionary.{firsts};
 ghost use Rattle.dictionary.specs.Spelling.{AreShort};
+ghost use Rattle.dimensions.specs.Added.{addition_cause, joined};
+ghost use Rattle.dimensions.specs.KeptCodes.{KeepCodes};
 ghost use Rattle.dimensions.specs.Shapes.{lowers_of};
 ghost use Rattle.dimensions.specs.Coded.{HaveTexts, texts_at_places};
 ghost use Rattle.dimensions.specs.Made.{AreCodedDims, HaveAllTexts, IsDimensionOf, IsRefusal, StandForNoRows};
@@ -69,6 +71,38 @@ impl Dims {
         let suppliers = Dimension::build(alloc, Axis::Supplier, rows.suppliers.as_slice())?;
         let parts = Dimension::build(alloc, Axis::Part, rows.parts.as_slice())?;
         let dates = Dimension::build(alloc, Axis::Date, rows.dates.as_slice())?;
+        let days = Ranks::of_days(alloc, dates.keys())?;
+        Ok(Dims {
+            customers,
+            suppliers,
+            parts,
+            dates,
+            days,
+        })
+    }
+
+    /// The dimensions of these rows and of others after them, or the first cause to refuse the others: customer, supplier,
+    /// part, date, each first for too many rows and then row by row. Rows count from 1 among the others. What these
+    /// dimensions know by codes and row indexes holds there too.
+    pub fn with_rows(&self, alloc: Global, rows: &DimRows) -> Result<Dims, Fault>
+        requires short { HaveShortTexts rows.now }
+        ensures ok { IfOk result (λ dims. dims ≡ joined self.now rows.now) }
+        ensures valid { OnOk result (IsValid (joined self.now rows.now)) }
+        ensures codes { IfOk result (KeepCodes self.now) }
+        ensures err { IfErr result (λ fault. (fault ≡ Fault.Memory) ⊎ (addition_cause self.now rows.now ≡ Some fault)) }
+    {
+        let customers = self
+            .customers
+            .with_rows(alloc, Axis::Customer, rows.customers.as_slice())?;
+        let suppliers = self
+            .suppliers
+            .with_rows(alloc, Axis::Supplier, rows.suppliers.as_slice())?;
+        let parts = self
+            .parts
+            .with_rows(alloc, Axis::Part, rows.parts.as_slice())?;
+        let dates = self
+            .dates
+            .with_rows(alloc, Axis::Date, rows.dates.as_slice())?;
         let days = Ranks::of_days(alloc, dates.keys())?;
         Ok(Dims {
             customers,

@@ -85,6 +85,20 @@ impl KeyIndex {
         }))
     }
 
+    /// The same keys again. It can only fail for want of memory.
+    pub fn copied(&self, alloc: Global) -> Result<KeyIndex, Fault>
+        ensures ok { IfOk result (λ copy. copy ≡ self.now) }
+        ensures memory { IfErr result (λ fault. fault ≡ Fault.Memory) }
+    {
+        let keys = Vec::from_slice(alloc, self.keys.as_slice())?;
+        let map = self.map.copied(alloc)?;
+        Ok(KeyIndex {
+            keys,
+            first: self.first,
+            map,
+        })
+    }
+
     /// The keys.
     pub fn keys(&self) -> &[u32]
         ensures keys { result.now ≡ self.now }

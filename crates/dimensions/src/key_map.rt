@@ -34,6 +34,19 @@ impl KeyMap {
         }
     }
 
+    /// The same row indexes again. It can only fail for want of memory.
+    pub fn copied(&self, alloc: Global) -> Result<KeyMap, AllocError>
+        ensures { IfOk result (λ copy. (key : ℕ) → row_index_in copy key ≡ row_index_in self.now key) }
+    {
+        let direct = Vec::from_slice(alloc, self.direct.as_slice())?;
+        let hashed = self.hashed.clone()?;
+        Ok(KeyMap {
+            first: self.first,
+            direct,
+            hashed,
+        })
+    }
+
     // Whether there is an entry for a key.
     fn covers(&self, key: u32) -> bool
         ensures { result ≡ covers self.now key }

@@ -1,12 +1,13 @@
 //! A dimension's rows by codes.
-ghost use Rattle.std.specs.Prelude.{◌≡◌, ◌≢◌, ◌≤◌, ◌<◌, ◌^◌, ◌==◌, ℕ, List, true, false, [], length, codes, vec_len, slice_index_or, IfOk, IfErr, IfSome, map};
+ghost use Rattle.std.specs.Prelude.{◌≡◌, ◌≢◌, ◌≤◌, ◌<◌, ◌^◌, ◌==◌, ◌+◌, ℕ, List, true, false, [], length, codes, vec_len, slice_index_or, IfOk, IfErr, IfSome, map};
 ghost use Rattle.std.specs.Bool.{OnTrue, OnFalse};
 ghost use Rattle.std.specs.List.{position_or_len};
 ghost use Rattle.std.specs.Str.{bytes_eq};
 ghost use Rattle.cube_model.specs.Limits.{most_dimension_rows, most_members};
 ghost use Rattle.cube_model.specs.declared.attr.Axis.{Axis};
+ghost use Rattle.dimensions.specs.Added.{counted_after};
 ghost use Rattle.dimensions.specs.TextRows.{TextRow, text_in, column_of};
-ghost use Rattle.dimensions.specs.Shapes.{lowers_of};
+ghost use Rattle.dimensions.specs.Shapes.{lowers_of, row_limit_of};
 ghost use Rattle.dimensions.specs.Tables.{columns_from, place_for};
 
 use crate::coded::{CodedColumn, CodedRows};
@@ -37,7 +38,7 @@ impl Drop for Table {
 
 impl Table {
     ghost use Rattle.dimensions.specs.Columns.{HasCode, code_at};
-    ghost use Rattle.dimensions.specs.Tables.{column_at, IsTable, IsSomeTable, Numbers, HasNoRoom, EntersAt, AddsRow, BuildsTable};
+    ghost use Rattle.dimensions.specs.Tables.{column_at, IsTable, IsSomeTable, Numbers, HasNoRoom, EntersAt, AddsRow, AddsRows, BuildsTable, HoldsRows, HoldsSomeRows};
     ghost use Rattle.dimensions.specs.Made.{MakesTable};
     ghost use Rattle.dimensions.specs.Coded.{HaveTexts};
     ghost use Rattle.dimensions.specs.declared.column.Column.{Column};
@@ -48,15 +49,45 @@ impl Table {
         requires { (row : R) → length (R.shown row).texts ≡ length (lowers_of axis) }
         ensures { BuildsTable axis (map R.shown rows.now) result }
     {
-        if rows.len() > row_limit(axis) {
+        let mut table = Table::new(alloc, axis)?;
+        table.extend(alloc, axis, rows)?;
+        Ok(table)
+    }
+
+    /// Adds rows after those that there are, or answers the first cause to refuse them: first for too many rows, and
+    /// then row by row. Rows count from 1 among those added. After an error the table may have a part of them.
+    pub fn extend<R: TableRow>(
+        &mut self,
+        alloc: Global,
+        axis: Axis,
+        rows: &[R],
+    ) -> Result<(), Fault>
+        requires sound { HoldsSomeRows axis self.old }
+        requires texts { (row : R) → length (R.shown row).texts ≡ length (lowers_of axis) }
+        ensures { (old : List TextRow) → HoldsRows axis old self.old → AddsRows axis old (map R.shown rows.now) self.new result }
+    {
+        let before = self.len();
+        if !has_room(axis, before, rows.len()) {
             return Err(Fault::TooManyRows);
         }
-        let mut table = Table::new(alloc, axis)?;
         for row in rows {
-            table.add(alloc, axis, row)?;
+            if let Err(fault) = self.add(alloc, axis, row) {
+                return Err(counted_after(before as u32, fault));
+            }
         }
-        table.keys.densify(alloc)?;
-        Ok(table)
+        self.keys.densify(alloc)?;
+        Ok(())
+    }
+
+    /// The same table again. It can only fail for want of memory.
+    pub fn copied(&self, alloc: Global) -> Result<Table, Fault>
+        ensures keys { IfOk result (λ copy. copy.keys ≡ self.now.keys) }
+        ensures columns { IfOk result (λ copy. copy.columns.items ≡ self.now.columns.items) }
+        ensures memory { IfErr result (λ fault. fault ≡ Fault.Memory) }
+    {
+        let keys = self.keys.copied(alloc)?;
+        let columns = copied_columns(alloc, self.columns.as_slice())?;
+        Ok(Table { keys, columns })
     }
 
     /// The table of rows by codes, or `BadLayout` where they are those of no rows that keep the rules. It can also
@@ -255,6 +286,52 @@ fn columns_of(alloc: Global, axis: Axis, coded: Vec<CodedColumn>) -> Result<Vec<
         columns.push(Column::of_coded(lower, column))?;
     }
     Ok(columns)
+}
+
+// Whether a dimension that has so many rows may have so many more.
+fn has_room(axis: Axis, before: usize, more: usize) -> bool
+    ensures room { OnTrue result (before + more ≤ row_limit_of axis) }
+    ensures full { OnFalse result (row_limit_of axis < before + more) }
+{
+    let limit = row_limit(axis);
+    before <= limit && more <= limit - before
+}
+
+// The same columns again. It can only fail for want of memory.
+fn copied_columns(alloc: Global, columns: &[Column]) -> Result<Vec<Column>, Fault>
+    ensures ok { IfOk result (λ copies. copies.items ≡ columns.now) }
+    ensures memory { IfErr result (λ fault. fault ≡ Fault.Memory) }
+{
+    let mut copies = Vec::with_capacity(alloc, columns.len())?;
+    for column in columns {
+        copies.push(column.copied(alloc)?)?;
+    }
+    Ok(copies)
+}
+
+// A fault with its row counted from the first one after so many.
+fn counted_after(before: u32, fault: Fault) -> Fault
+    ensures { result ≡ counted_after before fault }
+{
+    match fault {
+        Fault::DuplicateKey { axis, row } => Fault::DuplicateKey {
+            axis,
+            row: row.saturating_sub(before),
+        },
+        Fault::HierarchyBroken { axis, row } => Fault::HierarchyBroken {
+            axis,
+            row: row.saturating_sub(before),
+        },
+        Fault::ReservedMember { axis, row } => Fault::ReservedMember {
+            axis,
+            row: row.saturating_sub(before),
+        },
+        Fault::TooManyMembers { axis, row } => Fault::TooManyMembers {
+            axis,
+            row: row.saturating_sub(before),
+        },
+        other => other,
+    }
 }
 
 // Whether one of a row's texts is the one that stands for all members.
