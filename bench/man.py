@@ -10,18 +10,26 @@ def plain(words):
     return "\\&" + words if words[:1] in ".'" else words
 
 
-def row(line):
-    return "\t".join(plain(cell.strip()) for cell in line.strip("|").split("|"))
+def table(lines):
+    """A table of Markdown as roff, at most 70 characters wide: cells that are longer than their column are broken."""
+    rows = [[cell.strip() for cell in line.strip("|").split("|")] for line in lines]
+    widths = [max(map(len, column)) for column in zip(*rows)]
+    while sum(widths) > 70 - 3 * (len(widths) - 1):
+        widths[widths.index(max(widths))] -= 1
+    yield ".TS\n%s." % " ".join("lw(%dn)" % width for width in widths)
+    for cells in rows:
+        yield "\t".join("T{\n%s\nT}" % plain(cell) if len(cell) > width else plain(cell) for cell, width in zip(cells, widths))
+    yield ".TE"
 
 
 def page(text):
     yield '.TH SSBCUBE 1\n.SH NAME\nssbcube \\- a crash\\-safe warehouse for the Star Schema Benchmark\n.SH DESCRIPTION'
-    fenced = table = False
+    fenced, rows = False, []
     for line in text.split("\n")[1:]:
         is_row = line.startswith("| ") and not fenced
-        if table and not is_row and not line.startswith("|-"):
-            yield ".TE"
-            table = False
+        if rows and not is_row and not line.startswith("|-"):
+            yield from table(rows)
+            rows = []
         if line.startswith("```"):
             yield ".fi\n.RE" if fenced else ".PP\n.RS\n.nf"
             fenced = not fenced
@@ -30,10 +38,7 @@ def page(text):
         elif line.startswith("## "):
             yield ".SH " + line[3:].upper()
         elif is_row:
-            if not table:
-                yield ".TS\nl %s." % " ".join("l" * (line.count("|") - 2))
-            yield row(line)
-            table = True
+            rows.append(line)
         elif line.startswith("- "):
             yield ".IP \\(bu 2\n" + plain(line[2:])
         elif not line.strip():

@@ -63,7 +63,7 @@ fn missing<R: Files>(rt: &R, given: &ArgMatches<'_>) -> &'static str {
     if contents_of(rt, path_of(given)) == Contents::Nothing {
         "no warehouse is there; ssbcube create makes one"
     } else {
-        "it is no warehouse, or its first two sectors are damaged"
+        "not a warehouse, or its first two sectors are damaged"
     }
 }
 
@@ -81,7 +81,7 @@ fn present_hint<R: Files + AllocGlobal>(
         );
     }
     let hint = format!(in rt.alloc();
-        "{path} is no empty file: its first sectors hold something that is not a warehouse; --overwrite replaces it"
+        "{path}: not empty, and its first sectors are not those of a warehouse; --overwrite replaces it"
     )?;
     Ok(Some(hint))
 }
@@ -134,7 +134,9 @@ fn wanted_hint(
 
 fn found_hint(alloc: Global, path: &str, bytes: u64) -> Result<Option<String>, Fault> {
     let said = if file_device::sectors_of(bytes).is_err() {
-        format!(in alloc; "{path}: {bytes} bytes are no 64 or more whole sectors of 512 bytes")?
+        format!(in alloc;
+            "{path}: not a warehouse: its {bytes} bytes are fewer than 32768 or not a multiple of 512"
+        )?
     } else {
         format!(in alloc; "{path}: {bytes} bytes are fewer or more than it was created with")?
     };

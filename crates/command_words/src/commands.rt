@@ -3,8 +3,8 @@ use crate::{create, cube, cuboids, demo, eval, explain, load, report, status, vi
 use clap::Command;
 use std::alloc::{AllocError, Global};
 
-const ABOUT: &str = "A warehouse for the Star Schema Benchmark, kept in one file that survives a
-power cut, and answers from the text tables of the benchmark's generator.";
+const ABOUT: &str = "A crash-safe warehouse for the Star Schema Benchmark in one file, and answers
+from the text tables of the benchmark's generator.";
 
 const HELP: &str = "From tables to a report:
   ssbcube create star.dev --sectors 1000000 --customer customer.tbl \\
@@ -13,9 +13,9 @@ const HELP: &str = "From tables to a report:
   ssbcube report star.dev 3.1
 
 A refusal goes to standard error with status 1: a line such as
-'fault 9 FieldCount line 1', and behind it a line in plain words where more is
-known. Status 2 says that the words were not understood. 'ssbcube COMMAND
---help' has the words of a command and examples.";
+'fault 9 FieldCount line 1', followed by an explanation where more is known.
+Status 2 means that the command line was not understood. 'ssbcube COMMAND
+--help' has the options of a command and examples.";
 
 /// The commands of the program, and their words.
 pub fn command<'a>(alloc: Global) -> Result<Command<'a>, AllocError> {
@@ -37,14 +37,14 @@ fn program<'a>(alloc: Global) -> Command<'a> {
         .arg_required_else_help(true)
 }
 
-// Puts the commands that read tables behind others. It can only fail for want of memory.
+// Adds the commands that read tables. It can only fail when out of memory.
 fn push_loading<'a>(alloc: Global, commands: &mut Vec<Command<'a>>) -> Result<(), AllocError> {
     push(commands, eval::words(alloc))?;
     push(commands, create::words(alloc))?;
     push(commands, load::words(alloc))
 }
 
-// Puts the commands that ask a warehouse behind others. It can only fail for want of memory.
+// Adds the commands that query a warehouse. It can only fail when out of memory.
 fn push_asking<'a>(alloc: Global, commands: &mut Vec<Command<'a>>) -> Result<(), AllocError> {
     push(commands, report::words(alloc))?;
     push(commands, cube::words(alloc))?;
@@ -52,7 +52,7 @@ fn push_asking<'a>(alloc: Global, commands: &mut Vec<Command<'a>>) -> Result<(),
     push(commands, status::words(alloc))
 }
 
-// Adds the commands of stored cuboids. It can only fail for want of memory.
+// Adds the commands of stored cuboids. It can only fail when out of memory.
 fn push_cuboids<'a>(alloc: Global, commands: &mut Vec<Command<'a>>) -> Result<(), AllocError> {
     push(commands, cuboids::choose_words(alloc))?;
     push(commands, cuboids::upkeep_words(alloc))?;
@@ -60,7 +60,7 @@ fn push_cuboids<'a>(alloc: Global, commands: &mut Vec<Command<'a>>) -> Result<()
     push(commands, views::words(alloc))
 }
 
-// Puts a command behind others, where there was memory for its words.
+// Adds a command, where there was memory for its words.
 fn push<'a>(
     commands: &mut Vec<Command<'a>>,
     command: Result<Command<'a>, AllocError>,

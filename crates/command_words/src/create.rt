@@ -11,20 +11,20 @@ const USAGE: &str = "ssbcube create DEV --sectors N --customer FILE --supplier F
 const HELP: &str = "DEV is a file of N sectors of 512 bytes. It is made where it is absent; an
 empty file is taken too, and one of just that length whose first two sectors
 are all zero, as a create that was cut off leaves it. With --overwrite it may
-hold anything but a warehouse. It takes its place on the disk as it fills.
+hold anything but a warehouse. The file is sparse.
 
 N is 64 to 4294967295, or a size such as 512M or 4G: K, M and G are 1,024
 bytes, and these times 1,024 and times 1,048,576.
 
 How many sectors: a batch of 65,536 rows takes some 9,100. Scale 1 of the
 benchmark, 6 million rows, takes some 850,000, so --sectors 1000000, a file of
-512 MB, has room for it. A warehouse cannot be made larger afterwards.
+512 MB, has room for it. A warehouse cannot grow afterwards.
 
 Example:
   ssbcube create star.dev --sectors 1000000 --customer customer.tbl \\
       --supplier supplier.tbl --part part.tbl --date date.tbl
 
-It prints 'created 1000000 sectors' once the warehouse is there to stay. At a
+It prints 'created 1000000 sectors' once the warehouse is durable. After a
 refusal a file that it made is removed again.";
 
 /// The words of the command.

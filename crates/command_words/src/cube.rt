@@ -3,7 +3,7 @@ use crate::options::{CUBE_HELP, as_of, cube_words, on_device};
 use clap::Command;
 use std::alloc::{AllocError, Global};
 
-const ABOUT: &str = "Answers a query of one's own over a warehouse.";
+const ABOUT: &str = "Answers an ad-hoc query over a warehouse.";
 
 const USAGE: &str = "ssbcube cube DEV [--as-of N] [--set SET] [--by A,A] --agg G,G
                     [CONDITION]...";

@@ -21,8 +21,8 @@ that is stored already keeps its cells, a new one is empty until the next
 upkeep, and all others are dropped. K of 0 drops all.
 
 With --for it chooses for the queries of a file, one a line: a query of the
-benchmark, such as 3.1, or the words of 'ssbcube cube' but --as-of, quoted as for
-a shell. A number before them says how often the query is asked; a line given
+benchmark, such as 3.1, or the words of 'ssbcube cube' but --as-of, quoted as
+for a shell. A number before them says how often the query is asked; a line given
 twice counts twice. '#' begins a comment. A query needs the coarsest view that
 serves it, and only these views count in a benefit. A query with a condition on
 quantity or discount needs none: a note names it, and it does not count. At a
@@ -39,8 +39,8 @@ const UPKEEP_USAGE: &str = "ssbcube upkeep DEV";
 
 const UPKEEP_HELP: &str =
     "Each stored cuboid gets the cells of the batches that it does not hold yet, in
-a change of its own, which a power cut leaves done or not begun. 'upkeep done'
-is printed once all hold all batches. A cuboid that would have more than
+a commit of its own, which a crash leaves done or not begun. 'upkeep done' is
+printed once all hold all batches. A cuboid that would have more than
 262144 cells is passed over and named at the end.
 
 Load first, then bring cuboids up to date: one upkeep for many batches is

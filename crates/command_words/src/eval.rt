@@ -18,7 +18,7 @@ pub fn words<'a>(alloc: Global) -> Result<Command<'a>, AllocError> {
     cube_words(alloc, eval)
 }
 
-// The words of the tables, behind the other words of the command.
+// The words of the tables, after the other words of the command.
 fn with_tables<'a>(alloc: Global, eval: Command<'a>) -> Result<Command<'a>, AllocError> {
     let facts = "The fact table, such as lineorder.tbl";
     let eval = dimension_tables(alloc, eval)?;

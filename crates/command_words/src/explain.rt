@@ -9,7 +9,7 @@ const USAGE: &str = "ssbcube explain DEV Q [--as-of N]
        ssbcube explain DEV [--as-of N] [--set SET] [--by A,A] --agg G,G
                        [CONDITION]...";
 
-const HELP: &str = "Q is a query of the benchmark, 1.1 to 4.3. A query of one's own has the words of
+const HELP: &str = "Q is a query of the benchmark, 1.1 to 4.3. An ad-hoc query has the words of
 'ssbcube cube': 'ssbcube cube --help' lists them.
 
 It prints the plan by which the query is answered, and after it each other plan
@@ -34,7 +34,7 @@ pub fn words<'a>(alloc: Global) -> Result<Command<'a>, AllocError> {
     cube_options(alloc, explain)?.arg(asked(alloc))
 }
 
-/// The number of a query of the benchmark, or the conditions of a query of one's own.
+/// The number of a query of the benchmark, or the conditions of an ad-hoc query.
 pub fn asked<'a>(alloc: Global) -> Arg<'a> {
     Arg::new(alloc, "asked")
         .value_name("Q|CONDITION")

@@ -11,19 +11,20 @@ const USAGE: &str = "ssbcube load DEV --first N [--rows N] FILE";
 const HELP: &str = "The file is cut into batches of --rows rows, numbered from --first on. A FILE
 of - is standard input.
 
-'batch 1 rows 65536' says that the batch is there to stay, also after a power
-cut; a batch is stored whole or not at all. A batch whose number is there
-already is compared with the stored one: 'batch 1 skipped' says that they are
-the same, row by row, and another one ends the load. 'batches N' at the end
-says how many the warehouse has.
+'batch 1 rows 65536' is printed once the batch is durable: it survives a crash
+at any point. A batch is stored whole or not at all. A batch whose number is
+stored already is compared with it, row by row: 'batch 1 skipped' means that
+they are equal; if they differ the load ends. 'batches N' at the end is how
+many the warehouse has.
 
-A load that was cut off is given again as it was. The first refusal ends a
-load, and the batches before it stay. A further file goes on with the number
-behind the last batch; 'ssbcube status DEV' prints how many there are.
+To resume a load that was interrupted, give the same command again. The first
+refusal ends a load, and the batches before it stay. A further file continues
+with the number after the last batch; 'ssbcube status DEV' prints how many
+there are.
 
-A batch of 65536 rows takes some 9100 sectors. Where the free sectors are too few
-for the whole file a note says so first, and the load goes on until it is full.
-A warehouse cannot be made larger: create another file with more --sectors, and
+A batch of 65536 rows takes some 9100 sectors. Where the free sectors are too
+few for the whole file a note says so first, and the load goes on until it is
+full. A warehouse cannot grow: create another file with more --sectors, and
 load all files into it.
 
 Examples:
@@ -38,7 +39,7 @@ pub fn words<'a>(alloc: Global) -> Result<Command<'a>, AllocError> {
     with_cut(alloc, load)
 }
 
-// The words that say how the file is cut, behind the other words of the command.
+// The words that say how the file is cut, after the other words of the command.
 fn with_cut<'a>(alloc: Global, load: Command<'a>) -> Result<Command<'a>, AllocError> {
     let first = "The number of the first batch, 1 or more";
     let rows = "The rows of a batch, 1 to 65536; 65536 if left out";

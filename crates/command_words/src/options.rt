@@ -3,12 +3,12 @@ use clap::builder::ValueParser;
 use clap::{Arg, ArgAction, Command};
 use std::alloc::{AllocError, Global};
 
-/// What can be asked, and how a refusal is told.
+/// What can be asked, and what a refusal looks like.
 pub const CUBE_HELP: &str = "Sets:
   plain   groups by all columns
   rollup  by each beginning of the columns, the whole last
   cube    by each choice of the columns
-  ALL stands in a column by which a line is not grouped.
+  ALL in a column means that the line is not grouped by it.
 
 Aggregates, with a measure M:
   count sum:M min:M max:M avg:M, or as a header has it: 'sum(M)', quoted
@@ -23,19 +23,19 @@ Attributes, for --by and for conditions:
   p_brand1 p_category p_mfgr  d_datekey d_yearmonthnum d_year
   d_yearmonth d_weeknuminyear
 
-Conditions, which all have to hold. Quote them, since | is of the shell:
+Conditions, which all have to hold. Quote them, since the shell reads |:
   ATTRIBUTE=TEXT|TEXT  one of some texts
   ATTRIBUTE:LOW|HIGH   a range by bytes, with both ends
-  quantity:LOW|HIGH    numbers of 0 to 255, and so with discount
+  quantity:LOW|HIGH    integers from 0 to 255; discount likewise
 
-Examples of queries, each behind the other words of the command:
+Examples of queries, to follow the other words of the command:
   --by d_year,p_brand1 --agg sum:revenue 'p_category=MFGR#12'
   --set cube --by c_region,d_year --agg count,avg:revenue
   --set rollup --by d_year,d_yearmonthnum --agg sum:revenue
 
 The report goes to standard output. A refusal goes to standard error with
-status 1: a line such as 'fault 24 BadQuery', and behind it a line in plain
-words where more is known.";
+status 1: a line such as 'fault 24 BadQuery', followed by an explanation where
+more is known.";
 
 /// The option, the value and the help of each dimension table.
 static DIMENSION_TABLES: [(&str, &str, &str); 4] = [
@@ -53,7 +53,7 @@ static DIMENSION_TABLES: [(&str, &str, &str); 4] = [
     ("date", "FILE", "The date table, such as date.tbl"),
 ];
 
-/// The option, the value and the help of each word of a query of one's own but the conditions.
+/// The option, the value and the help of each word of an ad-hoc query but the conditions.
 static CUBE_WORDS: [(&str, &str, &str); 3] = [
     (
         "set",
@@ -64,7 +64,7 @@ static CUBE_WORDS: [(&str, &str, &str); 3] = [
     ("agg", "G,G", "Aggregates, such as count,sum:revenue"),
 ];
 
-/// The words of the four dimension tables, behind the other words of a command.
+/// The words of the four dimension tables, after the other words of a command.
 pub fn dimension_tables<'a>(
     alloc: Global,
     command: Command<'a>,
@@ -72,17 +72,17 @@ pub fn dimension_tables<'a>(
     with_options(alloc, command, &DIMENSION_TABLES, true)
 }
 
-/// The words of a query of one's own, behind the other words of a command.
+/// The words of an ad-hoc query, after the other words of a command.
 pub fn cube_words<'a>(alloc: Global, command: Command<'a>) -> Result<Command<'a>, AllocError> {
     cube_options(alloc, command)?.arg(conditions(alloc))
 }
 
-/// The words of a query of one's own but the conditions, after the other words of a command.
+/// The words of an ad-hoc query but the conditions, after the other words of a command.
 pub fn cube_options<'a>(alloc: Global, command: Command<'a>) -> Result<Command<'a>, AllocError> {
     with_options(alloc, command, &CUBE_WORDS, false)
 }
 
-// Some options with their values and their help, behind the other words of a command.
+// Some options with their values and their help, after the other words of a command.
 fn with_options<'a>(
     alloc: Global,
     command: Command<'a>,
@@ -96,7 +96,7 @@ fn with_options<'a>(
     Ok(command)
 }
 
-// The conditions of a query of one's own.
+// The conditions of an ad-hoc query.
 fn conditions<'a>(alloc: Global) -> Arg<'a> {
     Arg::new(alloc, "condition")
         .value_name("CONDITION")
@@ -131,7 +131,7 @@ pub fn on_device<'a>(
     described(alloc, name, about, usage, help).arg(device)
 }
 
-/// A word that stands at its place.
+/// A positional word.
 pub fn word<'a>(alloc: Global, name: &'a str, value: &'a str, help: &'a str) -> Arg<'a> {
     Arg::new(alloc, name)
         .value_name(value)
@@ -146,7 +146,7 @@ pub fn as_of<'a>(alloc: Global) -> Arg<'a> {
     number(alloc, "as-of", help, 0, u32::MAX)
 }
 
-/// An option with a number from the least to the most.
+/// An option with a number from a minimum to a maximum.
 pub fn number<'a>(alloc: Global, name: &'a str, help: &'a str, least: u32, most: u32) -> Arg<'a> {
     let range = ValueParser::unsigned(u64::from(least), u64::from(most));
     option(alloc, name, "N", help).value_parser(range)

@@ -7,9 +7,10 @@ const ABOUT: &str = "Prints the numbers of a warehouse.";
 
 const USAGE: &str = "ssbcube status DEV";
 
-const HELP: &str = "It prints 'batches N' and 'rows N', how many of each there are; 'target N', to
-which batch stored cuboids are to be kept up; and 'generation N', how many
-changes made what stands in the file.
+const HELP: &str = "It prints 'batches N' and 'rows N', how many of each there are; 'target N', up
+to which batch the last upkeep set out to bring the stored cuboids; 'generation
+N', the number of commits; and 'cuboid V mark N runs N cells N' for each stored
+cuboid: its view, and how many of the first batches it holds.
 
 Example:
   ssbcube status star.dev";

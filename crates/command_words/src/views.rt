@@ -19,7 +19,7 @@ Levels, the finest first:
   date      day month year ALL
 
 Given some views, at most 16, it stores their cuboids and no others, in one
-change. A view that is stored already keeps its cells, a new one is empty until
+commit. A view that is stored already keeps its cells, a new one is empty until
 the next upkeep, and all others are dropped.
 
 It prints a line for each stored cuboid, by ascending number, such as

@@ -42,7 +42,7 @@ fn separator_hint(line: &[u8]) -> &'static str {
 
 fn header_hint(line: &[u8]) -> &'static str {
     match line.first() {
-        Some(byte) if byte.is_ascii_alphabetic() => "; a line of column names has to go",
+        Some(byte) if byte.is_ascii_alphabetic() => "; remove the header line",
         _ => "",
     }
 }

@@ -71,7 +71,7 @@ fn steps(axis: Axis) -> &'static [Step; 2] {
     }
 }
 
-/// Where the key of a row stood before.
+/// Where the key of a row occurred before.
 pub fn key_hint<T: TableFiles>(
     alloc: Global,
     files: &T,
@@ -87,7 +87,7 @@ pub fn key_hint<T: TableFiles>(
     };
     let path = files.path(table);
     let said = format!(in alloc;
-        "{path} line {row}: {axis} {key} stands in line {} already",
+        "{path} line {row}: duplicate {axis} key {key}, first in line {}",
         first.saturating_add(1)
     )?;
     Ok(Some(said))

@@ -46,7 +46,7 @@ fn reserved<T: TableFiles>(
 ) -> Result<Option<String>, Fault> {
     let path = files.path(Table::of(axis));
     let said = format!(in alloc;
-        "{path} line {row}: the text ALL stands for every member, and a table cannot have it"
+        "{path} line {row}: the text ALL is reserved: it means every member"
     )?;
     Ok(Some(said))
 }
@@ -71,7 +71,7 @@ fn passed<T: TableFiles>(
 ) -> Result<Option<String>, Fault> {
     let path = files.path(Table::Lineorder);
     let said = format!(in alloc;
-        "{path}: the absolute values of {measure} pass 9223372036854775807 in sum"
+        "{path}: the absolute values of {measure} add up to more than 9223372036854775807"
     )?;
     Ok(Some(said))
 }

@@ -124,7 +124,7 @@ fn number_said(
     let text = Quoted(field(line, n));
     let hint = if n == 1 { first_hint(line, at) } else { "" };
     let said = format!(in alloc;
-        "{path} line {at}: {column} is {text}, and a number of 0 to {limit} is wanted{hint}"
+        "{path} line {at}: {column} is {text}, expected an integer from 0 to {limit}{hint}"
     )?;
     Ok(Some(said))
 }

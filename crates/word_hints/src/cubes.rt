@@ -213,7 +213,7 @@ fn too_many<'a>(counted: Counted, count: usize, most: usize) -> Option<WordHint<
     })
 }
 
-// The first column that stood before.
+// The first column that occurs before.
 fn repeated_column(by: &str) -> Option<WordHint<'_>> {
     for (place, word) in by.split(',').enumerate() {
         if by.split(',').position(|other| other == word) != Some(place) {

@@ -94,9 +94,7 @@ impl fmt::Display for WordHint<'_> {
                 f.write_str("nothing is asked: give --agg G,G, such as --agg count,sum:revenue")
             }
             WordHint::NoColumn => f.write_str("--by: no column is named"),
-            WordHint::NotAlone => f.write_str(
-                "--query stands alone: no --set, --by, --agg or condition beside it",
-            ),
+            WordHint::NotAlone => f.write_str("--query excludes --set, --by, --agg and conditions"),
             WordHint::Unknown { word, known, near } => unknown(f, word, *known, *near),
             WordHint::Wrong { word, slip } => wrong(f, word, *slip),
             WordHint::TooMany {
@@ -113,20 +111,20 @@ fn wrong<W: fmt::Write>(f: &mut fmt::Formatter<W>, word: &str, slip: Slip) -> fm
     write!(f, "{}: ", Shown(word))?;
     match slip {
         Slip::NoSign => f.write_str("a condition is ATTRIBUTE=TEXT|TEXT or ATTRIBUTE:LOW|HIGH"),
-        Slip::NoList => write!(f, "a range is wanted, {word}:LOW|HIGH"),
+        Slip::NoList => write!(f, "a range is expected, {word}:LOW|HIGH"),
         Slip::NotTwoEnds => f.write_str("a range has two ends, with a bar between them"),
         Slip::NoBar => write!(
             f,
             "a range has two ends, with a bar between them; a bar has to be quoted for the shell, '{word}|HIGH'"
         ),
-        Slip::NoNumber => f.write_str("no number of 0 to 255"),
-        Slip::NoMeasure => write!(f, "a measure is wanted, as in {word}:revenue"),
-        Slip::NotClosed => f.write_str("a closing bracket is wanted"),
-        Slip::CountAlone => f.write_str("count stands without a measure"),
+        Slip::NoNumber => f.write_str("expected an integer from 0 to 255"),
+        Slip::NoMeasure => write!(f, "a measure is missing, as in {word}:revenue"),
+        Slip::NotClosed => f.write_str("a closing bracket is missing"),
+        Slip::CountAlone => f.write_str("count takes no measure"),
         Slip::OnlyCondition => {
             f.write_str("discount can only be a condition, 'discount:LOW|HIGH'")
         }
-        Slip::Twice => f.write_str("a group column stands once"),
+        Slip::Twice => f.write_str("this group column is named twice"),
     }
 }
 
