@@ -29,9 +29,11 @@ use Rattle.cube_model.specs.declared.query.Query.{Query}
 use Rattle.cube_model.specs.declared.rows.DimRows.{DimRows}
 use Rattle.cube_model.specs.declared.rows.LineOrder.{LineOrder}
 use Rattle.cube_query.specs.Columns.{entry_line, is_seen, line_with, seen_entries, seen_groups, tallies_at, tally_at}
-use Rattle.cube_query.specs.Slots.{slot_of}
+use Rattle.cube_query.specs.GroupLines.{HaveLines}
+use Rattle.cube_query.specs.Slots.{slot_of, AreSlots}
 use Rattle.cube_query.specs.Tallies.{value_of, values_of}
 use Rattle.cube_query.specs.declared.tally.Tally.{Tally}
+use Rattle.group_plan.specs.Numbers.{group_count}
 use Rattle.cube_query.proofs.Seen.{each_number, All-numbers}
 
 recursion_from : {X : Type 0} (P : X → Type 0) (xs : List X) → All P xs → AllByRecursion P xs
@@ -125,6 +127,14 @@ pub seen_below : (bound : ℕ) (tallies : ℕ → List Tally) (entries : List (�
 seen_below bound tallies entries sorted below =
     All-filter (λ (entry : ℕ × ℕ). is_seen (tallies entry.1)) (λ (entry : ℕ × ℕ). entry.0 < bound) entries
     (All-numbers (λ number. number < bound) entries (each_number (λ number. number < bound) entries sorted below))
+
+-- the groups that have rows have lines
+pub seen_have_lines : (dimensions : DimRows) (query : Query) (columns : List (Vec Tally Global)) (entries : List (ℕ × ℕ)) → AreSlots (group_count dimensions query.columns) entries
+    → HaveLines dimensions query columns (seen_entries (tallies_at columns) entries)
+seen_have_lines dimensions query columns entries slots =
+    let below = seen_below (group_count dimensions query.columns) (tallies_at columns) entries slots.sorted slots.below in
+    let seen = all_seen (tallies_at columns) entries in
+    λ i d h. (below i d h, seen i d h)
 
 pub seen_apart : (tallies : ℕ → List Tally) (entries : List (ℕ × ℕ)) → IsStrictlySortedBy nat_cmp (map (λ e. e.0) entries) → IsDistinct (eq_by_cmp nat_cmp) (map (λ e. e.0) (seen_entries tallies entries))
 seen_apart tallies entries sorted =

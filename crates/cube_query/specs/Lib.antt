@@ -6,6 +6,7 @@ pub mod Coarser
 pub mod ColumnRows
 pub mod Columns
 pub mod FoldInvariant
+pub mod GroupLines
 pub mod Groups
 pub mod Limits
 pub mod Numbered

@@ -1,7 +1,8 @@
 //! The tallies of groups in columns, one column for each aggregate, each with a tally at each slot.
-ghost use Rattle.std.specs.Prelude.{◌≡◌, ℕ, ◌≤◌, ◌<◌, true, [], ◌∷◌, length, slice_get, slice_index_or, IfOk, OnErr, OnOk, FitsSigned, nat_lt, slice_set, List, ◌+◌, ◌^◌, ◌+ℤ◌};
+ghost use Rattle.std.specs.Prelude.{◌≡◌, ℕ, pos, ◌≤◌, ◌<◌, true, [], ◌∷◌, length, slice_get, slice_index_or, IfOk, OnErr, OnOk, FitsSigned, nat_lt, slice_set, List, ◌+◌, ◌^◌, ◌+ℤ◌};
 ghost use Rattle.std.specs.List.{AllByRecursion, list_all};
 ghost use Rattle.std.specs.Int.{w64};
+ghost use Rattle.cube_model.specs.declared.answer.Value.TheVariants.{Whole};
 ghost use Rattle.cube_model.specs.declared.measure.Agg.{Agg};
 ghost use Rattle.cube_model.specs.declared.rows.LineOrder.{LineOrder};
 ghost use Rattle.cube_query.specs.Coarser.{gathered, AddsIn, CanMerge, FitMerged, HasMergeRoom, LieWithin, MayMerge, MergesIn};
@@ -210,6 +211,17 @@ fn all_count(columns: &[Vec<Tally>], slot: usize) -> bool
         .all(|column| 0 < tally_at(column.as_slice(), slot).count.get())
 }
 
+/// The value of an aggregate, by its place among them.
+pub fn value_at(aggs: &[Agg], columns: &[Vec<Tally>], slot: usize, place: usize) -> Value
+    requires seen { is_seen (tallies_at columns.now slot) ≡ true }
+    requires columns { length columns.now ≡ length aggs.now }
+    requires place { place < length aggs.now }
+    ensures { result ≡ slice_index_or (values_of aggs.now (tallies_at columns.now slot)) place (Whole (pos 0)) }
+{
+    let tally = tally_at(columns[place].as_slice(), slot);
+    tally.value(aggs[place])
+}
+
 /// The values of a line.
 pub fn values_of(
     alloc: Global,
@@ -223,8 +235,7 @@ pub fn values_of(
 {
     let mut values = Vec::with_capacity(alloc, aggs.len())?;
     for i in 0..aggs.len() {
-        let tally = tally_at(columns[i].as_slice(), slot);
-        values.push(tally.value(aggs[i]))?;
+        values.push(value_at(aggs, columns, slot, i))?;
     }
     Ok(Items::from_vec(values))
 }

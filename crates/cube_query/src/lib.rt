@@ -10,6 +10,7 @@ mod coarser;
 mod column_rows;
 mod columns;
 mod finish;
+mod finished;
 mod fraction;
 mod group_slots;
 mod lines;
@@ -24,6 +25,7 @@ mod tally;
 mod whole_batch;
 
 pub use answer::fold;
+pub use finished::{GroupLine, GroupLines, Groups};
 pub use fraction::fraction_of;
 pub use moded_rows::RowsWithModes;
 pub use running::Fold;

@@ -12,6 +12,7 @@ ghost use Rattle.cube_query.specs.Asked.{AreSame, asked_columns, is_asked};
 ghost use Rattle.cube_query.specs.CellSlots.{AreMergedIn, asked_of};
 ghost use Rattle.cube_query.specs.CellTallies.{GroupsHaveRoomFor};
 ghost use Rattle.cube_query.specs.Columns.{tallies_at};
+ghost use Rattle.cube_query.specs.GroupLines.{AreGroupsOver, answer_over};
 ghost use Rattle.cube_query.specs.Groups.{StandsFor, Begins, CanTake, IsFoldable, IsOver, Takes};
 ghost use Rattle.group_plan.specs.Numbers.{group_count, IsKnown};
 ghost use Rattle.group_plan.specs.Parts.{IsKnownFor};
@@ -29,6 +30,7 @@ use crate::chosen_rows::ChosenRows;
 use crate::column_rows::ColumnRows;
 use crate::columns::{count_in_all, make_room, no_columns};
 use crate::finish::answer_lines;
+use crate::finished::Groups;
 use crate::group_slots::group_slots_of;
 use crate::room::have_room;
 use crate::slots::Slots;
@@ -303,6 +305,25 @@ impl Fold {
             &self.slots,
         )?;
         Ok(Answer { lines })
+    }
+
+    /// The groups of the fact rows that were added, with the lines of the answer, of which none is made. `BadLayout` says what it
+    /// says of `finish`.
+    pub fn into_groups(self, dims: &Dims) -> Result<Groups, Fault>
+        requires { IsOver dims.now self }
+        ensures over { IfOk result (AreGroupsOver dims.now) }
+        ensures answer { IfOk result (λ groups. (rows : List LineOrder) → StandsFor dims.now self rows
+            → answer_over dims.now groups ≡ answer self.query dims.now rows) }
+        ensures refused { result ≡ Err Fault.BadLayout → IsFoldable dims.now self → ⊥ }
+        ensures only { IfErr result (λ fault. (fault ≡ Fault.Memory) ⊎ (fault ≡ Fault.BadLayout)) }
+    {
+        let Fold {
+            alloc,
+            plan,
+            slots,
+            columns,
+        } = self;
+        Groups::of(alloc, dims, plan, slots, columns)
     }
 }
 

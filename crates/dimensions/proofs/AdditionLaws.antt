@@ -1,5 +1,5 @@
 -- The four dimensions with more rows after their own.
-use Rattle.std.proofs.Common.{◌≡◌, ◌≤◌, ◌∙◌, ◌⊎◌, inl, inr, sym, ap, refl, subst, ℕ, List, [], ◌∷◌, ◌++◌, map, length, Option, Some, None, Ok, Err}
+use Rattle.std.proofs.Common.{◌≡◌, ◌∙◌, ◌⊎◌, inl, inr, sym, ap, refl, subst, ℕ, List, [], ◌∷◌, ◌++◌, length, Option, Some, None, Ok, Err}
 use Rattle.std.specs.List.{AllByRecursion}
 use Rattle.std.specs.Option.{option_map}
 use Rattle.std.proofs.lemmas.List.{length-map}
@@ -13,7 +13,7 @@ use Rattle.cube_model.specs.Validity.{HasShortTexts, HaveShortTexts, IsValid, cu
 use Rattle.dimensions.specs.declared.dimension.Dimension.{Dimension}
 use Rattle.dimensions.specs.Added.{added_cause, addition_cause, counted_after, joined}
 use Rattle.dimensions.specs.Shapes.{text_rules}
-use Rattle.dimensions.specs.Shown.{AreDimensions, ExtendsDimension, HoldsDimension, IsDimension, rows_on}
+use Rattle.dimensions.specs.Shown.{ExtendsDimension, HoldsDimension, IsDimension, rows_on}
 use Rattle.dimensions.specs.TextRows.{TextRow, row_of_customer, row_of_supplier, row_of_part, row_of_date}
 use Rattle.dimensions.proofs.KeptLaws.{rows_on-joined}
 use Rattle.dimensions.proofs.ShownLaws.{Passes, customer_cause, supplier_cause, part_cause, date_cause}

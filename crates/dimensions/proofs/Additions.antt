@@ -1,5 +1,5 @@
 -- Rows that come after others: their causes, and tables that hold them.
-use Rattle.std.proofs.Common.{◌≡◌, ◌<◌, ◌≤◌, ◌+◌, ◌-◌, ◌∙◌, ◌⊎◌, inl, inr, suc, sym, ap, refl, subst, arith, ℕ, true, nat_lt, List, [], ◌∷◌, ◌++◌, map, length, take, drop, get_or, Option, Some, None, Ok, Err, append_assoc, length-append}
+use Rattle.std.proofs.Common.{◌≡◌, ◌<◌, ◌≤◌, ◌+◌, ◌-◌, ◌∙◌, ◌⊎◌, inl, inr, suc, sym, ap, refl, subst, arith, ℕ, true, nat_lt, List, [], ◌∷◌, ◌++◌, length, take, drop, get_or, Option, Some, None, Ok, Err, append_assoc, length-append}
 use Rattle.std.specs.Option.{option_map}
 use Rattle.std.proofs.lemmas.List.{append-nil, length-map, length-take-le}
 use Rattle.cube_model.specs.declared.attr.Axis.{Axis}
@@ -10,7 +10,7 @@ use Rattle.cube_model.specs.Validity.{Rules, row_cause, rows_cause, dimension_ca
 use Rattle.dimensions.specs.declared.table.Table.{Table}
 use Rattle.dimensions.specs.Added.{counted_after, added_cause}
 use Rattle.dimensions.specs.TextRows.{TextRow, column_of}
-use Rattle.dimensions.specs.Shapes.{lowers_of, row_limit_of, text_rules}
+use Rattle.dimensions.specs.Shapes.{row_limit_of, text_rules}
 use Rattle.dimensions.specs.Columns.{IsColumn}
 use Rattle.dimensions.specs.Tables.{no_column, lower_texts, IsTable, HoldsRows, AddsRow, AddsRows, BuildsTable}
 use Rattle.dimensions.proofs.BuildSteps.{SoFar, few_rows, goes_on, stops, done}

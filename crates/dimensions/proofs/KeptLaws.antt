@@ -1,5 +1,5 @@
 -- Codes that stay where rows come after others.
-use Rattle.std.proofs.Common.{◌≡◌, ◌<◌, ◌≤◌, ◌+◌, ◌∙◌, ◌==◌, zero, suc, sym, ap, refl, subst, arith, ℕ, Bool, true, false, ◌||◌, not, nat_lt, List, [], ◌∷◌, ◌++◌, map, length, get_or, Option, Some, None, append_assoc}
+use Rattle.std.proofs.Common.{◌≡◌, ◌<◌, ◌∙◌, ◌==◌, zero, suc, sym, ap, refl, subst, arith, ℕ, Bool, true, false, ◌||◌, not, nat_lt, List, [], ◌∷◌, ◌++◌, map, length, get_or, Some, None}
 use Rattle.std.specs.List.{filter, list_any, position_or_len}
 use Rattle.std.specs.Str.{bytes_eq}
 use Rattle.std.proofs.lemmas.List.{length-map, map-append}
@@ -14,7 +14,7 @@ use Rattle.dictionary.proofs.CallerLemmas.{bytes_eq-refl, list_any-firsts, list_
 use Rattle.dimensions.specs.Added.{joined}
 use Rattle.dimensions.specs.Coded.{place_texts, text_beside, texts_at_places, texts_below}
 use Rattle.dimensions.specs.KeptCodes.{GoesOn, KeepCodes}
-use Rattle.dimensions.specs.Shapes.{lowers_of, lower_of}
+use Rattle.dimensions.specs.Shapes.{lower_of}
 use Rattle.dimensions.specs.Shown.{rows_on}
 use Rattle.dimensions.specs.TextRows.{TextRow, text_in, column_of, row_of_customer, row_of_supplier, row_of_part, row_of_date}
 

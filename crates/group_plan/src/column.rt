@@ -1,5 +1,6 @@
 //! The columns of a query, and where their digits stand in the numbers of groups.
-ghost use Rattle.std.specs.Prelude.{◌≡◌, ◌<◌, ◌≤◌, ◌*◌, ◌+◌, ◌-◌, ◌^◌, length, drop, nat_eq, IfOk};
+ghost use Rattle.std.specs.Prelude.{◌≡◌, ◌<◌, ◌≤◌, ◌*◌, ◌+◌, ◌-◌, ◌^◌, length, drop, nat_eq, IfNone, IfOk, IfSome};
+ghost use Rattle.cube_model.specs.declared.answer.Member.TheVariants.{All, Text};
 ghost use Rattle.cube_model.specs.declared.rows.DimRows.{DimRows};
 ghost use Rattle.group_plan.specs.Beginnings.{Extend};
 ghost use Rattle.group_plan.specs.Columns.{digit_of, with_highest, AreColumns, IsColumn};
@@ -90,11 +91,24 @@ impl Column {
         ensures { IfOk result (λ member. (beginning : DimRows) → HaveMembers beginning self.now.attr self.now.places.items
             → Extend beginning dims.now → member ≡ member_at beginning self.now.attr digit) }
     {
+        match self.text(dims, digit) {
+            Some(text) => Ok(Member::Text(Items::from_vec(Vec::from_slice(alloc, text)?))),
+            None => Ok(Member::All),
+        }
+    }
+
+    /// The text of the member that a digit stands for, where it is: none for ALL.
+    pub fn text<'a>(&self, dims: &'a Dims, digit: u128) -> Option<&'a [u8]>
+        requires { (beginning : DimRows) × (HaveMembers beginning self.now.attr self.now.places.items × Extend beginning dims.now) }
+        ensures text { IfSome result (λ text. (beginning : DimRows) → HaveMembers beginning self.now.attr self.now.places.items
+            → Extend beginning dims.now → member_at beginning self.now.attr digit ≡ Text text.now) }
+        ensures all { IfNone result ((beginning : DimRows) → HaveMembers beginning self.now.attr self.now.places.items
+            → Extend beginning dims.now → member_at beginning self.now.attr digit ≡ All) }
+    {
         if digit >= self.places.len() as u128 {
-            return Ok(Member::All);
+            return None;
         }
         let place = self.places[digit as usize];
-        let text = Vec::from_slice(alloc, text_at(dims, self.attr, place))?;
-        Ok(Member::Text(Items::from_vec(text)))
+        Some(text_at(dims, self.attr, place))
     }
 }

@@ -1,7 +1,7 @@
 //! A plan with its dimensions.
-ghost use Rattle.std.specs.Prelude.{◌≡◌, ◌+◌, ◌^◌, ◌<◌, ◌≤◌, true, length, take, slice_index_or, slice_set, IfOk, OnOk, OnErr};
+ghost use Rattle.std.specs.Prelude.{◌≡◌, ◌+◌, ◌^◌, ◌<◌, ◌≤◌, true, length, take, slice_index_or, slice_set, IfNone, IfOk, IfSome, OnOk, OnErr};
 ghost use Rattle.std.specs.List.{list_all};
-ghost use Rattle.cube_model.specs.declared.answer.Member.TheVariants.{All};
+ghost use Rattle.cube_model.specs.declared.answer.Member.TheVariants.{All, Text};
 ghost use Rattle.cube_model.specs.declared.attr.Axis.TheVariants.{Customer, Supplier, Part, Date};
 ghost use Rattle.cube_model.specs.declared.rows.LineOrder.{LineOrder};
 ghost use Rattle.cube_model.specs.Places.{row_count_of, row_index_of};
@@ -187,6 +187,18 @@ impl<'a> PlanOver<'a> {
         }
         let key = rows.key(place, axis);
         side.given(self.dims, axis, key)
+    }
+
+    /// The text that the group with a number has in a column, where it is: none for ALL.
+    pub fn text(&self, column: usize, number: u128) -> Option<&'a [u8]>
+        requires column { column < length self.now.query.columns }
+        requires below { number < group_count self.now.dimensions self.now.query.columns }
+        ensures text { IfSome result (λ text. slice_index_or (key_at self.now.dimensions self.now.query.columns number) column All
+            ≡ Text text.now) }
+        ensures all { IfNone result (slice_index_or (key_at self.now.dimensions self.now.query.columns number) column All ≡ All) }
+    {
+        let kept = &self.plan.columns[column];
+        kept.text(self.dims, kept.digit(number))
     }
 
     /// The key of the group with a number.

@@ -1,6 +1,5 @@
 use Rattle.std.proofs.Common.{◌++◌, arith, map}
 use Rattle.std.proofs.lemmas.Result.{err_from_is_err_and}
-use Rattle.dimensions.specs.TextRows.{TextRow}
 use Rattle.dimensions.proofs.Additions.{same_table}
 use Rattle.dimensions.proofs.dimension.Dimension.with_rows.Goals as goal
 

@@ -1,6 +1,5 @@
-use Rattle.std.proofs.Common.{◌≡◌, [], List, map}
+use Rattle.std.proofs.Common.{[], map}
 use Rattle.std.proofs.lemmas.Result.{err_from_is_err_and}
-use Rattle.dimensions.specs.TextRows.{TextRow}
 use Rattle.dimensions.proofs.Additions.{none_at_first, not_built}
 use Rattle.dimensions.proofs.table.Table.build.Goals as goal
 

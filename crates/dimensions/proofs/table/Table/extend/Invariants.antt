@@ -1,4 +1,4 @@
-use Rattle.std.proofs.Common.{◌≡◌, ◌+◌, ◌++◌, List, map, length}
+use Rattle.std.proofs.Common.{◌+◌, ◌++◌, List, map, length}
 use Rattle.dimensions.specs.TextRows.{TextRow}
 use Rattle.dimensions.specs.Tables.{HoldsRows}
 use Rattle.dimensions.proofs.BuildSteps.{SoFar}

@@ -1,21 +1,28 @@
 use Rattle.cube_model.specs.declared.fault.Fault.TheVariants.{BadLayout}
 use Rattle.std.proofs.Common.{◌≡◌, ◌∙◌, Err, sym, ap, subst, length}
 use Rattle.std.proofs.lemmas.Result.{IfOk-weaker, err_from_is_err_and}
-use Rattle.cube_query.specs.Coarser.{AreTalliedFrom}
+use Rattle.cube_query.specs.Coarser.{AreTalliedFrom, CanCoarsen}
 use Rattle.cube_query.specs.Columns.{seen_groups, tallies_at}
-use Rattle.cube_query.specs.Groups.{groups_of}
+use Rattle.cube_query.specs.GroupLines.{HaveLines, lines_by}
+use Rattle.cube_query.specs.Groups.{finest, groups_of}
 use Rattle.cube_query.specs.Slots.{entries_of}
 use Rattle.cube_query.specs.FoldInvariant.{AreTallied}
-use Rattle.cube_query.proofs.Ends.{all_groups}
+use Rattle.cube_query.proofs.Ends.{all_groups, plain_groups, start}
 use Rattle.cube_query.proofs.Seen.{seen_are}
 use Rattle.group_plan.specs.Numbers.{key_at}
-use Rattle.cube_query.proofs.finish.all_lines.Goals as goal
+use Rattle.cube_query.proofs.finish.all_groups.Goals as goal
 
-pub finest_lines-requires-clause-columns : goal.finest_lines-requires-clause-columns
-finest_lines-requires-clause-columns c = ap length c.as_slice.ensures.value ∙ c.in_ok-coarsen_all.ensures.can.count
+pub ordered_groups-requires-clause-columns : goal.ordered_groups-requires-clause-columns
+ordered_groups-requires-clause-columns c = ap length c.as_slice.ensures.value ∙ c.in_ok-coarsen_all.ensures.can.count
+
+pub returns-clause-groups : goal.returns-clause-groups
+returns-clause-groups c =
+    let d = c.args.plan.now.dimensions in
+    let q = c.args.plan.now.query in
+    subst (λ cs. HaveLines d q cs c.in_ok-groups.groups.items) c.as_slice.ensures.value c.in_ok-groups.ensures.groups
 
 pub returns-clause-lines : goal.returns-clause-lines
-returns-clause-lines c =
+returns-clause-lines c = λ rows given.
     let d = c.args.plan.now.dimensions in
     let q = c.args.plan.now.query in
     let entries = entries_of c.args.slots.now in
@@ -24,13 +31,11 @@ returns-clause-lines c =
     let can = c.in_ok-coarsen_all.ensures.can in
     let new = entries_of c.coarsen_all.new.slots in
     let all = c.coarsen_all.new.columns.items in
-    IfOk-weaker c.finest_lines.result _ _
-    (λ lines is rows given.
     let begun : AreTalliedFrom d q c.len-count.result entries columns rows = subst (λ n. AreTalliedFrom d q n entries columns rows) (sym count) given in
     let ended : AreTallied d q new all rows = all_groups d q new all rows (c.in_ok-coarsen_all.ensures.tallied rows begun) in
-    is rows (subst (λ cs. seen_groups (key_at d q.columns) (tallies_at cs) new ≡ groups_of d q rows) (sym c.as_slice.ensures.value)
-    (seen_are d q new all rows can.proper.some_aggregate can.rising can.numbers ended)))
-    c.finest_lines.ensures.lines
+    ap (λ cs. lines_by d q cs c.in_ok-groups.groups.items) (sym c.as_slice.ensures.value)
+    ∙ c.in_ok-groups.ensures.lines rows (subst (λ cs. seen_groups (key_at d q.columns) (tallies_at cs) new ≡ groups_of d q rows) (sym c.as_slice.ensures.value)
+    (seen_are d q new all rows can.proper.some_aggregate can.rising can.numbers ended))
 
 pub returns-in_err-coarsen_all-clause-refused : goal.returns-in_err-coarsen_all-clause-refused
 returns-in_err-coarsen_all-clause-refused c =
