@@ -21,11 +21,11 @@ use Rattle.cuboid_upkeep.specs.Steps.{AreUnfit, HasNoCell, IsCellOfRow, IsRowKey
 use Rattle.cuboid_upkeep.proofs.Added.{unfit_behind}
 use Rattle.cuboid_upkeep.proofs.Found.{own_key}
 
-abbrev key_with : ℕ → ℕ → ℕ → ℕ → ℕ → Key
+abbrev pub key_with : ℕ → ℕ → ℕ → ℕ → ℕ → Key
 key_with customer supplier part date ship_mode = record { customer = customer; supplier = supplier; part = part; date = date; ship_mode = ship_mode }
 
 -- a key by its codes
-key_by : (customer supplier part date ship_mode : ℕ) (key : Key) → customer ≡ key.customer → supplier ≡ key.supplier → part ≡ key.part → date ≡ key.date → ship_mode ≡ key.ship_mode
+pub key_by : (customer supplier part date ship_mode : ℕ) (key : Key) → customer ≡ key.customer → supplier ≡ key.supplier → part ≡ key.part → date ≡ key.date → ship_mode ≡ key.ship_mode
     → key_with customer supplier part date ship_mode ≡ key
 key_by customer supplier part date ship_mode key one two three four five =
     ap (λ n. key_with n supplier part date ship_mode) one ∙ ap (λ n. key_with key.customer n part date ship_mode) two

@@ -109,6 +109,13 @@ module _ (view : View) (members : ViewMembers) (no_modes : view.ship_mode ≡ fa
         | false ↦ λ e. behind
       ]) refl
 
+-- a slot that is in use has the number of its place
+pub own_slot : (view : View) (members : ViewMembers) → view.ship_mode ≡ false → (slots : List Cell) (place : ℕ) (slot : Cell) → AreSlots view members 0 slots → place < length slots
+    → slot ≡ get_or slots place slot → is_used slot ≡ true → IsAt view members place slot
+own_slot view members no_modes slots place slot are within is e =
+    subst (λ (m : ℕ). IsAt view members m slot) (omega arith)
+    (subst (λ (c : Cell). IsAt view members (0 + place) c) (sym is) (slot_at view members no_modes 0 place slots slot are within (ap is_used (sym is) ∙ e)))
+
 -- the cell of another key stays
 pub others_stay : (key place : ℕ) (slots : List Cell) (cell d : Cell) → place < length slots
     → (is_used (get_or slots place d) ≡ true → number_of (get_or slots place d).key ≡ key → ⊥) → (number_of cell.key ≡ key → ⊥)

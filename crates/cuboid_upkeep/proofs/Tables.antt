@@ -13,7 +13,7 @@ use Rattle.cuboid_cells.specs.Cells.{AreProper}
 use Rattle.cuboid_upkeep.specs.declared.member_codes.ViewMembers.{ViewMembers}
 use Rattle.cuboid_upkeep.specs.declared.table.CellTable.{CellTable}
 use Rattle.cuboid_upkeep.specs.Growing.{IsTableOver}
-use Rattle.cuboid_upkeep.specs.Keys.{AreRowKeys, IsKeyOfRow}
+use Rattle.cuboid_upkeep.specs.Keys.{AreRowKeys, AreRowNumbers, IsKeyOfRow, IsNumberOfRow}
 use Rattle.cuboid_upkeep.specs.Slots.{AreSlots, cells_in, is_used, used}
 use Rattle.cuboid_upkeep.proofs.Slots.{used_ascend, used_good}
 
@@ -76,6 +76,23 @@ one_key_more dimensions view members rows place keys key so_far own = record {
     by k d before inside (inr apart) =
         subst (λ (one : Key). IsKeyOfRow dimensions view members (row_at rows k) one) (sym (get_or-set_other keys place k key d apart))
         (so_far.each k d (omega (arith, before, apart)) inside)
+
+-- one number more
+pub one_number_more : (dimensions : DimRows) (view : View) (members : ViewMembers) (rows : List LineOrder) (place : ℕ) (numbers : List ℕ) (number : ℕ)
+    → AreRowNumbers dimensions view members rows place numbers → IsNumberOfRow dimensions view members (row_at rows place) number
+    → AreRowNumbers dimensions view members rows (place + 1) (set numbers place number)
+one_number_more dimensions view members rows place numbers number so_far own = record {
+  many = length-set numbers place number ∙ so_far.many;
+  each = λ k before inside. by k before (omega (arith, inside, length-set numbers place number)) (cases_eq k place);
+}
+  where
+    by : (k : ℕ) → k < place + 1 → k < length numbers → (k ≡ place) ⊎ (k ≡ place → ⊥) → IsNumberOfRow dimensions view members (row_at rows k) (get_or (set numbers place number) k 0)
+    by k before inside (inl same) =
+        subst (λ (n : ℕ). IsNumberOfRow dimensions view members (row_at rows n) (get_or (set numbers place number) n 0)) (sym same)
+        (subst (λ (one : ℕ). IsNumberOfRow dimensions view members (row_at rows place) one) (sym (get_or-set_same numbers place number 0 (omega (arith, inside, same)))) own)
+    by k before inside (inr apart) =
+        subst (λ (one : ℕ). IsNumberOfRow dimensions view members (row_at rows k) one) (sym (get_or-set_other numbers place k number 0 apart))
+        (so_far.each k (omega (arith, before, apart)) inside)
 
 -- the key of a row among the keys of all
 pub own_key_in : (dimensions : DimRows) (view : View) (members : ViewMembers) (rows : List LineOrder) (place : ℕ) → place < length rows → (keys : List Key) (key : Key)

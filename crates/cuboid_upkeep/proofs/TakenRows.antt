@@ -1,5 +1,5 @@
 -- Fact rows are taken in, one after another.
-use Rattle.std.proofs.Common.{◌≡◌, ◌∙◌, sym, ap, refl, subst, inl, inr, ℕ, ◌+◌, ◌<◌, false, List, [], ◌∷◌, ◌++◌, length, take, get_or, Some, All, append_assoc, append-nil, arith}
+use Rattle.std.proofs.Common.{◌≡◌, ◌∙◌, sym, ap, refl, subst, inl, inr, ℕ, ◌+◌, ◌*◌, ◌<◌, false, List, [], ◌∷◌, ◌++◌, length, take, Some, All, append_assoc, append-nil, arith}
 use Rattle.std.proofs.lemmas.List.Elements.{All-cons, All-nil}
 use Rattle.cube_model.specs.declared.fault.Fault.TheVariants.{BadLayout}
 use Rattle.cube_model.specs.declared.rows.DimRows.{DimRows}
@@ -8,26 +8,27 @@ use Rattle.group_plan.specs.Rows.{row_at}
 use Rattle.lattice.specs.declared.view.View.{View}
 use Rattle.cuboid_cells.specs.declared.cell.Cell.{Cell}
 use Rattle.cuboid_cells.specs.declared.key.Key.{Key}
-use Rattle.cuboid_cells.specs.Cells.{CellFits, cell_at, number_of}
+use Rattle.cuboid_cells.specs.Cells.{CellFits, KeyFits, cell_at, number_of}
 use Rattle.cuboid_cells.specs.Merges.{PassesType}
 use Rattle.cuboid_upkeep.specs.Grouping.{HasMembers, StandFor, key_of, summaries_over}
 use Rattle.cuboid_upkeep.specs.Steps.{AreUnfit, IsAddFault, IsCellOfRow, IsRowKey}
 use Rattle.cuboid_upkeep.proofs.Added.{both_stand, merge_refused}
 use Rattle.cuboid_upkeep.proofs.Existing.{ascends}
 use Rattle.cuboid_upkeep.specs.declared.member_codes.ViewMembers.{ViewMembers}
-use Rattle.cuboid_upkeep.specs.Keys.{AreRowKeys, IsKeyOfRow}
+use Rattle.cuboid_upkeep.specs.Keys.{IsKeyOfRow, IsNumberOfRow}
 use Rattle.cuboid_upkeep.specs.Numbers.{LiesIn, place_of}
 use Rattle.cuboid_upkeep.specs.Slots.{AreSlots, IsAt, IsTaken, PassesAt, TakesAt, cells_in, used}
-use Rattle.cuboid_upkeep.proofs.Rows.{all_unfit, one_row_more, row_alone}
+use Rattle.cuboid_upkeep.proofs.Ascending.{keys_follow}
+use Rattle.cuboid_upkeep.proofs.Rows.{all_unfit, key_by, one_row_more, row_alone}
 use Rattle.cuboid_upkeep.proofs.Sorted.{found_in}
 use Rattle.cuboid_upkeep.proofs.Slots.{merge_then, past_is, past_key, slots_then, used_good}
 
 -- no row yet
-pub none_taken : (view : View) (members : ViewMembers) (rows : List LineOrder) (keys : List Key) (slots : List Cell) → AreSlots view members 0 slots → IsTaken view members rows 0 keys slots slots
-none_taken view members rows keys slots are = record {
+pub none_taken : (dimensions : DimRows) (view : View) (members : ViewMembers) (rows : List LineOrder) (slots : List Cell) → AreSlots view members 0 slots → IsTaken dimensions view members rows 0 slots slots
+none_taken dimensions view members rows slots are = record {
   size = refl;
   slots = are;
-  stand = λ dimensions so_far keyed stand. subst (λ (l : List LineOrder). StandFor dimensions [] l (cells_in view slots)) (sym (append-nil so_far)) stand;
+  stand = λ so_far stand. subst (λ (l : List LineOrder). StandFor dimensions [] l (cells_in view slots)) (sym (append-nil so_far)) stand;
 }
 
 -- what the cell of a row is, whatever the dimensions of its key are
@@ -41,13 +42,18 @@ key_is dimensions view row key cell own is =
     let same : made ≡ cell = cc is.is in
     ap (λ (c : Cell). c.key) (sym same) ∙ sym own.is
 
-module _ (view : View) (members : ViewMembers) (no_modes : view.ship_mode ≡ false) (rows : List LineOrder) (place : ℕ) (within : place < length rows) (key : Key) (cell : Cell)
-    (cell_is : IsRowCell (row_at rows place) key cell) where
+-- the number of a row is that of its key
+pub number_of_key : (dimensions : DimRows) (view : View) (members : ViewMembers) (row : LineOrder) (key : Key) (number : ℕ)
+    → IsKeyOfRow dimensions view members row key → IsNumberOfRow dimensions view members row number → place_of members key ≡ number
+number_of_key dimensions view members row key number own told = ap (place_of members) (own.is.is ∙ sym told.own.is.is) ∙ sym told.is
+
+module _ (dimensions : DimRows) (view : View) (members : ViewMembers) (no_modes : view.ship_mode ≡ false) (rows : List LineOrder) (place : ℕ) (within : place < length rows) (key : Key) (cell : Cell)
+    (own : IsKeyOfRow dimensions view members (row_at rows place) key) (cell_is : IsRowCell (row_at rows place) key cell) where
   abbrev row : LineOrder
   row = row_at rows place
 
-  pub cell_at_number : (dimensions : DimRows) → IsKeyOfRow dimensions view members row key → IsAt view members (place_of members key) cell
-  cell_at_number dimensions own =
+  there : IsAt view members (place_of members key) cell
+  there =
       let is = cell_is dimensions [] view own.is in
       let same = key_is dimensions view row key cell own.is is in record {
         lies = subst (LiesIn members) (sym same) own.lies;
@@ -55,41 +61,32 @@ module _ (view : View) (members : ViewMembers) (no_modes : view.ship_mode ≡ fa
         good = is.good;
       }
 
-  alone : (dimensions : DimRows) → IsRowKey dimensions [] view row key → StandFor dimensions [] (row ∷ []) (record { view = view; cells = cell ∷ [] })
-  alone dimensions own =
-      let is = cell_is dimensions [] view own in record {
+  alone : StandFor dimensions [] (row ∷ []) (record { view = view; cells = cell ∷ [] })
+  alone =
+      let is = cell_is dimensions [] view own.is in record {
         known = All-cons (HasMembers dimensions [] view) row [] is.members (All-nil (HasMembers dimensions [] view));
         ascending = ascends 0 (cell ∷ []) (omega arith, tt);
         group = row_alone dimensions [] view row cell is;
       }
 
-  module _ (keys : List Key) (old now : List Cell) (so_far : IsTaken view members rows place keys old now) (low : place_of members key < length now)
-      (some : (dimensions : DimRows) × AreRowKeys dimensions view members rows (length rows) keys) (here : key ≡ get_or keys place key) where
-    own_in : (dimensions : DimRows) → AreRowKeys dimensions view members rows (length rows) keys → IsKeyOfRow dimensions view members row key
-    own_in dimensions are =
-        subst (IsKeyOfRow dimensions view members row) (sym here) (are.each place key within (omega (arith, within, are.many)))
-
-    there : IsAt view members (place_of members key) cell
-    there = cell_at_number some.0 (own_in some.0 some.1)
-
-    pub one_taken : (next : List Cell) → length next ≡ length now → TakesAt now (place_of members key) cell next → IsTaken view members rows (place + 1) keys old next
+  module _ (old now : List Cell) (so_far : IsTaken dimensions view members rows place old now) (low : place_of members key < length now) where
+    pub one_taken : (next : List Cell) → length next ≡ length now → TakesAt now (place_of members key) cell next → IsTaken dimensions view members rows (place + 1) old next
     one_taken next many takes = record {
       size = many ∙ so_far.size;
       slots = slots_then view members no_modes now (place_of members key) cell next so_far.slots low there takes;
-      stand = λ dimensions front are stand.
+      stand = λ front stand.
           subst (λ (l : List LineOrder). StandFor dimensions [] l (cells_in view next))
           (append_assoc front (take place rows) (row ∷ []) ∙ ap (λ (l : List LineOrder). front ++ l) (sym (one_row_more dimensions [] view rows place within)))
           (both_stand dimensions [] (front ++ take place rows) (row ∷ []) (cells_in view now) (record { view = view; cells = cell ∷ [] }) (cells_in view next) refl
-          (so_far.stand dimensions front are stand) (alone dimensions (own_in dimensions are).is)
+          (so_far.stand front stand) alone
           (merge_then view members no_modes now (place_of members key) cell next so_far.slots low there takes));
     }
 
     -- the cell passes a type
-    pub one_passes : PassesAt now (place_of members key) cell → (dimensions : DimRows) (front : List LineOrder) → AreRowKeys dimensions view members rows (length rows) keys
+    pub one_passes : PassesAt now (place_of members key) cell → (front : List LineOrder)
         → StandFor dimensions [] front (cells_in view old) → AreUnfit dimensions [] view (front ++ rows)
-    one_passes past dimensions front are stand =
-        let first = so_far.stand dimensions front are stand in
-        let one = alone dimensions (own_in dimensions are).is in
+    one_passes past front stand =
+        let first = so_far.stand front stand in
         let number : ℕ = number_of cell.key in
         let before : cell_at number (used now) ≡ Some past.slot = past_is view members no_modes now (place_of members key) cell so_far.slots low there past in
         let passes : PassesType (used now) (cell ∷ []) = record {
@@ -102,9 +99,31 @@ module _ (view : View) (members : ViewMembers) (no_modes : view.ship_mode ≡ fa
         } in
         let fit : All CellFits (used now) = λ k d in_used. (used_good view members no_modes 0 now so_far.slots k d in_used).fits in
         all_unfit dimensions [] view rows place within front
-        (unfit_of (merge_refused dimensions [] view (front ++ take place rows) (row ∷ []) (used now) (cell ∷ []) fit first one BadLayout (inr (inl (refl, passes)))))
+        (unfit_of (merge_refused dimensions [] view (front ++ take place rows) (row ∷ []) (used now) (cell ∷ []) fit first alone BadLayout (inr (inl (refl, passes)))))
       where
         unfit_of : {rest : List LineOrder} → IsAddFault dimensions [] view rest BadLayout → AreUnfit dimensions [] view rest
         unfit_of (inl memory) = absurd (cc memory)
         unfit_of (inr (inl bad)) = bad.1
         unfit_of (inr (inr many)) = absurd (cc many.0)
+
+-- two keys of a view of one number are the same
+digits_are : (a b c d : ℕ) → b < 65536 → d < 65536 → a * 65536 + b ≡ c * 65536 + d → (a ≡ c) × (b ≡ d)
+digits_are a b c d one other same = (omega (arith, one, other, same), omega (arith, one, other, same))
+
+key_by_number : (one other : Key) → KeyFits one → KeyFits other → number_of one ≡ number_of other → one ≡ other
+key_by_number one other fits fit same =
+    let fifth = digits_are (((one.customer * 65536 + one.supplier) * 65536 + one.part) * 65536 + one.date) one.ship_mode (((other.customer * 65536 + other.supplier) * 65536 + other.part) * 65536 + other.date) other.ship_mode fits.ship_mode fit.ship_mode same in
+    let fourth = digits_are ((one.customer * 65536 + one.supplier) * 65536 + one.part) one.date ((other.customer * 65536 + other.supplier) * 65536 + other.part) other.date fits.date fit.date fifth.0 in
+    let third = digits_are (one.customer * 65536 + one.supplier) one.part (other.customer * 65536 + other.supplier) other.part fits.part fit.part fourth.0 in
+    let second = digits_are one.customer one.supplier other.customer other.supplier fits.supplier fit.supplier third.0 in
+    key_by one.customer one.supplier one.part one.date one.ship_mode other second.0 second.1 third.1 fourth.1 fifth.1
+
+-- the key of the slot that a row's number has is the row's
+pub key_there : (dimensions : DimRows) (view : View) (members : ViewMembers) → view.ship_mode ≡ false → (row : LineOrder) (number : ℕ) (slot : Cell)
+    → IsNumberOfRow dimensions view members row number → IsAt view members number slot → IsKeyOfRow dimensions view members row slot.key
+key_there dimensions view members no_modes row number slot told at =
+    let own = told.own in
+    let modes : told.key.ship_mode ≡ slot.key.ship_mode = own.is.of.ship_mode.1 no_modes ∙ sym (at.good.is_cell.key.ship_mode.1 no_modes) in
+    let alike : number_of told.key ≡ number_of slot.key =
+    (keys_follow view members told.key slot.key own.is.of at.good.is_cell.key own.is.fits at.good.fits.key own.lies at.lies modes).1 (sym told.is ∙ sym at.place_is) in
+    subst (IsKeyOfRow dimensions view members row) (key_by_number told.key slot.key own.is.fits at.good.fits.key alike) own

@@ -1,5 +1,5 @@
 -- The keys of fact rows in a view that does not group by ship mode. Our own.
-use Rattle.std.specs.Prelude.{◌≡◌, ℕ, ◌<◌, List, [], length, slice_index_or}
+use Rattle.std.specs.Prelude.{◌≡◌, ℕ, ◌<◌, List, [], length, slice_index, slice_index_or}
 use Rattle.cube_model.specs.declared.attr.Axis.{Axis}
 use Rattle.cube_model.specs.declared.rows.DimRows.{DimRows}
 use Rattle.cube_model.specs.declared.rows.LineOrder.{LineOrder}
@@ -13,7 +13,7 @@ use Rattle.cuboid_cells.specs.Cells.{IsCodeAt}
 use Rattle.cuboid_upkeep.specs.Grouping.{code_on}
 use Rattle.cuboid_upkeep.specs.Steps.{IsRowKey}
 use Rattle.cuboid_upkeep.specs.declared.member_codes.ViewMembers.{ViewMembers}
-use Rattle.cuboid_upkeep.specs.Numbers.{LiesIn}
+use Rattle.cuboid_upkeep.specs.Numbers.{LiesIn, place_of, size_of}
 
 -- the code of a fact row's member at a level, which the row has
 pub record IsAxisCode (dimensions : DimRows) (axis : Axis) (grouped : Level) (row : LineOrder) (code : ℕ) : Type 0 where
@@ -30,3 +30,15 @@ pub record IsKeyOfRow (dimensions : DimRows) (view : View) (members : ViewMember
 pub record AreRowKeys (dimensions : DimRows) (view : View) (members : ViewMembers) (rows : List LineOrder) (count : ℕ) (keys : List Key) : Type 0 where
   pub many : length keys ≡ length rows
   pub each : (place : ℕ) (key : Key) → place < count → place < length keys → IsKeyOfRow dimensions view members (row_at rows place) (slice_index_or keys place key)
+
+-- the number of the key of a fact row, which has its members
+pub record IsNumberOfRow (dimensions : DimRows) (view : View) (members : ViewMembers) (row : LineOrder) (number : ℕ) : Type 0 where
+  pub key : Key
+  pub own : IsKeyOfRow dimensions view members row key
+  pub is : number ≡ place_of members key
+  pub below : number < size_of members
+
+-- the numbers of the keys of the first of some fact rows, so many
+pub record AreRowNumbers (dimensions : DimRows) (view : View) (members : ViewMembers) (rows : List LineOrder) (count : ℕ) (numbers : List ℕ) : Type 0 where
+  pub many : length numbers ≡ length rows
+  pub each : (place : ℕ) → place < count → place < length numbers → IsNumberOfRow dimensions view members (row_at rows place) (slice_index numbers place)

@@ -5,13 +5,11 @@ use Rattle.cube_model.specs.declared.rows.DimRows.{DimRows}
 use Rattle.cube_model.specs.declared.rows.LineOrder.{LineOrder}
 use Rattle.lattice.specs.declared.view.View.{View}
 use Rattle.cuboid_cells.specs.declared.cell.Cell.{Cell}
-use Rattle.cuboid_cells.specs.declared.key.Key.{Key}
 use Rattle.cuboid_cells.specs.Cells.{CellFits, PlainCells}
 use Rattle.cuboid_cells.specs.Merges.{merged}
 use Rattle.cuboid_upkeep.specs.Grouping.{StandFor}
 use Rattle.cuboid_upkeep.specs.Steps.{IsGood}
 use Rattle.cuboid_upkeep.specs.declared.member_codes.ViewMembers.{ViewMembers}
-use Rattle.cuboid_upkeep.specs.Keys.{AreRowKeys}
 use Rattle.cuboid_upkeep.specs.Numbers.{LiesIn, place_of}
 
 -- a slot is in use
@@ -55,9 +53,9 @@ pub record PassesAt (slots : List Cell) (place : ℕ) (cell : Cell) : Type 0 whe
   pub in_use : is_used slot ≡ true
   pub passes : CellFits (merged slot cell) → ⊥
 
--- the cells of the first of some fact rows, so many, were taken in by their keys
-pub record IsTaken (view : View) (members : ViewMembers) (rows : List LineOrder) (count : ℕ) (keys : List Key) (old new : List Cell) : Type 0 where
+-- the cells of the first of some fact rows, so many, were taken in by the numbers of their keys
+pub record IsTaken (dimensions : DimRows) (view : View) (members : ViewMembers) (rows : List LineOrder) (count : ℕ) (old new : List Cell) : Type 0 where
   pub size : length new ≡ length old
   pub slots : AreSlots view members 0 new
-  pub stand : (dimensions : DimRows) (so_far : List LineOrder) → AreRowKeys dimensions view members rows (length rows) keys
-      → StandFor dimensions [] so_far (cells_in view old) → StandFor dimensions [] (so_far ++ take count rows) (cells_in view new)
+  pub stand : (so_far : List LineOrder) → StandFor dimensions [] so_far (cells_in view old)
+      → StandFor dimensions [] (so_far ++ take count rows) (cells_in view new)

@@ -14,7 +14,7 @@ use crate::table::CellTable;
 use cube_model::Fault;
 use cuboid_cells::Cells;
 use dimensions::Dims;
-use group_plan::ModeRows;
+use group_plan::FactRows;
 use lattice::View;
 use std::alloc::Global;
 
@@ -51,7 +51,7 @@ impl GrowingCells {
     /// `TooManyCells` where there would be more than 262,144 cells. `BadLayout` where a row has a key that is not in its
     /// dimension, where the view groups by ship mode, or where a count, a sum or a number would exceed its type. It can also
     /// fail for want of memory. After an error the cells stand for nothing.
-    pub fn add_rows<F: ModeRows>(
+    pub fn add_rows<F: FactRows>(
         &mut self,
         alloc: Global,
         dims: &Dims,

@@ -72,7 +72,7 @@ fn put_keys<F: FactRows>(
 
 // The key of the row at a place. Nothing where it has not its members: a view that groups by ship mode has none here.
 #[inline(always)]
-fn row_key<F: FactRows>(
+pub(crate) fn row_key<F: FactRows>(
     dims: &Dims,
     view: View,
     members: &ViewMembers,

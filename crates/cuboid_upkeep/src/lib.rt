@@ -13,6 +13,7 @@ mod member_parts;
 mod merging;
 mod numbers;
 mod row_cell;
+mod row_numbers;
 mod table;
 mod taking;
 

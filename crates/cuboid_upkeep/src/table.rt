@@ -1,5 +1,7 @@
 //! A table of the cells of a view, by the numbers of their keys.
-ghost use Rattle.std.specs.Prelude.{◌≡◌, ◌⊎◌, ◌++◌, [], List, IfErr, IfOk, OnOk, false, length};
+ghost use Rattle.std.specs.Prelude.{◌≡◌, ◌⊎◌, ◌<◌, ◌++◌, [], List, IfErr, IfOk, IsTrue, OnOk, false, length, slice_index_or, true};
+ghost use Rattle.group_plan.specs.Rows.{row_at};
+ghost use Rattle.cuboid_cells.specs.declared.cell.Cell.{Cell};
 ghost use Rattle.cube_model.specs.declared.fault.Fault.{Fault};
 ghost use Rattle.cube_model.specs.declared.rows.DimRows.{DimRows};
 ghost use Rattle.cube_model.specs.declared.rows.LineOrder.{LineOrder};
@@ -8,14 +10,15 @@ ghost use Rattle.cuboid_upkeep.specs.Steps.{AreUnfit};
 ghost use Rattle.lattice.specs.declared.view.View.{View};
 ghost use Rattle.cuboid_upkeep.specs.declared.member_codes.ViewMembers.{ViewMembers};
 ghost use Rattle.cuboid_upkeep.specs.Growing.{IsTableOver};
-ghost use Rattle.cuboid_upkeep.specs.Keys.{AreRowKeys};
+ghost use Rattle.cuboid_upkeep.specs.Keys.{AreRowNumbers, IsKeyOfRow, IsNumberOfRow};
 ghost use Rattle.cuboid_upkeep.specs.Members.{AreMembersOf};
 ghost use Rattle.cuboid_upkeep.specs.Numbers.{AreFew, size_of};
-ghost use Rattle.cuboid_upkeep.specs.Slots.{AreSlots, IsTaken, cells_in, used};
+ghost use Rattle.cuboid_upkeep.specs.Slots.{AreSlots, IsAt, IsTaken, cells_in, is_used, used};
 
-use crate::keys::{NO_KEY, key_at, keys_of_rows};
+use crate::keys::{NO_KEY, row_key};
 use crate::member_codes::ViewMembers;
 use crate::row_cell::row_cell;
+use crate::row_numbers::numbers_of_rows;
 use crate::taking::take_in;
 use cube_model::Fault;
 use cuboid_cells::{Cell, Cells, Key, Summaries, Summary};
@@ -29,6 +32,8 @@ pub struct CellTable {
     pub view: View,
     pub members: ViewMembers,
     pub slots: Vec<Cell>,
+    /// About how many slots are in use: at least as many as are, unless there are too many to count.
+    pub about: usize,
 }
 
 // Written out, so that a proof has one call to follow where a table is let go.
@@ -38,9 +43,13 @@ impl Drop for CellTable {
             view: _,
             members: _,
             slots: _,
+            about: _,
         } = self;
     }
 }
+
+// How many rows are looked at together before they are taken in.
+const AHEAD: usize = 64;
 
 // What is kept of no number.
 const NOTHING: Summary = Summary {
@@ -82,6 +91,7 @@ impl CellTable {
             view,
             members,
             slots,
+            about: 0,
         })
     }
 
@@ -100,14 +110,17 @@ impl CellTable {
         ensures refused { IfErr result (λ fault. (so_far : List LineOrder) → StandFor dims.now [] so_far (cells_in self.old.view self.old.slots.items)
             → (fault ≡ Fault.Memory) ⊎ ((fault ≡ Fault.BadLayout) × AreUnfit dims.now [] self.old.view (so_far ++ F.rows rows.now))) }
     {
-        let keys = keys_of_rows(alloc, dims, self.view, &self.members, rows)?;
-        take_in_rows(
+        let numbers = numbers_of_rows(alloc, dims, self.view, &self.members, rows)?;
+        let free = take_in_rows(
             &mut self.slots,
+            dims,
             self.view,
             &self.members,
-            keys.as_slice(),
+            numbers.as_slice(),
             rows,
-        )
+        )?;
+        self.about = self.about.saturating_add(free);
+        Ok(())
     }
 
     // The cells, by ascending keys.
@@ -115,7 +128,8 @@ impl CellTable {
         requires { (dimensions : DimRows) × IsTableOver dimensions self }
         ensures { IfOk result (λ cells. cells ≡ cells_in self.view self.slots.items) }
     {
-        let cells = used_cells(alloc, self.slots.as_slice())?;
+        let room = self.about.min(self.slots.len());
+        let cells = used_cells(alloc, self.slots.as_slice(), room)?;
         Ok(Cells::of(self.view, cells))
     }
 }
@@ -131,37 +145,105 @@ fn free_slots(alloc: Global, size: usize) -> Result<Vec<Cell>, AllocError>
     Ok(slots)
 }
 
-// Takes the cells of fact rows in, of which the keys are given.
+// Takes fact rows in, of whose keys the numbers are given. It answers how many of the slots were free, each as often as rows
+// that came together were to go there.
 fn take_in_rows<F: FactRows>(
     slots: &mut Vec<Cell>,
+    dims: &Dims,
     view: View,
     members: &ViewMembers,
-    keys: &[Key],
+    numbers: &[u32],
     rows: &F,
-) -> Result<(), Fault>
-    requires few { AreFew members.now }
+) -> Result<usize, Fault>
+    requires members { AreMembersOf dims.now view members.now }
     requires no_modes { view.ship_mode ≡ false }
     requires size { length slots.old.items ≡ size_of members.now }
     requires slots { AreSlots view members.now 0 slots.old.items }
-    requires keys { (dimensions : DimRows) × AreRowKeys dimensions view members.now (F.rows rows.now) (length (F.rows rows.now)) keys.now }
-    ensures ok { OnOk result (IsTaken view members.now (F.rows rows.now) (length (F.rows rows.now)) keys.now slots.old.items slots.new.items) }
-    ensures refused { IfErr result (λ fault. (fault ≡ Fault.BadLayout) × ((dimensions : DimRows) (so_far : List LineOrder)
-        → AreRowKeys dimensions view members.now (F.rows rows.now) (length (F.rows rows.now)) keys.now
-        → StandFor dimensions [] so_far (cells_in view slots.old.items) → AreUnfit dimensions [] view (so_far ++ F.rows rows.now))) }
+    requires numbers { AreRowNumbers dims.now view members.now (F.rows rows.now) (length (F.rows rows.now)) numbers.now }
+    ensures ok { IfOk result (λ _. IsTaken dims.now view members.now (F.rows rows.now) (length (F.rows rows.now)) slots.old.items slots.new.items) }
+    ensures refused { IfErr result (λ fault. (fault ≡ Fault.BadLayout) × ((so_far : List LineOrder)
+        → StandFor dims.now [] so_far (cells_in view slots.old.items) → AreUnfit dims.now [] view (so_far ++ F.rows rows.now))) }
 {
+    let mut free = 0;
     for place in 0..rows.count() {
-        let key = key_at(keys, place);
+        free = with_free_ahead(slots.as_slice(), numbers, place, free);
+        let number = numbers[place] as usize;
+        let key = key_for(&slots[number], number, dims, view, members, rows, place);
         let cell = row_cell(key, rows, place)?;
-        take_in(slots, members.place(key), &cell)?;
+        take_in(slots, number, &cell)?;
     }
-    Ok(())
+    Ok(free)
 }
 
-// The cells of the slots that are in use.
-fn used_cells(alloc: Global, slots: &[Cell]) -> Result<Vec<Cell>, AllocError>
+// The key of the row at a place, whose number is given: that of the slot of the number, if it is in use.
+#[inline(always)]
+fn key_for<F: FactRows>(
+    slot: &Cell,
+    number: usize,
+    dims: &Dims,
+    view: View,
+    members: &ViewMembers,
+    rows: &F,
+    place: usize,
+) -> Key
+    requires members { AreMembersOf dims.now view members.now }
+    requires no_modes { view.ship_mode ≡ false }
+    requires slot { is_used slot.now ≡ true → IsAt view members.now number slot.now }
+    requires place { place < length (F.rows rows.now) }
+    requires number { IsNumberOfRow dims.now view members.now (row_at (F.rows rows.now) place) number }
+    ensures { IsKeyOfRow dims.now view members.now (row_at (F.rows rows.now) place) result }
+{
+    if slot.count >= 1 {
+        return slot.key;
+    }
+    match row_key(dims, view, members, rows, place) {
+        Some(key) => key,
+        None => NO_KEY,
+    }
+}
+
+// At every 64th place, a count with the free slots of the next 64 rows; elsewhere the count.
+#[inline(always)]
+fn with_free_ahead(slots: &[Cell], numbers: &[u32], place: usize, free: usize) -> usize {
+    if place % AHEAD == 0 {
+        free.saturating_add(free_ahead(slots, numbers, place))
+    } else {
+        free
+    }
+}
+
+// How many of the slots of the 64 numbers from a place on are free.
+//
+// Of each slot all parts are looked at, so that the processor waits for the memory of many slots at once, and has it when their
+// rows are taken in one after another.
+fn free_ahead(slots: &[Cell], numbers: &[u32], place: usize) -> usize {
+    let ahead = numbers.iter().skip(place).take(AHEAD);
+    ahead
+        .filter(|number| is_free(slots, **number as usize))
+        .count()
+}
+
+// Whether the slot at a place is free.
+#[inline(always)]
+fn is_free(slots: &[Cell], place: usize) -> bool
+    ensures { IsTrue result → (slot : Cell) → place < length slots.now → (slice_index_or slots.now place slot).count ≡ 0 }
+{
+    match slots.get(place) {
+        Some(slot) => {
+            (slot.count == 0)
+                & (slot.measures.extendedprice.greatest == 0)
+                & (slot.measures.supplycost.greatest == 0)
+                & (slot.measures.profit.greatest == 0)
+        }
+        None => false,
+    }
+}
+
+// The cells of the slots that are in use. There is room for so many from the start.
+fn used_cells(alloc: Global, slots: &[Cell], room: usize) -> Result<Vec<Cell>, AllocError>
     ensures { IfOk result (λ cells. cells.items ≡ used slots.now) }
 {
-    let mut cells = Vec::new(alloc);
+    let mut cells = Vec::with_capacity(alloc, room)?;
     for slot in slots {
         if slot.count > 0 {
             cells.push(*slot)?;
