@@ -8,7 +8,10 @@ use crate::source::Source;
 use cube_model::Fault;
 use std::alloc::Global;
 
-/// The bytes that a source has at an id, read through one small buffer; nothing where it has none.
+// How many bytes are read at a time: each read of a file is a system call.
+const PART: usize = 65_536;
+
+/// The bytes that a source has at an id, read through one buffer of 65,536 bytes; nothing where it has none.
 ///
 /// It can fail for want of memory, or with what the source answers.
 pub fn read_whole<S: Source>(
@@ -43,10 +46,10 @@ fn read_to_end<S: Source>(
     ensures run { MatchResult result (λ _. HasRead S.Source source.old source.new)
         (λ fault. ((fault ≡ Fault.Memory) × HasRead S.Source source.old source.new) ⊎ IsRefused S.Source fault source.old source.new) }
 {
-    let mut buffer = [0; 512];
+    let mut buffer = [0; PART];
     let mut at = 0;
     while at < total {
-        let count = (total - at).min(512);
+        let count = (total - at).min(PART as u64);
         let part = &mut buffer[..count as usize];
         read_part(source, id, at, part)?;
         out.extend_from_slice(part)?;
