@@ -8,9 +8,10 @@ Each try changes 1 to 8 bytes of one of them, by turns anywhere in the file and 
 commands. Each has to end within ten seconds as if nothing were wrong, or with status 1 and NotFormatted, BadLayout, DeviceSize or
 Memory (audit also with `audit no`). Where no byte in use was changed, it has to print what it prints of the unchanged warehouse.
 """
+import os
 import random
 import shutil
-import subprocess
+import signal
 import sys
 from pathlib import Path
 
@@ -23,21 +24,56 @@ COMMANDS = [["status"], ["audit"], ["views"], ["upkeep"], ["explain", "4.1"], ["
 COMMANDS += [["report", query] for query in crashes.QUERIES]
 
 
-def run(words):
-    """Runs a command on the changed file, and gives its status, what it printed, and the first line on standard error."""
-    try:
-        done = subprocess.run(["ssbcube", words[0], CHANGED, *words[1:]], capture_output=True, timeout=10)
-    except subprocess.TimeoutExpired:
-        return None, b"", "it did not end"
-    return done.returncode, done.stdout, done.stderr.decode(errors="replace").split("\n")[0]
+class TooLong(Exception):
+    """A command had not ended after ten seconds."""
+
+
+def stop(*_):
+    raise TooLong
+
+
+class Program:
+    """Runs commands one after the other, with standard output and standard error in two files that are used again and again."""
+
+    def __init__(self):
+        self.path = shutil.which("ssbcube")
+        self.files = [os.open(name, os.O_RDWR | os.O_CREAT | os.O_TRUNC) for name in ("out", "notes")]
+        self.device = os.open(CHANGED, os.O_RDWR | os.O_CREAT)
+        self.actions = [(os.POSIX_SPAWN_DUP2, file, place) for place, file in enumerate(self.files, 1)]
+        signal.signal(signal.SIGALRM, stop)
+
+    def put(self, image):
+        os.pwrite(self.device, image, 0)
+
+    def said(self, file):
+        """What was written to a file of the two, which is empty then."""
+        said = os.pread(file, os.fstat(file).st_size, 0)
+        if said:
+            os.ftruncate(file, 0)
+            os.lseek(file, 0, os.SEEK_SET)
+        return said
+
+    def run(self, words):
+        """Runs a command on the changed file, and gives its status, what it printed, and the first line on standard error."""
+        child = os.posix_spawn(self.path, ["ssbcube", words[0], CHANGED, *words[1:]], os.environ, file_actions=self.actions)
+        signal.alarm(10)
+        try:
+            status = os.waitstatus_to_exitcode(os.waitpid(child, 0)[1])
+        except TooLong:
+            os.kill(child, signal.SIGKILL)
+            os.waitpid(child, 0)
+            status = None
+        signal.alarm(0)
+        out, notes = [self.said(file) for file in self.files]
+        return status, out, "it did not end" if status is None else notes.decode(errors="replace").split("\n")[0]
 
 
 class Warehouse:
     """The bytes of a warehouse, which of them are in use, and what each command prints of it."""
 
-    def __init__(self, name, image):
-        self.name, self.image = name, image
-        Path(CHANGED).write_bytes(image)
+    def __init__(self, name, image, program):
+        self.name, self.image, self.program = name, image, program
+        program.put(image)
         device = Device(CHANGED)
         extents = [(0, 2 * SECTOR), (device.first * SECTOR, device.size)]
         extents += [(first * SECTOR, size) for first, size in device.objects.values()]
@@ -47,8 +83,8 @@ class Warehouse:
         self.plain = [self.after(words) for words in COMMANDS]
 
     def after(self, words):
-        Path(CHANGED).write_bytes(self.image)
-        status, out, note = run(words)
+        self.program.put(self.image)
+        status, out, note = self.program.run(words)
         if status != 0:
             sys.exit(f"{self.name}: {' '.join(words)} ended with status {status}: {note}")
         return status, out
@@ -73,37 +109,38 @@ def complaint(words, done, plain, used):
     return f"status {status}, {note!r}"
 
 
-def warehouses(tables):
+def warehouses(tables, program):
     """The five."""
     for name in "customer supplier part date lineorder".split():
         shutil.copy(tables / f"star_{name}.tbl", f"{name}.tbl")
     device = crashes.DEVICE
     dimensions = [word for name in "customer supplier part date".split() for word in (f"--{name}", f"{name}.tbl")]
     crashes.must("create", device, "--sectors", "512", *dimensions)
-    yield Warehouse("no batch", Path(device).read_bytes())
+    yield Warehouse("no batch", Path(device).read_bytes(), program)
     crashes.must("load", device, "--first", "1", "--rows", "180", "lineorder.tbl")
-    yield Warehouse("batches", Path(device).read_bytes())
+    yield Warehouse("batches", Path(device).read_bytes(), program)
     crashes.must("views", device, "59", "86", "162")
     upkeep = crashes.Command("upkeep", ["upkeep", device])
-    yield Warehouse("cut upkeep", crashes.half_done(upkeep))
+    yield Warehouse("cut upkeep", crashes.half_done(upkeep), program)
     crashes.must("upkeep", device)
-    yield Warehouse("cuboids", Path(device).read_bytes())
+    yield Warehouse("cuboids", Path(device).read_bytes(), program)
     crashes.must("load", device, "--first", "3", "--rows", "90", "lineorder.tbl")
-    yield Warehouse("batches after the cuboids", Path(device).read_bytes())
+    yield Warehouse("batches after the cuboids", Path(device).read_bytes(), program)
 
 
 def main():
     tries = int(sys.argv[2]) if len(sys.argv) > 2 else 10000
     chance = random.Random(int(sys.argv[3]) if len(sys.argv) > 3 else 1)
-    found = list(warehouses(Path(sys.argv[1])))
+    program = Program()
+    found = list(warehouses(Path(sys.argv[1]), program))
     counts = {"in use": 0, "not in use": 0, "refused": 0, "commands": 0, "complaints": 0}
     for turn in range(tries):
         warehouse = found[turn % len(found)]
         image, used = warehouse.changed(chance)
         counts["in use" if used else "not in use"] += 1
         for place in chance.sample(range(len(COMMANDS)), chance.randint(1, 3)):
-            Path(CHANGED).write_bytes(image)
-            done = run(COMMANDS[place])
+            program.put(image)
+            done = program.run(COMMANDS[place])
             wrong = complaint(COMMANDS[place], done, warehouse.plain[place], used)
             counts["commands"] += 1
             counts["refused"] += done[0] == 1

@@ -80,12 +80,12 @@ fn bytes_of(alloc: Global, count: u64) -> Result<Vec<u8>, Fault> {
     spelled(alloc, 1, &rows)
 }
 
-// 65 rows of 71 bytes and 32 bytes beside them are ten reads of 512 bytes.
+// 2,000 rows of 71 bytes and their texts are three reads of 65,536 bytes.
 #[test]
 fn each_read_is_refused_in_turn(rt: HostRuntime) -> Result<(), Fail> {
-    let bytes = bytes_of(rt.alloc(), 65)?;
-    for left in 0..11 {
-        let wanted = if left < 10 { Some(Fault::Device) } else { None };
+    let bytes = bytes_of(rt.alloc(), 2_000)?;
+    for left in 0..4 {
+        let wanted = if left < 3 { Some(Fault::Device) } else { None };
         assert_eq!(rt;
             refusal_after(rt.alloc(), &bytes, left),
             wanted,
