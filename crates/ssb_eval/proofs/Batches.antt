@@ -19,8 +19,10 @@ use Rattle.cube_model.specs.Limits.{most_batch_rows}
 use Rattle.cube_query.specs.Groups.{FoldState, StandsFor}
 use Rattle.batch_admission.specs.Accepted.{Accepted, StandsBehind}
 use Rattle.batch_admission.specs.Found.{Found, cause_of}
-use Rattle.ssb_eval.specs.Evaluation.{facts_behind, facts_of, answer_of, Gives}
-use Rattle.ssb_eval.specs.BatchLoop.{AreTaken, IsBegun, LeavesFacts}
+use Rattle.cube_query.specs.GroupLines.{answer_over}
+use Rattle.cube_query.specs.declared.finished.Groups.{Groups}
+use Rattle.ssb_eval.specs.Evaluation.{facts_behind, facts_of, answer_in, answer_of, Gives}
+use Rattle.ssb_eval.specs.BatchLoop.{AreTaken, FoldsFacts, IsBegun, LeavesFacts}
 use Rattle.batch_admission.proofs.CallerLemmas.{all_rows-last, in_range, known_both, passes, passes-found}
 
 -- parts of a list
@@ -140,13 +142,24 @@ gives-refused query dimensions text batches number place (Some left) (Some rest)
     rw (stop.1, stop.2) (inr (inr (ap (λ facts. and_then facts (λ rows. Ok (answer query dimensions rows))) found)))
 
 -- and the end of the text
-pub gives-answer : (query : Query) (dimensions : DimRows) (text : List ℕ) (accepted : Accepted) (fold : FoldState) (batches : List (List LineOrder)) (number : ℕ) (left rest : Option (List ℕ)) (rows : List LineOrder) (result : Result Answer Fault) → AreTaken dimensions query accepted fold batches → LeavesFacts dimensions text batches number left → TakesRows lineorder_row most_batch_rows number left rest rows → length rows ≡ 0 → IfOk result (λ found. (rows : List LineOrder) → StandsFor dimensions fold rows → found ≡ answer fold.query dimensions rows) → IfErr result (λ fault. fault ≡ Memory) → Gives (answer_of query dimensions text) result
-gives-answer query dimensions text accepted fold batches number left rest rows (Err fault) taken before takes none answers only = inl only
-gives-answer query dimensions text accepted fold batches number None rest rows (Ok found) taken before takes none answers only = absurd before
-gives-answer query dimensions text accepted fold batches number (Some left) None rows (Ok found) taken before takes none answers only = absurd takes
-gives-answer query dimensions text accepted fold batches number (Some left) (Some rest) (row ∷ rows) (Ok found) taken before takes none answers only = absurd (omega arith)
-gives-answer query dimensions text accepted fold batches number (Some left) (Some rest) [] (Ok found) taken before takes none answers only =
-    let facts : facts_of dimensions text ≡ Ok (all_rows batches) = before ∙ facts-end dimensions batches (next_number number) (lines_of left) takes.0 in
-    let found_is : found ≡ answer query dimensions (all_rows batches) =
-    answers (all_rows batches) taken.folded ∙ ap (λ q. answer q dimensions (all_rows batches)) taken.query_is in
-    ap (λ facts. and_then facts (λ rows. Ok (answer query dimensions rows))) facts ∙ ap Ok (sym found_is)
+pub facts-done : (dimensions : DimRows) (text : List ℕ) (batches : List (List LineOrder)) (number : ℕ) (left rest : Option (List ℕ)) → LeavesFacts dimensions text batches number left → TakesRows lineorder_row most_batch_rows number left rest [] → facts_of dimensions text ≡ Ok (all_rows batches)
+facts-done dimensions text batches number None rest before takes = absurd before
+facts-done dimensions text batches number (Some left) None before takes = absurd takes
+facts-done dimensions text batches number (Some left) (Some rest) before takes = before ∙ facts-end dimensions batches (next_number number) (lines_of left) takes.0
+
+pub folds-stopped : (query : Query) (dimensions : DimRows) (text : List ℕ) (fold : FoldState) (fault : Fault) (result : Result Unit Fault) → (y : Fault) × (result ≡ Err y) × (y ≡ fault) → Gives (answer_of query dimensions text) (Err fault) → FoldsFacts query dimensions text fold result
+folds-stopped query dimensions text fold fault result stop gives = rw (stop.1, stop.2) gives
+
+-- the groups of a fold give the answer over the facts that it took
+pub gives-groups : (query : Query) (dimensions : DimRows) (text : List ℕ) (fold : FoldState) (result : Result Groups Fault) → fold.query ≡ query → FoldsFacts query dimensions text fold (Ok tt)
+    → IfOk result (λ groups. (rows : List LineOrder) → StandsFor dimensions fold rows → answer_over dimensions groups ≡ answer fold.query dimensions rows) → IfErr result (λ fault. fault ≡ Memory)
+    → Gives (answer_of query dimensions text) (answer_in dimensions result)
+gives-groups query dimensions text fold (Err fault) same folded answers only = inl only
+gives-groups query dimensions text fold (Ok groups) same folded answers only =
+    let found : answer_over dimensions groups ≡ answer query dimensions folded.0 =
+    answers folded.0 folded.2 ∙ ap (λ q. answer q dimensions folded.0) same in
+    ap (λ facts. and_then facts (λ rows. Ok (answer query dimensions rows))) folded.1 ∙ ap Ok (sym found)
+
+-- nothing was folded, and there are no groups
+pub gives-no_groups : (query : Query) (dimensions : DimRows) (text : List ℕ) (fault : Fault) (result : Result Groups Fault) → (y : Fault) × (result ≡ Err y) × (y ≡ fault) → Gives (answer_of query dimensions text) (Err fault) → Gives (answer_of query dimensions text) (answer_in dimensions result)
+gives-no_groups query dimensions text fault result stop gives = rw (stop.1, stop.2) gives

@@ -18,7 +18,7 @@ use Rattle.cube_query.specs.Limits.{AreFoldable}
 use Rattle.batch_admission.specs.Accepted.{Accepted, StandsBehind}
 use Rattle.batch_admission.specs.Found.{Found, cause_of, found_in}
 use Rattle.batch_admission.specs.Totals.{totals_of}
-use Rattle.ssb_eval.specs.Evaluation.{facts_of, facts_behind}
+use Rattle.ssb_eval.specs.Evaluation.{Gives, answer_of, facts_of, facts_behind}
 
 -- batches were accepted, and their rows were folded
 pub record AreTaken (dimensions : DimRows) (query : Query) (accepted : Accepted) (fold : FoldState) (batches : List (List LineOrder)) : Type 0 where
@@ -81,3 +81,15 @@ TakesNextBatch dimensions query batches old new accepted fold (Ok false) =
     TakesBatch lineorder_row most_batch_rows old new [] × AreTaken dimensions query accepted fold batches
 TakesNextBatch dimensions query batches old new accepted fold (Err fault) =
     (fault ≡ Memory) ⊎ ((fault ≡ Input) ⊎ (IsFirstFault lineorder_row most_batch_rows old.number old.left fault ⊎ ((rows : List LineOrder) × IsRefusedBatch dimensions batches old new fault rows)))
+
+-- a fold that took all fact rows that it was to take: it represents some that may be folded
+pub record IsDone (dimensions : DimRows) (query : Query) (fold : FoldState) : Type 0 where
+  pub query_is : fold.query ≡ query
+  pub rows : List LineOrder
+  pub folded : StandsFor dimensions fold rows
+  pub foldable : AreFoldable dimensions rows
+
+-- All fact rows of a text were folded. Or memory was refused, a read failed, or the rows are refused
+abbrev pub FoldsFacts : Query → DimRows → List ℕ → FoldState → Result Unit Fault → Type 0
+FoldsFacts query dimensions text fold (Ok done) = (rows : List LineOrder) × (facts_of dimensions text ≡ Ok rows) × StandsFor dimensions fold rows
+FoldsFacts query dimensions text fold (Err fault) = Gives (answer_of query dimensions text) (Err fault)

@@ -16,6 +16,8 @@ use Rattle.cube_model.specs.Admission.{all_rows, refusal}
 use Rattle.cube_model.specs.Limits.{most_batch_rows}
 use Rattle.cube_model.specs.Answers.{answer}
 use Rattle.cube_model.specs.Validity.{invalid_cause}
+use Rattle.cube_query.specs.GroupLines.{answer_over}
+use Rattle.cube_query.specs.declared.finished.Groups.{Groups}
 use Rattle.ssb_reports.specs.Report.{report_of}
 use Rattle.ssb_reports.specs.Writing.{AppendsBeginning}
 
@@ -64,6 +66,11 @@ FactsAreRows = (dimensions : DimRows) (text : List ℕ) (rows : List LineOrder) 
 -- the answer over them
 abbrev pub answer_of : Query → DimRows → List ℕ → Result Answer Fault
 answer_of query dimensions text = and_then (facts_of dimensions text) (λ rows. Ok (answer query dimensions rows))
+
+-- the answer of groups, none of whose lines is made
+abbrev pub answer_in : DimRows → Result Groups Fault → Result Answer Fault
+answer_in dimensions (Ok groups) = Ok (answer_over dimensions groups)
+answer_in dimensions (Err fault) = Err fault
 
 -- the bytes of the report
 abbrev pub eval_of : Query → Texts → Result (List ℕ) Fault

@@ -5,7 +5,7 @@ ghost use Rattle.cube_model.specs.Proper.{IsProper};
 ghost use Rattle.ssb_eval.specs.Evaluation.{HaveTexts, Reports, Texts, dimensions_of, eval_of};
 
 use crate::dimension_tables::read_dimensions;
-use crate::facts::answer_facts;
+use crate::facts::group_facts;
 use cube_model::{Fault, Query};
 use dimensions::Dims;
 use ssb_reports::write_report;
@@ -79,7 +79,7 @@ pub fn eval_keeping_dims<
 {
     query.check()?;
     let dims = read_dimensions(alloc, customer, supplier, part, date)?;
-    let answer = answer_facts(alloc, &dims, query, lineorder)?;
-    write_report(query, &answer, out)?;
+    let groups = group_facts(alloc, &dims, query, lineorder)?;
+    write_report(query, &groups.over(&dims), out)?;
     Ok(dims)
 }

@@ -1,18 +1,19 @@
-//! The answer over the text of the fact table.
-ghost use Rattle.std.specs.Prelude.{◌≡◌, ◌+◌, ◌≤◌, ◌++◌, ℕ, List, Some, None, IfOk, IfErr, length};
+//! The groups over the text of the fact table.
+ghost use Rattle.std.specs.Prelude.{◌≡◌, ◌+◌, ◌≤◌, ◌++◌, ℕ, List, Some, None, IfOk, IfErr, OnOk, length};
 ghost use Rattle.cube_model.specs.Proper.{IsProper};
 ghost use Rattle.cube_model.specs.declared.rows.LineOrder.{LineOrder};
 ghost use Rattle.cube_model.specs.Admission.{all_rows};
 ghost use Rattle.cube_model.specs.Limits.{most_batch_rows};
+ghost use Rattle.cube_query.specs.GroupLines.{AreGroupsOver};
 ghost use Rattle.cube_query.specs.Groups.{Begins};
-ghost use Rattle.ssb_eval.specs.Evaluation.{Gives, answer_of};
-ghost use Rattle.ssb_eval.specs.BatchLoop.{AreTaken, CanGoOn, IsBegun, IsUnderWay, LooksAtNext, TakesNextBatch};
+ghost use Rattle.ssb_eval.specs.Evaluation.{Gives, answer_in, answer_of};
+ghost use Rattle.ssb_eval.specs.BatchLoop.{AreTaken, CanGoOn, FoldsFacts, IsDone, IsBegun, IsUnderWay, LooksAtNext, TakesNextBatch};
 
 use batch_admission::{Admission, Findings};
 use batch_loader::{Lines, read_batch_into};
 use cube_model::limits::MOST_BATCH_ROWS;
-use cube_model::{Answer, Fault, Items, LineOrder, Query};
-use cube_query::Fold;
+use cube_model::{Fault, Items, LineOrder, Query};
+use cube_query::{Fold, Groups};
 use dimensions::Dims;
 use std::alloc::Global;
 use std::io::Read;
@@ -23,53 +24,60 @@ const PIECE_ROWS: usize = 4096;
 // The pieces of a whole batch.
 const BATCH_PIECES: usize = MOST_BATCH_ROWS / PIECE_ROWS;
 
-/// Reads the fact rows batch by batch, checks each batch, and folds it. Memory does not grow with the rows.
-pub fn answer_facts<R: Read + Drop>(
+/// Reads the fact rows batch by batch, checks each batch, and folds it: the groups of the answer. Memory does not grow with
+/// the rows.
+pub fn group_facts<R: Read + Drop>(
     alloc: Global,
     dims: &Dims,
     query: &Query,
     lineorder: R,
-) -> Result<Answer, Fault>
+) -> Result<Groups, Fault>
     requires proper { IsProper query.now }
-    ensures { (text : List ℕ) → R.remaining lineorder ≡ Some text → Gives (answer_of query.now dims.now text) result }
+    ensures over { IfOk result (AreGroupsOver dims.now) }
+    ensures answer { (text : List ℕ) → R.remaining lineorder ≡ Some text
+        → Gives (answer_of query.now dims.now text) (answer_in dims.now result) }
 {
     let mut lines = Lines::new(alloc, lineorder)?;
-    answer_lines(alloc, dims, query, &mut lines)
+    group_lines(alloc, dims, query, &mut lines)
 }
 
-/// The answer over all batches of lines of which none was read.
-fn answer_lines<R: Read>(
+/// The groups over all batches of lines of which none was read.
+fn group_lines<R: Read>(
     alloc: Global,
     dims: &Dims,
     query: &Query,
     lines: &mut Lines<R>,
-) -> Result<Answer, Fault>
+) -> Result<Groups, Fault>
     requires proper { IsProper query.now }
     requires number { lines.old.number ≡ 0 }
     requires fault { lines.old.fault ≡ None }
-    ensures { (text : List ℕ) → lines.old.left ≡ Some text → Gives (answer_of query.now dims.now text) result }
+    ensures over { IfOk result (AreGroupsOver dims.now) }
+    ensures answer { (text : List ℕ) → lines.old.left ≡ Some text
+        → Gives (answer_of query.now dims.now text) (answer_in dims.now result) }
 {
     let mut fold = Fold::new(alloc, dims, query)?;
-    fold_lines(alloc, dims, lines, &mut fold)
+    fold_lines(alloc, dims, lines, &mut fold)?;
+    fold.into_groups(dims)
 }
 
-/// The answer of a fold that begins, over all batches of some lines.
+/// Folds all batches of some lines, by a fold that begins.
 fn fold_lines<R: Read>(
     alloc: Global,
     dims: &Dims,
     lines: &mut Lines<R>,
     fold: &mut Fold,
-) -> Result<Answer, Fault>
+) -> Result<(), Fault>
     requires begins { Begins dims.now fold.old.query fold.old }
     requires number { lines.old.number ≡ 0 }
     requires fault { lines.old.fault ≡ None }
-    ensures { (text : List ℕ) → lines.old.left ≡ Some text → Gives (answer_of fold.old.query dims.now text) result }
+    ensures folded { OnOk result (IsDone dims.now fold.old.query fold.new) }
+    ensures facts { (text : List ℕ) → lines.old.left ≡ Some text → FoldsFacts fold.old.query dims.now text fold.new result }
 {
     let mut admission = Admission::new();
     loop {
         let more = take_batch(alloc, dims, lines, &mut admission, fold)?;
         if !more {
-            return fold.finish(dims);
+            return Ok(());
         }
     }
 }

@@ -1,7 +1,8 @@
 -- The fields of two lists as one row.
-use Rattle.std.proofs.Common.{◌≡◌, ℕ, ◌+◌, ◌-◌, ◌≤◌, ◌<◌, List, [], ◌∷◌, ◌++◌, length, map, take, drop, get_or, arith, add-one, drop-cons, ap, sym, refl, ◌∙◌, append_assoc, append-nil}
+use Rattle.std.proofs.Common.{◌≡◌, ℕ, ◌+◌, ◌-◌, ◌<◌, List, [], ◌∷◌, ◌++◌, length, take, drop, get_or, add-one, drop-cons, ap, sym, refl, ◌∙◌, append_assoc, append-nil}
 use Rattle.std.specs.List.{flat_map, join_with_byte}
-use Rattle.std.proofs.lemmas.List.{take_rest, take-append-drop}
+use Rattle.std.proofs.Math.Seq.{drop-length}
+use Rattle.std.proofs.lemmas.List.{take-append-drop}
 use Rattle.std.proofs.lemmas.List.Concat.{flat_map-cons}
 use Rattle.std.proofs.lemmas.Grind.{flat_map-append}
 use Rattle.ssb_reports.specs.Parted.{parted, lead_behind}
@@ -26,22 +27,16 @@ pub row_text-append : (fields others : List (List ℕ)) → row_text (fields ++ 
 row_text-append fields others =
     ap (λ text. text ++ 10 ∷ []) (joined (fields ++ others) ∙ behind fields others) ∙ append_assoc (parted [] fields) (parted (lead_behind fields) others) (10 ∷ [])
 
-lead_behind-map : {A : Type 0} (text : A → List ℕ) (fields : List A) → lead_behind (map text fields) ≡ lead_behind fields
-lead_behind-map text [] = refl
-lead_behind-map text (field ∷ fields) = refl
+-- the field at a place, and those after it
+pub parted-at : (lead : List ℕ) (fields : List (List ℕ)) (place : ℕ) → place < length fields
+    → parted lead (drop place fields) ≡ lead ++ (get_or fields place [] ++ parted (124 ∷ []) (drop (place + 1) fields))
+parted-at lead fields place within =
+    let rest : drop place fields ≡ get_or fields place [] ∷ drop (place + 1) fields = rw (add-one) (drop-cons fields place [] within) in
+    ap (parted lead) rest
 
--- the same of the texts of fields
-pub row_text-map : {A B : Type 0} (text : A → List ℕ) (text' : B → List ℕ) (fields : List A) (others : List B) → row_text (map text fields ++ map text' others) ≡ parted [] (map text fields) ++ (parted (lead_behind fields) (map text' others) ++ 10 ∷ [])
-row_text-map text text' fields others =
-    row_text-append (map text fields) (map text' others)
-    ∙ ap (λ lead. parted [] (map text fields) ++ (parted lead (map text' others) ++ 10 ∷ [])) (lead_behind-map text fields)
-
--- the first field, and the others
-pub parted-first : {A : Type 0} (text : A → List ℕ) (lead : List ℕ) (fields : List A) (field : A) → 1 ≤ length fields → field ≡ get_or fields 0 field → parted lead (map text fields) ≡ lead ++ (text field ++ parted (124 ∷ []) (map text (take (length fields - 1) (drop 1 fields))))
-parted-first text lead [] field some is = absurd (omega arith)
-parted-first text lead (first ∷ others) field some is =
-    ap (λ one. lead ++ (text one ++ parted (124 ∷ []) (map text others))) (sym is)
-    ∙ ap (λ rest. lead ++ (text field ++ parted (124 ∷ []) (map text rest))) (sym (take_rest (first ∷ others) 1))
+-- no field is left
+pub parted-end : (lead : List ℕ) (fields : List (List ℕ)) (place : ℕ) → place ≡ length fields → parted lead (drop place fields) ≡ []
+parted-end lead fields place last = ap (parted lead) (ap (λ n. drop n fields) last ∙ drop-length fields)
 
 -- the texts before an item, its own, and those after it
 pub flat_map-around : {A : Type 0} (text : A → List ℕ) (items : List A) (i : ℕ) (item : A) → i < length items → item ≡ get_or items i item → flat_map text items ≡ flat_map text (take i items) ++ (text item ++ flat_map text (drop (i + 1) items))

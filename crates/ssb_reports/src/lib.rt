@@ -3,12 +3,15 @@
 
 mod benchmark;
 mod field;
+mod fields;
 mod filter;
+mod lines;
 mod number;
 mod report;
 mod writing;
 
 pub use benchmark::query_of;
+pub use lines::Lines;
 pub use number::QNumber;
 pub use report::write_report;
 pub use writing::{flush, write_bytes, write_number};

@@ -1,37 +1,41 @@
 //! The report of an answer.
-ghost use Rattle.std.specs.Prelude.{◌≡◌, ◌++◌, map};
+ghost use Rattle.std.specs.Prelude.{◌≡◌, ◌++◌, ◌≤◌, drop, length};
 ghost use Rattle.std.specs.List.{flat_map};
 ghost use Rattle.ssb_reports.specs.Parted.{parted, lead_behind};
 ghost use Rattle.ssb_reports.specs.Report.{report_of, row_text, line_text, count_text};
 ghost use Rattle.ssb_reports.specs.Writing.{Writes};
 
-use crate::field::Field;
+use crate::fields::Fields;
+use crate::lines::Lines;
 use crate::writing::{flush, write_bytes, write_number};
-use cube_model::{Answer, Fault, Line, Query};
+use cube_model::{Fault, Query};
 use std::io::Write;
 
 /// Hands a writer the report of a query's answer, and flushes it. It takes no memory.
-pub fn write_report<W: Write>(query: &Query, answer: &Answer, out: &mut W) -> Result<(), Fault>
-    ensures { Writes (W.contents out.old) (W.contents out.new) result (report_of query.now answer.now) }
+pub fn write_report<L: Lines, W: Write>(query: &Query, lines: &L, out: &mut W) -> Result<(), Fault>
+    ensures { Writes (W.contents out.old) (W.contents out.new) result
+        (report_of query.now (record { lines = L.lines lines.now })) }
 {
-    write_text(query, answer, out)?;
+    write_text(query, lines, out)?;
     flush(out)
 }
 
-fn write_text<W: Write>(query: &Query, answer: &Answer, out: &mut W) -> Result<(), Fault>
-    ensures { Writes (W.contents out.old) (W.contents out.new) result (report_of query.now answer.now) }
+fn write_text<L: Lines, W: Write>(query: &Query, lines: &L, out: &mut W) -> Result<(), Fault>
+    ensures { Writes (W.contents out.old) (W.contents out.new) result
+        (report_of query.now (record { lines = L.lines lines.now })) }
 {
-    let lines = answer.lines.as_slice();
-    write_row(out, query.columns.as_slice(), query.aggregates.as_slice())?;
+    let columns = query.columns.as_slice();
+    let aggregates = query.aggregates.as_slice();
+    write_row(out, &columns, &aggregates)?;
     write_lines(out, lines)?;
-    write_count(out, lines.len())
+    write_count(out, lines.count())
 }
 
-fn write_lines<W: Write>(out: &mut W, lines: &[Line]) -> Result<(), Fault>
-    ensures { Writes (W.contents out.old) (W.contents out.new) result (flat_map line_text lines.now) }
+fn write_lines<L: Lines, W: Write>(out: &mut W, lines: &L) -> Result<(), Fault>
+    ensures { Writes (W.contents out.old) (W.contents out.new) result (flat_map line_text (L.lines lines.now)) }
 {
-    for line in lines {
-        write_row(out, line.key.as_slice(), line.values.as_slice())?;
+    for place in 0..lines.count() {
+        lines.write_line(place, out)?;
     }
     Ok(())
 }
@@ -44,36 +48,40 @@ fn write_count<W: Write>(out: &mut W, count: usize) -> Result<(), Fault>
     write_bytes(out, b"\n")
 }
 
-// Writes the fields of two lists, and a line feed.
-fn write_row<W: Write, F: Field, G: Field>(
+/// Writes some fields and others after them, and a line feed.
+pub(crate) fn write_row<W: Write, F: Fields, G: Fields>(
     out: &mut W,
-    fields: &[F],
-    others: &[G],
+    fields: &F,
+    others: &G,
 ) -> Result<(), Fault>
-    ensures { Writes (W.contents out.old) (W.contents out.new) result (row_text (map F.text fields.now ++ map G.text others.now)) }
+    ensures { Writes (W.contents out.old) (W.contents out.new) result (row_text (F.texts fields.now ++ G.texts others.now)) }
 {
-    write_fields(out, b"", fields)?;
-    write_fields(out, lead_behind(fields), others)?;
+    write_fields(out, b"", fields, 0)?;
+    write_fields(out, lead_behind(fields), others, 0)?;
     write_bytes(out, b"\n")
 }
 
-// Writes fields with a bar between each two, and a lead in front of the first.
-fn write_fields<W: Write, F: Field>(out: &mut W, lead: &[u8], fields: &[F]) -> Result<(), Fault>
-    ensures { Writes (W.contents out.old) (W.contents out.new) result (parted lead.now (map F.text fields.now)) }
+// Writes the fields from a place on with a bar between each two, and a lead in front of the first.
+fn write_fields<W: Write, F: Fields>(
+    out: &mut W,
+    lead: &[u8],
+    fields: &F,
+    place: usize,
+) -> Result<(), Fault>
+    requires { place ≤ length (F.texts fields.now) }
+    ensures { Writes (W.contents out.old) (W.contents out.new) result (parted lead.now (drop place (F.texts fields.now))) }
 {
-    match fields {
-        [] => Ok(()),
-        [field, rest @ ..] => {
-            write_bytes(out, lead)?;
-            field.write_to(out)?;
-            write_fields(out, b"|", rest)
-        }
+    if place == fields.count() {
+        return Ok(());
     }
+    write_bytes(out, lead)?;
+    fields.write_field(place, out)?;
+    write_fields(out, b"|", fields, place + 1)
 }
 
 // What leads the next field.
-fn lead_behind<F>(fields: &[F]) -> &'static [u8]
-    ensures { result.now ≡ lead_behind fields.now }
+fn lead_behind<F: Fields>(fields: &F) -> &'static [u8]
+    ensures { result.now ≡ lead_behind (F.texts fields.now) }
 {
-    if fields.is_empty() { b"" } else { b"|" }
+    if fields.count() == 0 { b"" } else { b"|" }
 }

@@ -1,13 +1,13 @@
 use Rattle.cube_model.specs.declared.fault.Fault.TheVariants.{BadLayout}
 use Rattle.std.proofs.Common.{◌≡◌, ◌∙◌, Err, sym, ap, subst, length}
-use Rattle.std.proofs.lemmas.Result.{IfOk-weaker, err_from_is_err_and}
-use Rattle.cube_query.specs.Coarser.{AreTalliedFrom, CanCoarsen}
+use Rattle.std.proofs.lemmas.Result.{err_from_is_err_and}
+use Rattle.cube_query.specs.Coarser.{AreTalliedFrom}
 use Rattle.cube_query.specs.Columns.{seen_groups, tallies_at}
 use Rattle.cube_query.specs.GroupLines.{HaveLines, lines_by}
-use Rattle.cube_query.specs.Groups.{finest, groups_of}
+use Rattle.cube_query.specs.Groups.{groups_of}
 use Rattle.cube_query.specs.Slots.{entries_of}
 use Rattle.cube_query.specs.FoldInvariant.{AreTallied}
-use Rattle.cube_query.proofs.Ends.{all_groups, plain_groups, start}
+use Rattle.cube_query.proofs.Ends.{all_groups}
 use Rattle.cube_query.proofs.Seen.{seen_are}
 use Rattle.group_plan.specs.Numbers.{key_at}
 use Rattle.cube_query.proofs.finish.all_groups.Goals as goal

@@ -1,14 +1,13 @@
-use Rattle.std.proofs.Common.{◌≡◌, ◌∙◌, ◌<◌, ℕ, true, false, sym, ap, subst, map, length, get_or}
+use Rattle.std.proofs.Common.{◌≡◌, ◌∙◌, ◌<◌, ℕ, false, sym, ap, subst, map, length, get_or}
 use Rattle.std.specs.List.{All, IsDistinct}
 use Rattle.std.specs.List.Sorted.{IsPermutation}
 use Rattle.std.specs.Ordering.{nat_cmp, eq_by_cmp}
-use Rattle.std.proofs.lemmas.Result.{IfOk-weaker}
 use Rattle.std.proofs.lemmas.List.Sorted.{IsPermutation-map, All-permutation}
 use Rattle.cube_model.specs.Ascending.{IsAscending}
 use Rattle.cube_model.specs.Orders.{line_cmp}
 use Rattle.cube_model.specs.Proper.{is_average}
 use Rattle.cube_model.specs.declared.measure.Agg.TheVariants.{Count}
-use Rattle.cube_query.specs.Columns.{entry_line, is_seen, line_with, seen_entries, tallies_at}
+use Rattle.cube_query.specs.Columns.{entry_line, line_with, seen_entries, tallies_at}
 use Rattle.cube_query.specs.GroupLines.{HasLine, HaveLines, lines_by}
 use Rattle.cube_query.specs.Slots.{entries_of}
 use Rattle.cube_query.proofs.Answered.{lines_are, unordered_lines}

@@ -1,28 +1,31 @@
-use Rattle.std.proofs.Common.{◌∷◌, ◌++◌, [], refl}
+use Rattle.std.proofs.Common.{◌∙◌, ◌∷◌, ◌++◌, [], refl}
 use Rattle.std.proofs.lemmas.Result.{err_from_is_err_and}
 use Rattle.cube_model.specs.Admission.{all_rows}
-use Rattle.cube_query.specs.Groups.{IsFoldable}
-use Rattle.cube_query.proofs.CallerLemmas.{memory_alone}
-use Rattle.ssb_eval.proofs.Batches.{leaves_on, gives-answer}
+use Rattle.ssb_eval.proofs.Batches.{leaves_on, facts-done, folds-stopped}
 use Rattle.ssb_eval.proofs.Taking.{AreTaken-own, AreTaken-of, gives-stopped, count_more}
 use Rattle.ssb_eval.proofs.facts.fold_lines.Goals as goal
 
-pub returns-in_err-more : goal.returns-in_err-more
-returns-in_err-more g c = λ text known.
+pub returns-in_err-more-clause-facts : goal.returns-in_err-more-clause-facts
+returns-in_err-more-clause-facts g c = λ text known.
     let batches = c.loop-more.invariant.0 in
     let own = AreTaken-own c.args.dims.now c.args.fold.now.query c.loop-more.admission c.loop-more.fold batches c.loop-more.invariant.1 in
-    gives-stopped c.args.fold.now.query c.args.dims.now text batches c.loop-more.lines c.take_batch.new.lines c.take_batch.new.admission c.take_batch.new.fold c.loop-more.fold.query _ _
-    (c.loop-more.invariant.3 text known) (c.in_err-more.ensures batches own) (err_from_is_err_and _ c.from_residual.ensures.1)
+    folds-stopped c.args.fold.now.query c.args.dims.now text c.take_batch.new.fold _ _ (err_from_is_err_and _ c.from_residual.ensures.1)
+    (gives-stopped c.args.fold.now.query c.args.dims.now text batches c.loop-more.lines c.take_batch.new.lines c.take_batch.new.admission c.take_batch.new.fold c.loop-more.fold.query _ _
+    (c.loop-more.invariant.3 text known) (c.in_err-more.ensures batches own) (_, refl, refl))
 
-pub returns-then-not-more : goal.returns-then-not-more
-returns-then-not-more g c = λ text known.
+pub returns-then-not-more-clause-folded : goal.returns-then-not-more-clause-folded
+returns-then-not-more-clause-folded g c =
     let batches = c.loop-more.invariant.0 in
     let own = AreTaken-own c.args.dims.now c.args.fold.now.query c.loop-more.admission c.loop-more.fold batches c.loop-more.invariant.1 in
     let done = rw c.if-not-more.true at (c.in_ok-more.ensures batches own) in
-    gives-answer c.args.fold.now.query c.args.dims.now text c.take_batch.new.admission c.take_batch.new.fold batches c.loop-more.lines.number c.loop-more.lines.left c.take_batch.new.lines.left [] _
-    (AreTaken-of c.args.dims.now c.loop-more.fold.query c.args.fold.now.query c.take_batch.new.admission c.take_batch.new.fold batches c.loop-more.invariant.1.query_is done.1)
-    (c.loop-more.invariant.3 text known) done.0.taken refl c.finish.ensures.answer
-    (memory_alone c.finish.result (IsFoldable c.args.dims.now c.take_batch.new.fold) (all_rows batches, (done.1.folded, done.1.foldable)) c.finish.ensures.refused c.finish.ensures.only)
+    record { query_is = done.1.query_is ∙ c.loop-more.invariant.1.query_is; rows = all_rows batches; folded = done.1.folded; foldable = done.1.foldable }
+
+pub returns-then-not-more-clause-facts : goal.returns-then-not-more-clause-facts
+returns-then-not-more-clause-facts g c = λ text known.
+    let batches = c.loop-more.invariant.0 in
+    let own = AreTaken-own c.args.dims.now c.args.fold.now.query c.loop-more.admission c.loop-more.fold batches c.loop-more.invariant.1 in
+    let done = rw c.if-not-more.true at (c.in_ok-more.ensures batches own) in
+    (all_rows batches, facts-done c.args.dims.now text batches c.loop-more.lines.number c.loop-more.lines.left c.take_batch.new.lines.left (c.loop-more.invariant.3 text known) done.0.taken, done.1.folded)
 
 pub take_batch-requires : goal.take_batch-requires
 take_batch-requires g c =
@@ -50,10 +53,3 @@ loop-more-preserved g c =
       λ text known.
           leaves_on c.args.dims.now text batches c.loop-more.lines.number c.take_batch.new.lines.number c.loop-more.lines.left c.take_batch.new.lines.left next.0 next.1.some (c.loop-more.invariant.3 text known) next.1.read.taken next.1.read.number next.1.passes,
     )
-
-pub finish-requires : goal.finish-requires
-finish-requires g c =
-    let batches = c.loop-more.invariant.0 in
-    let own = AreTaken-own c.args.dims.now c.args.fold.now.query c.loop-more.admission c.loop-more.fold batches c.loop-more.invariant.1 in
-    let done = rw c.if-not-more.true at (c.in_ok-more.ensures batches own) in
-    done.1.folded.over

@@ -1,20 +1,23 @@
-use Rattle.std.proofs.Common.{refl}
+use Rattle.std.proofs.Common.{◌<◌, length, refl, rules}
 use Rattle.std.proofs.lemmas.Result.{err_from_is_err_and}
 use Rattle.ssb_reports.proofs.Beginnings.{Writes-on, Writes-stop, Writes-stop_behind}
-use Rattle.ssb_reports.proofs.Rows.{parted-first}
+use Rattle.ssb_reports.proofs.Rows.{parted-at}
 use Rattle.ssb_reports.proofs.report.+write_fields.Goals as goal
 
-pub returns-in_err-write_bytes-in-len1-up : goal.returns-in_err-write_bytes-in-len1-up
-returns-in_err-write_bytes-in-len1-up g t c =
-    Writes-stop _ _ _ _ _ _ _ (err_from_is_err_and _ c.from_residual.ensures.1) c.in_err-write_bytes-in-len1-up.ensures
-    (parted-first g.F.Field.text _ _ c.field-item.result c.in-len1-up.len_at_least c.field-item.is)
+pub returns-in_err-write_bytes : goal.returns-in_err-write_bytes
+returns-in_err-write_bytes g t c =
+    let within : c.args.place < length (g.F.Fields.texts c.args.fields.now) = search rules in
+    Writes-stop _ _ _ _ _ _ _ (err_from_is_err_and _ c.from_residual.ensures.1) c.in_err-write_bytes.ensures
+    (parted-at c.args.lead.now (g.F.Fields.texts c.args.fields.now) c.args.place within)
 
-pub returns-in_err-write_to-in-len1-up : goal.returns-in_err-write_to-in-len1-up
-returns-in_err-write_to-in-len1-up g t c =
-    Writes-stop_behind _ _ _ _ _ _ _ _ _ (err_from_is_err_and _ c.from_residual-in_err-write_to-in-len1-up.ensures.1) c.in_ok-write_bytes-in-len1-up.ensures c.in_err-write_to-in-len1-up.ensures
-    (parted-first g.F.Field.text _ _ c.field-item.result c.in-len1-up.len_at_least c.field-item.is)
+pub returns-in_err-write_field : goal.returns-in_err-write_field
+returns-in_err-write_field g t c =
+    let within : c.args.place < length (g.F.Fields.texts c.args.fields.now) = search rules in
+    Writes-stop_behind _ _ _ _ _ _ _ _ _ (err_from_is_err_and _ c.from_residual-in_err-write_field.ensures.1) c.in_ok-write_bytes.ensures c.in_err-write_field.ensures
+    (parted-at c.args.lead.now (g.F.Fields.texts c.args.fields.now) c.args.place within)
 
-pub returns-in_ok-write_to-in-len1-up : goal.returns-in_ok-write_to-in-len1-up
-returns-in_ok-write_to-in-len1-up g t c =
-    Writes-on _ _ _ _ _ _ _ c.in_ok-write_bytes-in-len1-up.ensures (Writes-on _ _ _ _ _ _ _ c.in_ok-write_to-in-len1-up.ensures c.write_fields.ensures refl)
-    (parted-first g.F.Field.text _ _ c.field-item.result c.in-len1-up.len_at_least c.field-item.is)
+pub returns : goal.returns
+returns g t c =
+    let within : c.args.place < length (g.F.Fields.texts c.args.fields.now) = search rules in
+    Writes-on _ _ _ _ _ _ _ c.in_ok-write_bytes.ensures (Writes-on _ _ _ _ _ _ _ c.in_ok-write_field.ensures c.write_fields.ensures refl)
+    (parted-at c.args.lead.now (g.F.Fields.texts c.args.fields.now) c.args.place within)

@@ -4,6 +4,6 @@ use Rattle.std.specs.List.{flat_map}
 use Rattle.ssb_reports.specs.Report.{line_text}
 use Rattle.ssb_reports.proofs.report.write_lines.Given as goal
 
-abbrev pub invariant-loop-line : goal.invariant-loop-line
-invariant-loop-line g l =
-    Appends (g.W.Write.contents l.initial.out) (g.W.Write.contents l.out) (flat_map line_text (take l.line-index l.lines))
+abbrev pub invariant-loop-place : goal.invariant-loop-place
+invariant-loop-place g l =
+    Appends (g.W.Write.contents l.initial.out) (g.W.Write.contents l.out) (flat_map line_text (take l.place (g.L.Lines.lines l.lines)))

@@ -11,9 +11,9 @@ returns-in_err-write_row g c =
 
 pub returns-in_err-write_lines : goal.returns-in_err-write_lines
 returns-in_err-write_lines g c =
-    Writes-stop_behind _ (g.W.Write.contents c.write_row.new.out) _ _ _ (header_text c.args.query.now) (flat_map line_text c.args.answer.now.lines) _ _ (err_from_is_err_and _ c.from_residual-in_err-write_lines.ensures.1) (search rules) (search rules) refl
+    Writes-stop_behind _ (g.W.Write.contents c.write_row.new.out) _ _ _ (header_text c.args.query.now) (flat_map line_text (g.L.Lines.lines c.args.lines.now)) _ _ (err_from_is_err_and _ c.from_residual-in_err-write_lines.ensures.1) (search rules) (search rules) refl
 
 pub returns : goal.returns
 returns g c =
     Writes-on _ (g.W.Write.contents c.write_row.new.out) _ _ (header_text c.args.query.now) _ _ (search rules)
-    (Writes-on _ (g.W.Write.contents c.write_lines.new.out) _ _ (flat_map line_text c.args.answer.now.lines) (count_text (length c.args.answer.now.lines)) _ (search rules) (search rules) refl) refl
+    (Writes-on _ (g.W.Write.contents c.write_lines.new.out) _ _ (flat_map line_text (g.L.Lines.lines c.args.lines.now)) (count_text (length (g.L.Lines.lines c.args.lines.now))) _ (search rules) (search rules) refl) refl

@@ -1,4 +1,4 @@
-use Rattle.std.proofs.Common.{◌≡◌, ◌∙◌, ◌<◌, sym, subst, length, arith}
+use Rattle.std.proofs.Common.{◌<◌, sym, subst, length}
 use Rattle.group_plan.specs.Numbers.{Asked, key_at}
 use Rattle.group_plan.specs.Plans.{query_of}
 use Rattle.group_plan.proofs.EachDigit.{key_length}

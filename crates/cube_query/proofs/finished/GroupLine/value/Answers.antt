@@ -1,4 +1,4 @@
-use Rattle.std.proofs.Common.{◌≡◌, ◌∙◌, ◌<◌, sym, ap, subst, length, arith}
+use Rattle.std.proofs.Common.{◌≡◌, ◌∙◌, ◌<◌, sym, ap, subst, length}
 use Rattle.cube_query.specs.Columns.{tallies_at}
 use Rattle.cube_query.specs.Tallies.{values_of}
 use Rattle.group_plan.specs.Plans.{query_of}

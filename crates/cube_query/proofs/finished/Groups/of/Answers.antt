@@ -1,10 +1,7 @@
-use Rattle.std.proofs.Common.{◌≡◌, ◌∙◌, Err, sym, ap, subst}
-use Rattle.std.proofs.lemmas.Result.{err_from_is_err_and}
-use Rattle.cube_model.specs.declared.fault.Fault.TheVariants.{BadLayout}
+use Rattle.std.proofs.Common.{◌≡◌, sym, subst}
 use Rattle.cube_query.specs.FoldInvariant.{AreTallied, IsFold}
-use Rattle.cube_query.specs.GroupLines.{HaveLines, lines_by}
+use Rattle.cube_query.specs.GroupLines.{lines_by}
 use Rattle.cube_query.specs.Groups.{finest}
-use Rattle.cube_query.specs.Limits.{AreFoldable}
 use Rattle.cube_query.specs.Slots.{entries_of}
 use Rattle.cube_model.specs.Answers.{answer}
 use Rattle.group_plan.specs.Numbers.{Asked}

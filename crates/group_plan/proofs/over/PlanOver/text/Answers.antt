@@ -1,8 +1,8 @@
 use Rattle.std.proofs.Common.{◌≡◌, ◌∙◌, sym, subst, ◌<◌, length, get_or}
 use Rattle.std.proofs.lemmas.Option.{IfSome_then}
 use Rattle.std.specs.Prelude.{Option, Some, None, IfNone}
-use Rattle.cube_model.specs.declared.answer.Member.TheVariants.{All, Text}
-use Rattle.group_plan.specs.Columns.{IsColumn, attr_at, digit_of}
+use Rattle.cube_model.specs.declared.answer.Member.TheVariants.{All}
+use Rattle.group_plan.specs.Columns.{IsColumn}
 use Rattle.group_plan.specs.MemberRows.{HaveMembers}
 use Rattle.group_plan.specs.Numbers.{group_count, key_at, member_at}
 use Rattle.group_plan.proofs.EachDigit.{column_weight, column_digit}
