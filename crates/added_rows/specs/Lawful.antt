@@ -32,7 +32,7 @@ abbrev pub AdmissionsStay : Type 0
 AdmissionsStay = (rows more : DimRows) (batches : List (List LineOrder)) (number : ℕ) (batch : List LineOrder)
     → IsAdmissible rows batches number batch → IsAdmissible (joined rows more) batches number batch
 
--- cells stand for the same fact rows
+-- cells represent the same fact rows
 abbrev pub CellsStay : Type 0
 CellsStay = (rows more : DimRows) (modes : List (List ℕ)) (facts : List LineOrder) (plain : PlainCells)
     → StandFor rows modes facts plain → StandFor (joined rows more) modes facts plain

@@ -14,7 +14,7 @@ use Rattle.warehouse_objects.specs.Warehouse.{AreInOrder}
 use Rattle.warehouse_objects.proofs.Batches.{foldable}
 use Rattle.batch_cells.proofs.Spans.{begins_with, between, ends_with, one_more}
 
--- no cells stand for no rows
+-- no cells represent no rows
 pub none_stand : (dimensions : DimRows) (view : View) (cells : PlainCells) → cells ≡ record { view = view; cells = [] } → StandFor dimensions [] [] cells
 none_stand dimensions view cells empty =
     subst (λ (plain : PlainCells). StandFor dimensions [] [] plain) (sym empty) (record {

@@ -10,11 +10,11 @@ use Rattle.cuboid_upkeep.specs.Steps.{IsAddFault}
 use Rattle.warehouse_objects.specs.Stands.{IsLaidOut}
 use Rattle.warehouse_objects.specs.Warehouse.{Warehouse}
 
--- cells stand for some fact rows
+-- cells represent some fact rows
 abbrev pub StandForSome : DimRows → PlainCells → Type 0
 StandForSome dimensions cells = (rows : List LineOrder) × StandFor dimensions [] rows cells
 
--- Fact rows were grouped into cells: whatever rows these stood for, they stand for them and for these after them.
+-- Fact rows were grouped into cells: whatever rows these represented, they represent them and for these after them.
 pub record GroupsMore (dimensions : DimRows) (old : PlainCells) (rows : List LineOrder) (new : PlainCells) : Type 0 where
   pub stand : (so_far : List LineOrder) → StandFor dimensions [] so_far old → StandFor dimensions [] (so_far ++ rows) new
 
@@ -25,7 +25,7 @@ pub record GroupsBatch (dimensions : DimRows) (old new : PlainCells) (before : �
   pub own : keeps → (w : Warehouse) → IsLaidOut content w
       → (batch : List LineOrder) × (slice_get w.batches before ≡ Some batch) × GroupsMore dimensions old batch new
 
--- why fact rows are not grouped into cells, whatever rows these stand for
+-- why fact rows are not grouped into cells, whatever rows these represent
 abbrev pub IsAddFaultOf : DimRows → PlainCells → List LineOrder → Fault → Type 0
 IsAddFaultOf dimensions old rows fault = (so_far : List LineOrder) → StandFor dimensions [] so_far old
     → IsAddFault dimensions [] old.view (so_far ++ rows) fault

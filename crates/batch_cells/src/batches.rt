@@ -31,7 +31,7 @@ use warehouse_root::{Root, segment_id};
 /// The cells of a view for the fact rows of some batches of a store. One batch is in memory at a time, and the cells.
 ///
 /// `TooManyCells` where the rows have more than 262,144 cells. `BadLayout` where a batch has another number than its place,
-/// or another count of rows than the root says, and where its rows have no cells. It can also fail for want of memory, or
+/// or another count of rows than the root says, and where its rows have no cells. It can also fail when out of memory, or
 /// because the device does.
 pub fn cells_of_batches<D: Sectors>(
     alloc: Global,
@@ -45,7 +45,7 @@ pub fn cells_of_batches<D: Sectors>(
     requires order { span.from ≤ span.to }
     requires few { span.to ≤ length root.now.batches }
 
-    // Then they stand for the rows of these batches, whatever the stored cuboids hold.
+    // Then they represent the rows of these batches, whatever the stored cuboids hold.
     ensures ok { IfOk result (λ cells. D.keeps_word (device_of store.new) → (w : Warehouse) → IsLaidOut (content_of D.Sectors store.old) w
         → dims.now ≡ w.rows → StandFor w.rows (modes_of w) (rows_in w.batches span) cells) }
     ensures view { IfOk result (λ cells. cells.view ≡ view) }

@@ -17,7 +17,7 @@ field_fault line field (Number limit) text = cause_if (not (spells_number limit 
 field_fault line field Text text = cause_if (nat_lt longest_text (length text)) (FieldTooLong (Line line) field)
 field_fault line field Skipped text = None
 
--- the first field that is refused, from left to right. Field numbers count on from one
+-- the first field that is refused, from left to right. Field numbers begin with one
 abbrev pub fields_fault : ℕ → ℕ → List Column → List (List ℕ) → Option Fault
 fields_fault line field [] texts = None
 fields_fault line field (column ∷ columns) [] = None

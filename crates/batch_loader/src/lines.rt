@@ -46,7 +46,7 @@ impl<R: Read> Model for Lines<R> {
 }
 
 impl<R: Read> Lines<R> {
-    /// The lines of what a reader gives. It fails only for want of memory.
+    /// The lines of what a reader gives. It fails only when out of memory.
     pub fn new(alloc: Global, reader: R) -> Result<Self, Fault>
     where
         R: Drop,

@@ -32,7 +32,7 @@ impl<T> RowBuffer<T> {
         }
     }
 
-    /// Puts a row after the others. It can only fail for want of memory.
+    /// Puts a row after the others. It can only fail when out of memory.
     pub fn push(&mut self, row: T) -> Result<(), Fault>
     where
         T: Drop,

@@ -25,7 +25,7 @@ pub trait TableRow {
 
     ghost of_fields: { List (List ℕ) → Self };
 
-    /// Reads the row of a line with a number. It fails for want of memory, or with the line's first fault.
+    /// Reads the row of a line with a number. It fails when out of memory, or with the line's first fault.
     fn read(alloc: Global, line: &[u8], number: u64) -> Result<Self, Fault>
     where
         Self: Sized,
@@ -224,7 +224,7 @@ fn numbers_by_columns(fields: &FieldsInPlace<'_, '_, 17>, line: u64) -> Result<[
     numbers_of(&LINEORDER, &fields.copied(), line)
 }
 
-// The fact row of a line's fields, whose numbers were read. It can only fail for want of memory.
+// The fact row of a line's fields, whose numbers were read. It can only fail when out of memory.
 #[inline]
 fn line_order(
     alloc: Global,

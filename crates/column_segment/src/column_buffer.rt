@@ -62,7 +62,7 @@ impl ColumnBuffer {
     /// of numbers are read at once, of any other the header and these columns alone, and a column not asked for is not checked.
     ///
     /// `BadLayout` where the header is another, where the text ends before the columns of numbers do, or where an amount
-    /// that was read is none. It can also fail for want of memory, or with what the source answers. After an error the
+    /// that was read is none. It can also fail when out of memory, or with what the source answers. After an error the
     /// buffer has any rows.
     pub fn read<S: Source>(
         &mut self,

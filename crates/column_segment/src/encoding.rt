@@ -23,7 +23,7 @@ const OTHER_BYTES: usize = 28;
 
 /// The bytes of a batch. It has at most 65,536 rows, and no text above 255 bytes.
 ///
-/// It can only fail for want of memory.
+/// It can only fail when out of memory.
 pub fn encode(alloc: Global, number: u32, rows: &[LineOrder]) -> Result<Vec<u8>, Fault>
     requires batch { IsBatch rows.now }
     ensures ok { IfOk result (λ bytes. bytes.items ≡ segment_of number rows.now) }
@@ -78,7 +78,7 @@ impl BatchColumns {
         })
     }
 
-    /// Adds rows after those before, with which they are at most 65,536. It can only fail for want of memory.
+    /// Adds rows after those before, with which they are at most 65,536. It can only fail when out of memory.
     pub fn push(&mut self, alloc: Global, rows: &[LineOrder]) -> Result<(), Fault>
         requires few { HaveFew (length rows.now) self.old }
         ensures ok { OnOk result ((before : List LineOrder) → HaveRows before self.old → HaveRows (before ++ rows.now) self.new) }
@@ -105,7 +105,7 @@ impl BatchColumns {
         push_texts(&mut self.texts, alloc, rows)
     }
 
-    /// The bytes of the batch. It can only fail for want of memory.
+    /// The bytes of the batch. It can only fail when out of memory.
     pub fn encode(&self, alloc: Global, number: u32) -> Result<Vec<u8>, Fault>
         requires batch { AreColumnsOfBatch self.now }
         ensures ok { IfOk result (λ bytes. (rows : List LineOrder) → HaveRows rows self.now → bytes.items ≡ segment_of number rows) }

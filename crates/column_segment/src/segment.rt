@@ -47,7 +47,7 @@ impl Model for Segment {
 
 /// The batch that has these bytes.
 ///
-/// `BadLayout` exactly where the bytes are those of no batch. It can also fail for want of memory.
+/// `BadLayout` exactly where the bytes are those of no batch. It can also fail when out of memory.
 pub fn decode(alloc: Global, bytes: Vec<u8>) -> Result<Segment, Fault>
     ensures ok { IfOk result (λ segment. IsSegment bytes.items segment.number segment.rows) }
     ensures refused { IfErr result (λ fault. (fault ≡ Fault.Memory) ⊎ ((fault ≡ Fault.BadLayout)
@@ -83,7 +83,7 @@ impl Segment {
 
     /// Adds rows to others, from a place on: so many, or as many as there are.
     ///
-    /// It can only fail for want of memory. The rows that were added before are then left there.
+    /// It can only fail when out of memory. The rows that were added before are then left there.
     pub fn push_rows(
         &self,
         alloc: Global,

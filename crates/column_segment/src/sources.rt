@@ -11,7 +11,7 @@ use wire::{Source, read_whole};
 
 /// The batch whose bytes a source has at an id, read through one small buffer.
 ///
-/// `BadLayout` where there are none, or where they are those of no batch. It can also fail for want of memory, or with
+/// `BadLayout` where there are none, or where they are those of no batch. It can also fail when out of memory, or with
 /// what the source answers.
 pub fn decode_from<S: Source>(alloc: Global, source: &mut S, id: u32) -> Result<Segment, Fault>
     ensures ok { IfOk result (λ segment. S.keeps_word source.new

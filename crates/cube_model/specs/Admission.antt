@@ -25,7 +25,7 @@ long_field number row = first_cause (
     ∷ cause_if (is_long row.commitdate) (FieldTooLong (Row number) 16)
     ∷ cause_if (is_long row.shipmode) (FieldTooLong (Row number) 17) ∷ [])
 
--- the first such row. Rows count on from a number
+-- the first such row. Rows are numbered from a number on
 abbrev pub long_text : ℕ → List LineOrder → Option Fault
 long_text number [] = None
 long_text number (row ∷ rows) = first_cause (long_field number row ∷ long_text (number + 1) rows ∷ [])
@@ -38,7 +38,7 @@ unknown_axis dimensions number row = first_cause (
     ∷ cause_if (is_none (part_of dimensions row.partkey)) (UnknownPart number)
     ∷ cause_if (is_none (date_of dimensions row.orderdate)) (UnknownDate number) ∷ [])
 
--- the first fact row with an unknown key. Rows count on from a number
+-- the first fact row with an unknown key. Rows are numbered from a number on
 abbrev pub unknown_key : DimRows → ℕ → List LineOrder → Option Fault
 unknown_key dimensions number [] = None
 unknown_key dimensions number (row ∷ rows) = first_cause (unknown_axis dimensions number row ∷ unknown_key dimensions (number + 1) rows ∷ [])

@@ -24,7 +24,7 @@ impl Model for RowText {
 }
 
 impl RowText {
-    /// A copy of some bytes. It can only fail for want of memory, and at most sixteen bytes need none.
+    /// A copy of some bytes. It can only fail when out of memory, and at most sixteen bytes need none.
     pub fn from_slice(alloc: Global, bytes: &[u8]) -> Result<RowText, AllocError>
         ensures ok { IfOk result (λ text. text ≡ bytes.now) }
         ensures inline { length bytes.now ≤ 16 → IsOk result }

@@ -37,7 +37,7 @@ impl<'a> Model for ChosenRows<'a> {
 
 impl<'a> ChosenRows<'a> {
     /// Rows of a batch, and among them all that a query selects: those whose quantity and discount lie within its bounds
-    /// and whose keys pass its tables. It can only fail for want of memory.
+    /// and whose keys pass its tables. It can only fail when out of memory.
     pub fn of(
         alloc: Global,
         plan: &PlanOver,

@@ -46,7 +46,7 @@ impl Numbers {
 
     /// The place of a number. One that was not seen gets the next.
     ///
-    /// It can only fail for want of memory, and then changes nothing.
+    /// It can only fail when out of memory, and then changes nothing.
     pub fn place(&mut self, number: u128) -> Result<u32, AllocError>
         ensures ok { IfOk result (λ place. TakesPlace self.old number place self.new) }
         ensures err { OnErr result (self.new ≡ self.old) }

@@ -67,7 +67,7 @@ impl Slots {
         }
     }
 
-    /// Makes room for the slots of so many numbers more, where a table tells them. It can only fail for want of memory.
+    /// Makes room for the slots of so many numbers more, where a table tells them. It can only fail when out of memory.
     pub fn reserve(&mut self, more: usize) -> Result<(), AllocError>
         ensures { self.new ≡ self.old }
     {

@@ -42,7 +42,7 @@ fn is_on_row(condition: &Cond) -> bool
     }
 }
 
-/// The rows of a batch that a query selects, where it has no condition on a dimension. It can only fail for want of
+/// The rows of a batch that a query selects, where it has no condition on a dimension. It can only fail when out of
 /// memory.
 pub fn selected_rows(alloc: Global, plan: &PlanOver, batch: &FactColumns) -> Result<Mask, Fault>
     requires { list_all is_on_row plan.now.query.conditions ≡ true }

@@ -74,7 +74,7 @@ impl Cells {
     /// Takes in the cells of further fact rows: the cell of a key becomes the merge of the cells of that key.
     ///
     /// `TooManyCells` where the merge has more than 262,144 cells, `BadLayout` where a count or a sum would pass its
-    /// type. It can also fail for want of memory. After an error the cells are as before.
+    /// type. It can also fail when out of memory. After an error the cells are as before.
     pub fn merge(&mut self, alloc: Global, other: &Cells) -> Result<(), Fault>
         requires view { other.now.view ≡ self.old.view }
         ensures ok { OnOk result (IsMergeOf self.old other.now self.new) }

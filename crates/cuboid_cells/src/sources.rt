@@ -12,7 +12,7 @@ use wire::{Source, read_whole};
 
 /// The run whose bytes a source has at an id, read through one small buffer: its batches, and its cells.
 ///
-/// `BadLayout` where there are none, or where they are those of no run. It can also fail for want of memory, or with
+/// `BadLayout` where there are none, or where they are those of no run. It can also fail when out of memory, or with
 /// what the source answers.
 pub fn decode_from<S: Source>(
     alloc: Global,

@@ -24,7 +24,7 @@ use warehouse_root::Root;
 pub fn aim<D: Sectors>(alloc: Global, store: &mut Store<D>, root: &mut Root) -> Result<(), Fault>
     requires fine { has_failed store.old ≡ false }
 
-    // A crash at any moment leaves the warehouse before or after.
+    // A crash at any point leaves the warehouse before or after.
     ensures leaves { (w : Warehouse) → StoreAt D.Sectors store.old root.old w
         → Leaves (disk_of D.Sectors store.old) (disk_of D.Sectors store.new) (λ c. Stands c w ⊎ Stands c (aimed w)) }
 

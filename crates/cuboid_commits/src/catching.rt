@@ -32,7 +32,7 @@ pub fn catch_up<D: Sectors>(
 ) -> Result<Option<View>, Fault>
     requires fine { has_failed store.old ≡ false }
 
-    // A crash at any moment leaves the warehouse with the cuboids that were brought on until then.
+    // A crash at any point leaves the warehouse with the cuboids that were brought on until then.
     ensures leaves { (w : Warehouse) → StoreAt D.Sectors store.old root.old w → (D.keeps_word (device_of store.old) → dims.now ≡ w.rows)
         → Leaves (disk_of D.Sectors store.old) (disk_of D.Sectors store.new) (λ c. (v : Warehouse) × IsCaughtUp w v × Stands c v) }
     ensures stays { (IsErrOf result Device → ⊥) → (w : Warehouse) → StoreAt D.Sectors store.old root.old w → (D.keeps_word (device_of store.old) → dims.now ≡ w.rows)

@@ -46,7 +46,7 @@ pub fn keep_one<D: Sectors>(alloc: Global, store: &mut Store<D>, next: &Next) ->
     requires runs { All (λ id. first_run ≤ id) (next.now.id ∷ next.now.drops.items) }
     requires root { IsRoot next.now.root_bytes.items next.now.root }
 
-    // A crash at any moment leaves the warehouse before or after.
+    // A crash at any point leaves the warehouse before or after.
     ensures leaves { (w : Warehouse) (root : PlainRoot) (old new : Cuboid) (run : StoredRun) → StoreAt D.Sectors store.old root w → BringsOn w old new run next.now
         → Leaves (disk_of D.Sectors store.old) (disk_of D.Sectors store.new) (λ c. Stands c w ⊎ Stands c (kept w new)) }
 

@@ -1,4 +1,4 @@
-//! Commits of stored cuboids: each leaves a warehouse before or after it, at a crash at any moment.
+//! Commits of stored cuboids: each leaves a warehouse before or after it, at a crash at any point.
 #![tactic(auto)]
 
 mod aiming;

@@ -33,7 +33,7 @@ use warehouse_root::{Root, StoredCuboid};
 // What brings a cuboid of a view on to the target: the next run of it, with the cells of the batches after its mark.
 //
 // `TooManyCells` where the first batches, as many as the target says, have more than 262,144 cells in the view. `BadLayout` where
-// the content is that of no warehouse. It can also fail for want of memory, or because the device does.
+// the content is that of no warehouse. It can also fail when out of memory, or because the device does.
 pub(crate) fn next_of<D: Sectors>(
     alloc: Global,
     store: &mut Store<D>,

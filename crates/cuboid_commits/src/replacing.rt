@@ -29,7 +29,7 @@ pub(crate) fn replace_root<D: Sectors>(
     requires runs { All (λ id. first_run ≤ id) drops.now }
     requires layout { next.layout ≡ root.old.layout }
 
-    // A crash at any moment leaves the content before or after.
+    // A crash at any point leaves the content before or after.
     ensures leaves { Leaves (disk_of D.Sectors store.old) (disk_of D.Sectors store.new)
         (IsOneOf (content_of D.Sectors store.old) (replaced next drops.now (content_of D.Sectors store.old))) }
 

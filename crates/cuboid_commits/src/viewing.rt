@@ -35,7 +35,7 @@ pub fn set_views<D: Sectors>(
     requires fine { has_failed store.old ≡ false }
     requires few { length views.now ≤ most_cuboids }
 
-    // A crash at any moment leaves the warehouse before or after.
+    // A crash at any point leaves the warehouse before or after.
     ensures leaves { (w : Warehouse) → StoreAt D.Sectors store.old root.old w
         → Leaves (disk_of D.Sectors store.old) (disk_of D.Sectors store.new) (λ c. Stands c w ⊎ Stands c (with_views w views.now)) }
 

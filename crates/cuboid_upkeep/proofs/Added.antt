@@ -52,7 +52,7 @@ all_behind P [] others all = all
 all_behind P (row ∷ rows) others all = all_behind P rows others (All-tail P row (rows ++ others) all)
 
 module _ (dimensions : DimRows) (modes : List (List ℕ)) (view : View) (so_far rows : List LineOrder) where
-  -- rows that are unfit by themselves are so behind others
+  -- rows that are unfit by themselves are so after others
   pub unfit_behind : AreUnfit dimensions modes view rows → AreUnfit dimensions modes view (so_far ++ rows)
   unfit_behind (inl none) = inl (λ all. none (all_behind (HasMembers dimensions modes view) so_far rows all))
   unfit_behind (inr past) = inr (record {

@@ -86,7 +86,7 @@ not_all level code apart below = (λ same. absurd (omega (arith, same, below)), 
 
 -- ---- the column of a level
 
--- the members of a level stand in its column
+-- the members of a level are in its column
 abbrev pub StandIn : DimRows → Axis → Level → ℕ → ℕ → Type 0
 StandIn dimensions axis level place column = (column < length (lowers_of axis)) × (code_at (column_of column (rows_on dimensions axis)) place ≡ member_code dimensions axis level place)
 
@@ -115,7 +115,7 @@ module _ (dimensions : DimRows) (place column : ℕ) where
   in_level_column Date Highest e = in_column DateYear e
   in_level_column Date All e = absurd cc
 
--- only days have members that stand in no column: a day is its row
+-- only days have members that are in no column: a day is its row
 pub in_no_column : (dimensions : DimRows) (place : ℕ) (axis : Axis) (level : Level) → level_column (level_attribute axis level) ≡ None → (level ≡ All → ⊥)
     → (axis ≡ Date) × (place ≡ member_code dimensions axis level place)
 in_no_column dimensions place Customer Lowest e apart = absurd cc

@@ -28,7 +28,7 @@ other_key a b apart = elim (a == b) as (λ t. (a == b) ≡ t → t ≡ false) [
 pub same_key : (a b : ℕ) → (a == b) ≡ true → a ≡ b
 same_key a b e = grind (arith, nat_tests)
 
--- where a key stands among the keys, its cell stands among the cells
+-- where a key is among the keys, its cell is among the cells
 pub place_is : (number : ℕ) (cells : List Cell)
     → position_or_len (nat_eq number) (map (λ (cell : Cell). number_of cell.key) cells) ≡ position_or_len (has_key number) cells
 place_is number cells =

@@ -30,7 +30,7 @@ with_some keys code key own some = ap (λ (o : Option ℕ). cond (is_some o) key
 some_none : {X : Type 0} (x : X) (o : Option X) → o ≡ Some x → o ≡ None → ⊥
 some_none x o is none = absurd (cc (is, none))
 
--- what stands at a code
+-- what is at a code
 at_code : (keys : List (Option ℕ)) (code : ℕ) → (get_or keys code None ≡ None) ⊎ ((own : ℕ) × (get_or keys code None ≡ Some own))
 at_code keys code =
     (elim (get_or keys code None) as (λ (o : Option ℕ). get_or keys code None ≡ o → (get_or keys code None ≡ None) ⊎ ((own : ℕ) × (get_or keys code None ≡ Some own))) [

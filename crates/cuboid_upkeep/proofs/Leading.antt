@@ -42,7 +42,7 @@ no_third Supplier column lower lowest first second = of_three column lower lowes
 no_third Part column lower lowest first second = of_three column lower lowest first second
 no_third Date column lower lowest first second = of_four column lower lowest first second
 
--- a place of a list is one of an equal list, and the same number stands there
+-- a place of a list is one of an equal list, and the same number is there
 read_in : (codes others : List ℕ) (place at : ℕ) → codes ≡ others → place ≡ at → at < length others → (place < length codes) × (get_or codes place 0 ≡ get_or others at 0)
 read_in codes others place at same there within = (omega (arith, ap length same, there, within), λ i. get_or (same i) (there i) 0)
 

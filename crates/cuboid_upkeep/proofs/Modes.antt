@@ -20,7 +20,7 @@ use Rattle.cuboid_upkeep.specs.Grouping.{HasMembers, cell_over, code_on, key_of,
 use Rattle.cuboid_upkeep.specs.Lawful.{ModesAreAddedBehind}
 use Rattle.cuboid_upkeep.specs.StandIns.{IsCodeOfMode}
 
--- ---- modes behind others
+-- ---- modes after others
 still : (modes more : List (List ℕ)) (text : List ℕ) → place_of modes text < length modes → place_of (modes ++ more) text ≡ place_of modes text
 still modes more text within = place_append (bytes_eq text) modes more (place_seen (bytes_eq text) modes within)
 

@@ -1,4 +1,4 @@
--- Rows that stand in for cells, and the numbers of their groups.
+-- Rows that represent cells, and the numbers of their groups.
 use Rattle.std.proofs.Common.{◌≡◌, ◌∙◌, sym, ap, refl, subst, ℕ, zero, suc, ◌==◌, ◌<◌, ◌≤◌, Bool, true, false, cond, List, [], ◌∷◌, map, length, get_or, Option, Some, None, arith, All}
 use Rattle.std.specs.List.{Contains, list_all}
 use Rattle.std.proofs.lemmas.Bool.Decides.{nat_tests}
@@ -47,7 +47,7 @@ row_of_cell dimensions modes plain rows P cell stand all in_cells =
     first [] all is = absurd (cc is)
     first (row ∷ own) all is = (row, All-head P row own all, (let same : key_of dimensions modes plain.view row ≡ cell.key = cc is in same))
 
--- a row stands in for each cell, where all rows that the cells stand for have known keys
+-- a row represents each cell, where all rows that the cells represent have known keys
 pub stands_among : (dimensions : DimRows) (modes : List (List ℕ)) (plain : PlainCells) (rows : List LineOrder) → StandFor dimensions modes rows plain → All (IsKnown dimensions) rows
     → (cell : Cell) → Contains plain.cells cell → (row : LineOrder) × IsStandIn dimensions modes plain.view cell row
 stands_among dimensions modes plain rows stand known cell there =
@@ -55,9 +55,9 @@ stands_among dimensions modes plain rows stand known cell there =
     (λ place default within. (known place default within, stand.known place default within)) there in
     (own.0, record { known = own.1.0; ship_mode = own.1.1.ship_mode; key_is = own.2 })
 
--- ---- no row stands in for a cell with a code of no member
+-- ---- no row represents a cell with a code of no member
 
--- where a row stands in for a cell, its fifth code is that of a mode
+-- where a row represents a cell, its fifth code is that of a mode
 pub mode_of_cell : (asked : AskedOfCells) (cell : Cell) (row : LineOrder) → IsStandIn asked.dimensions asked.modes asked.view cell row
     → asked.view.ship_mode ≡ true → IsCodeOfMode asked.modes cell.key.ship_mode
 mode_of_cell asked cell row stands grouped =
@@ -73,7 +73,7 @@ mode_of_cell asked cell row stands grouped =
     }
 
 module _ (dimensions : DimRows) (query : Query) (axis : Axis) (level : Level) (parts : MemberParts) (are : AreParts dimensions query axis level parts) (code : ℕ) where
-  -- where nothing stands at a code, no row has a member of the code
+  -- where nothing is at a code, no row has a member of the code
   pub no_member : part_in parts code ≡ None → (key : ℕ) → HasCode dimensions axis level key code → ⊥
   no_member none = subst (IsPartAt dimensions query axis level code) none (are code)
 
@@ -81,7 +81,7 @@ module _ (dimensions : DimRows) (query : Query) (axis : Axis) (level : Level) (p
       → (key : ℕ) × HasCode dimensions axis level key code × (part ≡ given_at dimensions query axis (row_index_of dimensions axis key))
   a_member part some = subst (IsPartAt dimensions query axis level code) some (are code)
 
--- a row that stands in for a cell has its codes
+-- a row that represents a cell has its codes
 module _ (asked : AskedOfCells) (cell : Cell) (row : LineOrder) (stands : IsStandIn asked.dimensions asked.modes asked.view cell row) where
   pub customer_code : HasCode asked.dimensions Customer asked.view.customer row.custkey cell.key.customer
   customer_code = record { known = stands.known Customer; code_is = ap (λ (k : Key). k.customer) stands.key_is }
@@ -95,7 +95,7 @@ module _ (asked : AskedOfCells) (cell : Cell) (row : LineOrder) (stands : IsStan
   pub date_code : HasCode asked.dimensions Date asked.view.date row.orderdate cell.key.date
   date_code = record { known = stands.known Date; code_is = ap (λ (k : Key). k.date) stands.key_is }
 
--- ---- a row that stands in for a cell
+-- ---- a row that represents a cell
 
 -- the fifth code is that of the ship mode
 fifth_is : (grouped : Bool) (modes : List (List ℕ)) (code : ℕ) → IsModeCode grouped code → (grouped ≡ true → IsCodeOfMode modes code) → mode_code grouped modes (text_at modes code) ≡ code
@@ -142,7 +142,7 @@ module _ (asked : AskedOfCells) (within : Bool) (customers suppliers parts dates
         key_is = λ i. record { customer = c.1.code_is i; supplier = s.1.code_is i; part = p.1.code_is i; date = d.1.code_is i; ship_mode = fifth i };
       }
 
-  -- where rows of noughts fail a condition, no row of the cell is selected
+  -- where rows of zeros fail a condition, no row of the cell is selected
   pub none_selected : within ≡ false → IsCellNumber asked cell None
   none_selected off = record {
     row = own;

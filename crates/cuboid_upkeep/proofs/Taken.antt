@@ -25,7 +25,7 @@ keys_stay keys number place is within =
     (any_passes_from_place (nat_eq number) keys (position_or_len (nat_eq number) keys) (get_or keys (position_or_len (nat_eq number) keys) 0)
     (slice_get-get_or keys (position_or_len (nat_eq number) keys) 0 first) (passes_at_first (nat_eq number) keys 0 first))
 
--- one cell behind others, or merged with none
+-- one cell after others, or merged with none
 put_behind : (cell : Cell) (a : Option Cell) (is : Bool) → (is ≡ true → a ≡ None) → option_or a (cond is (Some cell) None) ≡ merged_if_any a (cond is (Some cell) None)
 put_behind cell a true none = rw (none refl) refl
 put_behind cell None false none = refl

@@ -20,13 +20,13 @@ pub record AskedOfCells : Type 0 where
   pub view : View
   pub modes : List (List ℕ)
 
--- the number of the group of a row that stands in for a cell: none where the row is not selected
+-- the number of the group of a row that represents a cell: none where the row is not selected
 pub record IsCellNumber (asked : AskedOfCells) (cell : Cell) (number : Option ℕ) : Type 0 where
   pub row : LineOrder
   pub stands : IsStandIn asked.dimensions asked.modes asked.view cell row
   pub number_is : IsNumber asked.dimensions asked.query row number
 
--- whether rows of noughts keep the conditions on the numbers of rows, and what the members of each level give
+-- whether rows of zeros keep the conditions on the numbers of rows, and what the members of each level give
 pub record AreTables (asked : AskedOfCells) (within : Bool) (customers suppliers parts dates : MemberParts) : Type 0 where
   pub noughts : (row : LineOrder) → row.quantity ≡ 0 → row.discount ≡ 0 → list_all (holds_in row) asked.query.conditions ≡ within
   pub by_customer : AreParts asked.dimensions asked.query Customer asked.view.customer customers

@@ -38,7 +38,7 @@ key_of dimensions modes view row = record {
   ship_mode = mode_code view.ship_mode modes row.shipmode;
 }
 
--- the fact rows of a key, told by its number
+-- the fact rows of a key, given by its number
 abbrev pub rows_of : DimRows → List (List ℕ) → View → ℕ → List LineOrder → List LineOrder
 rows_of dimensions modes view number rows = filter (λ row. number_of (key_of dimensions modes view row) == number) rows
 
@@ -70,7 +70,7 @@ cell_over dimensions modes view (row ∷ rows) = Some (record {
   measures = summaries_over (row ∷ rows);
 })
 
--- cells are told by keys: that of a key is the cell of the fact rows of the key
+-- cells are given by keys: that of a key is the cell of the fact rows of the key
 abbrev pub Group : DimRows → List (List ℕ) → View → List LineOrder → List Cell → Type 0
 Group dimensions modes view rows cells = (number : ℕ)
     → cell_at number cells ≡ cell_over dimensions modes view (rows_of dimensions modes view number rows)
@@ -81,7 +81,7 @@ pub record HasMembers (dimensions : DimRows) (modes : List (List ℕ)) (view : V
   pub axes : (axis : Axis) → (level_on axis view ≡ level.All → ⊥) → IsKnownOn dimensions row axis
   pub ship_mode : view.ship_mode ≡ true → IsMode modes row.shipmode
 
--- the cells of a view stand for fact rows: each row has its members, and the cells group the rows
+-- the cells of a view represent fact rows: each row has its members, and the cells group the rows
 pub record StandFor (dimensions : DimRows) (modes : List (List ℕ)) (rows : List LineOrder) (plain : PlainCells) : Type 0 where
   pub known : All (HasMembers dimensions modes plain.view) rows
   pub ascending : AreAscending plain.cells
@@ -92,7 +92,7 @@ pub record NumbersFit (cell : Cell) : Type 0 where
   pub count : cell.count < 2 ^ 64
   pub measures : SummariesFit cell.measures
 
--- those of one key among some fact rows one behind the other have a cell whose count, sum, least or greatest passes its type
+-- those of one key among some fact rows one after the other have a cell whose count, sum, least or greatest passes its type
 pub record PassType (dimensions : DimRows) (modes : List (List ℕ)) (view : View) (rows : List LineOrder) : Type 0 where
   pub before : List LineOrder
   pub part : List LineOrder

@@ -18,7 +18,7 @@ MergesStandForBoth = (dimensions : DimRows) (modes : List (List ℕ)) (rows othe
     → one.view ≡ other.view → StandFor dimensions modes rows one → StandFor dimensions modes others other
     → IsMergeOf one other new → StandFor dimensions modes (rows ++ others) new
 
--- Cells stand for the same rows when modes are added behind the others: the codes of those that were there stay.
+-- Cells represent the same rows when modes are added after the others: the codes of those that were there stay.
 abbrev pub ModesAreAddedBehind : Type 0
 ModesAreAddedBehind = (dimensions : DimRows) (modes more : List (List ℕ)) (rows : List LineOrder) (plain : PlainCells)
     → StandFor dimensions modes rows plain → StandFor dimensions (modes ++ more) rows plain
@@ -33,7 +33,7 @@ abbrev pub RowsInRangeFit : Type 0
 RowsInRangeFit = (dimensions : DimRows) (modes : List (List ℕ)) (view : View) (rows : List LineOrder)
     → AreInRange rows → length rows < 2 ^ 63 → PassType dimensions modes view rows → ⊥
 
--- Fact rows of one key in a view, told by its number, are in one group of each query that the view serves, or in none.
+-- Fact rows of one key in a view, given by its number, are in one group of each query that the view serves, or in none.
 abbrev pub OneKeyOneGroup : DimRows → Type 0
 OneKeyOneGroup dimensions = (modes : List (List ℕ)) (view : View) (query : Query) (row other : LineOrder) (number : Option ℕ)
     → Serves view query → HasMembers dimensions modes view row → HasMembers dimensions modes view other

@@ -31,7 +31,7 @@ given_by (Part part) = Some (Some part)
 abbrev pub part_in : MemberParts → ℕ → Option (Option ℕ)
 part_in parts code = given_by (cond (code == all_code) parts.every (slice_index_or parts.members.items code NoMember))
 
--- what stands at the code of a member is what a row with the member gives; nothing stands where no member has the code
+-- what is at the code of a member is what a row with the member gives; there is nothing where no member has the code
 abbrev pub IsPartAt : DimRows → Query → Axis → Level → ℕ → Option (Option ℕ) → Type 0
 IsPartAt dimensions query axis level code None = (key : ℕ) → HasCode dimensions axis level key code → ⊥
 IsPartAt dimensions query axis level code (Some part) =

@@ -1,4 +1,4 @@
--- Rows that stand in for cells: each has the members of its cell, and nothing else is looked at. Our own.
+-- Rows that represent cells: each has the members of its cell, and nothing else is looked at. Our own.
 use Rattle.std.specs.Prelude.{◌≡◌, ℕ, suc, ◌<◌, ◌==◌, cond, true, Option, Some, None, List, [], ◌∷◌, length, slice_index_or, slice_set}
 use Rattle.std.specs.Option.{is_some}
 use Rattle.cube_model.specs.declared.attr.Axis.{Axis}
@@ -20,11 +20,11 @@ use Rattle.cuboid_upkeep.specs.declared.member_keys.MemberKeys.{MemberKeys}
 abbrev pub key_at : MemberKeys → ℕ → Option ℕ
 key_at keys code = cond (code == all_code) keys.every (slice_index_or keys.members.items code None)
 
--- a key is put at a code unless one stands there
+-- a key is put at a code unless one is there
 abbrev pub with_key : List (Option ℕ) → ℕ → ℕ → List (Option ℕ)
 with_key keys code key = cond (is_some (slice_index_or keys code None)) keys (slice_set keys code (Some key))
 
--- at how many codes no key stands
+-- at how many codes no key is
 abbrev pub missing_in : List (Option ℕ) → ℕ
 missing_in [] = 0
 missing_in (None ∷ keys) = suc (missing_in keys)
@@ -56,7 +56,7 @@ pub record IsCodeOfMode (modes : List (List ℕ)) (code : ℕ) : Type 0 where
   pub again : place_of modes (text_at modes code) ≡ code
   pub below : code < all_code
 
--- a fact row of some keys and of the ship mode of a code, and of noughts
+-- a fact row of some keys and of the ship mode of a code, and of zeros
 abbrev pub stand_in : List (List ℕ) → ℕ → ℕ → ℕ → ℕ → ℕ → LineOrder
 stand_in modes customer supplier part date code = record no_row {
   custkey = customer;
@@ -72,7 +72,7 @@ pub record IsStandIn (dimensions : DimRows) (modes : List (List ℕ)) (view : Vi
   pub ship_mode : view.ship_mode ≡ true → IsMode modes row.shipmode
   pub key_is : key_of dimensions modes view row ≡ cell.key
 
--- rows stand in for cells, one for each
+-- rows represent cells, one for each
 abbrev pub AreStandIns : DimRows → List (List ℕ) → View → List Cell → List LineOrder → Type 0
 AreStandIns dimensions modes view [] [] = Unit {0}
 AreStandIns dimensions modes view [] (row ∷ rows) = ⊥

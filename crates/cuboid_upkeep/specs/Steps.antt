@@ -80,7 +80,7 @@ pub record AreGrouped (dimensions : DimRows) (modes : List (List ℕ)) (view : V
 abbrev pub AreUnfit : DimRows → List (List ℕ) → View → List LineOrder → Type 0
 AreUnfit dimensions modes view rows = (All (HasMembers dimensions modes view) rows → ⊥) ⊎ PassType dimensions modes view rows
 
--- the cells of a view that stand for fact rows are more than a cuboid can have
+-- the cells of a view that represent fact rows are more than a cuboid can have
 pub record HaveTooMany (dimensions : DimRows) (modes : List (List ℕ)) (view : View) (rows : List LineOrder) : Type 0 where
   pub cells : List Cell
   pub stand : StandFor dimensions modes rows (record { view = view; cells = cells })

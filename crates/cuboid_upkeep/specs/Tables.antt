@@ -10,7 +10,7 @@ use Rattle.cuboid_upkeep.specs.Codes.{member_code}
 use Rattle.cuboid_upkeep.specs.declared.codes.LevelCodes.{LevelCodes}
 use Rattle.cuboid_upkeep.specs.declared.codes.LevelCodes.TheVariants.{Places, Column, Above, Twice}
 
--- tables lead from a place to a code: what stands at the place in the first is the place in the next
+-- tables lead from a place to a code: what is at the place in the first is the place in the next
 abbrev pub Leads : List (List ℕ) → ℕ → ℕ → Type 0
 Leads [] place code = place ≡ code
 Leads (codes ∷ tables) place code = (place < length codes) × Leads tables (slice_index codes place) code

@@ -26,14 +26,14 @@ pub struct UnknownMember;
 /// The numbers of the groups that the cells of a view belong to by a plan. Contracts see the dimensions, the query, the view
 /// and the ship modes.
 ///
-/// A number is the sum of what the members of a cell give to it. That is told by their codes, from tables that are made
+/// A number is the sum of what the members of a cell give to it. That follows from their codes, from tables that are made
 /// once, so that for a cell neither keys nor rows of dimensions are looked at.
 #[derive(Drop)]
 pub struct CellNumbers<'a> {
     plan: PlanOver<'a>,
     view: View,
     modes: Option<&'a Dictionary>,
-    // Whether rows of noughts keep the conditions on the numbers of rows.
+    // Whether rows of zeros keep the conditions on the numbers of rows.
     within: bool,
     customers: MemberParts,
     suppliers: MemberParts,
@@ -100,7 +100,7 @@ impl<'a> CellNumbers<'a> {
     }
 
     /// The number of the group of a cell of the view, if the rows of the cell are selected. It refuses a cell with a code
-    /// that no member has: no row stands in for it.
+    /// that no member has: no row represents it.
     #[inline]
     pub fn number(&self, cell: &Cell) -> Result<Option<u128>, UnknownMember>
         requires { IsCellOf self.now.view cell.now }

@@ -13,7 +13,7 @@ use cube_model::{Axis, valid_rows_keep_the_rules};
 use dimensions::{Dims, lower_column};
 use lattice::Level;
 
-// Where the codes of the members of a level stand.
+// Where the codes of the members of a level are.
 #[derive(Clone, Copy)]
 pub(crate) enum LevelCodes<'a> {
     // The place of a row is its code.
@@ -42,7 +42,7 @@ impl<'a> LevelCodes<'a> {
         }
     }
 
-    // Those of a level whose members stand in a column.
+    // Those of a level whose members are in a column.
     fn of_column(dims: &'a Dims, axis: Axis, column: usize) -> LevelCodes<'a>
         requires good { AreGoodRows axis (rows_on dims.now axis) }
         requires column { column < length (lowers_of axis) }

@@ -17,7 +17,7 @@ use indexmap::IndexSet;
 use std::alloc::Global;
 
 // For how many cells there is room from the start, where there are as many rows: a view of some thousand cells then
-// copies none of them for want of room.
+// copies none of them for lack of room.
 const ROOM: usize = 8_192;
 
 // The cells of fact rows, of which the keys are given, in the order of the first rows of their keys.

@@ -29,7 +29,7 @@ pub enum GrowingCells {
 }
 
 impl GrowingCells {
-    /// No cell of a view. It can only fail for want of memory.
+    /// No cell of a view. It can only fail when out of memory.
     pub fn new(alloc: Global, dims: &Dims, view: View) -> Result<GrowingCells, Fault>
         ensures over { IfOk result (GrowOver dims.now) }
         ensures none { IfOk result (λ cells. grown cells ≡ record { view = view; cells = [] }) }
@@ -46,11 +46,11 @@ impl GrowingCells {
         Ok(GrowingCells::ByNumber(table))
     }
 
-    /// Takes fact rows in: the cells then stand for the rows that they stood for with these after them.
+    /// Takes fact rows in: the cells then represent the rows that they represented with these after them.
     ///
     /// `TooManyCells` where there would be more than 262,144 cells. `BadLayout` where a row has a key that is not in its
     /// dimension, where the view groups by ship mode, or where a count, a sum or a number would exceed its type. It can also
-    /// fail for want of memory. After an error the cells stand for nothing.
+    /// fail when out of memory. After an error the cells represent nothing.
     pub fn add_rows<F: FactRows>(
         &mut self,
         alloc: Global,
@@ -74,7 +74,7 @@ impl GrowingCells {
         }
     }
 
-    /// The cells so far. It can only fail for want of memory.
+    /// The cells so far. It can only fail when out of memory.
     pub fn finish(self, alloc: Global) -> Result<Cells, Fault>
         requires { (dimensions : DimRows) × GrowOver dimensions self }
         ensures ok { IfOk result (λ cells. cells ≡ grown self) }

@@ -9,7 +9,7 @@ pub fn merges_stand_for_both()
     ensures { MergesStandForBoth }
 {}
 
-/// Cells stand for the same rows when modes are added behind the others.
+/// Cells represent the same rows when modes are added after the others.
 pub fn modes_are_added_behind()
     ensures { ModesAreAddedBehind }
 {}

@@ -102,7 +102,7 @@ fn put_keys(dims: &Dims, axis: Axis, grouped: Level, keys: &mut [Option<u32>])
     }
 }
 
-// Puts a key at a code unless one stands there, and says at how many codes none stands then.
+// Puts a key at a code unless one is there, and says at how many codes none is then.
 fn put_first(keys: &mut [Option<u32>], code: u16, key: u32, missing: usize) -> usize
     requires code { code < length keys.old }
     requires missing { missing ≡ missing_in keys.old }

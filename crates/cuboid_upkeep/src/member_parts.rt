@@ -37,9 +37,9 @@ impl MemberPart {
 
 /// By the codes of a level's members, what a row with the member gives to the number of a group.
 pub struct MemberParts {
-    /// What stands at the code of every member together.
+    /// What is at the code of every member together.
     pub every: MemberPart,
-    /// What stands at each other code.
+    /// What is at each other code.
     pub members: Vec<MemberPart>,
 }
 
@@ -69,7 +69,7 @@ impl MemberParts {
     }
 }
 
-// What the members of a level of a dimension give by a plan, each told by one row.
+// What the members of a level of a dimension give by a plan, each by one row.
 pub(crate) fn parts_of_members(
     alloc: Global,
     dims: &Dims,

@@ -76,7 +76,7 @@ place_le p (x ∷ xs) = elim (p x) as (λ b. cond (not b) (1 + position_or_len p
 pub place_behind : {X : Type 0} (p : X → Bool) (xs : List X) → list_any p xs ≡ false → position_or_len p xs ≡ length xs
 place_behind p xs none = let e : nat_lt (position_or_len p xs) (length xs) ≡ false = sym (list_any_place p xs) ∙ none in let le = place_le p xs in grind arith
 
--- an item that is there has its place in the front, whatever stands behind
+-- an item that is there has its place in the front, whatever comes after
 pub place_append : {X : Type 0} (p : X → Bool) (xs ys : List X) → list_any p xs ≡ true → position_or_len p (xs ++ ys) ≡ position_or_len p xs
 place_append p [] ys some = absurd (true≢false (sym some))
 place_append p (x ∷ xs) ys some = elim (p x) as (λ b. (b || list_any p xs) ≡ true → cond (not b) (1 + position_or_len p (xs ++ ys)) 0 ≡ cond (not b) (1 + position_or_len p xs) 0) [
@@ -84,7 +84,7 @@ place_append p (x ∷ xs) ys some = elim (p x) as (λ b. (b || list_any p xs) �
   | false ↦ λ s. ap (λ n. 1 + n) (place_append p xs ys s)
 ] some
 
--- an item that is not there has its place behind the front
+-- an item that is not there has its place after the front
 pub place_last : {X : Type 0} (p : X → Bool) (xs : List X) (y : X) → list_any p xs ≡ false → p y ≡ true → position_or_len p (xs ++ y ∷ []) ≡ length xs
 place_last p [] y none here = ap (λ b. cond (not b) (1 + 0) 0) here
 place_last p (x ∷ xs) y none here =
@@ -174,7 +174,7 @@ firsts-again (first ∷ texts) text seen =
           ∙ ap (λ l. first ∷ l) (append-nil (filter (others first) (firsts texts)))
     ] refl
 
--- the place of a text in the order of first use, before and behind one more text
+-- the place of a text in the order of first use, before and after one more text
 pub place-kept : (texts : List (List ℕ)) (text q : List ℕ) → list_any (bytes_eq q) texts ≡ true
     → position_or_len (bytes_eq q) (firsts (texts ++ text ∷ [])) ≡ position_or_len (bytes_eq q) (firsts texts)
 place-kept texts text q seen =
@@ -191,7 +191,7 @@ place-own texts text =
           ap (position_or_len (bytes_eq text)) (firsts-new texts text e) ∙ place_last (bytes_eq text) (firsts texts) text none (bytes_eq-refl text) ∙ sym (place_behind (bytes_eq text) (firsts texts) none)
     ] refl
 
--- where no text stands twice, the place of a text is the one where it stands
+-- where no text occurs twice, the place of a text is the one where it is
 pub place_again : (texts : List (List ℕ)) (code : ℕ) (text : List ℕ) → EachOnce texts → slice_get texts code ≡ Some text → position_or_len (bytes_eq text) texts ≡ code
 place_again [] code text once at = absurd cc
 place_again (first ∷ texts) zero text once at =

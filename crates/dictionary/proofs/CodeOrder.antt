@@ -27,7 +27,7 @@ lower_out : (next code : ℕ) (codes : List ℕ) → code < next → filter (nat
 lower_out next code [] lt = refl
 lower_out next code (first ∷ codes) lt = grind (arith, lower_out next code codes lt)
 
--- without the next one those from the one behind it are left
+-- without the next one those from the one after it are left
 next_out : (next : ℕ) (codes : List ℕ) → filter (nat_le next) (filter (others next) codes) ≡ filter (nat_le (next + 1)) codes
 next_out next [] = refl
 next_out next (first ∷ codes) = grind (arith, next_out next codes)
@@ -58,7 +58,7 @@ module _ (left next code : ℕ) (codes : List ℕ) where
       (ap (λ b. cond b (code ∷ filter (nat_le next) (filter (others code) (first_codes codes))) (filter (nat_le next) (filter (others code) (first_codes codes)))) out ∙ lower_out next code (first_codes codes) lt)
       agree
 
-  -- a code that is not below the next one stands in front
+  -- a code that is not below the next one is in front
   in_front : next ≤ code → filter (nat_le next) (first_codes (code ∷ codes)) ≡ code ∷ filter (nat_le next) (filter (others code) (first_codes codes))
   in_front le =
       let kept : nat_le next code ≡ true = le-leb next code le in

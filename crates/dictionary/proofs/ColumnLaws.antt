@@ -1,4 +1,4 @@
--- What the codes of a column of texts stand for, and what its spelling determines, for the proofs of other crates too.
+-- What the codes of a column of texts represent, and what its spelling determines, for the proofs of other crates too.
 use Rattle.std.proofs.Common.{◌≡◌, ◌<◌, ◌≤◌, ◌+◌, ◌^◌, ◌==◌, ◌∙◌, zero, suc, sym, ap, refl, subst, arith, cond, not, ℕ, Bool, true, false, ◌||◌, nat_lt, List, [], ◌∷◌, ◌++◌, map, length, Some, None, Option, append_assoc}
 use Rattle.std.specs.Str.{bytes_eq}
 use Rattle.std.specs.List.{AllByRecursion, filter, flat_map, list_any, range_with_len}
@@ -107,7 +107,7 @@ module _ (texts : List (List ℕ)) (once : EachOnce texts) where
       ap (λ l. text_at texts code ∷ filter (λ text. not (bytes_eq (text_at texts code) text)) l) (firsts_map codes below.1)
       ∙ ap (λ l. text_at texts code ∷ l) (others_map code (first_codes codes) below.0 (below_firsts (length texts) codes below.1))
 
--- codes in the order of first use, with every text used, stand for one column: its texts are those of the dictionary, and its codes are these
+-- codes in the order of first use, with every text used, represent one column: its texts are those of the dictionary, and its codes are these
 pub one_column : (texts : List (List ℕ)) (codes : List ℕ) → EachOnce texts → AreCodes (length texts) codes
     → (firsts (map (text_at texts) codes) ≡ texts) × (codes_of (map (text_at texts) codes) ≡ codes)
 one_column texts codes once are =
@@ -191,7 +191,7 @@ module _ (texts : List (List ℕ)) where
       ap (λ l. place_of texts text ∷ filter (other (place_of texts text)) l) (first_places column seen.1)
       ∙ ap (λ l. place_of texts text ∷ l) (others_place text (firsts column) seen.0 (seen_firsts texts column seen.1))
 
--- a column has codes, which are in the order of first use and stand for it
+-- a column has codes, which are in the order of first use and represent it
 pub column_has_codes : (column : List (List ℕ)) → AreCodes (length (firsts column)) (codes_of column) × (map (text_at (firsts column)) (codes_of column) ≡ column)
 column_has_codes column =
     let texts : List (List ℕ) = firsts column in

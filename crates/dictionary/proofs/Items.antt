@@ -27,7 +27,7 @@ pub Adds-new : (old : Texts) (text : List ℕ) (next : ℕ) (after : Texts) → 
     → after ≡ with_text old text → Adds old text (Some next) after
 Adds-new old text next after new last room is = rw new (last, room, is)
 
--- a new key goes behind the others, with its text
+-- a new key goes after the others, with its text
 pub map-insert_key : {A : Type 0} (eq : List ℕ → List ℕ → Bool) (f : A → List ℕ) (keys : List A) (key : A) (text : List ℕ) → f key ≡ text
     → list_any (λ other. eq text (f other)) keys ≡ false → map f (insert_key (λ x y. eq (f x) (f y)) keys key) ≡ map f keys ++ text ∷ []
 map-insert_key eq f keys key text is new =

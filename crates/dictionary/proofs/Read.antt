@@ -21,7 +21,7 @@ pub no_length : (old : List ℕ) → length old < 1 → BeginsWithShort old → 
 no_length old short (text, rest, read) =
     absurd (omega (arith, ap length read.spelled ∙ length-append (text_spelling text) rest, length-append (spelling 1 (length text)) text, length-spelling 1 (length text)))
 
--- and as many behind it
+-- and as many after it
 pub no_text : (old mid : List ℕ) (count : ℕ) → ReadsNumber 1 old mid count → length mid < count → BeginsWithShort old → ⊥
 no_text old mid count counted short (text, rest, read) =
     let back = counted.reads_back (length text) (text ++ rest) (omega (arith, read.short)) (read.spelled ∙ append_assoc (spelling 1 (length text)) text rest) in
@@ -102,7 +102,7 @@ short_middle : (texts others : List (List ℕ)) (next : List ℕ) → AreShort (
 short_middle [] others next short = All-head IsShort next others short
 short_middle (text ∷ texts) others next short = short_middle texts others next (All-tail IsShort text (texts ++ next ∷ others) short)
 
--- bytes that begin with no text that is new, behind so many
+-- bytes that begin with no text that is new, after so many
 pub none_more : (count so_far : ℕ) (old mid : List ℕ) (before between : Texts) → ReadsEach so_far old mid before between → so_far < count
     → (BeginsWithNew mid between → ⊥) → BeginsWithSome count before.limit old → ⊥
 none_more count so_far old mid before between each fewer none begins =
@@ -127,7 +127,7 @@ each_none old before empty = record {
   spelled = sym (ap (λ (texts : List (List ℕ)). flat_map text_spelling texts ++ old) empty);
 }
 
--- the number of texts stands before them
+-- the number of texts is before them
 pub no_count : (limit : ℕ) (old : List ℕ) → length old < 4 → BeginsWithNone limit old
 no_count limit old short texts rest proper is =
     absurd (omega (arith, ap length is ∙ length-append (texts_spelling texts) rest, length-append (spelling 4 (length texts)) (flat_map text_spelling texts), length-spelling 4 (length texts)))

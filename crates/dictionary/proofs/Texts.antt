@@ -1,4 +1,4 @@
--- Texts one behind the other. Our own.
+-- Texts one after the other. Our own.
 use Rattle.std.proofs.Common.{◌≡◌, ◌<◌, ◌≤◌, ◌∙◌, sym, refl, subst, arith, ℕ, false, Option, Some, MatchOption, map, List, [], ◌∷◌, ◌++◌, length, All, append_assoc}
 use Rattle.std.specs.Str.{bytes_eq}
 use Rattle.std.specs.List.{flat_map, list_any}
@@ -16,7 +16,7 @@ use Rattle.dictionary.proofs.CallerLemmas.{bytes_eq-symm, or_first, or_second, o
 abbrev pub IsShort : List ℕ → Type 0
 IsShort text = length text ≤ longest_text
 
--- parts one behind the other, where two lists begin with one of the same length
+-- parts one after the other, where two lists begin with one of the same length
 same_front : (a b xs ys : List ℕ) → length a ≡ length b → a ++ xs ≡ b ++ ys → (a ≡ b) × (xs ≡ ys)
 same_front [] [] xs ys many same = (refl, same)
 same_front [] (y ∷ b) xs ys many same = absurd (omega arith)
@@ -43,7 +43,7 @@ text_spelling-one a b xs ys a_short b_short same =
     let counts = spelling-one 1 (length a) (length b) (a ++ xs) (b ++ ys) (omega arith) (omega arith) parts in
     same_front a b xs ys counts.0 counts.1
 
--- what stands behind texts that others begin with
+-- what is after texts that others begin with
 pub record Behind (texts all : List (List ℕ)) (left rest : List ℕ) : Type 0 where
   pub next : List ℕ
   pub others : List (List ℕ)
@@ -63,7 +63,7 @@ behind (text ∷ texts) (first ∷ all) left rest short all_short fewer same =
     let more = behind texts all left rest (All-tail IsShort text texts short) (All-tail IsShort first all all_short) (omega arith) one.1 in
     record { next = more.next; others = more.others; whole = same_cons first text all (texts ++ more.next ∷ more.others) (sym one.0) more.whole; left_is = more.left_is }
 
--- a text that stands once is not among those before it
+-- a text that occurs once is not among those before it
 pub new_behind : (texts others : List (List ℕ)) (next : List ℕ) → EachOnce (texts ++ next ∷ others) → list_any (bytes_eq next) texts ≡ false
 new_behind [] others next once = refl
 new_behind (text ∷ texts) others next once =

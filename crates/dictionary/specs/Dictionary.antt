@@ -12,7 +12,7 @@ pub record Texts : Type 0 where
 abbrev pub code_of : List (List ℕ) → List ℕ → Option ℕ
 code_of texts text = position (bytes_eq text) texts
 
--- no text stands twice
+-- no text occurs twice
 abbrev pub EachOnce : List (List ℕ) → Type 0
 EachOnce [] = Unit {0}
 EachOnce (text ∷ texts) = (list_any (bytes_eq text) texts ≡ false) × EachOnce texts

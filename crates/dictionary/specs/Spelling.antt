@@ -1,4 +1,4 @@
--- How the texts of a dictionary stand on disk. Our layout.
+-- How the texts of a dictionary are stored. Our layout.
 use Rattle.std.specs.Prelude.{◌≡◌, ◌≢◌, ℕ, ◌≤◌, List, ◌++◌, length, All}
 use Rattle.std.specs.List.{flat_map}
 use Rattle.cube_model.specs.Limits.{longest_text}
@@ -17,7 +17,7 @@ texts_spelling texts = spelling 4 (length texts) ++ flat_map text_spelling texts
 abbrev pub AreShort : List (List ℕ) → Type 0
 AreShort texts = All (λ text. length text ≤ longest_text) texts
 
--- what the texts of a dictionary on disk keep: none stands twice, none is too long, and there are at most so many
+-- what the texts of a dictionary on disk keep: none occurs twice, none is too long, and there are at most so many
 pub record AreProper (limit : ℕ) (texts : List (List ℕ)) : Type 0 where
   pub each_once : EachOnce texts
   pub short : AreShort texts

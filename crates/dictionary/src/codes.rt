@@ -4,7 +4,7 @@ ghost use Rattle.std.specs.Int.{from_le_bytes, w16};
 ghost use Rattle.std.specs.List.{list_all};
 ghost use Rattle.dictionary.specs.Columns.{AreCodes};
 
-/// Whether codes stand in the order of their first use, each below the count, and every one below it is used. Two bytes
+/// Whether codes are in the order of their first use, each below the count, and every one below it is used. Two bytes
 /// are a code, the lower one first.
 pub fn are_codes(codes: &[[u8; 2]], count: u32) -> bool
     ensures { IsTrue result ↔ AreCodes count (map (from_le_bytes w16) codes.now) }

@@ -47,7 +47,7 @@ impl Dictionary {
         }
     }
 
-    /// The same texts again, with the same codes and the same limit. It can only fail for want of memory.
+    /// The same texts again, with the same codes and the same limit. It can only fail when out of memory.
     pub fn copied(&self, alloc: Global) -> Result<Dictionary, Fault>
         ensures ok { IfOk result (λ copy. copy ≡ self.now) }
         ensures memory { IfErr result (λ fault. fault ≡ Fault.Memory) }
@@ -90,7 +90,7 @@ impl Dictionary {
 
     /// The code of a text, which is added if it was not seen. Nothing where a new text would pass the limit.
     ///
-    /// It can only fail for want of memory, and then changes nothing.
+    /// It can only fail when out of memory, and then changes nothing.
     #[inline(always)]
     pub fn add(&mut self, alloc: Global, text: &[u8]) -> Result<Option<u32>, Fault>
         ensures ok { IfOk result (λ code. Adds self.old text.now code self.new) }
@@ -105,7 +105,7 @@ impl Dictionary {
         self.find_or_add(alloc, text)
     }
 
-    // The same, where the text does not stand at its guess.
+    // The same, where the text is not at its guess.
     #[inline(never)]
     fn find_or_add(&mut self, alloc: Global, text: &[u8]) -> Result<Option<u32>, Fault>
         ensures ok { IfOk result (λ code. Adds self.old text.now code self.new) }
@@ -165,10 +165,10 @@ impl Dictionary {
         }
     }
 
-    /// Adds the texts to bytes, as they stand on disk: their number in four bytes, then each with its length in one byte
+    /// Adds the texts to bytes, as they are stored: their number in four bytes, then each with its length in one byte
     /// before it. No text may have more than 255 bytes.
     ///
-    /// It can only fail for want of memory, and the bytes may then have a part of them.
+    /// It can only fail when out of memory, and the bytes may then have a part of them.
     pub fn push_to(&self, out: &mut Vec<u8>) -> Result<(), Fault>
         requires short { AreShort self.now.texts }
         ensures ok { OnOk result (out.new.items ≡ out.old.items ++ texts_spelling self.now.texts) }
@@ -178,10 +178,10 @@ impl Dictionary {
         push_texts(out, self.texts.as_slice())
     }
 
-    /// Takes the texts of a dictionary, as they stand on disk, from the front of bytes: at most as many as the limit, and
+    /// Takes the texts of a dictionary, as they are stored, from the front of bytes: at most as many as the limit, and
     /// all different.
     ///
-    /// `BadLayout` exactly where the bytes begin with no such texts. The cursor then stands anywhere.
+    /// `BadLayout` exactly where the bytes begin with no such texts. The cursor is then anywhere.
     pub fn read(alloc: Global, cursor: &mut Cursor<'_>, limit: u32) -> Result<Dictionary, Fault>
         ensures ok { IfOk result (λ found. ReadsTexts limit cursor.old cursor.new found.texts) }
         ensures limit { IfOk result (λ found. found.limit ≡ limit) }

@@ -1,4 +1,4 @@
-//! Texts with codes: the code of a text is the place where it was first seen. And how they stand on disk.
+//! Texts with codes: the code of a text is the place where it was first seen. And how they are stored.
 #![tactic(auto)]
 
 mod codes;

@@ -9,7 +9,7 @@ const PLACES: usize = 8192;
 const SPREAD: u64 = 11_400_714_819_323_198_485;
 
 /// A place for each of some thousand marks, where a text of that mark was found last. It is a guess, and nothing rests on
-/// it: a text has to be compared with the one that stands there.
+/// it: a text has to be compared with the one that is there.
 #[derive(Drop)]
 pub(crate) struct Memo {
     places: Vec<u16>,
@@ -23,7 +23,7 @@ impl Memo {
         }
     }
 
-    // Where a text may stand.
+    // Where a text may be.
     #[inline(always)]
     pub(crate) fn guess(&self, text: &[u8]) -> usize {
         match self.places.get(mark_of(text)) {
@@ -32,7 +32,7 @@ impl Memo {
         }
     }
 
-    // Keeps where a text stands, if there is memory for it.
+    // Keeps where a text is, if there is memory for it.
     pub(crate) fn keep(&mut self, text: &[u8], place: usize) {
         if self.places.is_empty() && self.places.resize(PLACES, 0).is_err() {
             return;

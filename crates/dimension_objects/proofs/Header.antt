@@ -28,7 +28,7 @@ axis_fits Part = omega arith
 axis_fits Date = omega arith
 
 module _ (axis : Axis) (old r0 part : List ℕ) (taken : TakesBytes 4 old r0 part) where
-  -- the first four bytes of a header, and those behind them
+  -- the first four bytes of a header, and those after them
   name_is : (rows : ℕ) (rest : List ℕ) → old ≡ header_of axis rows ++ rest → part ≡ codes "DIM1"
   name_is rows rest is =
       sym (take-append_seam part r0) ∙ ap (λ (n : ℕ). take n (part ++ r0)) taken.many ∙ ap (take 4) (sym taken.spelled ∙ header_parts axis rows old rest is)

@@ -29,7 +29,7 @@ module _ (law : ValidRowsKeepTheRules) (customers suppliers parts dates : List �
   pub none_dates : SpellsNoRows Date dates → AreNone
   none_dates none = λ rows are. none (rows_on rows Date) (good_dates rows ((law rows).0 are.valid) are.short) are.date_keys are.dates_are
 
-  -- nor where the codes that were read stand for none
+  -- nor where the codes that were read represent none
   pub no_objects : (coded : CodedDims) → IsSpelled Customer customers coded.customers → IsSpelled Supplier suppliers coded.suppliers → IsSpelled Part parts coded.parts → IsSpelled Date dates coded.dates
       → StandForNoRows coded → AreNone
   no_objects coded c s p d none = λ rows are.
@@ -41,7 +41,7 @@ module _ (law : ValidRowsKeepTheRules) (customers suppliers parts dates : List �
         dates = spelled_one Date (rows_on rows Date) (good_dates rows keep are.short) are.date_keys dates coded.dates d are.dates_are;
       })
 
--- the rows for which the codes that were read stand
+-- the rows for which the codes that were read are
 pub all_objects : (customers suppliers parts dates : List ℕ) (coded : CodedDims) → IsSpelled Customer customers coded.customers → IsSpelled Supplier suppliers coded.suppliers → IsSpelled Part parts coded.parts → IsSpelled Date dates coded.dates
     → (rows : DimRows) → AreCodedDims rows coded → IsValid rows → HaveShortTexts rows → AreDimensionObjects customers suppliers parts dates rows
 all_objects customers suppliers parts dates coded c s p d rows are valid short =

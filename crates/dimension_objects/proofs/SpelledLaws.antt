@@ -19,7 +19,7 @@ use Rattle.dimension_objects.specs.Columns.{IsSpelled, codes_in, texts_in}
 use Rattle.dimension_objects.proofs.Front.{FitCodes, codes-one, header_of-one, in_order-one, in_order-same, numbers-one}
 use Rattle.dimension_objects.proofs.Steps.{all_get}
 
--- ---- each column stands in its order
+-- ---- each column is in its order
 
 -- what holds of each column of a dimension holds of each in an order
 pub stored_all : (axis : Axis) (P : ℕ → Type 0) → ((i : ℕ) → i < length (lowers_of axis) → P i) → AllByRecursion P (stored_columns axis)
@@ -66,7 +66,7 @@ each_column Supplier P linked row i lt = three P row.0 linked.0 linked.1.0 i lt
 each_column Part P linked row i lt = three P row.0 linked.0 linked.1.0 i lt
 each_column Date P linked row i lt = four P row.0 linked.1.0 linked.0 row.1.0 i lt
 
--- no column stands twice in an order
+-- no column is twice in an order
 pub stored_distinct : (axis : Axis) → EachPair (λ column other. column ≢ other) (stored_columns axis)
 stored_distinct Customer = (((λ e. absurd (omega (arith, e))), ((λ e. absurd (omega (arith, e))), tt)), (((λ e. absurd (omega (arith, e))), tt), (tt, tt)))
 stored_distinct Supplier = (((λ e. absurd (omega (arith, e))), ((λ e. absurd (omega (arith, e))), tt)), (((λ e. absurd (omega (arith, e))), tt), (tt, tt)))

@@ -81,7 +81,7 @@ parts_stay spelled f g column (other ∷ order) same apart = λ i. spelled (same
 single : {X : Type 0} (spelled : X → List ℕ) (f : ℕ → X) (column : ℕ) → flat_map (λ c. spelled (f c)) (column ∷ []) ≡ spelled (f column)
 single spelled f column = append-nil (spelled (f column))
 
--- one part more behind those that were read
+-- one part more after those that were read
 grows : {X : Type 0} (spelled : X → List ℕ) (f g : ℕ → X) (front : List ℕ) (column : ℕ) (x : X) (bytes mid left : List ℕ)
     → bytes ≡ flat_map (λ c. spelled (f c)) front ++ mid → mid ≡ spelled x ++ left → g column ≡ x → ((other : ℕ) → other ≢ column → g other ≡ f other)
     → AllByRecursion (λ other. other ≢ column) front → bytes ≡ flat_map (λ c. spelled (g c)) (front ++ column ∷ []) ++ left

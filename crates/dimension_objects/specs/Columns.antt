@@ -82,7 +82,7 @@ pub record ReadsKeys (count : ℕ) (old new keys : List ℕ) : Type 0 where
 abbrev pub coded_parts : CodedRows → Parts
 coded_parts coded = record { keys = coded.keys; texts = texts_in coded.columns; codes = codes_in coded.columns }
 
--- bytes are those of rows by codes, as far as they can be told with no rule looked at
+-- bytes are those of rows by codes, as far as that shows with no rule looked at
 pub record IsSpelled (axis : Axis) (bytes : List ℕ) (coded : CodedRows) : Type 0 where
   pub spelled : bytes ≡ parts_spelling axis (coded_parts coded)
   pub rows_fit : length coded.keys < 2 ^ 32

@@ -1,6 +1,6 @@
--- How the rows of a dimension stand on disk. Our layout.
+-- How the rows of a dimension are stored. Our layout.
 --
--- First stand its name, its number and how many rows it has; then the texts of each column; then the codes of the
+-- First come its name, its number and how many rows it has; then the texts of each column; then the codes of the
 -- columns that a lower one determines, one for each text of the lower one; then the key of each row; then the codes of
 -- the other columns, one for each row.
 use Rattle.std.specs.Prelude.{◌≡◌, ℕ, ◌^◌, ◌<◌, List, [], ◌∷◌, ◌++◌, map, length, codes}
@@ -24,7 +24,7 @@ axis_number Supplier = 1
 axis_number Part = 2
 axis_number Date = 3
 
--- The columns in the order in which their texts stand: the lowest member first. Of days they are yearmonthnum,
+-- The columns in the order in which their texts are: the lowest member first. Of days they are yearmonthnum,
 -- yearmonth, year and week.
 abbrev pub stored_columns : Axis → List ℕ
 stored_columns Customer = 0 ∷ 1 ∷ 2 ∷ []
@@ -46,7 +46,7 @@ row_columns Supplier = 0 ∷ []
 row_columns Part = 0 ∷ []
 row_columns Date = 0 ∷ 3 ∷ []
 
--- what stands before the columns
+-- what is before the columns
 abbrev pub header_of : Axis → ℕ → List ℕ
 header_of axis rows = codes "DIM1" ++ (spelling 4 (axis_number axis) ++ spelling 4 rows)
 
@@ -61,7 +61,7 @@ codes_in_order numbers columns = flat_map (λ column. codes_spelling (numbers co
 abbrev pub keys_spelling : List ℕ → List ℕ
 keys_spelling keys = flat_map (spelling 4) keys
 
--- what stands on disk: the key of each row and, of each column, its texts and the code at each of its places
+-- what is stored: the key of each row and, of each column, its texts and the code at each of its places
 pub record Parts : Type 0 where
   pub keys : List ℕ
   pub texts : ℕ → List (List ℕ)

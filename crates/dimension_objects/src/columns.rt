@@ -12,7 +12,7 @@ use dictionary::Dictionary;
 use dimensions::{CodedColumn, column_count, lower_column};
 use std::alloc::Global;
 
-// The columns of a dimension with no text and no code. It can only fail for want of memory.
+// The columns of a dimension with no text and no code. It can only fail when out of memory.
 pub(crate) fn empty_columns(alloc: Global, axis: Axis) -> Result<Vec<CodedColumn>, Fault>
     ensures count { IfOk result (λ columns. length columns.items ≡ length (lowers_of axis)) }
     ensures have { IfOk result (λ columns. HaveTexts columns.items) }

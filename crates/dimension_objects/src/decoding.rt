@@ -17,7 +17,7 @@ use wire::Cursor;
 
 /// The dimensions whose four objects have these bytes: customers, suppliers, parts, dates.
 ///
-/// `BadLayout` exactly where the bytes are those of no valid rows with short texts. It can also fail for want of
+/// `BadLayout` exactly where the bytes are those of no valid rows with short texts. It can also fail when out of
 /// memory.
 pub fn decode(
     alloc: Global,
@@ -65,7 +65,7 @@ fn read_rows(alloc: Global, axis: Axis, bytes: &[u8]) -> Result<CodedRows, Fault
     })
 }
 
-// Reads what stands behind the header into columns with no text and no code, and answers the keys. `BadLayout` only where no rows have
+// Reads what is after the header into columns with no text and no code, and answers the keys. `BadLayout` only where no rows have
 // bytes that begin so.
 fn read_parts(
     alloc: Global,

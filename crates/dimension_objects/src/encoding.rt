@@ -16,7 +16,7 @@ use wire::{push_bytes, push_u16, push_u32};
 // The first bytes of each object of a dimension.
 pub(crate) const NAME: &[u8] = b"DIM1";
 
-/// The bytes of a dimension. It can only fail for want of memory.
+/// The bytes of a dimension. It can only fail when out of memory.
 pub fn encode(alloc: Global, dims: &Dims, axis: Axis) -> Result<Vec<u8>, Fault>
     ensures ok { IfOk result (λ bytes. bytes.items ≡ dimension_spelling axis (rows_on dims.now axis)) }
     ensures memory { IfErr result (λ fault. fault ≡ Fault.Memory) }
@@ -31,7 +31,7 @@ pub fn encode(alloc: Global, dims: &Dims, axis: Axis) -> Result<Vec<u8>, Fault>
     Ok(out)
 }
 
-// Adds what stands before the columns.
+// Adds what is before the columns.
 fn push_header(out: &mut Vec<u8>, axis: Axis, rows: u32) -> Result<(), Fault>
     ensures ok { OnOk result (out.new.items ≡ out.old.items ++ header_of axis rows) }
     ensures memory { IfErr result (λ fault. fault ≡ Fault.Memory) }

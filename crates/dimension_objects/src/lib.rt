@@ -1,4 +1,4 @@
-//! The four dimensions as they stand on disk, each in an object of its own.
+//! The four dimensions as they are stored, each in an object of its own.
 #![tactic(auto)]
 
 mod columns;

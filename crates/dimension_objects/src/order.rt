@@ -1,4 +1,4 @@
-//! In which order the columns of a dimension stand on disk.
+//! In which order the columns of a dimension are stored.
 ghost use Rattle.std.specs.Prelude.{◌≡◌};
 ghost use Rattle.dimension_objects.specs.Spelled.{axis_number, linked_columns, row_columns, stored_columns};
 
@@ -16,7 +16,7 @@ pub(crate) fn axis_number(axis: Axis) -> u32
     }
 }
 
-// The columns in the order in which their texts stand.
+// The columns in the order in which their texts are.
 pub(crate) fn stored_columns(axis: Axis) -> &'static [usize]
     ensures { result.now ≡ stored_columns axis }
 {

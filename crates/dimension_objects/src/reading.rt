@@ -16,7 +16,7 @@ use dimensions::CodedColumn;
 use std::alloc::{AllocError, Global};
 use wire::Cursor;
 
-// Reads what stands before the columns, and answers how many rows there are.
+// Reads what is before the columns, and answers how many rows there are.
 pub(crate) fn read_header(cursor: &mut Cursor<'_>, axis: Axis) -> Result<u32, Fault>
     ensures ok { IfOk result (ReadsHeader axis cursor.old cursor.new) }
     ensures fault { IsOkUnless result Fault.BadLayout }

@@ -22,7 +22,7 @@ module _ {Row : Type 0} (rules_of : Rules Row) (all : List Row) (i : ℕ) (row :
   front_is : take (i + 1) all ≡ take i all ++ row ∷ []
   front_is = take_more all i row lt ∙ ap (λ r. take i all ++ r ∷ []) at
 
-  -- a row that is not refused: the cause is that of the rows behind it
+  -- a row that is not refused: the cause is that of the rows after it
   cause_goes_on : row_cause rules_of (take i all) row ≡ None → rows_cause rules_of (take i all) (drop i all) ≡ rows_cause rules_of (take (i + 1) all) (drop (i + 1) all)
   cause_goes_on none =
       ap (rows_cause rules_of (take i all)) rest_is

@@ -54,7 +54,7 @@ module _ (axis : Axis) (rows : List TextRow) (good : AreGoodRows axis rows) wher
   pub good_places_above : (i j : ℕ) → i < length (lowers_of axis) → lower_of axis i ≡ Some j → length (codes_of (texts_at_places axis i rows)) ≡ length (firsts (texts_at_places axis j rows))
   good_places_above i j lt e = codes.good_places axis rows good i lt ∙ ap (codes.places_of_rows axis rows) e
 
--- a lower column stands before those that it determines
+-- a lower column is before those that it determines
 pub lower_below : (axis : Axis) (i j : ℕ) → lower_of axis i ≡ Some j → j < i
 lower_below = shapes.lower_below
 

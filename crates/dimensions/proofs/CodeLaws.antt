@@ -1,4 +1,4 @@
--- What codes in the order of first use stand for.
+-- What codes in the order of first use represent.
 use Rattle.std.proofs.Common.{◌≡◌, ℕ, List, map, length}
 use Rattle.dictionary.specs.Dictionary.{EachOnce, firsts}
 use Rattle.dictionary.specs.Columns.{AreCodes, codes_of, text_at}

@@ -14,7 +14,7 @@ slice_get-within [] k d lt = absurd (omega (arith, lt))
 slice_get-within (x ∷ xs) zero d lt = refl
 slice_get-within (x ∷ xs) (suc k) d lt = slice_get-within xs k d (omega (arith, lt))
 
--- where no text stands twice, the place of the text at an index is the index
+-- where no text occurs twice, the place of the text at an index is the index
 pub own_place : (texts : List (List ℕ)) (k : ℕ) → EachOnce texts → k < length texts → position_or_len (bytes_eq (get_or texts k [])) texts ≡ k
 own_place texts k once lt = place_again texts k (get_or texts k []) once (slice_get-within texts k [] lt)
 

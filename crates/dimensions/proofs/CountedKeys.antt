@@ -20,7 +20,7 @@ later a b more = grind (arith, nat_tests)
 same : (a b : ℕ) → a ≡ b → (a == b) ≡ true
 same a b is = grind (arith, nat_tests)
 
--- a key from the first on stands where it says, or behind all
+-- a key from the first on is where it says, or after all
 pub place_from : (first key : ℕ) (keys : List ℕ) → CountOn first keys → first ≤ key → (place : ℕ) → place ≤ length keys → place ≤ key - first
     → (place < length keys → place ≡ key - first) → place ≡ position_or_len (λ other. other == key) keys
 place_from first key keys counted from place within low reached =

@@ -130,7 +130,7 @@ entries_step keys first width place old new long lt within is entries =
 inside : (first width key : ℕ) → first ≤ key → key - first < width → (nat_le first key && nat_lt (key - first) width) ≡ true
 inside first width key low high = grind arith
 
--- no key of a list stands elsewhere
+-- no key of a list is elsewhere
 pub none_outside : (keys : List ℕ) (first width key : ℕ) → AllWithin (λ k. (first ≤ k) × (k < first + width)) keys 0 (length keys) → (nat_le first key && nat_lt (key - first) width) ≡ false
     → position (λ other. other == key) keys ≡ None
 none_outside keys first width key within out = elim (position (λ other. other == key) keys) as (λ o. position (λ other. other == key) keys ≡ o → o ≡ None) [

@@ -15,7 +15,7 @@ place_of_some p xs k some = elim (nat_lt (position_or_len p xs) (length xs)) as 
   | false ↦ λ e. cc
 ] some
 
--- no place is the place behind the last
+-- no place is the place after the last
 pub position_or_len-none : {X : Type 0} (p : X → Bool) (xs : List X) → position p xs ≡ None → position_or_len p xs ≡ length xs
 position_or_len-none p xs none = let le = position_or_len-le p xs in
     elim (nat_lt (position_or_len p xs) (length xs)) as (λ b. nat_lt (position_or_len p xs) (length xs) ≡ b → cond b (Some (position_or_len p xs)) None ≡ None → position_or_len p xs ≡ length xs) [

@@ -120,7 +120,7 @@ module _ (axis : Axis) (coded : CodedRows) (have : HaveTexts coded.columns) (pro
       keys_of_rows : table.keys ≡ map (λ row. row.key) (table_rows axis table)
       keys_of_rows = (table_is axis table in_order).keys
 
--- codes that break a rule stand for no rows
+-- codes that break a rule represent no rows
 pub refused_columns : (axis : Axis) (coded : CodedRows) → (HaveProperColumns axis coded → ⊥) → StandForNone axis coded
 refused_columns axis coded bad = λ rows good is. bad (proper_columns axis rows good.keep coded is)
 
@@ -193,7 +193,7 @@ module _ (rows : DimRows) where
     dates = all_unmap IsShortRow row_of_date rows.dates d.short;
   }
 
--- codes of one dimension that stand for no rows
+-- codes of one dimension that represent no rows
 module _ (law : ValidRowsKeepTheRules) (coded : CodedDims) (fault : Fault) where
   abbrev pub IsRefused : Type 0
   IsRefused = (fault ≡ Memory) ⊎ ((fault ≡ BadLayout) × StandForNoRows coded)

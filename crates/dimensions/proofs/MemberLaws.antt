@@ -94,7 +94,7 @@ members_of-same xs ys items = IsAscending-unique text_cmp nat_list_cmp_total tex
     (IsAscending-ascending text_cmp nat_list_cmp_total text_cmp_same xs) (IsAscending-ascending text_cmp nat_list_cmp_total text_cmp_same ys)
     (λ q. sym (has_by_cmp q (members_of xs)) ∙ has-members_of q xs ∙ items q ∙ sym (has-members_of q ys) ∙ has_by_cmp q (members_of ys))
 
--- as many members as texts, where no text stands twice
+-- as many members as texts, where no text occurs twice
 pub length-members_of : (texts : List (List ℕ)) → EachOnce texts → length (members_of texts) ≡ length texts
 length-members_of [] apart = refl
 length-members_of (text ∷ texts) apart =

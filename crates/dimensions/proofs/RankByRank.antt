@@ -1,4 +1,4 @@
--- Ranks that are found one behind the other.
+-- Ranks that are found one after the other.
 use Rattle.std.proofs.Common.{◌≡◌, ◌<◌, ◌+◌, ◌∙◌, inl, inr, sym, ap, subst, arith, ℕ, List, [], ◌∷◌, ◌++◌, length, get_or, take}
 use Rattle.std.proofs.Math.ListN.{get_or-append}
 use Rattle.std.proofs.Math.Seq.{get_or-append_seam}

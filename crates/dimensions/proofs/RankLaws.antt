@@ -32,7 +32,7 @@ unfolding IsStrictlySortedBy
 ascends [] sorted = tt
 ascends (text ∷ texts) sorted = (sorted.0, ascends texts sorted.1)
 
--- members stand in order
+-- members are in order
 pub members_ascend : (texts : List (List ℕ)) → IsAscending text_cmp (members_of texts)
 members_ascend texts = IsAscending-ascending text_cmp nat_list_cmp_total text_cmp_same texts
 

@@ -66,7 +66,7 @@ module _ (f : ((TextRow → List ℕ) × (TextRow → List ℕ)) → Bool) where
   pub links_some : (lowers : List (Option ℕ)) (i j : ℕ) → get_or lowers i None ≡ Some j → f (text_in j, text_in i) ≡ true → list_any f (links_from 0 lowers) ≡ true
   links_some lowers i j at here = links_some_from 0 lowers i j at (let is : i ≡ 0 + i = omega arith in subst (λ k. f (text_in j, text_in k) ≡ true) is here)
 
--- a lower column stands before those that it determines
+-- a lower column is before those that it determines
 below_two : (i j : ℕ) → get_or (None ∷ Some 0 ∷ Some 1 ∷ []) i None ≡ Some j → j < i
 below_two zero j e = absurd cc
 below_two (suc zero) j e = let is : 0 ≡ j = cc in omega arith

@@ -1,4 +1,4 @@
--- The rows for which four dimensions stand, and the causes to refuse them.
+-- The rows that four dimensions represent, and the causes to refuse them.
 use Rattle.std.proofs.Common.{◌≡◌, ◌<◌, ◌≤◌, ◌∙◌, ◌⊎◌, inl, inr, zero, suc, sym, ap, refl, subst, arith, ℕ, Bool, true, false, nat_lt, List, [], ◌∷◌, map, length, get_or, unwrap_or, Option, Some, None}
 use Rattle.std.specs.Option.{option_map}
 use Rattle.std.specs.Fmt.{decimal}
@@ -131,7 +131,7 @@ part_cause rows = sym (dimension_cause-through (text_rules Part) row_of_part row
 pub date_cause : (rows : DimRows) → dimension_cause (text_rules Date) (rows_on rows Date) ≡ dimension_cause date_rules rows.dates
 date_cause rows = sym (dimension_cause-through (text_rules Date) row_of_date rows.dates)
 
--- a dimension's rows are refused for a cause, or for want of memory
+-- a dimension's rows are refused for a cause, or when out of memory
 abbrev pub Refused : Axis → DimRows → Fault → Type 0
 Refused axis rows fault = (fault ≡ Memory) ⊎ (dimension_cause (text_rules axis) (rows_on rows axis) ≡ Some fault)
 

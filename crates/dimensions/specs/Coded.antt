@@ -20,7 +20,7 @@ use Rattle.dimensions.specs.ShortTexts.{AreShortRows}
 abbrev pub text_beside : List (List ℕ) → List (List ℕ) → List ℕ → List ℕ
 text_beside lowers texts lower = slice_index_or texts (position_or_len (bytes_eq lower) lowers) []
 
--- the text at each place of a column: in each row, or beside each text of the lower column
+-- the text at each place of a column: in each row, or next to each text of the lower column
 abbrev pub place_texts : Option (List (List ℕ)) → List (List ℕ) → List (List ℕ)
 place_texts None texts = texts
 place_texts (Some lowers) texts = map (text_beside lowers texts) (firsts lowers)
@@ -39,7 +39,7 @@ pub record IsCodedColumn (texts : List (List ℕ)) (column : CodedColumn) : Type
   pub texts_are : column.texts.texts ≡ firsts texts
   pub codes_are : column.codes ≡ codes_of texts
 
--- the column with a number (an empty one behind the last)
+-- the column with a number (an empty one after the last)
 abbrev pub no_coded : CodedColumn
 no_coded = record { texts = record { texts = []; limit = most_members }; codes = [] }
 
@@ -67,7 +67,7 @@ abbrev pub place_total : CodedRows → Option ℕ → ℕ
 place_total coded None = length coded.keys
 place_total coded (Some lower) = length (coded_at coded lower).texts.texts
 
--- a column by codes keeps its rules: no text is the one that stands for all members, each place has a code, and in the
+-- a column by codes keeps its rules: no text is the one that means all members, each place has a code, and in the
 -- order of first use the codes are all of them
 pub record IsProperColumn (places : ℕ) (column : CodedColumn) : Type 0 where
   pub members : AllByRecursion (λ text. text ≢ codes "ALL") column.texts.texts
@@ -80,6 +80,6 @@ pub record HaveProperColumns (axis : Axis) (coded : CodedRows) : Type 0 where
   pub count : length coded.columns ≡ length (lowers_of axis)
   pub columns : (i : ℕ) → i < length (lowers_of axis) → IsProperColumn (place_total coded (lower_of axis i)) (coded_at coded i)
 
--- no key stands twice
+-- no key occurs twice
 abbrev pub AreDistinct : List ℕ → Type 0
 AreDistinct keys = EachPair (λ key other. key ≢ other) keys

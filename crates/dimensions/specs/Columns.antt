@@ -12,7 +12,7 @@ use Rattle.dimensions.specs.declared.column.Column.{Column}
 abbrev pub code_at : List (List ℕ) → ℕ → ℕ
 code_at texts row = position_or_len (bytes_eq (slice_index_or texts row [])) (firsts texts)
 
--- where the code of a row stands: at the row, or at the row's code in the lower column
+-- where the code of a row is: at the row, or at the row's code in the lower column
 abbrev pub place_of : Option (List (List ℕ)) → ℕ → ℕ
 place_of None row = row
 place_of (Some lower) row = code_at lower row
@@ -42,7 +42,7 @@ LacksRoom texts text = (list_any (bytes_eq text) texts.texts ≡ false) × (most
 abbrev pub learned : Texts → List ℕ → Texts
 learned texts text = if list_any (bytes_eq text) texts.texts then texts else with_text texts text
 
--- a text comes to stand at a place, unless another one stands there
+-- a text is put at a place, unless another one is there
 pub record Enters (old : Column) (place : ℕ) (text : List ℕ) (code : ℕ) (fits : Bool) (new : Column) : Type 0 where
   pub lower : new.lower ≡ old.lower
   pub texts : new.texts ≡ learned old.texts text

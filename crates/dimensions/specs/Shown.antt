@@ -1,4 +1,4 @@
--- A dimension with the ranks of its members, and the rows for which four dimensions stand.
+-- A dimension with the ranks of its members, and the rows that four dimensions represent.
 use Rattle.std.specs.Prelude.{◌≡◌, ℕ, zero, suc, ◌<◌, ◌⊎◌, Some, None, Result, MatchResult, List, [], ◌∷◌, ◌++◌, map, length, slice_index_or, unwrap_or}
 use Rattle.std.specs.Option.{option_map}
 use Rattle.std.specs.Fmt.{decimal}
@@ -99,7 +99,7 @@ shown_date table row = record {
   weeknuminyear = text_up table 3 row;
 }
 
--- The rows for which four dimensions stand. Callers do not look into it: a proof that owns a `Dims` would otherwise
+-- The rows that four dimensions represent. Callers do not look into it: a proof that owns a `Dims` would otherwise
 -- open the tables.
 unfoldable pub shown_rows : Dimension → Dimension → Dimension → Dimension → DimRows
 shown_rows customers suppliers parts dates = record {

@@ -14,7 +14,7 @@ use Rattle.dimensions.specs.TextRows.{TextRow, text_in, column_of}
 use Rattle.dimensions.specs.Shapes.{lowers_of, lower_of, text_rules}
 use Rattle.dimensions.specs.Columns.{IsColumn, HasCode, LacksRoom, Enters}
 
--- the column with a number (an empty one behind the last)
+-- the column with a number (an empty one after the last)
 abbrev pub no_column : Column
 no_column = record { lower = None; texts = record { texts = []; limit = most_members }; codes = [] }
 
@@ -49,7 +49,7 @@ Numbers table row codes = (i : ℕ) → i < length table.columns.items → HasCo
 abbrev pub HasNoRoom : Table → TextRow → Type 0
 HasNoRoom table row = (i : ℕ) × (i < length table.columns.items) × LacksRoom (column_at table i).texts (text_in i row)
 
--- where a row's code stands in a column: at the row, or at the row's code in the lower column
+-- where a row's code is in a column: at the row, or at the row's code in the lower column
 abbrev pub place_for : Option ℕ → ℕ → List ℕ → ℕ
 place_for None row codes = row
 place_for (Some lower) row codes = slice_index_or codes lower 0

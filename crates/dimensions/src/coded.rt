@@ -106,14 +106,14 @@ impl CodedColumn {
     }
 }
 
-// Whether one of the texts is the one that stands for all members.
+// Whether one of the texts is the one that means all members.
 fn names_all(texts: &Dictionary) -> bool
     ensures { IsTrue result ↔ ¬ AllByRecursion (λ text. text ≢ codes "ALL") texts.now.texts }
 {
     texts.code(b"ALL".as_slice()).is_some()
 }
 
-// Whether codes stand in the order of their first use, each below the count, and every one below it is used.
+// Whether codes are in the order of their first use, each below the count, and every one below it is used.
 fn are_codes(codes: &[u16], count: usize) -> bool
     ensures { IsTrue result ↔ AreCodes count codes.now }
 {

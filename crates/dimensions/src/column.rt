@@ -59,7 +59,7 @@ impl Column {
         }
     }
 
-    /// The same column again. It can only fail for want of memory.
+    /// The same column again. It can only fail when out of memory.
     pub fn copied(&self, alloc: Global) -> Result<Column, Fault>
         ensures ok { IfOk result (λ copy. copy ≡ self.now) }
         ensures memory { IfErr result (λ fault. fault ≡ Fault.Memory) }
@@ -102,8 +102,8 @@ impl Column {
         Some(next as u16)
     }
 
-    /// Puts a text with its code at a place, and says whether it stands there now. It does not where another one
-    /// stands there.
+    /// Puts a text with its code at a place, and says whether it is there now. It is not where another one
+    /// is there.
     pub fn enter(
         &mut self,
         alloc: Global,

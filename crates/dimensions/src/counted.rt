@@ -1,4 +1,4 @@
-//! Keys that count on from a first one, as those of the generator's customers, suppliers and parts do.
+//! Keys that are consecutive from a first one, as those of the generator's customers, suppliers and parts are.
 ghost use Rattle.std.specs.Prelude.{◌≡◌, ◌==◌, ◌+◌, ◌^◌, ◌≤◌, ℕ, List, IfSome, IsTrue, length};
 ghost use Rattle.std.specs.List.{position_or_len};
 ghost use Rattle.dimensions.specs.KeyMaps.{CountOn};
@@ -18,7 +18,7 @@ pub fn first_counted(keys: &[u32]) -> Option<u32>
     Some(first)
 }
 
-// Whether keys count on from a first one. The loop never ends early, so that it works on many keys at once.
+// Whether keys are consecutive from a first one. The loop never ends early, so that it works on many keys at once.
 fn count_on(keys: &[u32], first: u32) -> bool
     requires { first + length keys.now ≤ 2 ^ 32 }
     ensures { IsTrue result → CountOn first keys.now }
@@ -30,14 +30,14 @@ fn count_on(keys: &[u32], first: u32) -> bool
     fine
 }
 
-/// Whether a key is the next one after so many that count on from a first one.
+/// Whether a key is the next one after so many that are consecutive from a first one.
 pub fn counts_next(first: u32, count: usize, key: u32) -> bool
     ensures { IsTrue result → key ≡ first + count }
 {
     first <= key && (key - first) as usize == count
 }
 
-/// Where a key stands among so many that count on from a first one, or how many they are where it is none of them. No
+/// Where a key is among so many that are consecutive from a first one, or how many they are where it is none of them. No
 /// memory is read.
 #[inline(always)]
 pub fn place_counted(first: u32, count: usize, key: u32) -> usize

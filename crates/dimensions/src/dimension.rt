@@ -44,7 +44,7 @@ impl Dimension {
     }
 
     /// The dimension of rows by codes, or `BadLayout` where they are those of no rows that keep the rules. It can also
-    /// fail for want of memory.
+    /// fail when out of memory.
     pub fn of_coded(alloc: Global, axis: Axis, coded: CodedRows) -> Result<Dimension, Fault>
         requires { HaveTexts coded.columns }
         ensures { MakesDimension axis coded result }

@@ -114,7 +114,7 @@ impl Dims {
     }
 
     /// The dimensions of rows by codes, or `BadLayout` where they are those of no valid rows with short texts. It can
-    /// also fail for want of memory.
+    /// also fail when out of memory.
     pub fn of_coded(alloc: Global, coded: CodedDims) -> Result<Dims, Fault>
         requires { HaveAllTexts coded }
         ensures ok { IfOk result (λ dims. AreCodedDims dims coded) }
@@ -164,7 +164,7 @@ impl Dims {
         self.dimension(axis).column(column).texts()
     }
 
-    /// The code of the text at each place of a column of a dimension: in each row, or beside each text of the lower
+    /// The code of the text at each place of a column of a dimension: in each row, or next to each text of the lower
     /// column.
     pub fn codes(&self, axis: Axis, column: usize) -> &[u16]
         requires { column < length (lowers_of axis) }
@@ -213,7 +213,7 @@ impl Dims {
         self.ranks(attr).count()
     }
 
-    /// The rank of the text at a row index, `place`: where the text stands among the members, in order by bytes.
+    /// The rank of the text at a row index, `place`: where the text is among the members, in order by bytes.
     pub fn rank(&self, attr: Attr, place: usize) -> u16
         requires { place < row_count_of self.now (axis_of attr) }
         ensures below { result < length (attr_members self.now attr) }

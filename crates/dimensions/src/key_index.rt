@@ -14,11 +14,11 @@ use std::marker::Model;
 
 /// Distinct keys in the order of their rows. Contracts see it as the list of the keys.
 ///
-/// The row index of a key is computed where the keys count on from the first, and looked up in a map where they do not.
+/// The row index of a key is computed where the keys are consecutive from the first, and looked up in a map where they are not.
 #[derive(Drop)]
 pub struct KeyIndex {
     keys: Vec<u32>,
-    // The first key, while the others count on from it. Else the map has the row indexes.
+    // The first key, while the others are consecutive from it. Else the map has the row indexes.
     first: Option<u32>,
     map: KeyMap,
 }
@@ -49,7 +49,7 @@ impl KeyIndex {
         }
     }
 
-    /// The keys of a list, if none stands there twice. It can only fail for want of memory.
+    /// The keys of a list, if none occurs twice. It can only fail when out of memory.
     pub fn of(alloc: Global, keys: Vec<u32>) -> Result<Option<KeyIndex>, Fault>
         requires few { length keys.items ≤ most_dimension_rows }
         ensures ok { IfOk result (λ found. MatchOption found (¬ AreDistinct keys.items) (λ index. (index ≡ keys.items) × AreDistinct keys.items)) }
@@ -85,7 +85,7 @@ impl KeyIndex {
         }))
     }
 
-    /// The same keys again. It can only fail for want of memory.
+    /// The same keys again. It can only fail when out of memory.
     pub fn copied(&self, alloc: Global) -> Result<KeyIndex, Fault>
         ensures ok { IfOk result (λ copy. copy ≡ self.now) }
         ensures memory { IfErr result (λ fault. fault ≡ Fault.Memory) }
@@ -125,7 +125,7 @@ impl KeyIndex {
         }
     }
 
-    /// Adds a new key behind the others. It can only fail for want of memory.
+    /// Adds a new key after the others. It can only fail when out of memory.
     pub fn push(&mut self, alloc: Global, key: u32) -> Result<(), Fault>
         requires new { position_or_len (λ other. other == key) self.old ≡ length self.old }
         requires few { length self.old < 4294967295 }
@@ -148,8 +148,8 @@ impl KeyIndex {
         }
     }
 
-    // Adds a new key after the others if all count on from the first then, and says whether it did. It can only fail
-    // for want of memory.
+    // Adds a new key after the others if all are consecutive from the first then, and says whether it did. It can only fail
+    // when out of memory.
     fn push_counted(&mut self, key: u32) -> Result<bool, Fault>
         requires few { length self.old < 4294967295 }
         ensures added { IfOk result (λ added. OnTrue added (self.new ≡ self.old ++ key ∷ [])) }
@@ -169,8 +169,8 @@ impl KeyIndex {
         Ok(true)
     }
 
-    /// Reads the row indexes direct from now on, at the key, if the keys do not count on from the first but lie close
-    /// together. It can only fail for want of memory.
+    /// Reads the row indexes direct from now on, at the key, if the keys are not consecutive from the first but lie close
+    /// together. It can only fail when out of memory.
     pub fn densify(&mut self, alloc: Global) -> Result<(), Fault>
         ensures keys { self.new ≡ self.old }
         ensures memory { IfErr result (λ fault. fault ≡ Fault.Memory) }
@@ -183,7 +183,7 @@ impl KeyIndex {
     }
 }
 
-// Puts the row indexes of keys into the map, unless it has them. It can only fail for want of memory, and then changes
+// Puts the row indexes of keys into the map, unless it has them. It can only fail when out of memory, and then changes
 // nothing.
 fn look_up(
     alloc: Global,

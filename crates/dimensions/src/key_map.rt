@@ -6,7 +6,7 @@ ghost use Rattle.dimensions.specs.Entries.{entry_row};
 use std::alloc::{AllocError, Global};
 use std::collections::HashMap;
 
-/// How many direct entries there may be beside four for each key.
+/// How many direct entries there may be besides four for each key.
 const WIDTH_SPARED: usize = 65536;
 
 /// The row indexes of keys: direct entries from a first key on, read at the key, and a map by hash for the keys
@@ -34,7 +34,7 @@ impl KeyMap {
         }
     }
 
-    /// The same row indexes again. It can only fail for want of memory.
+    /// The same row indexes again. It can only fail when out of memory.
     pub fn copied(&self, alloc: Global) -> Result<KeyMap, AllocError>
         ensures { IfOk result (λ copy. (key : ℕ) → row_index_in copy key ≡ row_index_in self.now key) }
     {
@@ -77,7 +77,7 @@ impl KeyMap {
         }
     }
 
-    /// Puts a key at a row index. It can only fail for want of memory, and then changes nothing.
+    /// Puts a key at a row index. It can only fail when out of memory, and then changes nothing.
     pub fn put(&mut self, key: u32, row: u32) -> Result<(), AllocError>
         requires { row < 4294967295 }
         ensures ok { OnOk result ((other : ℕ) → row_index_in self.new other ≡ (if nat_eq key other then Some row else row_index_in self.old other)) }
@@ -93,7 +93,7 @@ impl KeyMap {
         self.put_behind(key, row)
     }
 
-    // Puts a key that has no direct entry: direct where it comes next behind them, else by hash.
+    // Puts a key that has no direct entry: direct where it comes next after them, else by hash.
     fn put_behind(&mut self, key: u32, row: u32) -> Result<(), AllocError>
         requires row { row < 4294967295 }
         requires elsewhere { covers self.old key ≡ false }
@@ -108,7 +108,7 @@ impl KeyMap {
         Ok(())
     }
 
-    /// The row indexes of the keys of a list, each that of its first row. It can only fail for want of memory.
+    /// The row indexes of the keys of a list, each that of its first row. It can only fail when out of memory.
     pub fn of(alloc: Global, keys: &[u32]) -> Result<KeyMap, AllocError>
         requires few { length keys.now < 2 ^ 32 }
         ensures { IfOk result (λ map. (key : ℕ) → row_index_in map key ≡ position (λ other. other == key) keys.now) }
@@ -125,7 +125,7 @@ impl KeyMap {
         Ok(map)
     }
 
-    /// Reads all keys of a list direct from now on, if they lie close together. It can only fail for want of
+    /// Reads all keys of a list direct from now on, if they lie close together. It can only fail when out of
     /// memory, and then changes nothing.
     pub fn densify(&mut self, alloc: Global, keys: &[u32]) -> Result<(), AllocError>
         requires rows { (key : ℕ) → row_index_in self.old key ≡ position (λ other. other == key) keys.now }

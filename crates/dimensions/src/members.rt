@@ -7,7 +7,7 @@ use cube_model::{Items, Text};
 use dictionary::Dictionary;
 use std::alloc::{AllocError, Global};
 
-/// Whether a text is the one that stands for all members.
+/// Whether a text is the one that means all members.
 pub fn is_all(text: &[u8]) -> bool
     ensures { result ≡ bytes_eq (codes "ALL") text.now }
 {

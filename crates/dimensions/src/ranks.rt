@@ -36,7 +36,7 @@ impl Model for Ranks {
 }
 
 impl Ranks {
-    /// The ranks of texts. It can only fail for want of memory.
+    /// The ranks of texts. It can only fail when out of memory.
     pub fn of(alloc: Global, texts: Vec<Text>) -> Result<Ranks, Fault>
         requires { length texts.items ≤ most_members }
         ensures ok { IfOk result (λ ranks. ranks ≡ texts.items) }
@@ -52,7 +52,7 @@ impl Ranks {
         Ok(Ranks { members, ranks })
     }
 
-    /// The ranks of the keys of some days, in decimal without leading zeros. It can only fail for want of memory.
+    /// The ranks of the keys of some days, in decimal without leading zeros. It can only fail when out of memory.
     pub fn of_days(alloc: Global, keys: &[u32]) -> Result<Ranks, Fault>
         requires { length keys.now ≤ most_members }
         ensures ok { IfOk result (λ ranks. ranks ≡ map decimal keys.now) }
@@ -62,7 +62,7 @@ impl Ranks {
         Ranks::of(alloc, texts)
     }
 
-    /// The ranks of the texts of a dictionary, at their codes. It can only fail for want of memory.
+    /// The ranks of the texts of a dictionary, at their codes. It can only fail when out of memory.
     pub fn of_dictionary(alloc: Global, dictionary: &Dictionary) -> Result<Ranks, Fault>
         requires { length dictionary.now.texts ≤ most_members }
         ensures ok { IfOk result (λ ranks. ranks ≡ dictionary.now.texts) }

@@ -1,4 +1,4 @@
-//! The columns of the dimensions: which determines which, and where an attribute stands.
+//! The columns of the dimensions: which determines which, and where an attribute is.
 ghost use Rattle.std.specs.Prelude.{◌≡◌, ◌≤◌, length};
 ghost use Rattle.cube_model.specs.Limits.{most_dimension_rows};
 ghost use Rattle.dimensions.specs.Shapes.{attr_column, lower_of, lowers_of, row_limit_of};

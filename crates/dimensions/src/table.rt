@@ -79,7 +79,7 @@ impl Table {
         Ok(())
     }
 
-    /// The same table again. It can only fail for want of memory.
+    /// The same table again. It can only fail when out of memory.
     pub fn copied(&self, alloc: Global) -> Result<Table, Fault>
         ensures keys { IfOk result (λ copy. copy.keys ≡ self.now.keys) }
         ensures columns { IfOk result (λ copy. copy.columns.items ≡ self.now.columns.items) }
@@ -91,7 +91,7 @@ impl Table {
     }
 
     /// The table of rows by codes, or `BadLayout` where they are those of no rows that keep the rules. It can also
-    /// fail for want of memory.
+    /// fail when out of memory.
     pub fn of_coded(alloc: Global, axis: Axis, coded: CodedRows) -> Result<Table, Fault>
         requires { HaveTexts coded.columns }
         ensures { MakesTable axis coded result }
@@ -123,7 +123,7 @@ impl Table {
         })
     }
 
-    /// Adds one more row behind the others, or answers the first cause to refuse it. Rows count from 1.
+    /// Adds one more row after the others, or answers the first cause to refuse it. Rows count from 1.
     pub fn add<R: TableRow>(&mut self, alloc: Global, axis: Axis, row: &R) -> Result<(), Fault>
         requires sound { IsSomeTable axis self.old }
         requires few { length self.old.keys < most_dimension_rows }
@@ -260,7 +260,7 @@ impl Table {
         self.columns[column].code(place)
     }
 
-    /// The ranks of the members of each column, at their codes. It can only fail for want of memory.
+    /// The ranks of the members of each column, at their codes. It can only fail when out of memory.
     pub fn ranks(&self, alloc: Global) -> Result<Vec<Ranks>, Fault>
         requires { (axis : Axis) × IsSomeTable axis self.now }
         ensures count { IfOk result (λ ranks. vec_len ranks ≡ vec_len self.now.columns) }
@@ -275,7 +275,7 @@ impl Table {
     }
 }
 
-// The columns of a table, from those by codes. It can only fail for want of memory.
+// The columns of a table, from those by codes. It can only fail when out of memory.
 fn columns_of(alloc: Global, axis: Axis, coded: Vec<CodedColumn>) -> Result<Vec<Column>, Fault>
     ensures ok { IfOk result (λ columns. columns.items ≡ columns_from axis 0 coded.items) }
     ensures memory { IfErr result (λ fault. fault ≡ Fault.Memory) }
@@ -297,7 +297,7 @@ fn has_room(axis: Axis, before: usize, more: usize) -> bool
     before <= limit && more <= limit - before
 }
 
-// The same columns again. It can only fail for want of memory.
+// The same columns again. It can only fail when out of memory.
 fn copied_columns(alloc: Global, columns: &[Column]) -> Result<Vec<Column>, Fault>
     ensures ok { IfOk result (λ copies. copies.items ≡ columns.now) }
     ensures memory { IfErr result (λ fault. fault ≡ Fault.Memory) }
@@ -334,7 +334,7 @@ fn counted_after(before: u32, fault: Fault) -> Fault
     }
 }
 
-// Whether one of a row's texts is the one that stands for all members.
+// Whether one of a row's texts is the one that means all members.
 fn names_all<R: TableRow>(row: &R, count: usize) -> bool
     requires { length (R.shown row.now).texts ≡ count }
     ensures some { OnTrue result ((i : ℕ) × (i < count) × (bytes_eq (codes "ALL") (text_in i (R.shown row.now)) ≡ true)) }
@@ -348,7 +348,7 @@ fn names_all<R: TableRow>(row: &R, count: usize) -> bool
     false
 }
 
-// Where the code of a row stands in a column above a lower one, or above the rows.
+// Where the code of a row is in a column above a lower one, or above the rows.
 fn place_in(lower: Option<usize>, row: usize, codes: &[u16; COLUMN_LIMIT]) -> usize
     requires { IfSome lower (λ column. column < 4) }
     ensures { result ≡ place_for lower row codes.now }

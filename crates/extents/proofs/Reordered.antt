@@ -28,7 +28,7 @@ apart_at xs i j d all i_lt j_lt differ = elim (cases_lt i j) [
   | inr not_below ↦ λ s here there. all j i d (omega arith) i_lt s there here
 ]
 
--- where the item at a place stood before a swap
+-- where the item at a place was before a swap
 abbrev pub Stood : ℕ → ℕ → ℕ → ℕ → Type 0
 Stood i j m n = ((m ≡ i) × (n ≡ j)) ⊎ (((m ≡ j) × (n ≡ i)) ⊎ ((m ≢ i) × (m ≢ j) × (n ≡ m)))
 

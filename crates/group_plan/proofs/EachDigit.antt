@@ -1,4 +1,4 @@
--- The digits of numbers of groups, each by itself: what one stands for, and the number with that of ALL in its place.
+-- The digits of numbers of groups, each by itself: what one means, and the number with that of ALL in its place.
 use Rattle.std.specs.Prelude.{nat_eq}
 use Rattle.std.proofs.Common.{◌≡◌, ◌≢◌, true, false, ◌∙◌, sym, ap, refl, subst, inl, inr, length-append, ◌++◌, ℕ, zero, suc, ◌+◌, ◌*◌, ◌-◌, ◌/◌, ◌%◌, ◌<◌, ◌≤◌, List, [], ◌∷◌, drop, arith, length, get_or, slice_set}
 use Rattle.std.proofs.lemmas.Bool.{cases_lt}
@@ -16,7 +16,7 @@ use Rattle.group_plan.specs.Numbers.{digit_count, group_count, member_at, key_at
 use Rattle.group_plan.specs.Columns.{is_all, digit_of, with_highest, attr_at, weight_at, AreColumns, IsColumn}
 use Rattle.group_plan.proofs.Numbers.{positive, member_at-all, member_at-rank}
 
--- ---- a whole that is taken some times, with something behind it
+-- ---- a whole that is taken some times, with something after it
 module _ (q m d w r : ℕ) (some : 0 < w) where
   quotient_more : (q * (m * (d * w)) + r) / w ≡ q * m * d + r / w
   quotient_more = ap (λ n. (n + r) / w) regroup ∙ mul-add-div_right some (q * m * d) r
@@ -47,7 +47,7 @@ module _ (q m d w r : ℕ) (some : 0 < w) where
         regroup : (h t l : ℕ) → ((q * m + h) * d + t) * w + l ≡ q * (m * (d * w)) + ((h * d + t) * w + l)
         regroup h t l = omega arith
 
--- what stands above a digit is no more than the whole
+-- what is above a digit is no more than the whole
 pub above_fits : (d w number : ℕ) → 0 < w → number / (d * w) * d ≤ with_highest d w number
 above_fits d w number some = whole (number / (d * w) * d) (d - 1) w (number % w) some
   where
@@ -71,7 +71,7 @@ module _ (dimensions : DimRows) where
       mul-le-one : (a b : ℕ) → b ≤ (a + 1) * b
       mul-le-one a b = omega arith
 
-  -- the groups by all columns behind one are a multiple of those by a later one and those behind it
+  -- the groups by all columns after one are a multiple of those by a later one and those after it
   whole_is : (columns : List Attr) (i : ℕ) → i < length columns
       → (m : ℕ) × (group_count dimensions columns ≡ m * (digit_count dimensions (attr_at columns i) * group_count dimensions (drop (suc i) columns)))
   whole_is [] i h = absurd (omega (arith, h))
@@ -84,7 +84,7 @@ module _ (dimensions : DimRows) where
       regroup : (a b c : ℕ) → a * (b * c) ≡ a * b * c
       regroup a b c = omega arith
 
-  -- what the digit of a column stands for is what the key has there
+  -- what the digit of a column means is what the key has there
   key_digit : (columns : List Attr) (i number : ℕ) → i < length columns → number < group_count dimensions columns
       → get_or (key_at dimensions columns number) i All ≡ member_at dimensions (attr_at columns i) (digit_of (digit_count dimensions (attr_at columns i)) (group_count dimensions (drop (suc i) columns)) number)
   key_digit [] i number h below = absurd (omega (arith, h))
@@ -164,7 +164,7 @@ module _ (dimensions : DimRows) where
   key_length [] number = refl
   key_length (column ∷ columns) number = ap suc (key_length columns (number % group_count dimensions columns))
 
-  -- a column and those behind it make no more groups than all
+  -- a column and those after it make no more groups than all
   pub weight_within : (columns : List Attr) (i : ℕ) → i < length columns → digit_count dimensions (attr_at columns i) * weight_at dimensions columns i ≤ group_count dimensions columns
   weight_within columns i h =
       let m = whole_is columns i h in

@@ -1,4 +1,4 @@
--- Dimensions to which rows are added: what stood at a place stands there.
+-- Dimensions to which rows are added: what was at a place is there.
 use Rattle.std.proofs.Common.{◌≡◌, ◌∙◌, sym, ap, refl, subst, ℕ, ◌<◌, List, [], arith, length, get_or, map}
 use Rattle.std.specs.Fmt.{decimal}
 use Rattle.std.proofs.lemmas.List.{append-nil, get_or_append_left, length-append, length-map, map-append}
@@ -34,7 +34,7 @@ plan_of_over dimensions plan over = subst (λ rows. IsPlanOf rows plan) (sym ove
 pub plan_over : (dimensions : DimRows) (plan : Plan) → IsPlanOf dimensions plan → IsPlanOver dimensions plan
 plan_over dimensions plan made = record { beginning = dimensions; made = made; those = refl }
 
--- ---- rows behind them
+-- ---- rows after them
 stays : {Row : Type 0} (text : Row → List ℕ) (rows longer : List Row) → HasBehind rows longer → (place : ℕ) → place < length rows
     → get_or (map text longer) place [] ≡ get_or (map text rows) place []
 stays text rows longer behind place within =

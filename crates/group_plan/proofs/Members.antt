@@ -1,4 +1,4 @@
--- Members stand in order, so each text has one rank.
+-- Members are in order, so each text has one rank.
 use Rattle.std.proofs.Common.{◌≡◌, ◌<◌, ◌∙◌, zero, suc, sym, ap, refl, arith, ℕ, List, [], ◌∷◌, length, get_or}
 use Rattle.std.specs.Str.{bytes_eq}
 use Rattle.std.specs.List.{AllByRecursion}

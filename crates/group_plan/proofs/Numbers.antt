@@ -1,4 +1,4 @@
--- Numbers of groups: their digits, and the keys that they stand for.
+-- Numbers of groups: their digits, and the keys that they mean.
 use Rattle.std.proofs.Common.{◌≡◌, ◌∙◌, sym, ap, refl, subst, true≢false, not, ℕ, zero, suc, ◌+◌, ◌*◌, ◌/◌, ◌%◌, ◌<◌, ◌≤◌, true, false, cond, Bool, ◌||◌, List, [], ◌∷◌, map, arith, length, get_or, inl, inr}
 use Rattle.std.specs.Prelude.{nat_lt}
 use Rattle.std.specs.Str.{bytes_eq}
@@ -57,7 +57,7 @@ member_at-all dimensions column digit h =
     let test : nat_lt digit (length (attr_members dimensions column)) ≡ false = grind (arith, nat_tests) in
     ap (λ b. cond b (Text (get_or (attr_members dimensions column) digit [])) All) test
 
--- what the digits of a column stand for rises
+-- what the digits of a column mean rises
 pub member_rises : (dimensions : DimRows) (column : Attr) (c d : ℕ) → c < d → d < digit_count dimensions column → member_cmp (member_at dimensions column c) (member_at dimensions column d) ≡ Less
 member_rises dimensions column c d below in_range =
     let members = attr_members dimensions column in

@@ -1,12 +1,12 @@
--- How the dimensions that a plan is handed stand to those that it was made over. Our own.
+-- How the dimensions that a plan is given relate to those that it was made over. Our own.
 use Rattle.std.specs.Prelude.{◌≡◌, List, ◌++◌}
 use Rattle.cube_model.specs.declared.rows.DimRows.{DimRows}
 
--- rows, with others behind them
+-- rows, with others after them
 abbrev pub HasBehind : {Row : Type 0} → List Row → List Row → Type 0
 HasBehind {Row} rows longer = (more : List Row) × (longer ≡ rows ++ more)
 
--- dimensions with rows added behind those of their beginning
+-- dimensions with rows added after those of their beginning
 pub record Extend (beginning dimensions : DimRows) : Type 0 where
   pub customers : HasBehind beginning.customers dimensions.customers
   pub suppliers : HasBehind beginning.suppliers dimensions.suppliers

@@ -1,4 +1,4 @@
--- The columns of a query as a plan keeps them: where the digits of each stand in the numbers of groups. Our own.
+-- The columns of a query as a plan keeps them: where the digits of each are in the numbers of groups. Our own.
 use Rattle.std.specs.Prelude.{◌≡◌, ℕ, ◌+◌, ◌-◌, ◌*◌, ◌/◌, ◌%◌, ◌<◌, Bool, true, false, List, length, drop, slice_index_or}
 use Rattle.cube_model.specs.declared.answer.Member.{Member}
 use Rattle.cube_model.specs.declared.answer.Member.TheVariants.{All, Text}
@@ -21,7 +21,7 @@ with_highest digits weight number = (number / (digits * weight) * digits + (digi
 abbrev pub attr_at : List Attr → ℕ → Attr
 attr_at columns i = slice_index_or columns i CustomerCity
 
--- how many groups the columns behind one can make
+-- how many groups the columns after one can make
 abbrev pub weight_at : DimRows → List Attr → ℕ → ℕ
 weight_at dimensions columns i = group_count dimensions (drop (i + 1) columns)
 

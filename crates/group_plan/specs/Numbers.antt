@@ -1,5 +1,5 @@
 -- The groups of a query by numbers. The ranks of a group's members are the digits of its number, the first column's the
--- highest. ALL is the digit behind those of a column's members, so that keys rise with their numbers. Our own.
+-- highest. ALL is the digit after those of a column's members, so that keys rise with their numbers. Our own.
 use Rattle.std.specs.Prelude.{◌≡◌, ℕ, ◌+◌, ◌*◌, ◌/◌, ◌%◌, ◌<◌, nat_lt, true, false, cond, Option, Some, None, List, [], ◌∷◌, map, length, slice_index_or}
 use Rattle.std.specs.declared.cmp.Ordering.TheVariants.{Less}
 use Rattle.cube_model.specs.declared.answer.Member.{Member}
@@ -23,7 +23,7 @@ abbrev pub group_count : DimRows → List Attr → ℕ
 group_count dimensions [] = 1
 group_count dimensions (column ∷ columns) = digit_count dimensions column * group_count dimensions columns
 
--- what a digit of a column stands for
+-- what a digit of a column means
 abbrev pub member_at : DimRows → Attr → ℕ → Member
 member_at dimensions column digit =
     cond (nat_lt digit (length (attr_members dimensions column))) (Text (slice_index_or (attr_members dimensions column) digit [])) All

@@ -2,7 +2,7 @@
 use Rattle.std.specs.Prelude.{ℕ, List, [], slice_index_or}
 use Rattle.cube_model.specs.declared.rows.LineOrder.{LineOrder}
 
--- a fact row of noughts and empty texts
+-- a fact row of zeros and empty texts
 abbrev pub no_row : LineOrder
 no_row = record {
   orderkey = 0;

@@ -1,4 +1,4 @@
-//! The columns of a query, and where their digits stand in the numbers of groups.
+//! The columns of a query, and where their digits are in the numbers of groups.
 ghost use Rattle.std.specs.Prelude.{◌≡◌, ◌<◌, ◌≤◌, ◌*◌, ◌+◌, ◌-◌, ◌^◌, length, drop, nat_eq, IfNone, IfOk, IfSome};
 ghost use Rattle.cube_model.specs.declared.answer.Member.TheVariants.{All, Text};
 ghost use Rattle.cube_model.specs.declared.rows.DimRows.{DimRows};
@@ -84,8 +84,8 @@ impl Column {
         (above + (self.digits - 1)) * self.weight + number % self.weight
     }
 
-    /// What a digit stands for: the text of a row that has the member, and ALL behind the last member. Rows that were added
-    /// behind those that the column was made of do not change it.
+    /// What a digit means: the text of a row that has the member, and ALL after the last member. Rows that were added
+    /// after those that the column was made of do not change it.
     pub fn member(&self, alloc: Global, dims: &Dims, digit: u128) -> Result<Member, AllocError>
         requires { (beginning : DimRows) × (HaveMembers beginning self.now.attr self.now.places.items × Extend beginning dims.now) }
         ensures { IfOk result (λ member. (beginning : DimRows) → HaveMembers beginning self.now.attr self.now.places.items
@@ -97,7 +97,7 @@ impl Column {
         }
     }
 
-    /// The text of the member that a digit stands for, where it is: none for ALL.
+    /// The text of the member that a digit represents, where it is: none for ALL.
     pub fn text<'a>(&self, dims: &'a Dims, digit: u128) -> Option<&'a [u8]>
         requires { (beginning : DimRows) × (HaveMembers beginning self.now.attr self.now.places.items × Extend beginning dims.now) }
         ensures text { IfSome result (λ text. (beginning : DimRows) → HaveMembers beginning self.now.attr self.now.places.items

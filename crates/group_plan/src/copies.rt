@@ -58,7 +58,7 @@ fn copied_aggregates(alloc: Global, aggregates: &[Agg]) -> Result<Items<Agg>, Al
     Ok(Items::from_vec(Vec::from_slice(alloc, aggregates)?))
 }
 
-/// The same query once more. It can only fail for want of memory.
+/// The same query once more. It can only fail when out of memory.
 pub fn copied_query(alloc: Global, query: &Query) -> Result<Query, AllocError>
     ensures { IfOk result (λ copy. copy ≡ query.now) }
 {

@@ -33,7 +33,7 @@ pub struct Digit {
 }
 
 impl Digit {
-    /// The digits of a dimension by some columns, at most six, in their order. It can only fail for want of memory.
+    /// The digits of a dimension by some columns, at most six, in their order. It can only fail when out of memory.
     pub fn all_on(
         alloc: Global,
         dims: &Dims,

@@ -105,7 +105,7 @@ fn mark(passes: &mut Vec<bool>, first: u32, key: u32, pass: bool)
     }
 }
 
-// The least key and the one behind the greatest, where keys lie close together.
+// The least key and the one after the greatest, where keys lie close together.
 fn span_of(keys: &[u32]) -> (u32, u32) {
     let mut first = u32::MAX;
     let mut last = 0;

@@ -1,4 +1,4 @@
-//! Rows that have the members of an attribute. What stands at a row's place stays there when rows are added behind.
+//! Rows that have the members of an attribute. What is at a row's place stays there when rows are added after it.
 ghost use Rattle.std.specs.Prelude.{IfOk};
 ghost use Rattle.group_plan.specs.MemberRows.{HaveMembers};
 

@@ -226,7 +226,7 @@ impl<'a> PlanOver<'a> {
         self.plan.columns[column].digit(number)
     }
 
-    /// Whether the group with a number has ALL in a column. Behind the last column it has.
+    /// Whether the group with a number has ALL in a column. After the last column it has.
     pub fn is_all(&self, column: usize, number: u128) -> bool
         requires { number < group_count self.now.dimensions self.now.query.columns }
         ensures { result ≡ is_all (slice_index_or (key_at self.now.dimensions self.now.query.columns number) column All) }

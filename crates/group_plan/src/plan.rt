@@ -46,7 +46,7 @@ impl Drop for Plan {
 }
 
 impl Plan {
-    /// Makes a proper query ready. It can only fail for want of memory.
+    /// Makes a proper query ready. It can only fail when out of memory.
     pub fn new(alloc: Global, dims: &Dims, query: &Query) -> Result<Plan, AllocError>
         requires { IsProper query.now }
         ensures over { IfOk result (IsPlanOver dims.now) }

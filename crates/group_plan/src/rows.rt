@@ -1,4 +1,4 @@
-//! Fact rows as a plan and a fold read them, wherever they stand.
+//! Fact rows as a plan and a fold read them, wherever they are.
 ghost use Rattle.std.specs.Prelude.{◌≡◌, ◌<◌, ℕ, List, length, map};
 ghost use Rattle.cube_model.specs.declared.rows.LineOrder.{LineOrder};
 ghost use Rattle.cube_model.specs.Attributes.{key_on};
@@ -38,7 +38,7 @@ pub trait FactRows {
         ensures { result ≡ measure_of measure (row_at (rows self.now) place) };
 }
 
-/// Fact rows whose ship modes are told by codes: each row has the code of a text. A text may have several codes.
+/// Fact rows whose ship modes are given by codes: each row has the code of a text. A text may have several codes.
 pub trait ModeRows: FactRows {
     /// The text of each code.
     ghost modes: { Self → List (List ℕ) };

@@ -55,7 +55,7 @@ impl Hierarchy {
 
     /// Makes a member of the level above the upper member of a code, and says whether it is that now.
     ///
-    /// It is not where the code has another upper member, and where it leaves out a code. It can only fail for want of
+    /// It is not where the code has another upper member, and where it leaves out a code. It can only fail when out of
     /// memory, and then changes nothing.
     pub fn link(&mut self, code: usize, upper: u16) -> Result<bool, Fault>
         ensures ok { IfOk result (λ linked. PutsUpper self.old code upper linked self.new) }

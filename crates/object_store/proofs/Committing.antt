@@ -114,7 +114,7 @@ module _ (s0 : DeviceState) (super : Super) (entries : List Entry) (root0 : List
         (committed puts drops root layout c0) (generation_is puts drops root layout c0) (layout_is puts drops root layout c0)
         (objects_is puts drops root layout c0 ∙ ap (λ (l : List (ℕ × List ℕ)). put_all puts l) (sym left)) (root_is puts drops root layout c0) older
 
-    -- what a stop at any moment leaves
+    -- what a crash at any point leaves
     pub either_shows : (image : Image) → IsEither plan puts s0.reads image → ShowsSome (IsOneOf c0 (committed puts drops root layout c0)) s0.size image
     either_shows image either =
         ⊎_elim (λ beside. (c0, (super, entries, before_shows image beside), inl refl))

@@ -26,6 +26,6 @@ pub record ArePlacedBeside (sectors : ℕ) (used : List Extent) (puts : List (�
   pub beside : IsFreeBeside sectors used first
   pub placed : ArePlaced first puts entries now
 
--- a refusal for want of memory, or of room
+-- a refusal when out of memory or room
 abbrev pub LacksMemoryOr : Type 0 → Fault → Type 0
 LacksMemoryOr room fault = (fault ≡ Memory) ⊎ ((fault ≡ Full) × room)

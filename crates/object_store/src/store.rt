@@ -324,7 +324,7 @@ impl<D: Sectors> Store<D> {
         requires layout { IsLayout layout }
         requires few { IsFew (committed (puts_of puts.now) drops.now root.now layout (content_of D.Sectors self.old)) }
 
-        // A stop at any moment leaves the content before or the content after.
+        // A crash at any point leaves the content before or the content after.
         ensures leaves { has_failed self.old ≡ false → Leaves (disk_of D.Sectors self.old) (disk_of D.Sectors self.new)
             (IsOneOf (content_of D.Sectors self.old) (committed (puts_of puts.now) drops.now root.now layout (content_of D.Sectors self.old))) }
 

@@ -36,7 +36,7 @@ abbrev pub SpellsKind : Option (List ℕ) → Kind → Type 0
 SpellsKind None kind = kind ≡ Plain
 SpellsKind (Some word) kind = word ≡ kind_name kind
 
--- columns: their names, parted by commas (44), and none where there is no word
+-- columns: their names, separated by commas (44), and none where there is no word
 abbrev pub SpellsColumns : Option (List ℕ) → List Attr → Type 0
 SpellsColumns None columns = columns ≡ []
 SpellsColumns (Some text) columns = map attr_name columns ≡ parts_by 44 text
@@ -53,12 +53,12 @@ agg_word (Avg measure) = codes "avg:" ++ measure_name measure
 abbrev pub SpellsAggregate : List ℕ → Agg → Type 0
 SpellsAggregate word agg = (word ≡ agg_word agg) ⊎ (word ≡ agg_name agg)
 
--- aggregates: parted by commas
+-- aggregates: separated by commas
 abbrev pub SpellsAggregates : Option (List ℕ) → List Agg → Type 0
 SpellsAggregates None aggregates = ⊥
 SpellsAggregates (Some text) aggregates = AllZip SpellsAggregate (parts_by 44 text) aggregates
 
--- a condition: the name of what it is on, a sign, and its texts or its two ends, parted by bars (124). No name has a sign in
+-- a condition: the name of what it is on, a sign, and its texts or its two ends, separated by bars (124). No name has a sign in
 -- it, so the first one ends the name
 abbrev pub condition_name : Cond → List ℕ
 condition_name (OneOf attr texts) = attr_name attr
@@ -79,7 +79,7 @@ pub record IsSmallNumber (text : List ℕ) (number : ℕ) : Type 0 where
   pub value : number ≡ digits_value 10 text
   pub small : number ≤ 255
 
--- two such numbers, parted by a bar
+-- two such numbers, separated by a bar
 pub record AreBounds (text : List ℕ) (low high : ℕ) : Type 0 where
   pub low_text : List ℕ
   pub high_text : List ℕ

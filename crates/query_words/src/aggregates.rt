@@ -11,7 +11,7 @@ use crate::parts::parts;
 use cube_model::{Agg, Attr, Fault, Items};
 use std::alloc::Global;
 
-/// Reads columns that are parted by commas, such as `d_year,p_brand1`. Without a word there are none.
+/// Reads columns that are separated by commas, such as `d_year,p_brand1`. Without a word there are none.
 pub fn read_columns(alloc: Global, by: Option<&str>) -> Result<Items<Attr>, Fault>
     ensures { Reads (SpellsColumns (option_map (λ text. text.now) by.entry)) result }
 {
@@ -42,7 +42,7 @@ fn attributes_of(alloc: Global, names: &[&str]) -> Result<Items<Attr>, Fault>
     Ok(columns)
 }
 
-/// Reads aggregates that are parted by commas, such as `count,sum:revenue`, or as a header has them, `count,sum(revenue)`.
+/// Reads aggregates that are separated by commas, such as `count,sum:revenue`, or as a header has them, `count,sum(revenue)`.
 pub fn read_aggregates(alloc: Global, text: &str) -> Result<Items<Agg>, Fault>
     ensures { Reads (SpellsAggregates (Some text.now)) result }
 {

@@ -13,7 +13,7 @@ pub fn parts(alloc: Global, text: &str, sign: char) -> Result<Vec<&str>, AllocEr
     text.split(sign).collect(alloc)
 }
 
-/// A copy of a text. It can only fail for want of memory.
+/// A copy of a text. It can only fail when out of memory.
 pub fn text_of(alloc: Global, text: &str) -> Result<Text, Fault>
     ensures ok { IfOk result (λ copy. copy ≡ text.now) }
     ensures only { IfErr result (λ fault. fault ≡ Fault.Memory) }
@@ -21,7 +21,7 @@ pub fn text_of(alloc: Global, text: &str) -> Result<Text, Fault>
     Ok(Items::from_vec(Vec::from_slice(alloc, text.as_bytes())?))
 }
 
-/// The texts between bars. It can only fail for want of memory.
+/// The texts between bars. It can only fail when out of memory.
 pub fn texts(alloc: Global, list: &str) -> Result<Items<Text>, Fault>
     ensures ok { IfOk result (λ texts. texts ≡ parts_by 124 list.now) }
     ensures only { IfErr result (λ fault. fault ≡ Fault.Memory) }
@@ -30,7 +30,7 @@ pub fn texts(alloc: Global, list: &str) -> Result<Items<Text>, Fault>
     copies(alloc, parts.as_slice())
 }
 
-// Copies of texts. It can only fail for want of memory.
+// Copies of texts. It can only fail when out of memory.
 fn copies(alloc: Global, texts: &[&str]) -> Result<Items<Text>, Fault>
     ensures ok { IfOk result (λ copies. copies ≡ map (λ text. text.now) texts.now) }
     ensures only { IfErr result (λ fault. fault ≡ Fault.Memory) }

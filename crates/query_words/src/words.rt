@@ -14,7 +14,7 @@ use std::alloc::Global;
 /// Reads the words of a query: a query of the benchmark by its number `q`, or a cube query by the
 /// name of its set, its columns, its aggregates and its conditions.
 ///
-/// Columns and aggregates are parted by commas. Words that spell no query are refused with
+/// Columns and aggregates are separated by commas. Words that are not a query are refused with
 /// `BadQuery`. Whether the query is proper is not checked here.
 pub fn read_query(
     alloc: Global,

@@ -4,7 +4,7 @@ use cube_model::Fault;
 use sector_device::{MemDisk, Sectors};
 use std::alloc::Global;
 
-/// A sector, a place in it, and the bytes that stand there from then on.
+/// A sector, a place in it, and the bytes that are there from then on.
 pub type Change = (u32, usize, &'static [u8]);
 
 /// The bytes of a sector.

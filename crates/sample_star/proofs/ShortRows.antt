@@ -1,4 +1,4 @@
--- Rows that are put one behind the other.
+-- Rows that are put one after the other.
 use Rattle.std.proofs.Common.{List, [], ◌∷◌, ◌++◌}
 use Rattle.std.specs.List.{AllByRecursion}
 

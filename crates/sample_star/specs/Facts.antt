@@ -1,4 +1,4 @@
--- The fact rows that constants stand for.
+-- The fact rows that constants mean.
 use Rattle.std.specs.Prelude.{ℕ, min}
 use Rattle.cube_model.specs.declared.rows.LineOrder.{LineOrder}
 use Rattle.sample_star.specs.declared.facts.Fact.{Fact}

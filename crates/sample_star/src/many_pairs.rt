@@ -69,7 +69,7 @@ fn parts(alloc: Global) -> Result<Items<PartRow>, Fault>
     Ok(rows)
 }
 
-/// 513 customers, each in a city of its own, and 513 parts, each of a brand of its own, with keys from 0, beside the sample
+/// 513 customers, each in a city of its own, and 513 parts, each of a brand of its own, with keys from 0, besides the sample
 /// suppliers and days: 263,169 pairs of a city and a brand, where a cuboid has at most 262,144 cells. Only memory can fail.
 pub fn rows_of_pairs(alloc: Global) -> Result<DimRows, Fault>
     ensures { IfOk result HaveShortTexts }

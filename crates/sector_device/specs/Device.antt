@@ -56,7 +56,7 @@ pub record Syncs (old new : DeviceState) : Type 0 where
 abbrev pub CountsFailure : {T E : Type 0} → Result T E → ℕ → ℕ → Type 0
 CountsFailure result old new = MatchResult result (λ _. new ≡ old) (λ _. new ≡ min (old + 1) (2 ^ 64 - 1))
 
--- a stop at any moment since old leaves an image that has P
+-- a crash at any point since old leaves an image that has P
 pub record LeavesOnly (old new : DeviceState) (P : Image → Type 0) : Type 0 where
   pub later : old.moment ≤ new.moment
   pub each : (image : Image) → new.left_since old.moment image → P image

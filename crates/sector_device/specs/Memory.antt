@@ -21,7 +21,7 @@ candidates sectors log i = content sectors i ∷ replaced log i
 abbrev pub MayHold : List (List ℕ) → List Change → ℕ → List ℕ → Type 0
 MayHold sectors log i b = Contains (candidates sectors log i) b
 
--- what stood in the disk before a change
+-- what was in the disk before a change
 abbrev pub before : Change → List (List ℕ) → List (List ℕ)
 before (Replaced at old) sectors = slice_set sectors at old
 before Synced sectors = sectors

@@ -10,7 +10,7 @@ use crate::{DeviceError, Sectors};
 use cube_model::Fault;
 use std::alloc::{AllocError, Global};
 
-/// A disk in memory, which keeps its word always. It fails only for want of memory.
+/// A disk in memory, which keeps its word always. It fails only when out of memory.
 #[derive(Drop)]
 pub struct MemDisk {
     sectors: Vec<[u8; 512]>,
@@ -96,7 +96,7 @@ fn zeros(alloc: Global, count: u32) -> Result<Vec<[u8; 512]>, AllocError>
     Ok(sectors)
 }
 
-// Notes a change, or counts the want of memory as a failure and notes nothing.
+// Notes a change, or counts running out of memory as a failure and notes nothing.
 fn noted(log: &mut Vec<Change>, change: Change, failures: &mut u64) -> Result<(), DeviceError>
     ensures ok { OnOk result (reverse log.new.items ≡ change ∷ reverse log.old.items) }
     ensures err { OnErr result (log.new.items ≡ log.old.items) }

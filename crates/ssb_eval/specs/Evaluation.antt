@@ -105,7 +105,7 @@ pub record HaveTexts (customer supplier part date lineorder : Option (List ℕ))
   pub lineorder_left : lineorder ≡ Some texts.lineorder
 
 -- The end of an evaluation: the report was written. Or the writer failed, after a beginning of the report. Or nothing
--- was written: for want of memory, since a reader failed, or since that is the first refusal
+-- was written: when out of memory, since a reader failed, or since that is the first refusal
 abbrev pub Reports : {A : Type 0} → Option (List ℕ) → Option (List ℕ) → Result (List ℕ) Fault → Result A Fault → Type 0
 Reports old new outcome (Ok done) = (bytes : List ℕ) × (outcome ≡ Ok bytes) × Appends old new bytes
 Reports old new outcome (Err fault) =

@@ -21,7 +21,7 @@ abbrev pub value_text : Value → List ℕ
 value_text (Whole number) = signed_decimal number
 value_text (Ratio fraction) = signed_decimal fraction.numerator ++ (codes "/" ++ decimal fraction.denominator)
 
--- fields parted by bars, and a line feed
+-- fields separated by bars, and a line feed
 abbrev pub row_text : List (List ℕ) → List ℕ
 row_text fields = join_with_byte 124 fields ++ 10 ∷ []
 

@@ -8,7 +8,7 @@ use crate::number::QNumber;
 use cube_model::{Agg, Attr, Cond, Fault, Items, Kind, Measure, Order, Query, Text};
 use std::alloc::Global;
 
-/// The query of a number. It can only fail for want of memory.
+/// The query of a number. It can only fail when out of memory.
 pub fn query_of(alloc: Global, number: QNumber) -> Result<Query, Fault>
     ensures ok { IfOk result (λ query. query ≡ benchmark_query number) }
     ensures only { IfErr result (λ fault. fault ≡ Fault.Memory) }

@@ -52,7 +52,7 @@ module _ (c : Content) (w : Warehouse) (view : ℕ) (stored : Cuboid) (stands : 
     span : IsSpan run.span
     span = subst (λ (x : StoredRun). IsSpan x.span) (this run) (holds.laid.spans r run inside)
 
-    -- the cells of the run stand for the rows of its batches
+    -- the cells of the run represent the rows of its batches
     pub grouping : StandFor dims [] (rows_in w.batches run.span) (cells_of stored.view run.cells)
     grouping =
         subst (λ (rows : DimRows). StandFor rows [] (rows_in w.batches run.span) (cells_of stored.view run.cells)) (sym same)

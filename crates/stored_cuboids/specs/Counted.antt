@@ -12,13 +12,13 @@ use Rattle.warehouse_objects.specs.Warehouse.{Cuboid, Warehouse}
 use Rattle.stored_cuboids.specs.Steps.{AreRead, IsNextRun}
 use Rattle.stored_cuboids.specs.declared.reading.Progress.{Progress}
 
--- the next run of a content is counted into a fold, in place of the rows that its cells stand for
+-- the next run of a content is counted into a fold, in place of the rows that its cells represent
 pub record CountsRun (content : Content) (id : ℕ) (view : View) (at : Progress) (dimensions : DimRows) (old new : FoldState) (next : Progress) : Type 0 where
   pub cells : PlainCells
   pub read : IsNextRun content id view at cells next
   pub takes : (rows : List LineOrder) → StandFor dimensions [] rows cells → Takes dimensions old rows new
 
--- so many runs of a cuboid are read, and a fold stands for the rows of their batches
+-- so many runs of a cuboid are read, and a fold represents the rows of their batches
 pub record AreCounted (w : Warehouse) (cuboid : Cuboid) (dimensions : DimRows) (count : ℕ) (fold : FoldState) (at : Progress) : Type 0 where
   pub read : AreRead cuboid count at
   pub stands : StandsFor dimensions fold (all_rows (take at.end w.batches))

@@ -26,7 +26,7 @@ use sector_device::Sectors;
 use std::alloc::Global;
 use warehouse_root::{StoredCuboid, run_id};
 
-/// Counts the cells of the stored cuboid of a view into a fold that stands for no row yet: its runs, one after another. One run is
+/// Counts the cells of the stored cuboid of a view into a fold that represents no row yet: its runs, one after another. One run is
 /// in memory at a time.
 ///
 /// `BadLayout` where a run is missing or is none of this view, where the runs do not follow each other from the first batch to
@@ -45,7 +45,7 @@ pub fn fold_runs<D: Sectors>(
     requires serves { Serves view fold.old.query }
     requires view { index_of view ≡ cuboid.view }
 
-    // Then it stands for the rows of the batches up to the mark.
+    // Then it represents the rows of the batches up to the mark.
     ensures ok { OnOk result (D.keeps_word (device_of store.new) → (w : Warehouse) (stored : Cuboid) → Stands (content_of D.Sectors store.old) w
         → dims.now ≡ w.rows → cuboid_at cuboid.view w.cuboids ≡ Some stored → said_of stored ≡ cuboid
         → StandsFor dims.now fold.new (all_rows (take cuboid.mark w.batches))) }

@@ -20,7 +20,7 @@ pub struct Cut {
 /// The cause of a refusal of a load, as one line without its end. The warehouse has so many batches, so the batch
 /// that was refused is the next.
 ///
-/// The file is read once more. It fails for want of memory, and where the file cannot be read again to its end.
+/// The file is read once more. It fails when out of memory, and where the file cannot be read again to its end.
 pub fn load_hint<T: TableFiles>(
     alloc: Global,
     files: &T,

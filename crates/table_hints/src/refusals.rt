@@ -10,7 +10,7 @@ use std::alloc::Global;
 /// The cause of a refusal, as one line without its end: which file, which line of it, and what is wrong there.
 ///
 /// The files are read once more. Nothing is said of faults that are none of a table's, and where the files do not show
-/// the fault any more. It fails for want of memory, and where a file cannot be read again to its end.
+/// the fault any more. It fails when out of memory, and where a file cannot be read again to its end.
 pub fn table_hint<T: TableFiles>(
     alloc: Global,
     files: &T,

@@ -1,4 +1,4 @@
-//! Tests of dictionaries and batches as they stand on disk.
+//! Tests of dictionaries and batches as they are stored.
 mod batches;
 mod decoding;
 mod dictionaries;

@@ -128,7 +128,7 @@ fn failed_writes(alloc: Global) -> Result<Outcome, Fault> {
     Ok(outcome)
 }
 
-/// The reports have 681 bytes together, and each writer fails at each place of each, behind it, and not at all.
+/// The reports have 681 bytes together, and each writer fails at each place of each, after it, and not at all.
 const WRITES: u32 = 6 * (681 + 13 * 2);
 
 #[test]

@@ -98,7 +98,7 @@ pub static LIMITS: [Case; 6] = [
         offers: &[GREATEST_OFFER],
         lines: "1|9223372036854775807|\n",
     },
-    // A cell behind it, and then one of no price.
+    // A cell after it, and then one of no price.
     Case {
         asked: PRICES,
         before: &[],
@@ -129,7 +129,7 @@ pub static LIMITS: [Case; 6] = [
         ],
         lines: "2|9223372036854775807|\n",
     },
-    // The greater one behind a lesser.
+    // The greater one after a lesser.
     Case {
         asked: PRICES,
         before: &[],
@@ -161,7 +161,7 @@ pub static LIMITS: [Case; 6] = [
         }],
         lines: "",
     },
-    // Behind a row, in whose group it is refused.
+    // After a row, in whose group it is refused.
     Case {
         asked: PRICES_BY_YEAR,
         before: &[FIRST_FACT],
@@ -202,7 +202,7 @@ pub static OTHER_LIMITS: [Case; 3] = [
         offers: &[GREATEST_OFFER, GREATEST_OFFER],
         lines: "3|1140|\n",
     },
-    // A loss behind the greatest that there may be, and gains behind it.
+    // A loss after the greatest that there may be, and gains after it.
     Case {
         asked: LOSSES,
         before: &[],

@@ -131,9 +131,9 @@ static TAKEN: [Case; 5] = [
     },
 ];
 
-/// Cells that are taken behind rows and behind other cells.
+/// Cells that are taken after rows and after other cells.
 static TAKEN_BEHIND: [Case; 3] = [
-    // Behind a row that has the group of the second cell.
+    // After a row that has the group of the second cell.
     Case {
         asked: REVENUES,
         before: &[SECOND_FACT],
@@ -207,7 +207,7 @@ const ALL_REVENUES: Asked<'static> = Asked {
 
 /// Codes of no member: there are two customers, two suppliers, two parts of one manufacturer, and two days.
 static UNKNOWN: [Case; 4] = [
-    // A day behind the last one, the last code that is not that of all days, a manufacturer, and a day behind a
+    // A day after the last one, the last code that is not that of all days, a manufacturer, and a day after a
     // cell that could be taken.
     Case {
         asked: REVENUES,
@@ -396,7 +396,7 @@ static MODES: [Case; 4] = [
         ],
         lines: REVENUE_LINES,
     },
-    // A mode behind the last.
+    // A mode after the last.
     Case {
         asked: REVENUES,
         before: &[FIRST_FACT],
@@ -444,7 +444,7 @@ fn are_of_rows(alloc: Global, dims: &Dims, cells: &Cells, rows: &[LineOrder]) ->
 }
 
 // Counts cells in, with the modes of a batch or with none. A refusal leaves the fold as it was. Says whether they were
-// counted in. `BadQuery` where they were, and are not those of the rows that they are to stand for.
+// counted in. `BadQuery` where they were, and are not those of the rows that they are to represent.
 fn count_in(
     alloc: Global,
     dims: &Dims,
@@ -522,7 +522,7 @@ fn are_answered(
     Ok(true)
 }
 
-// The answer of a fold that begins, over rows and the offers behind them. None where an offer is answered otherwise.
+// The answer of a fold that begins, over rows and the offers after them. None where an offer is answered otherwise.
 fn answer_behind(
     alloc: Global,
     dims: &Dims,

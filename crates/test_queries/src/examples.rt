@@ -7,7 +7,7 @@ use sample_star::{
     THIRD_FACT,
 };
 
-/// An example. Its lines are as `printed` has them: a bar behind each member and each value.
+/// An example. Its lines are as `printed` has them: a bar after each member and each value.
 #[derive(Clone, Copy)]
 pub struct Example {
     pub star: Star<'static>,
@@ -16,7 +16,7 @@ pub struct Example {
     pub lines: &'static str,
 }
 
-/// How many sample rows there are, by which other examples are told.
+/// How many sample rows there are, by which other examples are checked.
 pub const SAMPLE: Example = Example {
     star: STAR,
     facts: &FACTS,

@@ -89,7 +89,7 @@ static WORKED: [Worked; 20] = [
             "0/1|0/1|-200/1|\n",
         ],
     },
-    // 0 to 32: 528. Six fives give 50700, and 690 and 1360 come behind them.
+    // 0 to 32: 528. Six fives give 50700, and 690 and 1360 come after them.
     Worked {
         count: 33,
         conditions: &[],
@@ -132,7 +132,7 @@ static WORKED: [Worked; 20] = [
             "32/1|1340/1|88/1|\n",
         ],
     },
-    // 20 to 32: 338. Two fives give 14900, and 690 and 1360 come behind them.
+    // 20 to 32: 338. Two fives give 14900, and 690 and 1360 come after them.
     Worked {
         count: 33,
         conditions: &[Condition::Quantity(20, 40)],
@@ -209,7 +209,7 @@ static WORKED: [Worked; 20] = [
             "55/2|1200/1|95/2|\n",
         ],
     },
-    // 32 alone, behind the first 32 rows.
+    // 32 alone, after the first 32 rows.
     Worked {
         count: 33,
         conditions: &[Condition::Quantity(32, 32)],

@@ -33,7 +33,7 @@ fn print_line(alloc: Global, out: &mut Vec<u8>, line: &Line) -> Result<(), Alloc
     Ok(())
 }
 
-/// The lines of an answer, with a bar behind each member and each value.
+/// The lines of an answer, with a bar after each member and each value.
 pub fn printed(alloc: Global, answer: &Answer) -> Result<Vec<u8>, AllocError> {
     let mut out = Vec::new(alloc);
     for line in answer.lines.as_slice() {

@@ -20,7 +20,7 @@ pub struct Kept {
     pub profit: [i64; 3],
 }
 
-/// A cell by hand: the codes of a customer, a supplier, a part, a day and a ship mode, and how many rows it stands for.
+/// A cell by hand: the codes of a customer, a supplier, a part, a day and a ship mode, and how many rows it represents.
 #[derive(Clone, Copy, Debug)]
 pub struct Written {
     pub codes: [u16; 5],
@@ -28,8 +28,8 @@ pub struct Written {
     pub kept: Kept,
 }
 
-/// Cells of a view that are offered to a fold, the rows that they stand for, whether the modes of the sample rows
-/// are given with them, and whether the fold takes them. Those that it refuses stand for rows that are not told.
+/// Cells of a view that are offered to a fold, the rows that they represent, whether the modes of the sample rows
+/// are given with them, and whether the fold takes them. Those that it refuses represent rows that are not given.
 #[derive(Clone, Copy, Debug)]
 pub struct Offer {
     pub view: u16,

@@ -2,7 +2,7 @@
 use catalogue::{Catalogue, Entry, decode, encode};
 use std::test::Fail;
 
-// Four objects in the sectors behind the superblocks, and a root of 64 bytes that are zero.
+// Four objects in the sectors after the superblocks, and a root of 64 bytes that are zero.
 const ENTRIES: [Entry; 4] = [
     Entry {
         id: 1,

@@ -61,7 +61,7 @@ static IMAGES: [Image; 18] = [
     (&[(1, 2, 1)], 0, 1, 0),
     (&[(1, 2, 1)], 6, 1, 0),
     (&[(1, 2, 1)], 9, 1, 0),
-    // A byte behind the end.
+    // A byte after the end.
     (&[(1, 2, 1)], 0, 0, 1),
 ];
 

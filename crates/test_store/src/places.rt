@@ -16,7 +16,7 @@ fn replaced(alloc: Global, times: u8) -> Result<Store<MemDisk>, Fault> {
     Ok(store)
 }
 
-// What stands in a sector.
+// What is in a sector.
 fn sector(disk: &mut MemDisk, i: u32) -> Result<[u8; 512], DeviceError> {
     let mut bytes = [0; 512];
     if i >= disk.count() {
@@ -54,7 +54,7 @@ fn superblock(generation: u64, catalogue: u32) -> Super {
     }
 }
 
-// What stands in two sectors of a store whose object 1 was replaced so many times.
+// What is in two sectors of a store whose object 1 was replaced so many times.
 fn sectors(
     alloc: Global,
     times: u8,

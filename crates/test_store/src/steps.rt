@@ -55,7 +55,7 @@ pub(crate) fn made(
     }
 }
 
-/// The store that stands on a disk.
+/// The store on a disk.
 pub(crate) fn opened<D: Sectors + Drop>(alloc: Global, device: D) -> Result<Store<D>, Fault> {
     match Store::open(alloc, device) {
         Ok(store) => Ok(store),

@@ -14,7 +14,7 @@ pub const LONGEST_TEXT: &[u8] = &[b'y'; 255];
 /// Digits that change no number.
 pub const ZEROS: &[u8] = &[b'0'; 300];
 
-/// Parts put one behind the other.
+/// Parts put one after the other.
 pub fn joined(alloc: Global, parts: &[&[u8]]) -> Result<Vec<u8>, Fault> {
     let mut text = Vec::new(alloc);
     for part in parts {

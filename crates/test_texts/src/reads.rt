@@ -41,7 +41,7 @@ fn each_read_of_customers_fails_in_turn(rt: HostRuntime) {
     }
 }
 
-/// How many rows a reading takes where the second read fails, and how the reading behind it is refused, if it is.
+/// How many rows a reading takes where the second read fails, and how the reading after it is refused, if it is.
 fn taken_before_a_failure(alloc: Global) -> Result<(Result<usize, Fault>, Option<Fault>), Fault> {
     let mut lines = Lines::new(alloc, in_pieces(TABLES.lineorder, 100).failing_at(2))?;
     let taken = read_batch(alloc, &mut lines, 1).map(|rows| rows.len());

@@ -273,7 +273,7 @@ const LINE_TOO_LONG: Fault = Fault::FieldTooLong {
     field: 0,
 };
 
-/// What stands behind as many bytes as a line may have, and why such a text is refused.
+/// What is after as many bytes as a line may have, and why such a text is refused.
 static LONG_LINES: [(&[u8], Fault); 4] = [
     (b"\n", Fault::FieldCount { line: 1 }),
     (b"x\n", LINE_TOO_LONG),
@@ -281,7 +281,7 @@ static LONG_LINES: [(&[u8], Fault); 4] = [
     (b"|", LINE_TOO_LONG),
 ];
 
-/// Whether as many bytes as a line may have, with others behind them, are refused with a fault.
+/// Whether as many bytes as a line may have, with others after them, are refused with a fault.
 fn is_long_line_refused(alloc: Global, end: &[u8], fault: Fault) -> Result<bool, Fault> {
     let mut text = Vec::from_elem(alloc, b'x', 8192)?;
     text.extend_from_slice(end)?;

@@ -56,7 +56,7 @@ static SECTORS: [(u32, u32, &[u8]); 9] = [
     (1, 9, b""),
 ];
 
-/// What stands in a sector of a disk with so many batches of the three sample rows.
+/// What is in a sector of a disk with so many batches of the three sample rows.
 fn stored(alloc: Global, batches: u32, place: u32) -> Result<[u8; 512], Fault> {
     let mut disk = loaded(alloc, batches)?.close();
     sector(&mut disk, place)

@@ -29,7 +29,7 @@ fn refused_by(alloc: Global, session: &mut Session<Fuse<MemDisk>>) -> [Option<Fa
 /// How a session refuses later calls, whether it is broken, and how often its device failed, asked of both.
 type Told = ([Option<Fault>; 4], bool, (u64, u64));
 
-/// What is told of a session that met a failure.
+/// What is expected of a session that met a failure.
 fn told_later(alloc: Global) -> Result<Told, Fault> {
     let mut session = unsynced(alloc, false)?;
     let refused = refused_by(alloc, &mut session);

@@ -14,7 +14,7 @@ const MOST: u32 = 51;
 /// status.
 type Told = (Option<Fault>, Option<QNumber>, Status);
 
-/// What is to be told.
+/// What is expected.
 fn wanted() -> Told {
     (Some(Fault::Full), None, status(MOST, 153))
 }
@@ -24,7 +24,7 @@ fn refusal(alloc: Global, session: &mut Session<MemDisk>) -> Option<Fault> {
     submit(alloc, session, MOST + 1, &FACTS).err()
 }
 
-/// What is told of a session that refused a batch.
+/// What is expected of a session that refused a batch.
 fn told(
     alloc: Global,
     session: &mut Session<MemDisk>,

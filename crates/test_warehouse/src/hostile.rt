@@ -6,7 +6,7 @@ use sector_device::MemDisk;
 use std::alloc::Global;
 use warehouse::{Session, Status};
 
-/// The sectors of the dimensions, the segment, the catalogue, and the superblock that stands.
+/// The sectors of the dimensions, the segment, the catalogue, and the current superblock.
 const CUSTOMERS: u32 = 2;
 
 const SEGMENT: u32 = 7;

@@ -34,7 +34,7 @@ fn with_batch(
     }
 }
 
-/// What stands on a disk, with the batch of a number if that did not arrive.
+/// What is on a disk, with the batch of a number if that did not arrive.
 fn again(alloc: Global, disk: MemDisk, number: u32) -> Result<Session<MemDisk>, Fault> {
     let mut session = opened_again(alloc, disk)?;
     if session.status()?.batches < number {
@@ -52,7 +52,7 @@ fn told(alloc: Global, mut session: Session<MemDisk>) -> Result<(u32, Answer), F
     }
 }
 
-/// What is found behind a creation and three submits.
+/// What is found after a creation and three submits.
 fn found_at_last(alloc: Global) -> Result<(u32, Answer), Fault> {
     let mut session = match made(alloc) {
         Ok(session) => session,

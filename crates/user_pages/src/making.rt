@@ -2,7 +2,7 @@
 use std::alloc::{AllocError, Global};
 use std::io::{self, Write};
 
-/// Where a text stands after some of its bytes.
+/// Where a text is after some of its bytes.
 #[derive(Clone, Copy)]
 enum Place {
     /// Outside of all escapes.
@@ -24,7 +24,7 @@ pub fn unescaped(alloc: Global, text: &str) -> Result<Vec<u8>, AllocError> {
     Ok(bytes)
 }
 
-// Takes the next byte, and says where the byte after it stands.
+// Takes the next byte, and says where the byte after it is.
 fn take_byte(bytes: &mut Vec<u8>, place: Place, byte: u8) -> Result<Place, AllocError> {
     match place {
         Place::Text if byte == b'\\' => Ok(Place::Escape),

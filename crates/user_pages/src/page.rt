@@ -8,19 +8,19 @@ pub struct Step<'a> {
     pub printed: String,
 }
 
-/// Where a line of a page stands.
+/// Where a line of a page is.
 #[derive(Clone, Copy)]
 enum Place {
     /// Outside of all blocks.
     Text,
     /// In a block, before its first command.
     Block,
-    /// In a block, behind a command.
+    /// In a block, after a command.
     Output,
 }
 
-/// The commands of a page in order. Each stands behind `$ ` in a block between fences, and what it prints in the lines
-/// behind it.
+/// The commands of a page in order. Each follows `$ ` in a block between fences, and what it prints in the lines
+/// after it.
 pub fn steps(alloc: Global, text: &str) -> Result<Vec<Step<'_>>, AllocError> {
     let mut steps = Vec::new(alloc);
     let mut place = Place::Text;
@@ -30,7 +30,7 @@ pub fn steps(alloc: Global, text: &str) -> Result<Vec<Step<'_>>, AllocError> {
     Ok(steps)
 }
 
-// Takes the next line, and says where the line behind it stands.
+// Takes the next line, and says where the line after it is.
 fn take_line<'a>(
     alloc: Global,
     steps: &mut Vec<Step<'a>>,

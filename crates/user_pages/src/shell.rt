@@ -9,7 +9,7 @@ use std::os::unix::fs::FileExt;
 use std::rt::{Clock, Files};
 use std::{fs, io};
 
-/// What a shell keeps from one command to the next: what `ssb` stands for, and the status of the last command.
+/// What a shell keeps from one command to the next: what `ssb` means, and the status of the last command.
 #[derive(Drop)]
 pub struct Shell {
     alias: Option<String>,
@@ -56,7 +56,7 @@ impl Shell {
         self.run_command(rt, command)
     }
 
-    // Runs a command that is no alias, with what `ssb` stands for in its place.
+    // Runs a command that is no alias, with what `ssb` means in its place.
     fn run_command<R: Files + AllocGlobal + Clock + Input>(
         &mut self,
         rt: &R,
@@ -98,7 +98,7 @@ fn after_ssb(command: &str) -> Option<&str> {
     }
 }
 
-// Does what words say behind a command that ended with a status, and gives the status that they end with.
+// Does what words say after a command that ended with a status, and gives the status that they end with.
 fn status_of<R: Files + AllocGlobal + Print + Eprint + Clock + Input>(
     rt: &R,
     words: &[String],

@@ -37,7 +37,7 @@ cost-push lattice chosen view other = cost-append lattice chosen (view ∷ []) o
 pub cost-le : {V : Type 0} (lattice : Lattice V) (chosen : List V) (view : V) → cost lattice chosen view ≤ lattice.rows
 cost-le lattice chosen view = fold_min-le lattice.rows (map lattice.size (filter (λ other. lattice.answers other view) chosen))
 
--- costs fall as more is chosen, before or behind
+-- costs fall as more is chosen, before or after
 pub cost-append_le_left : {V : Type 0} (lattice : Lattice V) (chosen more : List V) (view : V) → cost lattice (chosen ++ more) view ≤ cost lattice chosen view
 cost-append_le_left lattice chosen more view = subst (λ (n : ℕ). n ≤ cost lattice chosen view) (sym (cost-append lattice chosen more view))
     (fold_min-le (cost lattice chosen view) (map lattice.size (filter (λ other. lattice.answers other view) more)))

@@ -4,7 +4,7 @@ use Rattle.std.proofs.lemmas.Bool.{cases_lt}
 use Rattle.std.proofs.lemmas.List.{get_or_read}
 use Rattle.view_choice.specs.Costs.{IsFirstGreatest}
 
--- where the best of the first n items stands
+-- where the best of the first n items is
 abbrev pub IsBestAt : {X : Type 0} → (X → ℕ) → List X → ℕ → ℕ → Option ℕ → Type 0
 IsBestAt gain items n most None = most ≡ 0
 IsBestAt {X} gain items n most (Some place) = (place < n) × (0 < most) × ((default : X) → gain (get_or items place default) ≡ most)

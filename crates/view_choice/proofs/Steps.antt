@@ -17,7 +17,7 @@ use Rattle.view_choice.specs.Choice.{Lattice, benefit, benefits_after, IsBest}
 use Rattle.view_choice.specs.Costs.{costed_view, saved_by, lowered}
 use Rattle.view_choice.specs.Cuboids.{cuboids}
 
--- what stands past the end of a list
+-- what is past the end of a list
 abbrev pub no_view : View
 no_view = record { customer = Lowest; supplier = Lowest; part = Lowest; date = Lowest; ship_mode = false }
 

@@ -10,7 +10,7 @@ static AXES: [Axis; 4] = [Axis::Customer, Axis::Supplier, Axis::Part, Axis::Date
 /// The levels, the finest first.
 static LEVELS: [Level; 4] = [Level::Lowest, Level::Middle, Level::Highest, Level::All];
 
-/// What is wrong with a word that names no view, as one line without its end. It fails only for want of memory.
+/// What is wrong with a word that names no view, as one line without its end. It fails only when out of memory.
 pub fn hint_of_view(alloc: Global, word: &str) -> Result<String, AllocError> {
     let parts = word.split(',').collect::<Vec<&str>>(alloc)?;
     if parts.len() != AXES.len() {

@@ -11,7 +11,7 @@ use std::alloc::{AllocError, Global};
 /// How many views there are without ship mode. They have the numbers below it.
 const VIEWS: u16 = 256;
 
-/// The view that a word names: by its number, such as `59`, or by its levels, such as `city,ALL,mfgr,ALL`. It fails only for want of memory.
+/// The view that a word names: by its number, such as `59`, or by its levels, such as `city,ALL,mfgr,ALL`. It fails only when out of memory.
 pub(crate) fn read_view(alloc: Global, word: &str) -> Result<Option<View>, AllocError>
     ensures { IfOk result (λ found. MatchOption found ((view : View) → Names word.now view → ⊥) (λ view. Names word.now view)) }
 {

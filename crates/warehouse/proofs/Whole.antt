@@ -1,4 +1,4 @@
--- A whole run, as what a stop at any moment of it may leave.
+-- A whole run, as what a crash at any point of it may leave.
 use Rattle.std.proofs.Common.{◌≡◌, ◌⊎◌, ⊎_elim, inl, inr, ℕ, zero, suc, Option, None, Some, slice_set, slice_index_or, List, [], ◌∷◌, ◌++◌, take, slice_get, refl, sym, ◌∙◌, ap, subst}
 use Rattle.sector_device.specs.declared.device.Sectors.{Ghosts}
 use Rattle.object_store.specs.Disk.{Leaves}

@@ -44,7 +44,7 @@ pub record IsFoundAfter {D : Type 0} (g : Ghosts D) (w : Warehouse) (commands : 
   -- so the contract of opening holds of this one list
   pub stands : AllShow (disk g device) (MayStand (facts_in found) None)
 
--- Whatever a crash at any moment of a run leaves, the restarted device has what may be found.
+-- Whatever a crash at any point of a run leaves, the restarted device has what may be found.
 abbrev pub StoppedRunIsFound : {D : Type 0} → Ghosts D → Type 0
 StoppedRunIsFound {D} g = (old new : Session D g) (w : Warehouse) (commands : List Command) (replies : List Reply) (after : Phase)
     → IsAt g old w → RanAll g old (at w) commands replies new after → (disk_of g new).keeps_word

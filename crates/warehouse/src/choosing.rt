@@ -29,7 +29,7 @@ impl<D: Sectors> Session<D> {
     /// Stores the cuboids of some views, and no others, in one commit. A stored cuboid of one of them stays as it is, another
     /// one holds no batch yet, and the target becomes 0. It always commits. At most 16 views, without ship mode.
     ///
-    /// It can fail for want of memory or room, at the last generation, and because the device does.
+    /// It can fail when out of memory or room, at the last generation, and because the device does.
     pub fn set_views(&mut self, alloc: Global, views: &[View]) -> Result<(), Fault>
         requires few { length views.now ≤ most_cuboids }
         requires known { All (λ view. index_of view < 256) views.now }
@@ -57,7 +57,7 @@ impl<D: Sectors> Session<D> {
     /// Stores the cuboids of the greedy list of k views over the fact rows and the members of now, as `set_views` does, and
     /// answers the list with the benefit of each view. At most 16 views.
     ///
-    /// `BadQuery` exactly where more are asked for. It can also fail for want of memory or room, at the last generation, and
+    /// `BadQuery` exactly where more are asked for. It can also fail when out of memory or room, at the last generation, and
     /// because the device does.
     pub fn choose(&mut self, alloc: Global, k: u8) -> Result<Vec<Chosen>, Fault>
         // A crash leaves the cuboids as they were, or those of the choice.
@@ -93,7 +93,7 @@ impl<D: Sectors> Session<D> {
     /// `choose` does, and answers the list with the benefit of each view: by how much it lowers the costs of these. At most 16
     /// views, and 65,536 that are asked for.
     ///
-    /// `BadQuery` exactly where there are more. It can also fail for want of memory or room, at the last generation, and because
+    /// `BadQuery` exactly where there are more. It can also fail when out of memory or room, at the last generation, and because
     /// the device does.
     pub fn choose_for(
         &mut self,

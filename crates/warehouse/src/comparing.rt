@@ -39,7 +39,7 @@ impl<D: Sectors> Session<D> {
     /// Whether the stored batch of a number has exactly the rows of a batch that has grown in this session, in the same
     /// order. Where there is no batch of that number, or one with another count of rows, nothing is read.
     ///
-    /// It can fail for want of memory, and where the device fails.
+    /// It can fail when out of memory, and where the device fails.
     pub fn has_batch(
         &mut self,
         alloc: Global,

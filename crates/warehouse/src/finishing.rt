@@ -37,7 +37,7 @@ impl<D: Sectors> Session<D> {
     }
 }
 
-// Nothing of a refusal for want of room, nor of one at the last generation.
+// Nothing of a refusal for lack of room, nor of one at the last generation.
 fn unless_no_room(caught: Result<Option<View>, Fault>) -> Result<(), Fault>
     ensures ok { OnOk result (IsOk caught ⊎ (IsErrOf caught Full ⊎ IsErrOf caught Worn)) }
     ensures err { IfErr result (λ fault. IsErrOf caught fault × (fault ≢ Full) × (fault ≢ Worn)) }

@@ -106,7 +106,7 @@ impl GrowingBatch {
 impl<D: Sectors> Session<D> {
     ghost use Rattle.warehouse.specs.Growing.{CanGrow, Grows, IsOfSession};
 
-    /// A batch of no row yet, after those that are there, with room for so many rows. It can only fail for want of memory.
+    /// A batch of no row yet, after those that are there, with room for so many rows. It can only fail when out of memory.
     pub fn begin_batch(&self, alloc: Global, rows: usize) -> Result<GrowingBatch, Fault>
         ensures ok { IfOk result (Grows self.now []) }
         ensures memory { IfErr result (λ fault. fault ≡ Memory) }
@@ -115,7 +115,7 @@ impl<D: Sectors> Session<D> {
     }
 
     /// Adds rows to a batch of this session, with which it has at most 65,536. A cause to refuse it is answered when it is
-    /// submitted. It can only fail for want of memory.
+    /// submitted. It can only fail when out of memory.
     pub fn add_rows(
         &self,
         alloc: Global,
@@ -138,7 +138,7 @@ impl<D: Sectors> Session<D> {
     ) -> Result<(), Fault>
         requires batch { IsOfSession self.old batch.now }
 
-        // A stop at any moment leaves the warehouse as it was, or with this batch if it is admissible.
+        // A crash at any point leaves the warehouse as it was, or with this batch if it is admissible.
         ensures leaves { (w : Warehouse) (rows : List LineOrder) → IsAt D.Sectors self.old w → Grows self.old rows batch.now
             → Leaves (disk_of D.Sectors self.old) (disk_of D.Sectors self.new) (WithOrWithout w number rows) }
 

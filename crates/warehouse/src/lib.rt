@@ -1,4 +1,4 @@
-//! A warehouse of batches on a device: what each call answers, and what a stop at any moment of it leaves.
+//! A warehouse of batches on a device: what each call answers, and what a crash at any point of it leaves.
 #![tactic(auto)]
 
 mod beginning;

@@ -33,7 +33,7 @@ use warehouse_root::Root;
 /// there is no room for a commit, and at the last generation, the others are left as they are. Where memory is missing or the
 /// device fails, cuboids that were brought on stay so.
 pub fn open<D: Sectors>(alloc: Global, device: D) -> Result<Session<D>, (Fault, D)>
-    // Where every image at the start represents batches that may be found, each at any moment represents such.
+    // Where every image at the start represents batches that may be found, each at any point represents such.
     ensures leaves { IfOk result (λ session. (facts : Facts) (last : Option Change) →
         AllShow (disk D.Sectors device) (MayStand facts last) → Leaves (disk D.Sectors device) (disk_of D.Sectors session) (MayStandSince (disk D.Sectors device) facts last)) }
     ensures leaves_err { IfErr result (λ e. (facts : Facts) (last : Option Change) →
@@ -68,7 +68,7 @@ pub fn open<D: Sectors>(alloc: Global, device: D) -> Result<Session<D>, (Fault, 
 ///
 /// It reads the root and the dimensions, and no batch. It commits nothing: an upkeep that was cut off stays so.
 pub fn open_as_is<D: Sectors>(alloc: Global, device: D) -> Result<Session<D>, (Fault, D)>
-    // Where every image at the start represents batches that may be found, each at any moment represents such.
+    // Where every image at the start represents batches that may be found, each at any point represents such.
     ensures leaves { IfOk result (λ session. (facts : Facts) (last : Option Change) →
         AllShow (disk D.Sectors device) (MayStand facts last) → Leaves (disk D.Sectors device) (disk_of D.Sectors session) (MayStandSince (disk D.Sectors device) facts last)) }
     ensures leaves_err { IfErr result (λ e. (facts : Facts) (last : Option Change) →

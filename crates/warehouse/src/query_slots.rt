@@ -17,7 +17,7 @@ pub(crate) struct QuerySlots {
 }
 
 impl QuerySlots {
-    /// Sixteen empty slots. It can only fail for want of memory.
+    /// Sixteen empty slots. It can only fail when out of memory.
     pub(crate) fn new(alloc: Global) -> Result<QuerySlots, Fault>
         ensures ok { IfOk result (λ slots. slots.queries.items ≡ replicate 16 None) }
         ensures memory { IfErr result (λ fault. fault ≡ Memory) }

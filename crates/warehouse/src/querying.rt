@@ -19,7 +19,7 @@ impl<D: Sectors> Session<D> {
     /// The answer to a query over the first `as_of` batches.
     ///
     /// `BadQuery` exactly where the query is not proper, else `NoSuchPrefix` exactly where there are fewer batches. It can
-    /// also fail for want of memory, and where the device fails.
+    /// also fail when out of memory, and where the device fails.
     pub fn query(&mut self, alloc: Global, as_of: u32, query: &Query) -> Result<Answer, Fault>
         // The warehouse stays as it is, at each moment.
         ensures leaves { (w : Warehouse) → IsAt D.Sectors self.old w

@@ -19,7 +19,7 @@ use std::alloc::Global;
 /// Opens the warehouse on a device and answers a query over its first `as_of` batches. A refusal hands the device back.
 ///
 /// It is `open` and `Session::query`, and what they promise together, from the run before to the answer: however the run crashed, the
-/// answer is the definition's over a prefix of the submitted batches that has every acknowledged one. It is refused only for want of
+/// answer is the definition's over a prefix of the submitted batches that has every acknowledged one. It is refused only when out of
 /// memory, where the device fails, and as the query is.
 pub fn open_and_query<D: Sectors>(
     alloc: Global,

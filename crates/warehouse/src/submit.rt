@@ -29,7 +29,7 @@ impl<D: Sectors> Session<D> {
     ///
     /// A batch that is admissible is refused for `Worn`, `Full`, `Memory` or `Device` alone.
     pub fn submit(&mut self, alloc: Global, number: u32, rows: &[LineOrder]) -> Result<(), Fault>
-        // A stop at any moment leaves the warehouse as it was, or with this batch if it is admissible.
+        // A crash at any point leaves the warehouse as it was, or with this batch if it is admissible.
         ensures leaves { (w : Warehouse) → IsAt D.Sectors self.old w → Leaves (disk_of D.Sectors self.old) (disk_of D.Sectors self.new)
             (λ c. Stands c w ⊎ (Admits w number rows.now × Stands c (loaded w rows.now))) }
 

@@ -24,7 +24,7 @@ impl<D: Sectors> Session<D> {
     /// each such cuboid, by ascending view, gets its cells and its mark in a commit of its own.
     ///
     /// A cuboid that would have more than 262,144 cells is passed over, and at the end `TooManyCells` names the view of the
-    /// first such cuboid. Any other fault ends it, and marks that were reached stay: it can fail for want of memory or room,
+    /// first such cuboid. Any other fault ends it, and marks that were reached stay: it can fail when out of memory or room,
     /// at the last generation, and because the device does.
     pub fn upkeep(&mut self, alloc: Global) -> Result<(), Fault>
         // A crash leaves the same rows, batches and views, and no mark lower.
@@ -60,7 +60,7 @@ impl<D: Sectors> Session<D> {
     /// Whether each stored cuboid is the grouping of the batches up to its mark, also where the cells were changed by other
     /// means than a session. Each is worked out anew from the fact rows and compared.
     ///
-    /// It can fail for want of memory, and because the device does.
+    /// It can fail when out of memory, and because the device does.
     pub fn audit(&mut self, alloc: Global) -> Result<bool, Fault>
         // The warehouse stays as it is, at each moment.
         ensures leaves { (w : Warehouse) → IsAt D.Sectors self.old w

@@ -118,7 +118,7 @@ pub record CannotClose {D : Type 0} (g : Ghosts D) (text : Option (List ℕ)) (l
   pub same : new ≡ old
   pub written : AppendsBeginning before after (count_line (length w.batches))
 
--- the next batch could not be read: for want of memory, since the reader failed, or for the first fault of its lines
+-- the next batch could not be read: when out of memory, since the reader failed, or for the first fault of its lines
 pub record CannotRead {D : Type 0} (g : Ghosts D) (text : Option (List ℕ)) (next : ℕ) (left : List (List (List ℕ))) (old new : Session D g) (before after : Option (List ℕ)) (fault : Fault) : Type 0 where
   pub cause : (fault ≡ Memory) ⊎ ((fault ≡ Input) ⊎ IfSome text (λ _. IsNextFault next left fault))
   pub same : new ≡ old
@@ -163,5 +163,5 @@ pub record Loads {D A : Type 0} (g : Ghosts D) (w : Warehouse) (first size : ℕ
   pub written : Appends before (written_after before trace) (lines_in w first (batches_of trace))
   -- and the end
   pub ends : Ends g text next left (with_batches w first (batches_of trace)) (first + length trace) (session_after old trace) new (written_after before trace) after result
-  -- what a crash at any moment leaves
+  -- what a crash at any point leaves
   pub leaves : Leaves (disk_of g old) (disk_of g new) (MayHold w first size text 0)

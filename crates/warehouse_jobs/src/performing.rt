@@ -39,7 +39,7 @@ pub fn perform<D: Sectors, R: Read + Drop, W: Write>(
     lineorder: R,
     out: &mut W,
 ) -> Result<bool, Fault>
-    // What is written, what the warehouse is then, and what a crash at any moment until then leaves. Whatever the reader is:
+    // What is written, what the warehouse is then, and what a crash at any point until then leaves. Whatever the reader is:
     // which rows the batches of a load have is said where its bytes are known.
     ensures performs { (w : Warehouse) → IsAt D.Sectors session.old w → D.keeps_word (device_of session.new)
         → Performs D.Sectors w (R.remaining lineorder) job session.old session.new (W.contents out.old) (W.contents out.new) result }

@@ -12,7 +12,7 @@ use sector_device::Sectors;
 use std::alloc::Global;
 use warehouse_root::Root;
 
-/// Whether a store has just the objects that a root asks for. It can only fail for want of memory.
+/// Whether a store has just the objects that a root asks for. It can only fail when out of memory.
 pub fn has_its_objects<D: Sectors>(
     alloc: Global,
     store: &Store<D>,

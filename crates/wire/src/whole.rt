@@ -13,7 +13,7 @@ const PART: usize = 65_536;
 
 /// The bytes that a source has at an id, read through one buffer of 65,536 bytes; nothing where it has none.
 ///
-/// It can fail for want of memory, or with what the source answers.
+/// It can fail when out of memory, or with what the source answers.
 pub fn read_whole<S: Source>(
     alloc: Global,
     source: &mut S,

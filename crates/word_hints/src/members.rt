@@ -21,7 +21,7 @@ pub fn has_member_between(dims: &Dims, attr: Attr, low: &[u8], high: &[u8]) -> b
 }
 
 /// The member that is nearest to a text: one that differs in case alone, or else one a few edits away. There is none for bytes that are no
-/// UTF-8, nor for a number, since each number is near to another. It fails only for want of memory.
+/// UTF-8, nor for a number, since each number is near to another. It fails only when out of memory.
 pub fn near_member<'d>(
     alloc: Global,
     dims: &'d Dims,

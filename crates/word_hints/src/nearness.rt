@@ -5,7 +5,7 @@ ghost use Rattle.word_hints.specs.Near.{AreFar, IsNearest};
 use std::alloc::{AllocError, Global};
 use strsim::levenshtein;
 
-/// One of some names that is nearest to a word, unless none is near. It fails only for want of memory.
+/// One of some names that is nearest to a word, unless none is near. It fails only when out of memory.
 pub fn nearest<'n>(
     alloc: Global,
     word: &str,

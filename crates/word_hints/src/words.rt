@@ -22,7 +22,7 @@ impl QueryWords<'_> {
     }
 }
 
-/// What is wrong with the words of a query that was refused, if it is seen. It fails only for want of memory.
+/// What is wrong with the words of a query that was refused, if it is seen. It fails only when out of memory.
 pub fn hint_of<'a>(
     alloc: Global,
     words: &QueryWords<'a>,

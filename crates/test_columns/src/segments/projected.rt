@@ -117,7 +117,7 @@ fn after_reading(
     Ok(found)
 }
 
-// The numbers of one column, or of all, and nought in the others.
+// The numbers of one column, or of all, and zero in the others.
 fn numbers_of(
     alloc: Global,
     all: bool,

@@ -8,7 +8,7 @@ use std::alloc::Global;
 use std::test::Fail;
 use wire::Source;
 
-// Bytes that stand at every id, if there are any, of which so many parts can be read before a read is refused.
+// Bytes that are at every id, if there are any, of which so many parts can be read before a read is refused.
 #[derive(Drop)]
 pub(crate) struct Refusing<'a> {
     pub(crate) bytes: Option<&'a [u8]>,

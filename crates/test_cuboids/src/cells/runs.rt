@@ -77,7 +77,7 @@ fn spells_no_cell(rt: HostRuntime) -> Result<(), Fail> {
 
 const BAD: Option<Fault> = Some(Fault::BadLayout);
 
-// A place, the byte that is put there, and why what stands then is refused.
+// A place, the byte that is put there, and why what is there then is refused.
 static CHANGES: [(usize, u8, Option<Fault>); 34] = [
     // Another name, and that of runs with a fifth code.
     (0, 0x44, BAD),

@@ -15,7 +15,7 @@ const STRANGER: &str = "1|1|9|1|1|19930105|1-URGENT|0|17|1000|1000|2|980|600|0|1
 /// The same with an order key that is no number.
 const BROKEN: &str = "x|1|1|1|1|19930105|1-URGENT|0|17|1000|1000|2|980|600|0|19930201|AIR|\n";
 
-/// Lines, each behind so many of the first sample row, and why their text is refused.
+/// Lines, each after so many of the first sample row, and why their text is refused.
 static REFUSED: [(&[(usize, &str)], Fault); 6] = [
     // Rows are counted on from piece to piece.
     (&[(4_096, STRANGER)], Fault::UnknownCustomer { row: 4_097 }),
@@ -39,7 +39,7 @@ static REFUSED: [(&[(usize, &str)], Fault); 6] = [
             field: 1,
         },
     ),
-    // Those of the next batch come behind them.
+    // Those of the next batch come after them.
     (
         &[(0, STRANGER), (65_535, BROKEN)],
         Fault::UnknownCustomer { row: 1 },

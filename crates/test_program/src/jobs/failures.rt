@@ -15,7 +15,7 @@ static LINES: &[u8] = b"batch 1 rows 1\nbatch 2 rows 1\nbatch 3 rows 1\nbatches 
 /// The length of the line of a batch.
 const LINE: usize = 15;
 
-/// What comes of a load from a reader, one row a batch, and how many batches stand then.
+/// What comes of a load from a reader, one row a batch, and how many batches there are then.
 fn loaded_from<W: Write>(
     alloc: Global,
     session: &mut Session<MemDisk>,

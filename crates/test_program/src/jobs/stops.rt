@@ -23,7 +23,7 @@ fn lines_of(text: &[u8]) -> usize {
     text.iter().filter(|byte| **byte == b'\n').count()
 }
 
-/// How many batches a load told, and what it answered.
+/// How many batches a load printed, and what it answered.
 type Told = (usize, Result<bool, Fault>);
 
 /// A load of three batches.
@@ -46,7 +46,7 @@ fn failed(
 /// Picks of the oldest and of the newest bytes, and of some of both.
 static PICKS: [&[u32]; 4] = [&[], &[1; 64], &[0, 1], &[1, 0, 1]];
 
-/// Whether, however a stop leaves it, a device that failed at a call has each batch that was told, and one more at
+/// Whether, however a stop leaves it, a device that failed at a call has each batch that was printed, and one more at
 /// most.
 fn has_what_was_told(alloc: Global, call: u64, reaches: bool) -> Result<bool, Fault> {
     for picks in &PICKS {
