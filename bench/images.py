@@ -6,7 +6,7 @@ Usage, in an empty folder with ssbcube on the path: images.py TABLES [TRIES [SEE
 Five warehouses: without a batch, with batches, with cuboids, with an upkeep that a crash cut off, and with batches after the cuboids' marks.
 Each try changes 1 to 8 bytes of one of them, by turns anywhere in the file and in the bytes that are in use, and runs one to three
 commands. Each has to end within ten seconds as if nothing were wrong, or with status 1 and NotFormatted, BadLayout, DeviceSize or
-Memory (audit also with `audit no`). Where no byte in use was changed, it has to print what it prints of the unchanged warehouse.
+Memory (audit also with `audit no`, and check with what it finds). Where no byte in use was changed, it has to print what it prints of the unchanged warehouse.
 """
 import os
 import random
@@ -20,7 +20,7 @@ from read_device import SECTOR, Device
 
 FAULTS = {"fault 1 Memory", "fault 5 NotFormatted", "fault 7 BadLayout", "fault 8 DeviceSize"}
 CHANGED = "changed.dev"
-COMMANDS = [["status"], ["audit"], ["views"], ["upkeep"], ["explain", "4.1"], ["cube", "--set", "cube", "--by", "s_nation,p_mfgr", "--agg", "count"]]
+COMMANDS = [["status"], ["audit"], ["check"], ["views"], ["upkeep"], ["explain", "4.1"], ["cube", "--set", "cube", "--by", "s_nation,p_mfgr", "--agg", "count"]]
 COMMANDS += [["report", query] for query in crashes.QUERIES]
 
 
@@ -104,7 +104,7 @@ def complaint(words, done, plain, used):
     status, out, note = done
     if not used:
         return None if done[:2] == plain else f"no byte in use was changed, but it ends with status {status}, {note!r}"
-    if status == 0 or (status == 1 and (note in FAULTS or (words == ["audit"] and out == b"audit no\n"))):
+    if status == 0 or (status == 1 and (note in FAULTS or (words == ["audit"] and out == b"audit no\n") or (words == ["check"] and out.count(b"\n") == 1))):
         return None
     return f"status {status}, {note!r}"
 

@@ -2,6 +2,7 @@
 #![tactic(auto)]
 
 mod arguments;
+mod check;
 mod contents;
 mod create;
 mod cuboids;

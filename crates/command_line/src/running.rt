@@ -4,7 +4,7 @@ use crate::exit::{DONE, NO_COMMAND};
 use crate::refusal::Refusal;
 use crate::screens::Screens;
 use crate::streams::hold_streams;
-use crate::{create, cuboids, demo, eval, job, load, plans, views};
+use crate::{check, create, cuboids, demo, eval, job, load, plans, views};
 use clap::ArgMatches;
 use clap::error::{Error, ErrorKind};
 use command_words::command;
@@ -96,6 +96,7 @@ where
         "choose" => cuboids::choose(rt, given),
         "upkeep" => job::perform_job(rt, given, Access::Commit, Job::Upkeep, io::empty()),
         "views" => views::views(rt, given),
+        "check" => check::check(rt, given),
         "audit" => job::perform_job(rt, given, Access::Read, Job::Audit, io::empty()),
         _ => Ok(NO_COMMAND),
     }

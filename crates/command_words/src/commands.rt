@@ -1,5 +1,5 @@
 //! The commands of the program.
-use crate::{create, cube, cuboids, demo, eval, explain, load, report, status, views};
+use crate::{check, create, cube, cuboids, demo, eval, explain, load, report, status, views};
 use clap::Command;
 use std::alloc::{AllocError, Global};
 
@@ -57,6 +57,7 @@ fn push_cuboids<'a>(alloc: Global, commands: &mut Vec<Command<'a>>) -> Result<()
     push(commands, cuboids::choose_words(alloc))?;
     push(commands, cuboids::upkeep_words(alloc))?;
     push(commands, cuboids::audit_words(alloc))?;
+    push(commands, check::words(alloc))?;
     push(commands, views::words(alloc))
 }
 

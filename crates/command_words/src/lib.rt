@@ -1,6 +1,7 @@
 //! The words of the program: its commands, their options, and what the help says of each.
 #![tactic(auto)]
 
+mod check;
 mod commands;
 mod create;
 mod cube;

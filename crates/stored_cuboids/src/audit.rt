@@ -53,8 +53,10 @@ pub fn audited<D: Sectors>(
     Ok(true)
 }
 
-// Whether a stored cuboid is the grouping of the batches up to its mark.
-fn is_sound<D: Sectors>(
+/// Whether a stored cuboid is the grouping of the batches up to its mark.
+///
+/// `BadLayout` where a batch is not as the root says. It can also run out of memory, or fail because the device does.
+pub fn is_sound<D: Sectors>(
     alloc: Global,
     store: &mut Store<D>,
     root: &Root,

@@ -7,6 +7,6 @@ pub mod laws;
 mod reading;
 mod runs;
 
-pub use audit::audited;
+pub use audit::{audited, is_sound};
 pub use folding::fold_runs;
 pub use runs::merged_runs;

@@ -1,8 +1,8 @@
-//! Audits of cells that were changed on the device.
+//! Audits and checks of cells that were changed on the device.
 use cube_model::Fault;
 use sample_sessions::{Change, make_change, opened, status_of_three, with_three};
 use std::alloc::Global;
-use warehouse::Status;
+use warehouse::{Finding, Status};
 
 /// The sector of the cells of days and manufacturers, once three cuboids hold one batch of the sample rows.
 const RUN: u32 = 9;
@@ -16,12 +16,25 @@ static CHANGES: [(Change, bool); 4] = [
     ((RUN, 36, b"\x12"), false),
 ];
 
-/// The status of a warehouse with a change of its cells, and what an audit answers.
-fn outcome(alloc: Global, change: Change) -> Result<(Status, bool), Fault> {
+/// The status of a warehouse with a change of its cells, what an audit answers, and what a check finds.
+fn outcome(alloc: Global, change: Change) -> Result<(Status, bool, Option<Finding>), Fault> {
     let mut disk = with_three(alloc, 1)?.close();
     make_change(&mut disk, change)?;
     let mut session = opened(alloc, disk)?;
-    Ok((session.status()?, session.audit(alloc)?))
+    Ok((
+        session.status()?,
+        session.audit(alloc)?,
+        session.check(alloc)?,
+    ))
+}
+
+/// What a check finds where an audit answers so.
+fn finding(yes: bool) -> Option<Finding> {
+    if yes {
+        None
+    } else {
+        Some(Finding::Cuboid { view: 248 })
+    }
 }
 
 #[test]
@@ -29,7 +42,7 @@ fn an_audit_finds_changed_cells(rt: HostRuntime) {
     for (change, yes) in &CHANGES {
         assert_eq!(rt;
             outcome(rt.alloc(), *change),
-            Ok((status_of_three(), *yes)),
+            Ok((status_of_three(), *yes, finding(*yes))),
             "at {}",
             change.1
         );

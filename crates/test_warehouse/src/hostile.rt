@@ -3,8 +3,8 @@ use cube_model::{Agg, Attr, Fault, Measure};
 use sample_sessions::{Change, ask, changed, opened, refused_opening, status};
 use sample_star::{Asked, EVERY_ROW};
 use sector_device::MemDisk;
-use std::alloc::Global;
-use warehouse::{Session, Status};
+use std::alloc::{AllocError, Global};
+use warehouse::{Finding, Session, Status};
 
 /// The sectors of the dimensions, the segment, the catalogue, and the current superblock.
 const CUSTOMERS: u32 = 2;
@@ -129,6 +129,131 @@ fn an_opened_segment_is_refused_where_it_is_read(rt: HostRuntime) {
             change.0,
             change.1
         );
+    }
+}
+
+/// Changes of the segment and of what the root tells of it, and what a check finds then: nothing where no byte is changed, and where an order
+/// key, a text or its code is another one.
+static CHECKED: [(Change, Option<Finding>); 13] = [
+    ((SEGMENT, 0, b"SEG1"), None),
+    ((SEGMENT, 0, b"seg1"), Some(Finding::Segment { batch: 1 })),
+    (
+        (SEGMENT, 4, b"\x02\x00\x00\x00"),
+        Some(Finding::Number {
+            batch: 1,
+            number: 2,
+        }),
+    ),
+    // A row more in the segment, and in the root.
+    (
+        (SEGMENT, 8, b"\x04\x00\x00\x00"),
+        Some(Finding::Segment { batch: 1 }),
+    ),
+    (
+        (CATALOGUE, 156, b"\x04\x00\x00\x00"),
+        Some(Finding::Rows {
+            batch: 1,
+            rows: 3,
+            said: 4,
+        }),
+    ),
+    // A code out of range, and texts that are not in the order of their first use.
+    (
+        (SEGMENT, 279, b"\x02\x00"),
+        Some(Finding::Segment { batch: 1 }),
+    ),
+    (
+        (SEGMENT, 279, b"\x01\x00"),
+        Some(Finding::Segment { batch: 1 }),
+    ),
+    // Another order key, one out of range, and a customer that there is not.
+    ((SEGMENT, 12, b"\x07"), None),
+    (
+        (SEGMENT, 12, b"\xff\xff\xff\xff\xff\xff\xff\xff"),
+        Some(Finding::Segment { batch: 1 }),
+    ),
+    (
+        (SEGMENT, 48, b"\x09\x00\x00\x00"),
+        Some(Finding::Batch {
+            batch: 1,
+            fault: Fault::UnknownCustomer { row: 1 },
+        }),
+    ),
+    // A revenue of one more, the total of the quantities, and that of the profits.
+    ((SEGMENT, 150, b"\x07"), Some(Finding::Totals)),
+    ((CATALOGUE, 108, b"\x43"), Some(Finding::Totals)),
+    ((CATALOGUE, 148, b"\x44"), Some(Finding::Totals)),
+];
+
+/// What a check finds after a change, and the line of that.
+fn finding(alloc: Global, change: Change) -> Result<Option<Finding>, Fault> {
+    let disk = changed(alloc, 1, change)?;
+    let mut session = opened(alloc, disk)?;
+    session.check(alloc)
+}
+
+#[test]
+fn a_check_finds_what_was_changed(rt: HostRuntime) {
+    for (change, found) in &CHECKED {
+        assert_eq!(rt;
+            finding(rt.alloc(), *change),
+            Ok(*found),
+            "{} at {}",
+            change.0,
+            change.1
+        );
+    }
+}
+
+/// Findings and their lines.
+static LINES: [(Finding, &str); 7] = [
+    (Finding::Objects, "objects: not those that the root names"),
+    (
+        Finding::Segment { batch: 3 },
+        "segment of batch 3: not that of a batch",
+    ),
+    (
+        Finding::Number {
+            batch: 3,
+            number: 4,
+        },
+        "segment of batch 3: it says batch 4",
+    ),
+    (
+        Finding::Rows {
+            batch: 3,
+            rows: 5,
+            said: 6,
+        },
+        "batch 3: rows 5, the root says 6",
+    ),
+    (
+        Finding::Batch {
+            batch: 3,
+            fault: Fault::UnknownCustomer { row: 2 },
+        },
+        "batch 3: fault 15 UnknownCustomer row 2",
+    ),
+    (
+        Finding::Totals,
+        "root: its totals are not those of the rows",
+    ),
+    (
+        Finding::Cuboid { view: 59 },
+        "cuboid 59: not the grouping of its batches",
+    ),
+];
+
+/// Whether a finding has a line.
+fn has_line(alloc: Global, finding: &Finding, line: &str) -> Result<bool, AllocError> {
+    let text = format!(in alloc; "{finding}")?;
+    Ok(text.as_str() == line)
+}
+
+#[test]
+fn findings_have_their_lines(rt: HostRuntime) {
+    for (finding, line) in &LINES {
+        assert_eq!(rt; has_line(rt.alloc(), finding, line), Ok(true), "{line}");
     }
 }
 

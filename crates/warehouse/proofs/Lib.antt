@@ -7,7 +7,7 @@ pub mod GrownBatches
 pub mod Standing
 pub mod Submitting
 pub mod Making
-pub mod Finding
+pub mod FoundLaws
 mod Caught
 pub mod Cuboids
 mod Pairing

@@ -2,6 +2,7 @@
 #![tactic(auto)]
 
 mod beginning;
+mod checking;
 mod choosing;
 mod chosen;
 mod command;
@@ -39,5 +40,6 @@ pub use session::Session;
 pub use status::Status;
 pub use stepping::Stepped;
 pub use view_choice::MOST_DEMANDED;
+pub use warehouse_check::Finding;
 pub use warehouse_root::StoredCuboid;
 pub use warehouse_root::limits::MOST_CUBOIDS;

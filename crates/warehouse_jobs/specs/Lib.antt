@@ -5,6 +5,7 @@ pub mod Steps
 pub mod Reporting
 pub mod PlanLines
 pub mod Explaining
+pub mod Checking
 pub mod Cuboids
 pub mod Jobs
 pub mod Lawful

@@ -1,7 +1,8 @@
 //! What is done to an open warehouse: a file is loaded, a query is reported or its plans are written, the numbers are written, and
-//! cuboids are chosen, kept up to date and audited.
+//! cuboids are chosen, kept up to date and audited; all that is stored is checked.
 #![tactic(auto)]
 
+mod checking;
 mod choosing;
 mod explaining;
 mod job;
@@ -15,6 +16,7 @@ mod reporting;
 mod taken;
 mod telling;
 
+pub use checking::check;
 pub use explaining::explain;
 pub use job::{BatchNumber, BatchRows, Job};
 pub use performing::perform;

@@ -1,0 +1,26 @@
+//! The words of the command `check`.
+use crate::options::on_device;
+use clap::Command;
+use std::alloc::{AllocError, Global};
+
+const ABOUT: &str = "Says whether all that is stored of a warehouse is right.";
+
+const USAGE: &str = "ssbcube check DEV";
+
+const HELP: &str =
+    "Each batch is read whole: its bytes have to be those of a batch, its keys have to
+be known in the dimensions, and its rows have to be as many as the root says. The
+totals of the root have to be those of the rows, and each stored cuboid has to be
+the grouping of its batches, as 'ssbcube audit' finds.
+
+It prints 'ok: batches N, rows N, cuboids N', or the first thing that is wrong
+with status 1, such as 'batch 3: rows 5, the root says 6'. Bytes that were changed
+into others that break no rule are not found.
+
+Example:
+  ssbcube check star.dev";
+
+/// The words of the command.
+pub fn words<'a>(alloc: Global) -> Result<Command<'a>, AllocError> {
+    on_device(alloc, "check", ABOUT, USAGE, HELP)
+}

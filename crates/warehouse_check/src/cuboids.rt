@@ -1,0 +1,48 @@
+//! The stored cuboids of a store, checked one after another.
+ghost use Rattle.std.specs.Prelude.{◌≡◌, ◌⊎◌, ◌↔◌, None, false, All, IfErr, IfOk, IsErrOf};
+ghost use Rattle.cube_model.specs.declared.fault.Fault.TheVariants.{BadLayout, Device, Memory};
+ghost use Rattle.object_store.specs.Disk.{Leaves};
+ghost use Rattle.object_store.specs.Store.{Breaks, IsStill, content_of, device_of, disk_of, has_failed};
+ghost use Rattle.warehouse_objects.specs.Warehouse.{Warehouse};
+ghost use Rattle.warehouse_objects.specs.Stands.{IsLaidOut, root_of};
+ghost use Rattle.stored_cuboids.specs.Merged.{IsSound};
+
+use crate::finding::Finding;
+use cube_model::Fault;
+use dimensions::Dims;
+use object_store::Store;
+use sector_device::Sectors;
+use std::alloc::Global;
+use stored_cuboids::is_sound;
+use warehouse_root::Root;
+
+/// The first stored cuboid that is not the grouping of the batches up to its mark, if there is one. Each is worked out anew from the fact
+/// rows and compared, one at a time.
+///
+/// `BadLayout` where a batch is not as the root says. It can also run out of memory, or fail because the device does.
+pub(crate) fn check_cuboids<D: Sectors>(
+    alloc: Global,
+    store: &mut Store<D>,
+    root: &Root,
+    dims: &Dims,
+) -> Result<Option<Finding>, Fault>
+    requires fine { has_failed store.old ≡ false }
+    ensures answer { IfOk result (λ found. D.keeps_word (device_of store.new) → (w : Warehouse) → IsLaidOut (content_of D.Sectors store.old) w
+        → root.now ≡ root_of w → dims.now ≡ w.rows → (found ≡ None) ↔ All (IsSound w) w.cuboids) }
+    ensures refused { IsErrOf result BadLayout → D.keeps_word (device_of store.new) → (w : Warehouse) → IsLaidOut (content_of D.Sectors store.old) w
+        → root.now ≡ root_of w → dims.now ≡ w.rows → ⊥ }
+    ensures leaves { Leaves (disk_of D.Sectors store.old) (disk_of D.Sectors store.new) (λ c. c ≡ content_of D.Sectors store.old) }
+    ensures stays { (IsErrOf result Device → ⊥) → IsStill D.Sectors store.old store.new }
+    ensures device { IsErrOf result Device → Breaks D.Sectors store.old store.new }
+    ensures causes { IfErr result (λ fault. (fault ≡ Memory) ⊎ ((fault ≡ Device) ⊎ (fault ≡ BadLayout))) }
+{
+    let _usable = store.is_broken();
+    let _layout = root.layout();
+    for cuboid in root.cuboids() {
+        let sound = is_sound(alloc, store, root, dims, *cuboid)?;
+        if !sound {
+            return Ok(Some(Finding::Cuboid { view: cuboid.view }));
+        }
+    }
+    Ok(None)
+}
