@@ -217,10 +217,21 @@ fn with_free_ahead(slots: &[Cell], numbers: &[u32], place: usize, free: usize) -
 // Of each slot all parts are looked at, so that the processor waits for the memory of many slots at once, and has it when their
 // rows are taken in one after another.
 fn free_ahead(slots: &[Cell], numbers: &[u32], place: usize) -> usize {
-    let ahead = numbers.iter().skip(place).take(AHEAD);
-    ahead
-        .filter(|number| is_free(slots, **number as usize))
-        .count()
+    let end = numbers.len().min(place.saturating_add(AHEAD));
+    match numbers.get(place..end) {
+        Some(ahead) => free_among(slots, ahead),
+        None => 0,
+    }
+}
+
+fn free_among(slots: &[Cell], numbers: &[u32]) -> usize {
+    let mut free: usize = 0;
+    for number in numbers {
+        if is_free(slots, *number as usize) {
+            free = free.saturating_add(1);
+        }
+    }
+    free
 }
 
 // Whether the slot at a place is free.
