@@ -1,5 +1,5 @@
 //! Answers by plans.
-ghost use Rattle.std.specs.Prelude.{◌≡◌, ◌⊎◌, ◌≤◌, [], false, length, take, IfErr, IfOk, IsErrOf};
+ghost use Rattle.std.specs.Prelude.{◌≡◌, ◌⊎◌, ◌≤◌, [], false, length, take, IfErr, IfOk, IsErrOf, OnOk};
 ghost use Rattle.cube_model.specs.declared.fault.Fault.TheVariants.{BadLayout, Device, Memory};
 ghost use Rattle.cube_model.specs.Admission.{all_rows};
 ghost use Rattle.cube_model.specs.Answers.{answer};
@@ -13,37 +13,39 @@ ghost use Rattle.planner.specs.declared.price.Plan.{Plan};
 ghost use Rattle.planned_queries.specs.Planned.{IsPlanOf, mark_of};
 
 use crate::following::begin_by_plan;
+use crate::found::Found;
 use crate::planning::plan_of;
-use cube_model::{Answer, Fault, Query};
+use cube_model::{Fault, Query};
 use cube_query::Fold;
 use dimensions::Dims;
 use object_store::Store;
 use sector_device::Sectors;
 use std::alloc::Global;
+use std::rc::Rc;
 use warehouse_objects::fold_batches;
 use warehouse_root::Root;
 
-/// The answer to a proper query over the first `as_of` batches of a store, by the plan that reads least.
+/// The groups of the answer to a proper query over the first `as_of` batches of a store, by the plan that reads least.
 ///
 /// `BadLayout` where a cuboid or a batch is not as the root says. It can also run out of memory, or fail because the device
 /// does.
-pub fn answer_by_plan<D: Sectors>(
+pub fn groups_by_plan<D: Sectors>(
     alloc: Global,
     store: &mut Store<D>,
     root: &Root,
-    dims: &Dims,
+    dims: &Rc<Dims>,
     as_of: u32,
     query: &Query,
-) -> Result<Answer, Fault>
+) -> Result<Found, Fault>
     requires fine { has_failed store.old ≡ false }
     requires proper { IsProper query.now }
     requires few { as_of ≤ length root.now.batches }
 
     // The answer is the definition's over the rows of these batches.
     ensures answer { IfOk result (λ found. D.keeps_word (device_of store.new) → (w : Warehouse) → Stands (content_of D.Sectors store.old) w
-        → root.now ≡ root_of w → dims.now ≡ w.rows → found ≡ answer query.now dims.now (all_rows (take as_of w.batches))) }
+        → root.now ≡ root_of w → dims.now.value ≡ w.rows → found ≡ answer query.now dims.now.value (all_rows (take as_of w.batches))) }
     ensures refused { IsErrOf result BadLayout → D.keeps_word (device_of store.new) → (w : Warehouse) → Stands (content_of D.Sectors store.old) w
-        → root.now ≡ root_of w → dims.now ≡ w.rows → ⊥ }
+        → root.now ≡ root_of w → dims.now.value ≡ w.rows → ⊥ }
 
     // The content stays, at each moment.
     ensures leaves { Leaves (disk_of D.Sectors store.old) (disk_of D.Sectors store.new) (λ c. c ≡ content_of D.Sectors store.old) }
@@ -52,14 +54,18 @@ pub fn answer_by_plan<D: Sectors>(
     ensures causes { IfErr result (λ fault. (fault ≡ Memory) ⊎ ((fault ≡ Device) ⊎ (fault ≡ BadLayout))) }
 {
     let _usable = store.is_broken();
-    match Fold::new(alloc, dims, query) {
-        Ok(mut fold) => answer_by(alloc, store, root, dims, &mut fold, as_of, query),
+    let rows: &Dims = dims;
+    match Fold::new(alloc, rows, query) {
+        Ok(mut fold) => {
+            fold_by_plan(alloc, store, root, rows, &mut fold, as_of, query)?;
+            Found::of(dims, fold)
+        }
         Err(_) => Err(Fault::Memory), // the query is proper
     }
 }
 
-// The answer to a query over the first batches of a store, by a fold of it that represents no row yet.
-fn answer_by<D: Sectors>(
+// Counts the first batches of a store into a fold of a query that represents no row yet, by the plan that reads least.
+fn fold_by_plan<D: Sectors>(
     alloc: Global,
     store: &mut Store<D>,
     root: &Root,
@@ -67,12 +73,14 @@ fn answer_by<D: Sectors>(
     fold: &mut Fold,
     as_of: u32,
     query: &Query,
-) -> Result<Answer, Fault>
+) -> Result<(), Fault>
     requires fine { has_failed store.old ≡ false }
     requires begins { Begins dims.now query.now fold.old }
     requires few { as_of ≤ length root.now.batches }
-    ensures answer { IfOk result (λ found. D.keeps_word (device_of store.new) → (w : Warehouse) → Stands (content_of D.Sectors store.old) w
-        → root.now ≡ root_of w → dims.now ≡ w.rows → found ≡ answer query.now dims.now (all_rows (take as_of w.batches))) }
+    ensures ok { OnOk result (D.keeps_word (device_of store.new) → (w : Warehouse) → Stands (content_of D.Sectors store.old) w
+        → root.now ≡ root_of w → dims.now ≡ w.rows → StandsFor dims.now fold.new (all_rows (take as_of w.batches))) }
+    ensures over { IsOver dims.now fold.new }
+    ensures query { fold.new.query ≡ query.now }
     ensures refused { IsErrOf result BadLayout → D.keeps_word (device_of store.new) → (w : Warehouse) → Stands (content_of D.Sectors store.old) w
         → root.now ≡ root_of w → dims.now ≡ w.rows → ⊥ }
     ensures leaves { Leaves (disk_of D.Sectors store.old) (disk_of D.Sectors store.new) (λ c. c ≡ content_of D.Sectors store.old) }
@@ -82,7 +90,7 @@ fn answer_by<D: Sectors>(
 {
     let from = begin_fold(alloc, store, root, dims, fold, as_of, query)?;
     fold_batches(alloc, store, root, dims, fold, from, as_of)?;
-    fold.finish(dims)
+    Ok(())
 }
 
 /// Counts the cells of a query's plan into a fold of it that represents no row yet. It answers how many of the first batches

@@ -3,9 +3,11 @@
 
 mod answering;
 mod following;
+mod found;
 mod planning;
 mod stepping;
 
-pub use answering::answer_by_plan;
+pub use answering::groups_by_plan;
+pub use found::Found;
 pub use planning::{plan_of, plans_of};
 pub use stepping::Running;

@@ -11,7 +11,7 @@ ghost use Rattle.warehouse.specs.Session.{has_failed, device_of, disk_of, IsAt, 
 use crate::prepared::kept_is_what_stands;
 use crate::session::Session;
 use cube_model::{Answer, Fault, Query};
-use planned_queries::answer_by_plan;
+use planned_queries::{Found, groups_by_plan};
 use sector_device::Sectors;
 use std::alloc::Global;
 
@@ -44,6 +44,42 @@ impl<D: Sectors> Session<D> {
         ensures device { IsErrOf result Device → Breaks D.Sectors self.old self.new }
         ensures word { D.keeps_word (device_of self.new) → D.keeps_word (device_of self.old) }
     {
+        match self.query_groups(alloc, as_of, query) {
+            Ok(found) => match found.answer(alloc) {
+                Ok(answer) => Ok(answer),
+                Err(_) => Err(Fault::Memory),
+            },
+            Err(fault) => Err(fault),
+        }
+    }
+
+    /// The answer to a query over the first `as_of` batches, of whose lines none is made.
+    ///
+    /// It is refused as `query` is.
+    pub fn query_groups(&mut self, alloc: Global, as_of: u32, query: &Query) -> Result<Found, Fault>
+        // The warehouse stays as it is, at each moment.
+        ensures leaves { (w : Warehouse) → IsAt D.Sectors self.old w
+            → Leaves (disk_of D.Sectors self.old) (disk_of D.Sectors self.new) (λ c. Stands c w) }
+        ensures stays { (IsErrOf result Device → ⊥) → (w : Warehouse) → IsAt D.Sectors self.old w → IsAt D.Sectors self.new w }
+
+        // Nothing was put on the device, and after a failure nothing is done.
+        ensures reads { (IsErrOf result Device → ⊥) → KeepsContent D.Sectors self.old self.new }
+        ensures unmoved { IsErrOf result Failed → self.new ≡ self.old }
+
+        // The answer is the definition's.
+        ensures answer { IfOk result (λ found. (w : Warehouse) → IsAt D.Sectors self.old w → D.keeps_word (device_of self.new)
+            → IsAsked w as_of query.now × (found ≡ answer_as_of query.now as_of w.rows w.batches)) }
+
+        // When each error comes.
+        ensures improper { has_failed self.old ≡ false → (IsProper query.now → ⊥) → result ≡ Err BadQuery }
+        ensures beyond { (w : Warehouse) → IsAt D.Sectors self.old w → D.keeps_word (device_of self.new)
+            → IsProper query.now → length w.batches < as_of → result ≡ Err NoSuchPrefix }
+        ensures refused { IfErr result (λ fault. fault ≢ Device → (w : Warehouse) → IsAt D.Sectors self.old w → D.keeps_word (device_of self.new)
+            → QueryRefuses w as_of query.now fault) }
+        ensures failed { IsErrOf result Failed ↔ (has_failed self.old ≡ true) }
+        ensures device { IsErrOf result Device → Breaks D.Sectors self.old self.new }
+        ensures word { D.keeps_word (device_of self.new) → D.keeps_word (device_of self.old) }
+    {
         if self.is_broken() {
             return Err(Fault::Failed);
         }
@@ -51,8 +87,8 @@ impl<D: Sectors> Session<D> {
         if let Err(fault) = check(query, as_of, self.root.batches().len() as u32) {
             return Err(fault);
         }
-        match answer_by_plan(alloc, &mut self.store, &self.root, &self.dims, as_of, query) {
-            Ok(answer) => Ok(answer),
+        match groups_by_plan(alloc, &mut self.store, &self.root, &self.dims, as_of, query) {
+            Ok(found) => Ok(found),
             Err(fault) => Err(fault),
         }
     }

@@ -43,8 +43,9 @@ fn report_over<D: Sectors, W: Write>(
     ensures leaves { (w : Warehouse) → IsAt D.Sectors session.old w → Leaves (disk_of D.Sectors session.old) (disk_of D.Sectors session.new) (λ c. Stands c w) }
     ensures word { D.keeps_word (device_of session.new) → D.keeps_word (device_of session.old) }
 {
-    let answer = session.query(alloc, count, query)?;
-    write_report(query, &answer, out)
+    let found = session.query_groups(alloc, count, query)?;
+    let lines = found.lines();
+    write_report(query, &lines, out)
 }
 
 /// How many batches are asked for.
