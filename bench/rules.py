@@ -4,7 +4,7 @@
 Usage, at the top of the repository: python3 bench/rules.py
 
 The warehouse of the tests is made here byte by byte: the sample tables, one batch of three rows, and the cuboids of views 59, 203 and 248, on
-64 sectors. Each row of the tables in crates/test_hostile/src/rules.rt changes some of its bytes. A reader that knows the format says what
+64 sectors; for the last table also the same after a third customer was added. Each row of the tables in crates/test_hostile/src/rules.rt changes some of its bytes. A reader that knows the format says what
 is found then: how the opening is refused; or the generation, how the revenue by year is refused, which is read from the run of view 248 or
 from the batch, whichever has fewer cells or rows, and what an audit answers. The table has to say the same.
 """
@@ -27,6 +27,8 @@ AXES = [([[b"UNITED KI1", b"UNITED ST3"], *PLACES], [0, 1, 0, 1], [1, 2], [0, 1]
         ([[b"UNITED KI5", b"UNITED ST0"], *PLACES], [0, 1, 0, 1], [1, 2], [0, 1]),
         ([[b"MFGR#1210", b"MFGR#142"], [b"MFGR#12", b"MFGR#14"], [b"MFGR#1"]], [0, 1, 0, 0], [1, 2], [0, 1]),
         ([[b"199301", b"199712"], [b"Jan1993", b"Dec1997"], [b"1993", b"1997"], [b"1", b"49"]], [0, 1, 0, 1], [19930105, 19971202], [0, 1, 0, 1])]
+# The customers with a third one, of a new city.
+MORE_CUSTOMERS = ([[b"UNITED KI1", b"UNITED ST3", b"UNITED ST1"], *PLACES], [0, 1, 1, 0, 1], [1, 2, 3], [0, 1, 2])
 
 
 def refuse(is_broken):
@@ -44,9 +46,9 @@ def dictionary(texts):
     return numbers("I", [len(texts)]) + b"".join(bytes([len(text)]) + text for text in texts)
 
 
-def dimension_bytes(axis):
-    texts, uppers, keys, codes = AXES[axis]
-    return b"DIM1" + numbers("I", [axis, 2]) + b"".join(map(dictionary, texts)) + numbers("H", uppers) + numbers("I", keys) + numbers("H", codes)
+def dimension_bytes(axis, parts):
+    texts, uppers, keys, codes = parts
+    return b"DIM1" + numbers("I", [axis, len(keys)]) + b"".join(map(dictionary, texts)) + numbers("H", uppers) + numbers("I", keys) + numbers("H", codes)
 
 
 def segment_bytes(rows):
@@ -79,25 +81,27 @@ def run_bytes(view, found):
     return out
 
 
-def catalogue_bytes(entries, cuboids):
+def catalogue_bytes(entries, cuboids, additions):
     totals = [66, 3500, 3415, 2700, 8500, 835]
-    root = numbers("I", [1, 1, 0, len(cuboids)]) + numbers("Q", totals) + numbers("I", [3]) + b"".join(struct.pack("<HHII", *one) for one in cuboids)
+    root = numbers("I", [1, 1, additions, len(cuboids)]) + numbers("Q", totals) + numbers("I", [3]) + b"".join(struct.pack("<HHII", *one) for one in cuboids)
     return b"CAT1" + numbers("I", [len(entries), len(root)]) + b"".join(struct.pack("<IIQ", *one) for one in entries) + root
 
 
-def warehouse():
-    """64 sectors: generation 6, before the last commit of an upkeep, in slot 0, and generation 7 in slot 1."""
-    dimensions = [dimension(dimension_bytes(axis), axis) for axis in range(4)]
-    objects = [(axis + 1, axis + 2, dimension_bytes(axis)) for axis in range(4)] + [(65537, 7, segment_bytes(ROWS))]
+def warehouse(is_added):
+    """64 sectors: generation 6, before the last commit of an upkeep, in slot 0, and generation 7 in slot 1; or generation 8 in slot 0, after the addition."""
+    objects = [(axis + 1, axis + 2, dimension_bytes(axis, AXES[axis])) for axis in range(4)] + [(65537, 7, segment_bytes(ROWS))]
+    dimensions = [dimension(data, axis) for axis, (_, _, data) in enumerate(objects[:4])]
     objects += [(131072 + 16 * view, first, run_bytes(view, cells(view, ROWS, dimensions))) for view, first in ((59, 6), (203, 8), (248, 9))]
-    entries = [(number, first, len(data)) for number, first, data in objects]
-    catalogues = [(6, 10, catalogue_bytes(entries[:-1], [(59, 1, 1, 2), (203, 1, 1, 2), (248, 0, 0, 0)])),
-                  (7, 11, catalogue_bytes(entries, [(59, 1, 1, 2), (203, 1, 1, 2), (248, 1, 1, 2)]))]
-    pieces = [(first, data) for _, first, data in objects + catalogues]
-    pieces += [(generation % 2, struct.pack("<8sIIQII", b"SSBCUBE1", 1, 64, generation, first, len(data))) for generation, first, data in catalogues]
+    added = [(1, 10, dimension_bytes(0, MORE_CUSTOMERS)), *objects[1:]]
+    stored = [(59, 1, 1, 2), (203, 1, 1, 2)]
+    states = [(6, 10, objects[:-1], [*stored, (248, 0, 0, 0)]), (7, 11, objects, [*stored, (248, 1, 1, 2)]), (8, 12, added, [*stored, (248, 1, 1, 2)])]
     disk = bytearray(64 * SECTOR)
-    for first, data in pieces:
-        disk[first * SECTOR:first * SECTOR + len(data)] = data
+    for generation, first, present, cuboids in states if is_added else states[:-1]:
+        catalogue = catalogue_bytes([(number, at, len(data)) for number, at, data in present], cuboids, generation // 8)
+        pieces = [(at, data) for _, at, data in present] + [(first, catalogue)]
+        pieces += [(generation % 2, struct.pack("<8sIIQII", b"SSBCUBE1", 1, 64, generation, first, len(catalogue)))]
+        for at, data in pieces:
+            disk[at * SECTOR:(at + 1) * SECTOR] = data.ljust(SECTOR, b"\0")
     return disk
 
 
@@ -278,22 +282,23 @@ def found_on(disk):
 # The table.
 
 def rows_of(source):
-    """The rows of the tables: the rule, the changes, and what is found."""
+    """The rows of the tables: whether they are of the warehouse with the addition, the rule, the changes, and what is found."""
     numbers = {name: int(number) for name, number in re.findall(r"const (\w+): u32 = (\d+);", source)}
     named = dict(re.findall(r"const (\w+): Found = Found::(.*);", source))
     row = re.compile(r'\(\s*"([^"]*)",\s*&\[(.*?)\],\s*(\w+|Found::\w+\((?:[^()]|\((?:[^()]|\([^()]*\))*\))*\)),?\s*\)', re.S)
     change = re.compile(r'\(\s*(\w+),\s*(\d+),\s*b"((?:[^"\\]|\\.)*)",?\s*\)')
-    for table in re.findall(r"static \w+: \[Rule; \d+\] = \[(.*?)\n\];", source, re.S):
+    for name, table in re.findall(r"static (\w+): \[Rule; \d+\] = \[(.*?)\n\];", source, re.S):
         for rule, changes, found in row.findall(re.sub(r"//.*", "", table)):
             found = re.sub(r"\s|Found::|Fault::", "", named.get(found, found)).replace(",)", ")").replace(",", ", ")
-            yield rule, [(numbers.get(at, at), int(place), text.encode().decode("unicode_escape").encode("latin-1")) for at, place, text in change.findall(changes)], found
+            yield name == "OF_ADDITIONS", rule, [(numbers.get(at, at), int(place), text.encode().decode("unicode_escape").encode("latin-1")) for at, place, text in change.findall(changes)], found
 
 
 def main():
     source = Path("crates/test_hostile/src/rules.rt").read_text()
-    whole = warehouse()
+    wholes = [warehouse(False), warehouse(True)]
     total, wrong = 0, 0
-    for rule, changes, wanted in rows_of(source):
+    for is_added, rule, changes, wanted in rows_of(source):
+        whole = wholes[is_added]
         disk = bytearray(whole)
         for sector, place, data in changes:
             at = int(sector) * SECTOR + place

@@ -4,7 +4,8 @@ use Rattle.std.proofs.lemmas.Bool.Decides.{nat_tests}
 use Rattle.std.proofs.lemmas.List.{append-nil, length-map}
 use Rattle.cube_model.specs.declared.attr.Axis.TheVariants.{Customer, Supplier, Part, Date}
 use Rattle.cube_model.specs.declared.rows.DimRows.{DimRows}
-use Rattle.object_store.specs.Commit.{among}
+use Rattle.object_store.specs.Commit.{among, committed}
+use Rattle.object_store.specs.Content.{Content}
 use Rattle.object_store.proofs.CallerLemmas.{bytes_after, layout_after, once_after, root_after}
 use Rattle.cuboid_cells.specs.Steps.{cells_of}
 use Rattle.dimensions.specs.TextRows.{row_of_customer, row_of_date, row_of_part, row_of_supplier}
@@ -12,8 +13,8 @@ use Rattle.dimension_objects.specs.Spelled.{dimension_spelling}
 use Rattle.warehouse_root.specs.Layouts.{number_of}
 use Rattle.warehouse_root.specs.Objects.{run_id, segment_id}
 use Rattle.warehouse_root.specs.Root as roots
-use Rattle.warehouse_objects.specs.Stands.{HoldsGroupings, dimension_of, object_of, root_of, rows_in, run_behind, segment_behind}
-use Rattle.warehouse_objects.specs.Warehouse.{AreInOrder, Cuboid, Warehouse, modes_of}
+use Rattle.warehouse_objects.specs.Stands.{HasRows, HoldsGroupings, dimension_of, object_of, root_of, rows_in, run_behind, segment_behind}
+use Rattle.warehouse_objects.specs.Warehouse.{AreInOrder, Cuboid, Warehouse, fresh, modes_of}
 use Rattle.warehouse_objects.proofs.CallerLemmas.{root_proper}
 use Rattle.dimensions.specs.Added.{joined}
 use Rattle.added_rows.specs.Added.{put_of, widened, widening_puts}
@@ -140,4 +141,15 @@ stands_widened c w more stands storable few =
       rows = storable;
       batches = in_order_then w more stands.batches;
       cuboids = λ k d within. cuboid_then w more (get_or w.cuboids k d) (stands.cuboids k d within);
+    }
+
+-- its dimensions are those with the rows
+pub rows_widened : (c : Content) (rows more : DimRows) (bytes : List ℕ) (layout : ℕ) → HasRows c rows → HasRows (committed (widening_puts rows more) [] bytes layout c) (joined rows more)
+rows_widened c rows more bytes layout has =
+    let w = fresh rows in
+    let puts = widening_puts rows more in record {
+      customers = bytes_after puts [] bytes layout c 1 ∙ ap (among puts 1) has.customers ∙ objects_then w more 1;
+      suppliers = bytes_after puts [] bytes layout c 2 ∙ ap (among puts 2) has.suppliers ∙ objects_then w more 2;
+      parts = bytes_after puts [] bytes layout c 3 ∙ ap (among puts 3) has.parts ∙ objects_then w more 3;
+      dates = bytes_after puts [] bytes layout c 4 ∙ ap (among puts 4) has.dates ∙ objects_then w more 4;
     }

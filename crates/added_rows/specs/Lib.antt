@@ -1,2 +1,3 @@
 pub mod Added
+pub mod Among
 pub mod Lawful

@@ -1,7 +1,7 @@
 -- The numbers of the faults, which are in each printed line. Our own.
 use Rattle.std.specs.Prelude.{ℕ}
 use Rattle.cube_model.specs.declared.fault.Fault.{Fault}
-use Rattle.cube_model.specs.declared.fault.Fault.TheVariants.{Memory, Device, Failed, Full, NotFormatted, AlreadyFormatted, BadLayout, DeviceSize, FieldCount, BadNumber, FieldTooLong, DuplicateKey, HierarchyBroken, ReservedMember, UnknownCustomer, UnknownSupplier, UnknownPart, UnknownDate, SumRange, TooManyRows, TooManyBatches, Repeated, Gap, BadQuery, NoSuchPrefix, TooManyCells, TooManyMembers, Worn, Input, Output, NotRunning}
+use Rattle.cube_model.specs.declared.fault.Fault.TheVariants.{Memory, Device, Failed, Full, NotFormatted, AlreadyFormatted, BadLayout, DeviceSize, FieldCount, BadNumber, FieldTooLong, DuplicateKey, HierarchyBroken, ReservedMember, UnknownCustomer, UnknownSupplier, UnknownPart, UnknownDate, SumRange, TooManyRows, TooManyBatches, Repeated, Gap, BadQuery, NoSuchPrefix, TooManyCells, TooManyMembers, Worn, Input, Output, NotRunning, TooManyAdditions}
 
 -- the number by which a fault is known
 abbrev pub number_of : Fault → ℕ
@@ -36,3 +36,4 @@ number_of Worn = 28
 number_of Input = 29
 number_of Output = 30
 number_of NotRunning = 31
+number_of TooManyAdditions = 32

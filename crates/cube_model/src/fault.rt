@@ -91,6 +91,8 @@ pub enum Fault {
     Output,
     /// No query runs in the slot.
     NotRunning,
+    /// Rows were added to the dimensions as often as the warehouse can count.
+    TooManyAdditions,
 }
 
 impl fmt::Display for Fault {
@@ -122,7 +124,7 @@ impl<T: Drop> From<AllocFailed<T>> for Fault {
 }
 
 impl Fault {
-    /// The number of the fault, from 1 to 31.
+    /// The number of the fault, from 1 to 32.
     pub fn code(&self) -> u8
         ensures { result ≡ number_of self.now }
     {
@@ -158,6 +160,7 @@ impl Fault {
             Fault::Input => 29,
             Fault::Output => 30,
             Fault::NotRunning => 31,
+            Fault::TooManyAdditions => 32,
         }
     }
 
@@ -195,6 +198,7 @@ impl Fault {
             Fault::Input => "Input",
             Fault::Output => "Output",
             Fault::NotRunning => "NotRunning",
+            Fault::TooManyAdditions => "TooManyAdditions",
         }
     }
 

@@ -9,10 +9,8 @@ use Rattle.cube_model.specs.Admission.{all_rows}
 use Rattle.cube_model.specs.Answers.{answer}
 use Rattle.cube_query.specs.Groups.{FoldState, IsFoldable, StandsFor}
 use Rattle.cube_query.specs.Limits.{AreFoldable}
-use Rattle.object_store.specs.Content.{Content}
 use Rattle.planner.specs.declared.price.Plan.{Plan}
-use Rattle.warehouse_objects.specs.Stands.{Stands}
-use Rattle.warehouse_objects.specs.Warehouse.{Warehouse}
+use Rattle.warehouse_objects.specs.Warehouse.{AreInOrder, Warehouse}
 use Rattle.warehouse_objects.proofs.CallerLemmas.{foldable}
 use Rattle.planned_queries.specs.Planned.{IsPlanOf, mark_of}
 use Rattle.planned_queries.specs.Stepping.{Advances, Extends, IsRunning, RunningState, Started, Starts}
@@ -20,9 +18,9 @@ use Rattle.planned_queries.specs.Stepping.{Advances, Extends, IsRunning, Running
 -- a query that begins with the cells of its plan
 pub begun : (w : Warehouse) (as_of : ℕ) (query : Query) (running : RunningState)
     → (plan : Plan) × IsPlanOf w as_of query plan × (running.done ≡ mark_of plan) × StandsFor w.rows running.fold (all_rows (take running.done w.batches))
-    → running.rows ≡ w.rows → running.fold.query ≡ query → running.as_of ≡ as_of → running.done ≤ as_of → as_of ≤ length w.batches
+    → running.rows ≡ w.rows → running.fold.query ≡ query → running.as_of ≡ as_of → running.done ≤ as_of → as_of ≤ length w.batches → AreInOrder w.rows w.batches
     → (s : Started) × Starts w as_of query s × IsRunning running s
-begun w as_of query running cells rows asked many in_time there = (
+begun w as_of query running cells rows asked many in_time there order = (
   record { query = query; as_of = as_of; rows = w.rows; batches = w.batches; left = as_of - mark_of cells.0 },
   (cells.0, cells.1, refl),
   record {
@@ -30,6 +28,7 @@ begun w as_of query running cells rows asked many in_time there = (
     rows = rows;
     as_of = many;
     there = there;
+    in_order = order;
     left = omega (arith, cells.2, in_time);
     folds = subst (λ (d : DimRows). StandsFor d running.fold (all_rows (take running.done w.batches))) (sym rows) cells.3;
   },
@@ -43,9 +42,6 @@ there_are : (s : Started) (w : Warehouse) → Extends s w → length s.batches �
 there_are s w extends = let more : length w.batches ≡ length (s.batches ++ extends.more) = ap (λ (l : List (List LineOrder)). length l) extends.batches in omega (arith, more, length-append s.batches extends.more)
 
 module _ (running : RunningState) (w : Warehouse) (s : Started) (extends : Extends s w) (is : IsRunning running s) where
-  pub own_rows : running.rows ≡ w.rows
-  own_rows = is.rows ∙ sym extends.rows
-
   pub folds_first : StandsFor running.rows running.fold (all_rows (take running.done w.batches))
   folds_first =
       subst (λ (l : List (List LineOrder)). StandsFor running.rows running.fold (all_rows l)) (sym (first_batches s w running.done extends (omega (arith, is.left, is.there)))) is.folds
@@ -53,15 +49,22 @@ module _ (running : RunningState) (w : Warehouse) (s : Started) (extends : Exten
   pub next_is_there : running.done < running.as_of → running.done < length w.batches
   next_is_there lt = omega (arith, lt, is.as_of, is.there, there_are s w extends)
 
+  -- the dimensions of the start have the keys of the batches up to the next one
+  pub next_foldable : (dims : DimRows) → dims ≡ running.rows → running.done < running.as_of → AreFoldable dims (all_rows (take (running.done + 1) w.batches))
+  next_foldable dims same lt =
+      let within : running.done + 1 ≤ length s.batches = omega (arith, lt, is.as_of, is.there) in
+      subst (λ (l : List (List LineOrder)). AreFoldable dims (all_rows l)) (sym (first_batches s w (running.done + 1) extends within))
+      (subst (λ (d : DimRows). AreFoldable d (all_rows (take (running.done + 1) s.batches))) (sym (same ∙ is.rows)) (foldable s.rows s.batches is.in_order (running.done + 1) within))
+
   -- what it has can be answered
-  pub can_finish : (c : Content) (dims : DimRows) → dims ≡ running.rows → Stands c w → IsFoldable dims running.fold
-  can_finish c dims same stands =
-      let rows = all_rows (take running.done w.batches) in
-      let within : running.done ≤ length w.batches = omega (arith, is.left, is.there, there_are s w extends) in (
+  pub can_finish : (dims : DimRows) → dims ≡ running.rows → IsFoldable dims running.fold
+  can_finish dims same =
+      let rows = all_rows (take running.done s.batches) in
+      let within : running.done ≤ length s.batches = omega (arith, is.left, is.there) in (
         rows,
         (
-          subst (λ (d : DimRows). StandsFor d running.fold rows) (sym same) folds_first,
-          subst (λ (d : DimRows). AreFoldable d rows) (sym (same ∙ own_rows)) (foldable w.rows w.batches stands.batches running.done within),
+          subst (λ (d : DimRows). StandsFor d running.fold rows) (sym same) is.folds,
+          subst (λ (d : DimRows). AreFoldable d rows) (sym (same ∙ is.rows)) (foldable s.rows s.batches is.in_order running.done within),
         ),
       )
 
@@ -88,6 +91,7 @@ module _ (running : RunningState) (w : Warehouse) (s : Started) (extends : Exten
       rows = is.rows;
       as_of = is.as_of;
       there = is.there;
+      in_order = is.in_order;
       left = omega (arith, lt, is.left, is.as_of);
       folds = subst (λ (l : List (List LineOrder)). StandsFor running.rows fold (all_rows l)) (first_batches s w (running.done + 1) extends (omega (arith, lt, is.left, is.as_of, is.there))) goes;
     },

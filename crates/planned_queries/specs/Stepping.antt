@@ -8,7 +8,7 @@ use Rattle.cube_model.specs.Admission.{all_rows}
 use Rattle.cube_model.specs.Answers.{answer_as_of}
 use Rattle.cube_query.specs.Groups.{FoldState, StandsFor}
 use Rattle.planner.specs.declared.price.Plan.{Plan}
-use Rattle.warehouse_objects.specs.Warehouse.{Warehouse}
+use Rattle.warehouse_objects.specs.Warehouse.{AreInOrder, Warehouse}
 use Rattle.planned_queries.specs.Planned.{IsPlanOf, mark_of}
 
 -- a running query: the rows of its dimensions, its fold, how many of the first batches the fold holds, and how many it asks for
@@ -39,9 +39,8 @@ stepped s left = record { query = s.query; as_of = s.as_of; rows = s.rows; batch
 abbrev pub answer_of : Started → Answer
 answer_of s = answer_as_of s.query s.as_of s.rows s.batches
 
--- the rows of the dimensions are those of the start, and the batches of the start are the first
+-- the batches of the start are the first, whatever rows the dimensions have now
 pub record Extends (s : Started) (w : Warehouse) : Type 0 where
-  pub rows : w.rows ≡ s.rows
   pub more : List (List LineOrder)
   pub batches : w.batches ≡ s.batches ++ more
 
@@ -51,6 +50,7 @@ pub record IsRunning (running : RunningState) (s : Started) : Type 0 where
   pub rows : running.rows ≡ s.rows
   pub as_of : running.as_of ≡ s.as_of
   pub there : s.as_of ≤ length s.batches
+  pub in_order : AreInOrder s.rows s.batches
   pub left : running.done + s.left ≡ s.as_of
   pub folds : StandsFor running.rows running.fold (all_rows (take running.done s.batches))
 

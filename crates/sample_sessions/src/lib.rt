@@ -14,7 +14,8 @@ pub use answers::{Lines, answer, ask, finding, first_other, found, is_found, rep
 pub use changes::{Change, changed, make_change, refused_opening, sector};
 pub use scripts::{Expected, Given, Numbers, Script, first_other_reply};
 pub use sessions::{
-    as_is, created, created_over, fresh, loaded, opened, opened_again, sample_dims, status, submit,
+    add, as_is, created, created_over, fresh, loaded, opened, opened_again, sample_dims, status,
+    submit,
 };
 pub use stopped::{OPENING, SUBMIT, half_opened, refusal};
 pub use stored::{THREE, TWO_CELLS, status_of_three, store_views, with_cuboids, with_three};

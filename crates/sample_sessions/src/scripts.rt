@@ -3,10 +3,10 @@ use crate::answers::{Lines, answer};
 use crate::sessions::{created, status};
 use crate::stored::with_cuboids;
 use cube_model::{Fault, Items};
-use sample_star::{Asked, Fact, line_orders, query};
+use sample_star::{Asked, Fact, Star, dim_rows, line_orders, query};
 use sector_device::MemDisk;
 use std::alloc::Global;
-use warehouse::{Chosen, Command, Reply, Status, StoredCuboid, run};
+use warehouse::{Chosen, Command, NewRows, Reply, Status, StoredCuboid, run};
 
 /// A command, as constants can hold it.
 pub enum Given {
@@ -16,14 +16,16 @@ pub enum Given {
     Choose(u8),
     Upkeep,
     Audit,
+    Add(u32, Star<'static>),
     Start(u8, u32, Asked<'static>),
     Step(u8),
 }
 
-/// The numbers of a warehouse that stores cuboids.
+/// The numbers of a warehouse that stores cuboids, or to whose dimensions rows were added.
 pub struct Numbers {
     pub batches: u32,
     pub rows: u64,
+    pub additions: u32,
     pub target: u32,
     pub generation: u64,
     pub cuboids: &'static [StoredCuboid],
@@ -45,6 +47,14 @@ pub enum Expected {
 /// Commands in turn, and the replies.
 pub type Script = &'static [(Given, Expected)];
 
+/// The command that adds rows to the dimensions.
+fn addition(alloc: Global, number: u32, star: &Star<'_>) -> Result<Command, Fault> {
+    match NewRows::new(dim_rows(alloc, star)?) {
+        Some(rows) => Ok(Command::Add(number, rows)),
+        None => Err(Fault::BadLayout), // its texts are short
+    }
+}
+
 fn command(alloc: Global, given: &Given) -> Result<Command, Fault> {
     match given {
         Given::Submit(number, facts) => Ok(Command::Submit(
@@ -59,6 +69,7 @@ fn command(alloc: Global, given: &Given) -> Result<Command, Fault> {
         Given::Choose(k) => Ok(Command::Choose(*k)),
         Given::Upkeep => Ok(Command::Upkeep),
         Given::Audit => Ok(Command::Audit),
+        Given::Add(number, star) => addition(alloc, *number, star),
         Given::Step(slot) => Ok(Command::Step(*slot)),
     }
 }
@@ -86,6 +97,7 @@ fn are_chosen(list: &[Chosen], wanted: &[(u16, u64)]) -> bool {
 
 fn status_of(numbers: &Numbers) -> Status {
     let plain = Status {
+        additions: numbers.additions,
         target: numbers.target,
         generation: numbers.generation,
         ..status(numbers.batches, numbers.rows)

@@ -1,7 +1,7 @@
 //! Sessions over the sample star.
 use cube_model::Fault;
 use dimensions::Dims;
-use sample_star::{FACTS, Fact, STAR, dim_rows, line_orders};
+use sample_star::{FACTS, Fact, STAR, Star, dim_rows, line_orders};
 use sector_device::{MemDisk, Sectors};
 use std::alloc::Global;
 use warehouse::{Session, Status, create, open, open_as_is};
@@ -66,6 +66,17 @@ pub fn submit<D: Sectors>(
     session.submit(alloc, number, rows.as_slice())
 }
 
+/// Adds rows to the dimensions.
+pub fn add<D: Sectors>(
+    alloc: Global,
+    session: &mut Session<D>,
+    number: u32,
+    star: &Star<'_>,
+) -> Result<(), Fault> {
+    let rows = dim_rows(alloc, star)?;
+    session.add(alloc, number, &rows)
+}
+
 /// A warehouse without batches on a memory disk of 64 sectors.
 pub fn fresh(alloc: Global) -> Result<Session<MemDisk>, Fault> {
     let disk = MemDisk::new(alloc, 64)?;
@@ -81,11 +92,13 @@ pub fn loaded(alloc: Global, batches: u32) -> Result<Session<MemDisk>, Fault> {
     Ok(session)
 }
 
-/// The status of a warehouse of so many batches with so many rows together, which took a commit for each.
+/// The status of a warehouse of so many batches with so many rows together, which took a commit for each. Nothing was added to
+/// its dimensions.
 pub fn status(batches: u32, rows: u64) -> Status {
     Status {
         batches,
         rows,
+        additions: 0,
         target: 0,
         generation: u64::from(batches) + 1,
         cuboids: [None; 16],

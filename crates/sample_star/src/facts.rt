@@ -90,6 +90,12 @@ pub const THIRD_FACT: Fact<'static> = Fact {
     shipmode: "AIR",
 };
 
+/// The second, of a third customer.
+pub const STRANGER: Fact<'static> = Fact {
+    custkey: 3,
+    ..SECOND_FACT
+};
+
 /// The three sample rows, those of the text.
 pub const FACTS: [Fact<'static>; 3] = [FIRST_FACT, SECOND_FACT, THIRD_FACT];
 

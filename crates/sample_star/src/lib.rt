@@ -13,16 +13,18 @@ mod turning;
 mod writers;
 
 pub use draw::Draw;
-pub use facts::{FACTS, FIRST_FACT, Fact, SECOND_FACT, THIRD_FACT, line_order, line_orders};
+pub use facts::{
+    FACTS, FIRST_FACT, Fact, SECOND_FACT, STRANGER, THIRD_FACT, line_order, line_orders,
+};
 pub use many_pairs::{pairs, rows_of_pairs};
 pub use queries::{
-    ATTRIBUTES, AVERAGES, Asked, CITIES, CUBE, Condition, DISCOUNTED, EVERY_ROW, PROFIT, ROLLUP,
-    query,
+    ATTRIBUTES, AVERAGES, Asked, BY_CITY, CITIES, CUBE, Condition, DISCOUNTED, EVERY_ROW, PROFIT,
+    ROLLUP, query,
 };
 pub use readers::{Pieces, byte_by_byte, in_pieces, in_sevens, whole};
 pub use stars::{
-    Day, FIRST_CUSTOMER, FIRST_DAY, FIRST_PART, FIRST_SUPPLIER, Location, Product, STAR, Star,
-    dim_rows, text,
+    Day, FIRST_CUSTOMER, FIRST_DAY, FIRST_PART, FIRST_SUPPLIER, Location, MOVED_CUSTOMER, NO_ROWS,
+    ONE_CUSTOMER, Product, STAR, Star, THIRD_CUSTOMER, WIDER_STAR, dim_rows, text,
 };
 pub use tables::{TABLES, Tables};
 pub use turning::Turning;

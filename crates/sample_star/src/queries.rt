@@ -49,6 +49,12 @@ pub const EVERY_ROW: Asked<'static> = Asked {
     order: None,
 };
 
+/// How many rows the customers of each city have. Of the sample rows there are two of one city, and one of another.
+pub const BY_CITY: Asked<'static> = Asked {
+    columns: &[Attr::CustomerCity],
+    ..EVERY_ROW
+};
+
 /// The discounted sum of 1993, at discounts 1 to 3 and quantities 0 to 24. Of the sample rows it is 2000.
 pub const DISCOUNTED: Asked<'static> = Asked {
     conditions: &[

@@ -52,6 +52,28 @@ pub const FIRST_CUSTOMER: Location<'static> = Location {
     region: "EUROPE",
 };
 
+/// The second sample customer, of America.
+const SECOND_CUSTOMER: Location<'static> = Location {
+    key: 2,
+    city: "UNITED ST3",
+    nation: "UNITED STATES",
+    region: "AMERICA",
+};
+
+/// A third customer, of a new city in the nation of the second.
+pub const THIRD_CUSTOMER: Location<'static> = Location {
+    key: 3,
+    city: "UNITED ST1",
+    ..SECOND_CUSTOMER
+};
+
+/// A customer whose city is of another nation in the sample.
+pub const MOVED_CUSTOMER: Location<'static> = Location {
+    key: 4,
+    city: "UNITED KI1",
+    ..SECOND_CUSTOMER
+};
+
 /// The first sample supplier, of Europe.
 pub const FIRST_SUPPLIER: Location<'static> = Location {
     city: "UNITED KI5",
@@ -77,15 +99,7 @@ pub const FIRST_DAY: Day<'static> = Day {
 
 /// The dimension rows of the sample texts: two customers, two suppliers, two parts and two days.
 pub const STAR: Star<'static> = Star {
-    customers: &[
-        FIRST_CUSTOMER,
-        Location {
-            key: 2,
-            city: "UNITED ST3",
-            nation: "UNITED STATES",
-            region: "AMERICA",
-        },
-    ],
+    customers: &[FIRST_CUSTOMER, SECOND_CUSTOMER],
     suppliers: &[
         FIRST_SUPPLIER,
         Location {
@@ -114,6 +128,26 @@ pub const STAR: Star<'static> = Star {
             weeknuminyear: "49",
         },
     ],
+};
+
+/// The same with the third customer.
+pub const WIDER_STAR: Star<'static> = Star {
+    customers: &[FIRST_CUSTOMER, SECOND_CUSTOMER, THIRD_CUSTOMER],
+    ..STAR
+};
+
+/// No row of any dimension.
+pub const NO_ROWS: Star<'static> = Star {
+    customers: &[],
+    suppliers: &[],
+    parts: &[],
+    dates: &[],
+};
+
+/// The third customer alone.
+pub const ONE_CUSTOMER: Star<'static> = Star {
+    customers: &[THIRD_CUSTOMER],
+    ..NO_ROWS
 };
 
 /// A text as a value, of which more than 255 bytes are cut off. Only memory can fail.

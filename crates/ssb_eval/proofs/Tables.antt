@@ -10,7 +10,7 @@ use Rattle.cube_model.specs.declared.fault.Fault.{Fault}
 use Rattle.cube_model.specs.declared.fault.Fault.TheVariants.{Memory, Input}
 use Rattle.cube_model.specs.declared.rows.DimRows.{DimRows}
 use Rattle.cube_model.specs.Validity.{invalid_cause, IsValid}
-use Rattle.ssb_eval.specs.Evaluation.{Gives, ReadsTables, Texts, dimensions_of, table_rows, valid_rows}
+use Rattle.ssb_eval.specs.Evaluation.{Gives, table_rows, valid_rows}
 
 table_ok : {Row : Type 0} (row : ℕ → List ℕ → Result Row Fault) (number : ℕ) (left : Option (List ℕ)) (text : List ℕ) (rows : List Row) → number ≡ 0 → Keeps (Some text) left → AreRowsOf row number left rows → table_rows row text ≡ Ok rows
 table_ok row number None text rows first kept are = absurd kept
@@ -37,11 +37,6 @@ pub gives-stop : {A B : Type 0} (first : Result A Fault) (next : A → Result B 
 gives-stop first next fault result stop (inl memory) = rw (stop.1, stop.2) (inl memory)
 gives-stop first next fault result stop (inr (inl input)) = rw (stop.1, stop.2) (inr (inl input))
 gives-stop first next fault result stop (inr (inr is)) = rw (stop.1, stop.2) (inr (inr (ap (λ one. and_then one next) is)))
-
--- a table that was refused refuses the dimensions
-pub tables-stop : (texts : Texts) (fault : Fault) (result : Result DimRows Fault) → (y : Fault) × (result ≡ Err y) × (y ≡ fault) → Gives (dimensions_of texts) result → ReadsTables texts result
-tables-stop texts fault (Ok rows) stop gives = let refused = stop.1 in absurd (cc)
-tables-stop texts fault (Err y) stop gives = gives
 
 -- a step that was not
 pub gives-on : {A B : Type 0} (first : Result A Fault) (next : A → Result B Fault) (value : A) (result : Result B Fault) → first ≡ Ok value → Gives (next value) result → Gives (and_then first next) result

@@ -37,14 +37,18 @@ table_rows row text = rows_of row 1 (lines_of text)
 abbrev pub valid_rows : DimRows → Result DimRows Fault
 valid_rows rows = unless (invalid_cause rows) (Ok rows)
 
--- the rows of the four dimensions: all texts are read before the rules are looked at
-abbrev pub dimensions_of : Texts → Result DimRows Fault
-dimensions_of texts =
+-- the rows of the four tables, whether they keep the rules or not
+abbrev pub tables_of : Texts → Result DimRows Fault
+tables_of texts =
     and_then (table_rows customer_row texts.customer) (λ customers.
     and_then (table_rows supplier_row texts.supplier) (λ suppliers.
     and_then (table_rows part_row texts.part) (λ parts.
     and_then (table_rows date_row texts.date) (λ dates.
-    valid_rows (record { customers = customers; suppliers = suppliers; parts = parts; dates = dates })))))
+    Ok (record { customers = customers; suppliers = suppliers; parts = parts; dates = dates })))))
+
+-- the rows of the four dimensions: all texts are read before the rules are looked at
+abbrev pub dimensions_of : Texts → Result DimRows Fault
+dimensions_of texts = and_then (tables_of texts) valid_rows
 
 -- the fact rows of the lines of batches, after batches that were accepted: the lines of a batch are read, and then it is
 -- admitted. The number is that of the next line
@@ -83,18 +87,6 @@ eval_of query texts =
 abbrev pub Gives : {A : Type 0} → Result A Fault → Result A Fault → Type 0
 Gives outcome (Ok value) = outcome ≡ Ok value
 Gives outcome (Err fault) = (fault ≡ Memory) ⊎ ((fault ≡ Input) ⊎ (outcome ≡ Err fault))
-
--- the rows of the four tables
-pub record AreTables (texts : Texts) (rows : DimRows) : Type 0 where
-  pub customers : table_rows customer_row texts.customer ≡ Ok rows.customers
-  pub suppliers : table_rows supplier_row texts.supplier ≡ Ok rows.suppliers
-  pub parts : table_rows part_row texts.part ≡ Ok rows.parts
-  pub dates : table_rows date_row texts.date ≡ Ok rows.dates
-
--- the tables were read, whether their rows keep the rules or not; or the first that was refused refuses the dimensions
-abbrev pub ReadsTables : Texts → Result DimRows Fault → Type 0
-ReadsTables texts (Ok rows) = AreTables texts rows
-ReadsTables texts (Err fault) = Gives (dimensions_of texts) (Err fault)
 
 -- readers have the bytes of texts left
 pub record HaveTexts (customer supplier part date lineorder : Option (List ℕ)) (texts : Texts) : Type 0 where

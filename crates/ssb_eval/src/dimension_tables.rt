@@ -1,7 +1,8 @@
-//! The dimensions from the texts of their tables.
-ghost use Rattle.std.specs.Prelude.{◌≡◌, ℕ, List, Some};
+//! The dimensions, or rows of them, from the texts of their tables.
+ghost use Rattle.std.specs.Prelude.{◌≡◌, ℕ, List, Some, IfOk};
 ghost use Rattle.batch_loader.specs.Tables.{customer_row, supplier_row, part_row, date_row};
-ghost use Rattle.ssb_eval.specs.Evaluation.{Gives, ReadsTables, Texts, table_rows, dimensions_of};
+ghost use Rattle.cube_model.specs.Validity.{HaveShortTexts};
+ghost use Rattle.ssb_eval.specs.Evaluation.{Gives, Texts, table_rows, tables_of, dimensions_of};
 
 use batch_loader::{Lines, read_customers, read_dates, read_parts, read_suppliers};
 use cube_model::{CustomerRow, DateRow, DimRows, Fault, Items, PartRow, SupplierRow};
@@ -9,7 +10,7 @@ use dimensions::{Dims, have_short_texts};
 use std::alloc::Global;
 use std::io::Read;
 
-/// Reads the four tables, and then checks their rows. That a text is too long is never found here: its table refuses it.
+/// Reads the four tables, and then checks their rows.
 pub fn read_dimensions<C: Read + Drop, S: Read + Drop, P: Read + Drop, D: Read + Drop>(
     alloc: Global,
     customer: C,
@@ -20,11 +21,28 @@ pub fn read_dimensions<C: Read + Drop, S: Read + Drop, P: Read + Drop, D: Read +
     ensures { (texts : Texts) → C.remaining customer ≡ Some texts.customer → S.remaining supplier ≡ Some texts.supplier
         → P.remaining part ≡ Some texts.part → D.remaining date ≡ Some texts.date → Gives (dimensions_of texts) result }
 {
+    let rows = read_rows(alloc, customer, supplier, part, date)?;
+    Dims::build(alloc, &rows)
+}
+
+/// The rows of the four tables, whether they keep the rules of dimensions or not. That a text is too long is never found here: its
+/// table refuses it.
+pub fn read_rows<C: Read + Drop, S: Read + Drop, P: Read + Drop, D: Read + Drop>(
+    alloc: Global,
+    customer: C,
+    supplier: S,
+    part: P,
+    date: D,
+) -> Result<DimRows, Fault>
+    ensures tables { (texts : Texts) → C.remaining customer ≡ Some texts.customer → S.remaining supplier ≡ Some texts.supplier
+        → P.remaining part ≡ Some texts.part → D.remaining date ≡ Some texts.date → Gives (tables_of texts) result }
+    ensures short { IfOk result HaveShortTexts }
+{
     let rows = read_tables(alloc, customer, supplier, part, date)?;
     if !have_short_texts(&rows) {
         return Err(Fault::Input);
     }
-    Dims::build(alloc, &rows)
+    Ok(rows)
 }
 
 // Reads the four tables.
@@ -36,7 +54,7 @@ fn read_tables<C: Read + Drop, S: Read + Drop, P: Read + Drop, D: Read + Drop>(
     date: D,
 ) -> Result<DimRows, Fault>
     ensures { (texts : Texts) → C.remaining customer ≡ Some texts.customer → S.remaining supplier ≡ Some texts.supplier
-        → P.remaining part ≡ Some texts.part → D.remaining date ≡ Some texts.date → ReadsTables texts result }
+        → P.remaining part ≡ Some texts.part → D.remaining date ≡ Some texts.date → Gives (tables_of texts) result }
 {
     let customers = customer_table(alloc, customer)?;
     let suppliers = supplier_table(alloc, supplier)?;

@@ -7,7 +7,7 @@ mod exit;
 mod facts;
 mod laws;
 
-pub use dimension_tables::read_dimensions;
+pub use dimension_tables::{read_dimensions, read_rows};
 pub use evaluation::{eval_keeping_dims, eval_texts};
 pub use exit::exit_of;
 pub use laws::facts_are_the_rows_of_their_text;

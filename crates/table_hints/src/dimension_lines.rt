@@ -4,7 +4,8 @@ use crate::files::{Table, TableFiles};
 use crate::lines::{field, line_of};
 use crate::quoted::Quoted;
 use batch_loader::Lines;
-use cube_model::{Axis, Fault};
+use cube_model::{Attr, Axis, Fault};
+use dimensions::Dims;
 use std::alloc::Global;
 use std::fmt;
 use std::io::Read;
@@ -71,6 +72,28 @@ fn steps(axis: Axis) -> &'static [Step; 2] {
     }
 }
 
+// The attributes of the lower and the upper member of each of these steps.
+fn attributes(axis: Axis) -> [(Attr, Attr); 2] {
+    match axis {
+        Axis::Customer => [
+            (Attr::CustomerCity, Attr::CustomerNation),
+            (Attr::CustomerNation, Attr::CustomerRegion),
+        ],
+        Axis::Supplier => [
+            (Attr::SupplierCity, Attr::SupplierNation),
+            (Attr::SupplierNation, Attr::SupplierRegion),
+        ],
+        Axis::Part => [
+            (Attr::PartBrand1, Attr::PartCategory),
+            (Attr::PartCategory, Attr::PartMfgr),
+        ],
+        Axis::Date => [
+            (Attr::DateYearmonthnum, Attr::DateYear),
+            (Attr::DateYearmonthnum, Attr::DateYearmonth),
+        ],
+    }
+}
+
 /// Where the key of a row occurred before.
 pub fn key_hint<T: TableFiles>(
     alloc: Global,
@@ -91,6 +114,34 @@ pub fn key_hint<T: TableFiles>(
         first.saturating_add(1)
     )?;
     Ok(Some(said))
+}
+
+/// Where the key of a row that is added occurred before: in an earlier line, or else in the warehouse.
+pub fn added_key_hint<T: TableFiles>(
+    alloc: Global,
+    files: &T,
+    axis: Axis,
+    row: u32,
+) -> Result<Option<String>, Fault> {
+    let table = Table::of(axis);
+    let Some(keys) = keys(alloc, files, table)? else {
+        return Ok(None);
+    };
+    match first_with_key_of(keys.as_slice(), row) {
+        None => Ok(None),
+        Some((key, first)) if first.saturating_add(1) == row as usize => {
+            Ok(Some(stored_key(alloc, files.path(table), axis, row, key)?))
+        }
+        Some(_) => key_hint(alloc, files, axis, row),
+    }
+}
+
+// What is said of a key that the warehouse has.
+fn stored_key(alloc: Global, path: &str, axis: Axis, row: u32, key: u64) -> Result<String, Fault> {
+    let said = format!(in alloc;
+        "{path} line {row}: the warehouse has a {axis} row with the key {key} already"
+    )?;
+    Ok(said)
 }
 
 // The key of a row, and the first place that has it, from 0.
@@ -136,8 +187,69 @@ fn step_hint<R: Read + Drop>(
     let mut lines = Lines::new(alloc, reader)?;
     match earlier_upper(alloc, &mut lines, line, step, row)? {
         None => Ok(None),
-        Some((at, other)) => broken(alloc, path, step, line, row, at, other.as_slice()),
+        Some((at, other)) => {
+            let place = Earlier::Line(at);
+            broken(alloc, path, step, line, row, place, other.as_slice())
+        }
     }
+}
+
+/// Which member of a row that is added has another upper member before it, and both: in an earlier line, or else in the warehouse.
+pub fn added_upper_hint<T: TableFiles>(
+    alloc: Global,
+    files: &T,
+    dims: &Dims,
+    axis: Axis,
+    row: u32,
+) -> Result<Option<String>, Fault> {
+    let earlier = upper_hint(alloc, files, axis, row)?;
+    if earlier.is_some() {
+        return Ok(earlier);
+    }
+    let table = Table::of(axis);
+    match line_of(alloc, files, table, u64::from(row))? {
+        None => Ok(None),
+        Some(line) => stored_hint(alloc, files.path(table), dims, axis, line.as_slice(), row),
+    }
+}
+
+// Which member of a line has another upper member in the warehouse, and both.
+fn stored_hint(
+    alloc: Global,
+    path: &str,
+    dims: &Dims,
+    axis: Axis,
+    line: &[u8],
+    row: u32,
+) -> Result<Option<String>, Fault> {
+    let attributes = attributes(axis);
+    for place in 0..2 {
+        let step = &steps(axis)[place];
+        if let Some(other) = stored_upper(dims, axis, attributes[place], line, step) {
+            return broken(alloc, path, step, line, row, Earlier::Warehouse, other);
+        }
+    }
+    Ok(None)
+}
+
+// The upper member in the warehouse of the lower member of a line, where that is another one than in the line.
+fn stored_upper<'d>(
+    dims: &'d Dims,
+    axis: Axis,
+    attributes: (Attr, Attr),
+    line: &[u8],
+    step: &Step,
+) -> Option<&'d [u8]> {
+    let lower = field(line, step.lower);
+    let upper = field(line, step.upper);
+    for key in dims.keys(axis) {
+        let own = dims.attribute(axis, *key, attributes.0)?;
+        let other = dims.attribute(axis, *key, attributes.1)?;
+        if *own == *lower && *other != *upper {
+            return Some(other);
+        }
+    }
+    None
 }
 
 // The first earlier line that has the same lower member under another upper one, and that one.
@@ -168,7 +280,7 @@ fn broken(
     step: &Step,
     line: &[u8],
     row: u32,
-    at: u64,
+    place: Earlier,
     other: &[u8],
 ) -> Result<Option<String>, Fault> {
     let lower = Member {
@@ -180,10 +292,24 @@ fn broken(
         text: field(line, step.upper),
     };
     let other = Quoted(other);
-    let said = format!(in alloc;
-        "{path} line {row}: {lower} has {upper}, and {other} in line {at}"
-    )?;
+    let said = format!(in alloc; "{path} line {row}: {lower} has {upper}, and {other} in {place}")?;
     Ok(Some(said))
+}
+
+// Where a lower member has another upper member.
+#[derive(Clone, Copy)]
+enum Earlier {
+    Line(u64),
+    Warehouse,
+}
+
+impl fmt::Display for Earlier {
+    fn fmt<W: fmt::Write>(&self, f: &mut fmt::Formatter<W>) -> fmt::Result {
+        match self {
+            Earlier::Line(at) => write!(f, "line {at}"),
+            Earlier::Warehouse => write!(f, "the warehouse"),
+        }
+    }
 }
 
 // A member as it is named in a line, such as `city "A"`.

@@ -1,6 +1,7 @@
 //! The cause of a refusal of the five tables: which file, which line of it, and which text or key.
 #![tactic(auto)]
 
+mod additions;
 mod beginnings;
 mod columns;
 mod dimension_lines;
@@ -13,6 +14,7 @@ mod quoted;
 mod refusals;
 mod text_lines;
 
+pub use additions::addition_hint;
 pub use files::{Table, TableFiles};
 pub use loads::{Cut, load_hint};
 pub use needs::{Needs, row_count};

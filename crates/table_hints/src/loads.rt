@@ -93,7 +93,7 @@ fn unknown_line(
     key: u64,
 ) -> Result<String, Fault> {
     let said = format!(in alloc;
-        "batch {batch}, line {at} of {path}: {axis} {key} is in no {axis} row of the warehouse"
+        "batch {batch}, line {at} of {path}: {axis} {key} is in no {axis} row of the warehouse; ssbcube add adds one"
     )?;
     Ok(said)
 }

@@ -33,7 +33,7 @@ pub fn table_hint<T: TableFiles>(
         Fault::UnknownDate { row } => fact_hint(alloc, files, Axis::Date, row),
         Fault::SumRange { measure } => passed(alloc, files, measure),
         Fault::TooManyBatches => batches(alloc, files),
-        Fault::TooManyRows => rows(alloc),
+        Fault::TooManyRows => row_limits(alloc, ""),
         _ => Ok(None),
     }
 }
@@ -82,9 +82,10 @@ fn batches<T: TableFiles>(alloc: Global, files: &T) -> Result<Option<String>, Fa
     Ok(Some(said))
 }
 
-fn rows(alloc: Global) -> Result<Option<String>, Fault> {
+/// How many rows the dimension tables have at most, after some words.
+pub fn row_limits(alloc: Global, words: &str) -> Result<Option<String>, Fault> {
     let said = format!(in alloc;
-        "a customer, supplier or part table has at most {MOST_DIMENSION_ROWS} rows, and a date table {MOST_DAYS}"
+        "{words}a customer, supplier or part table has at most {MOST_DIMENSION_ROWS} rows, and a date table {MOST_DAYS}"
     )?;
     Ok(Some(said))
 }

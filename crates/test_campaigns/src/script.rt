@@ -2,8 +2,8 @@
 use cube_model::{Answer, Fault, LineOrder};
 use cube_query::fold;
 use dimensions::Dims;
-use sample_sessions::{report, sample_dims, status, submit, with_cuboids};
-use sample_star::{FACTS, Fact, THIRD_FACT, line_orders};
+use sample_sessions::{add, report, status, submit, with_cuboids};
+use sample_star::{FACTS, Fact, ONE_CUSTOMER, STRANGER, WIDER_STAR, dim_rows, line_orders};
 use sector_device::Sectors;
 use ssb_reports::{QNumber, query_of};
 use std::alloc::Global;
@@ -15,13 +15,14 @@ const ROWS: [u64; 4] = [0, 3, 4, 4];
 /// The views of the choice.
 const VIEWS: [u16; 3] = [59, 203, 248];
 
-/// What was acknowledged: the creation, batches, the choice, and how many batches the cuboids hold.
+/// What was acknowledged: the creation, batches, the choice, how many batches the cuboids hold, and whether a customer was added.
 #[derive(Clone, Copy, Debug, PartialEq, Eq)]
 pub(crate) struct Reached {
     pub(crate) created: bool,
     pub(crate) batches: u32,
     pub(crate) chosen: bool,
     pub(crate) mark: u32,
+    pub(crate) added: bool,
 }
 
 pub(crate) const NOTHING: Reached = Reached {
@@ -29,14 +30,17 @@ pub(crate) const NOTHING: Reached = Reached {
     batches: 0,
     chosen: false,
     mark: 0,
+    added: false,
 };
 
-/// What a warehouse lacks next. The cuboids are brought to the first batch, and to the second.
+/// What a warehouse lacks next. The cuboids are brought to the first batch, and to the second, which has a row of the customer that is
+/// added between the two.
 #[derive(Clone, Copy, Debug, PartialEq, Eq)]
 enum Lacks {
     Batch(u32),
     Choice,
     Upkeep,
+    Addition,
     Nothing,
 }
 
@@ -55,12 +59,13 @@ fn lack_of(status: &Status) -> Lacks {
         _ if status.batches == 0 => Lacks::Batch(1),
         None => Lacks::Choice,
         Some(mark) if mark < status.batches.min(2) => Lacks::Upkeep,
+        Some(_) if status.additions == 0 => Lacks::Addition,
         Some(_) if status.batches < 3 => Lacks::Batch(status.batches.saturating_add(1)),
         Some(_) => Lacks::Nothing,
     }
 }
 
-/// Submits the batch of a number: the three sample rows, the third of them once more, and no row.
+/// Submits the batch of a number: the three sample rows, a row of the third customer, and no row.
 fn submit_next<D: Sectors>(
     alloc: Global,
     session: &mut Session<D>,
@@ -68,7 +73,7 @@ fn submit_next<D: Sectors>(
 ) -> Result<(), Fault> {
     match number {
         1 => submit(alloc, session, 1, &FACTS),
-        2 => submit(alloc, session, 2, &[THIRD_FACT]),
+        2 => submit(alloc, session, 2, &[STRANGER]),
         _ => submit(alloc, session, number, &[]),
     }
 }
@@ -92,6 +97,10 @@ fn go_on<D: Sectors>(
             session.upkeep(alloc)?;
             reached.mark = reached.batches;
         }
+        Lacks::Addition => {
+            add(alloc, session, 1, &ONE_CUSTOMER)?;
+            reached.added = true;
+        }
         Lacks::Nothing => return Ok(false),
     }
     Ok(true)
@@ -114,7 +123,7 @@ pub(crate) fn live<D: Sectors>(
     Ok(())
 }
 
-/// What the thirteen queries answer over the first batches, by one pass over their rows.
+/// What the thirteen queries answer over the first batches, by one pass over their rows and the dimensions with the third customer.
 pub(crate) type Wanted = [Vec<Answer>; 4];
 
 /// Adds fact rows to others.
@@ -131,7 +140,7 @@ fn first_rows(alloc: Global, batches: u32) -> Result<Vec<LineOrder>, Fault> {
         push(alloc, &mut rows, &FACTS)?;
     }
     if batches > 1 {
-        push(alloc, &mut rows, &[THIRD_FACT])?;
+        push(alloc, &mut rows, &[STRANGER])?;
     }
     Ok(rows)
 }
@@ -147,7 +156,8 @@ fn answers(alloc: Global, dims: &Dims, batches: u32) -> Result<Vec<Answer>, Faul
 }
 
 pub(crate) fn wanted(alloc: Global) -> Result<Wanted, Fault> {
-    let dims = sample_dims(alloc)?;
+    let rows = dim_rows(alloc, &WIDER_STAR)?;
+    let dims = Dims::build(alloc, &rows)?;
     Ok([
         answers(alloc, &dims, 0)?,
         answers(alloc, &dims, 1)?,
@@ -189,12 +199,23 @@ fn are_allowed(status: &Status, reached: &Reached) -> bool {
     }
 }
 
+/// Whether there is one addition or none as there may be: one if it was acknowledged or the second batch is there, and none before the
+/// cuboids hold the first.
+fn is_addition_allowed(status: &Status, reached: &Reached) -> bool {
+    match status.additions {
+        0 => !reached.added && status.batches < 2,
+        1 => least_mark(status).unwrap_or(0) > 0,
+        _ => false,
+    }
+}
+
 /// Whether a status is one that may be found once so much was acknowledged: the batches, and at most the one that was being added.
 fn is_allowed(status: &Status, reached: &Reached) -> bool {
     let batches = reached.batches..=reached.batches.saturating_add(1);
     batches.contains(&status.batches)
         && ROWS.get(status.batches as usize) == Some(&status.rows)
         && are_allowed(status, reached)
+        && is_addition_allowed(status, reached)
 }
 
 /// Whether a session is at a warehouse that may be found once so much was acknowledged, and answers and audits as it should.
@@ -228,8 +249,9 @@ fn last_cuboid(view: u16) -> StoredCuboid {
 /// The status at the end, as a life that is not cut off leaves it.
 pub(crate) fn last_status() -> Status {
     let plain = Status {
+        additions: 1,
         target: 2,
-        generation: 13,
+        generation: 14,
         ..status(3, 4)
     };
     with_cuboids(plain, &VIEWS.map(last_cuboid))

@@ -3,8 +3,8 @@ ghost use Rattle.std.specs.Prelude.{[]};
 ghost use Rattle.sector_device.specs.Device.{CountsFailure};
 
 use cube_model::Fault;
-use sample_sessions::{report, sample_dims, submit};
-use sample_star::{FACTS, Fact, THIRD_FACT, Turning};
+use sample_sessions::{add, report, sample_dims, submit};
+use sample_star::{FACTS, Fact, ONE_CUSTOMER, STRANGER, THIRD_FACT, Turning};
 use sector_device::{DeviceError, MemDisk, Sectors};
 use ssb_reports::QNumber;
 use std::alloc::Global;
@@ -94,19 +94,21 @@ enum Call {
     Submit(u32, &'static [Fact<'static>]),
     Choose,
     Upkeep,
+    Add,
     Audit,
     Status,
     Report(u32, QNumber),
 }
 
-/// Three batches, a choice, two upkeeps, and the thirteen reports.
-static LIFE: [Call; 22] = [
+/// Three batches, a choice, two upkeeps, the addition of a customer, and the thirteen reports.
+static LIFE: [Call; 23] = [
     Call::Submit(1, &FACTS),
     Call::Choose,
     Call::Upkeep,
     Call::Submit(2, &[THIRD_FACT]),
     Call::Upkeep,
-    Call::Submit(3, &[]),
+    Call::Add,
+    Call::Submit(3, &[STRANGER]),
     Call::Status,
     Call::Report(3, QNumber::Q11),
     Call::Report(3, QNumber::Q12),
@@ -131,6 +133,7 @@ fn refusal<D: Sectors>(alloc: Global, session: &mut Session<D>, call: Call) -> O
         Call::Submit(number, facts) => submit(alloc, session, number, facts).err(),
         Call::Choose => session.choose(alloc, 3).err(),
         Call::Upkeep => session.upkeep(alloc).err(),
+        Call::Add => add(alloc, session, 1, &ONE_CUSTOMER).err(),
         Call::Audit => session.audit(alloc).err(),
         Call::Status => session.status().err(),
         Call::Report(batches, number) => report(alloc, session, batches, number).err(),

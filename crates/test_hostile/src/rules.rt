@@ -1,7 +1,7 @@
 //! Images that break the rules of the layout, one after the other.
 use cube_model::{Agg, Attr, Fault, Measure};
-use sample_sessions::{Change, as_is, ask, make_change, with_three};
-use sample_star::{Asked, EVERY_ROW};
+use sample_sessions::{Change, add, as_is, ask, make_change, with_three};
+use sample_star::{Asked, EVERY_ROW, ONE_CUSTOMER};
 use sector_device::MemDisk;
 use std::alloc::Global;
 use warehouse::Session;
@@ -27,6 +27,13 @@ const BRANCHES: u32 = 8;
 const RUN: u32 = 9;
 
 const CATALOGUE: u32 = 11;
+
+/// Those that are new after the addition of a third customer: the superblock of generation 8, the customers, and the catalogue.
+const ADDED_SUPERBLOCK: u32 = 0;
+
+const ADDED_CUSTOMERS: u32 = 10;
+
+const ADDED_CATALOGUE: u32 = 12;
 
 /// What is found on a disk.
 #[derive(Clone, Copy, Debug, PartialEq, Eq)]
@@ -54,6 +61,11 @@ const BAD_RUN: Found = Found::Opened(7, Some(Fault::BadLayout), Ok(false));
 
 /// A run of another view is refused where it is read.
 const BAD_OTHER_RUN: Found = Found::Opened(7, None, Ok(false));
+
+/// All is as if nothing were changed after the addition, and the batch is refused where it is read.
+const SAME_ADDED: Found = Found::Opened(8, None, Ok(true));
+
+const BAD_ADDED_BATCH: Found = Found::Opened(8, None, Err(Fault::BadLayout));
 
 /// A rule, the bytes that break it, and what is found then.
 type Rule = (&'static str, &'static [Change], Found);
@@ -607,6 +619,109 @@ static OF_RUNS: [Rule; 28] = [
     ),
 ];
 
+/// Changes after the addition. The root begins at byte 140 of the catalogue. Of three customers the texts of cities begin at byte 12, of
+/// nations at 49, of regions at 82, the codes of nations at 101, of regions at 107, the keys at 111, the codes of cities at 123.
+static OF_ADDITIONS: [Rule; 24] = [
+    (
+        "the name of the newest superblock",
+        &[(ADDED_SUPERBLOCK, 0, b"s")],
+        SAME,
+    ),
+    (
+        "customers of a byte less",
+        &[(ADDED_CATALOGUE, 20, b"\x80")],
+        BAD,
+    ),
+    ("of a byte more", &[(ADDED_CATALOGUE, 20, b"\x82")], BAD),
+    (
+        "apart from suppliers",
+        &[(ADDED_CATALOGUE, 16, b"\x03")],
+        BAD,
+    ),
+    (
+        "4,096 additions at most",
+        &[(ADDED_CATALOGUE, 148, b"\x01\x10")],
+        BAD,
+    ),
+    ("in four bytes", &[(ADDED_CATALOGUE, 151, b"\x01")], BAD),
+    // How often rows were added is a rule of no object.
+    (
+        "so many additions",
+        &[(ADDED_CATALOGUE, 148, b"\x00\x10")],
+        SAME_ADDED,
+    ),
+    (
+        "no addition",
+        &[(ADDED_CATALOGUE, 148, b"\x00")],
+        SAME_ADDED,
+    ),
+    (
+        "the customers of before",
+        &[(ADDED_CATALOGUE, 16, b"\x02\x00\x00\x00\x6e")],
+        SAME_ADDED,
+    ),
+    (
+        "the axis of customers",
+        &[(ADDED_CUSTOMERS, 4, b"\x01")],
+        BAD,
+    ),
+    ("a row less", &[(ADDED_CUSTOMERS, 8, b"\x02")], BAD),
+    ("a row more", &[(ADDED_CUSTOMERS, 8, b"\x04")], BAD),
+    ("a city less", &[(ADDED_CUSTOMERS, 12, b"\x02")], BAD),
+    (
+        "no new city twice",
+        &[(ADDED_CUSTOMERS, 39, b"UNITED KI1")],
+        BAD,
+    ),
+    (
+        "no new city ALL",
+        &[(ADDED_CUSTOMERS, 27, b"\x11ABCDEFGHIJKLMNOPQ\x03ALL")],
+        BAD,
+    ),
+    (
+        "the nation of a new city",
+        &[(ADDED_CUSTOMERS, 105, b"\x02")],
+        BAD,
+    ),
+    ("no new key twice", &[(ADDED_CUSTOMERS, 119, b"\x01")], BAD),
+    // No batch has the new customer.
+    (
+        "another new key",
+        &[(ADDED_CUSTOMERS, 119, b"\x04")],
+        SAME_ADDED,
+    ),
+    (
+        "another key of a batch",
+        &[(ADDED_CUSTOMERS, 115, b"\x04")],
+        BAD_ADDED_BATCH,
+    ),
+    (
+        "new cities in the order of rows",
+        &[(ADDED_CUSTOMERS, 125, b"\x02\x00\x01\x00")],
+        BAD,
+    ),
+    (
+        "each new city has a row",
+        &[(ADDED_CUSTOMERS, 127, b"\x01")],
+        BAD,
+    ),
+    (
+        "the code of a new city",
+        &[(ADDED_CUSTOMERS, 127, b"\x03")],
+        BAD,
+    ),
+    (
+        "bytes after the end are not looked at",
+        &[(ADDED_CUSTOMERS, 129, b"\x01")],
+        SAME_ADDED,
+    ),
+    (
+        "nor are the customers of before",
+        &[(CUSTOMERS, 0, b"d")],
+        SAME_ADDED,
+    ),
+];
+
 const BY_YEAR: Asked<'static> = Asked {
     columns: &[Attr::DateYear],
     aggregates: &[Agg::Sum(Measure::Revenue)],
@@ -619,9 +734,18 @@ fn asked(alloc: Global, session: &mut Session<MemDisk>) -> Result<Found, Fault> 
     Ok(Found::Opened(generation, refused, session.audit(alloc)))
 }
 
-/// What is found on the disk with changes.
-fn told(alloc: Global, changes: &[Change]) -> Result<Found, Fault> {
-    let mut disk = with_three(alloc, 1)?.close();
+/// The disk of the warehouse, or of the same after the addition.
+fn image(alloc: Global, added: bool) -> Result<MemDisk, Fault> {
+    let mut session = with_three(alloc, 1)?;
+    if added {
+        add(alloc, &mut session, 1, &ONE_CUSTOMER)?;
+    }
+    Ok(session.close())
+}
+
+/// What is found on that disk with changes.
+fn told(alloc: Global, added: bool, changes: &[Change]) -> Result<Found, Fault> {
+    let mut disk = image(alloc, added)?;
     for change in changes {
         make_change(&mut disk, *change)?;
     }
@@ -633,19 +757,20 @@ fn told(alloc: Global, changes: &[Change]) -> Result<Found, Fault> {
 
 #[test]
 fn each_rule_is_checked(rt: HostRuntime) {
-    let tables: [&[Rule]; 7] = [
-        &OF_SUPERBLOCKS,
-        &OF_CATALOGUES,
-        &OF_ROOTS,
-        &OF_PLACES,
-        &OF_DAYS,
-        &OF_SEGMENTS,
-        &OF_RUNS,
+    let tables: [(bool, &[Rule]); 8] = [
+        (false, &OF_SUPERBLOCKS),
+        (false, &OF_CATALOGUES),
+        (false, &OF_ROOTS),
+        (false, &OF_PLACES),
+        (false, &OF_DAYS),
+        (false, &OF_SEGMENTS),
+        (false, &OF_RUNS),
+        (true, &OF_ADDITIONS),
     ];
-    for (table, rules) in tables.iter().enumerate() {
+    for (table, (added, rules)) in tables.iter().enumerate() {
         for (rule, changes, wanted) in rules.iter() {
             assert_eq!(rt;
-                told(rt.alloc(), changes),
+                told(rt.alloc(), *added, changes),
                 Ok(*wanted),
                 "table {table}: {rule}"
             );

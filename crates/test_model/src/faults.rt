@@ -5,7 +5,7 @@ use std::process::Abort;
 use std::test::Fail;
 
 /// The number and the printed text of each fault.
-static FAULTS: [(u8, Fault, &str); 32] = [
+static FAULTS: [(u8, Fault, &str); 33] = [
     (1, Fault::Memory, "fault 1 Memory"),
     (2, Fault::Device, "fault 2 Device"),
     (3, Fault::Failed, "fault 3 Failed"),
@@ -114,6 +114,7 @@ static FAULTS: [(u8, Fault, &str); 32] = [
     (29, Fault::Input, "fault 29 Input"),
     (30, Fault::Output, "fault 30 Output"),
     (31, Fault::NotRunning, "fault 31 NotRunning"),
+    (32, Fault::TooManyAdditions, "fault 32 TooManyAdditions"),
 ];
 
 fn print(rt: &impl Abort, alloc: Global, faults: &[(u8, Fault, &str)]) -> Result<(), Fail> {

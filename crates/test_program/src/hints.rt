@@ -1,10 +1,11 @@
 //! What is said after a refusal that no page shows, and the names that hints know.
 use cube_model::{Axis, Fault};
 use query_words::read_query;
+use sample_sessions::sample_dims;
 use sample_star::{Pieces, TABLES, whole};
 use std::alloc::Global;
 use std::test::Fail;
-use table_hints::{Cut, Table, TableFiles, load_hint, table_hint};
+use table_hints::{Cut, Table, TableFiles, addition_hint, load_hint, table_hint};
 use word_hints::{Known, nearest};
 
 /// The sample tables.
@@ -77,12 +78,12 @@ static CASES: [Case; 11] = [
             },
             0,
         )),
-        "batch 1, line 2 of lineorder.tbl: customer 2 is in no customer row of the warehouse",
+        "batch 1, line 2 of lineorder.tbl: customer 2 is in no customer row of the warehouse; ssbcube add adds one",
     ),
     (
         Fault::UnknownDate { row: 1 },
         Some((Cut { first: 5, rows: 2 }, 5)),
-        "batch 6, line 3 of lineorder.tbl: date 19971202 is in no date row of the warehouse",
+        "batch 6, line 3 of lineorder.tbl: date 19971202 is in no date row of the warehouse; ssbcube add adds one",
     ),
     (
         Fault::UnknownPart { row: 9 },
@@ -126,6 +127,55 @@ fn is_said(alloc: Global, case: &Case) -> Result<bool, Fault> {
 fn each_refusal_has_its_line(rt: HostRuntime) -> Result<(), Fail> {
     for case in &CASES {
         assert!(rt; is_said(rt.alloc(), case)?, "{}", case.2);
+    }
+    Ok(())
+}
+
+/// A fault of an addition of the sample's rows to a warehouse that has them, and what is said.
+static ADDITIONS: [(Fault, &str); 5] = [
+    (
+        Fault::TooManyRows,
+        "with the rows of the warehouse, a customer, supplier or part table has at most 4194304 rows, and a date table 65535",
+    ),
+    (
+        Fault::TooManyMembers {
+            axis: Axis::Supplier,
+            row: 9,
+        },
+        "supplier.tbl line 9: the 65536th member of a column, and there may be 65535",
+    ),
+    (
+        Fault::DuplicateKey {
+            axis: Axis::Date,
+            row: 2,
+        },
+        "date.tbl line 2: the warehouse has a date row with the key 19971202 already",
+    ),
+    // The rows of the sample go together with themselves.
+    (
+        Fault::HierarchyBroken {
+            axis: Axis::Part,
+            row: 1,
+        },
+        "nothing",
+    ),
+    (Fault::Full, "nothing"),
+];
+
+// Whether just this is said of a fault of an addition.
+fn is_said_of_addition(alloc: Global, case: &(Fault, &'static str)) -> Result<bool, Fault> {
+    let (fault, said) = *case;
+    let dims = sample_dims(alloc)?;
+    match addition_hint(alloc, &Sample, &dims, fault)? {
+        None => Ok(said == "nothing"),
+        Some(hint) => Ok(hint.as_str() == said),
+    }
+}
+
+#[test]
+fn each_refused_addition_has_its_line(rt: HostRuntime) -> Result<(), Fail> {
+    for case in &ADDITIONS {
+        assert!(rt; is_said_of_addition(rt.alloc(), case)?, "{}", case.1);
     }
     Ok(())
 }

@@ -1,13 +1,16 @@
 //! Random queries over warehouses whose cuboids have different marks, at once and step by step with other calls
-//! between the steps, against one pass over the same rows.
+//! between the steps, against one pass over the same rows and the dimensions of the beginning.
 ghost use Rattle.std.specs.Prelude.{◌≤◌};
 
 use crate::plain::{Row, SEVERAL, draw_row};
 use cube_model::{Agg, Answer, Attr, Fault, Kind, LineOrder, Measure, Query};
 use cube_query::fold;
 use dimensions::Dims;
-use sample_sessions::{created_over, store_views};
-use sample_star::{ATTRIBUTES, Asked, Condition, Draw, dim_rows, line_order, query};
+use sample_sessions::{add, created_over, store_views};
+use sample_star::{
+    ATTRIBUTES, Asked, Condition, Day, Draw, Location, NO_ROWS, Product, Star, dim_rows,
+    line_order, query,
+};
 use sector_device::MemDisk;
 use std::alloc::Global;
 use warehouse::{MOST_RUNNING, Plan, Running, Session, Stepped};
@@ -19,12 +22,13 @@ struct Walker {
     wanted: Answer,
 }
 
-/// A session with running queries, the dimensions of its own, how many batches there are, and their rows.
+/// A session with running queries, the dimensions that it began with, how many additions and batches there are, and the rows of these.
 #[derive(Drop)]
 struct Run {
     draw: Draw,
     session: Session<MemDisk>,
     dims: Dims,
+    additions: u32,
     batches: u32,
     rows: Vec<Row>,
     walkers: Vec<Walker>,
@@ -67,6 +71,7 @@ fn begun(alloc: Global, seed: u64) -> Result<Run, Fault> {
         draw: Draw::new(seed),
         session,
         dims,
+        additions: 0,
         batches: 0,
         rows: Vec::new(alloc),
         walkers: Vec::new(alloc),
@@ -85,8 +90,69 @@ fn rows_of(alloc: Global, rows: &[Row], after: u32, last: u32) -> Result<Vec<Lin
     Ok(found)
 }
 
+/// Rows that are added to the dimensions, with members before, between and after those that there are. No fact row has one of them.
+static LATER: [Star<'static>; 3] = [
+    Star {
+        customers: &[Location {
+            key: 7,
+            city: "ALGERIA  0",
+            nation: "ALGERIA",
+            region: "AFRICA",
+        }],
+        ..NO_ROWS
+    },
+    Star {
+        suppliers: &[
+            Location {
+                key: 8,
+                city: "VIETNAM  9",
+                nation: "VIETNAM",
+                region: "ASIA",
+            },
+            Location {
+                key: 7,
+                city: "PERU     1",
+                nation: "PERU",
+                region: "AMERICA",
+            },
+        ],
+        parts: &[Product {
+            key: 6,
+            brand1: "MFGR#1111",
+            category: "MFGR#11",
+            mfgr: "MFGR#1",
+        }],
+        ..NO_ROWS
+    },
+    Star {
+        dates: &[Day {
+            key: 19920101,
+            year: "1992",
+            yearmonthnum: "199201",
+            yearmonth: "Jan1992",
+            weeknuminyear: "1",
+        }],
+        ..NO_ROWS
+    },
+];
+
+/// Adds the next of these before each third batch.
+fn widen(alloc: Global, run: &mut Run) -> Result<(), Fault> {
+    let Some(star) = LATER.get(run.additions as usize) else {
+        return Ok(());
+    };
+    if run.batches % 3 != 2 {
+        return Ok(());
+    }
+    let number = run.additions.saturating_add(1);
+    add(alloc, &mut run.session, number, star)?;
+    run.additions = number;
+    Ok(())
+}
+
 /// Submits a batch of up to twelve random rows.
 fn load(alloc: Global, run: &mut Run) -> Result<(), Fault> {
+    widen(alloc, run)?;
     let before = run.batches;
     let number = before.saturating_add(1);
     for _ in 0..run.draw.up_to(12) {

@@ -1,7 +1,11 @@
-//! Runs of commands: choices of cuboids, their upkeep and audits, and queries that run step by step.
+//! Runs of commands: choices of cuboids, their upkeep and audits, queries that run step by step, and additions to the dimensions
+//! between all these.
 use cube_model::{Agg, Attr, Fault, Measure};
 use sample_sessions::{Expected, Given, Lines, Numbers, THREE, TWO_CELLS, first_other_reply};
-use sample_star::{Asked, CITIES, DISCOUNTED, EVERY_ROW, FACTS, THIRD_FACT};
+use sample_star::{
+    Asked, BY_CITY, CITIES, DISCOUNTED, Day, EVERY_ROW, FACTS, FIRST_CUSTOMER, FIRST_DAY, Location,
+    NO_ROWS, ONE_CUSTOMER, STRANGER, Star, THIRD_FACT,
+};
 use warehouse::StoredCuboid;
 
 /// A cuboid that holds no batch.
@@ -26,6 +30,19 @@ const OF_TWO: StoredCuboid = StoredCuboid {
     mark: 2,
     cells: 3,
 };
+
+/// The three cuboids, each as that.
+const THREE_OF_TWO: [StoredCuboid; 3] = [
+    OF_TWO,
+    StoredCuboid {
+        view: 203,
+        ..OF_TWO
+    },
+    StoredCuboid {
+        view: 248,
+        ..OF_TWO
+    },
+];
 
 /// How many views are asked for, and the greedy list with the benefits. At the fourth place views 243 and 251 have
 /// the same benefit.
@@ -52,6 +69,7 @@ static CHOICES: [(Given, Expected); 9] = [
         Expected::Numbers(Numbers {
             batches: 1,
             rows: 3,
+            additions: 0,
             target: 0,
             generation: 7,
             cuboids: &UNFILLED,
@@ -64,6 +82,7 @@ static CHOICES: [(Given, Expected); 9] = [
 const FILLED: Numbers = Numbers {
     batches: 1,
     rows: 3,
+    additions: 0,
     target: 1,
     generation: 7,
     cuboids: &THREE,
@@ -124,19 +143,10 @@ static LIFE: [(Given, Expected); 12] = [
         Expected::Numbers(Numbers {
             batches: 3,
             rows: 4,
+            additions: 0,
             target: 2,
             generation: 13,
-            cuboids: &[
-                OF_TWO,
-                StoredCuboid {
-                    view: 203,
-                    ..OF_TWO
-                },
-                StoredCuboid {
-                    view: 248,
-                    ..OF_TWO
-                },
-            ],
+            cuboids: &THREE_OF_TWO,
         }),
     ),
     (
@@ -239,6 +249,100 @@ static SLOTS: [(Given, Expected); 16] = [
     (Given::Step(7), Expected::Refused(Fault::NotRunning)),
 ];
 
+/// How many rows each city has in a batch of the three sample rows, and in that and one of the third customer.
+const CITIES_OF_ONE: Lines = &[(&["UNITED KI1"], 2), (&["UNITED ST3"], 1)];
+
+const CITIES_OF_TWO: Lines = &[
+    (&["UNITED KI1"], 2),
+    (&["UNITED ST1"], 1),
+    (&["UNITED ST3"], 1),
+];
+
+/// A customer of a city and a day that are each before those that there were.
+const EARLIER: Star<'static> = Star {
+    customers: &[Location {
+        key: 4,
+        city: "UNITED KI0",
+        ..FIRST_CUSTOMER
+    }],
+    dates: &[Day {
+        key: 19930101,
+        ..FIRST_DAY
+    }],
+    ..NO_ROWS
+};
+
+/// Queries that were started before an addition answer as they would have.
+static STEPS_OVER_ADDITIONS: [(Given, Expected); 15] = [
+    (Given::Submit(1, &FACTS), Expected::Done),
+    (Given::Start(0, 1, BY_CITY), Expected::Done),
+    (Given::Start(15, 1, BY_CITY), Expected::Done),
+    (Given::Step(0), Expected::More),
+    (Given::Add(1, ONE_CUSTOMER), Expected::Done),
+    (Given::Step(15), Expected::More),
+    (Given::Step(0), Expected::Answer(CITIES_OF_ONE)),
+    (Given::Submit(2, &[STRANGER]), Expected::Done),
+    (Given::Start(0, 2, BY_CITY), Expected::Done),
+    (Given::Step(0), Expected::More),
+    (Given::Add(2, EARLIER), Expected::Done),
+    (Given::Step(15), Expected::Answer(CITIES_OF_ONE)),
+    (Given::Step(0), Expected::More),
+    (Given::Step(0), Expected::Answer(CITIES_OF_TWO)),
+    (Given::Step(0), Expected::Refused(Fault::NotRunning)),
+];
+
+/// Cuboids that hold a batch hold it after additions, and are brought to a batch of a new customer.
+static CUBOIDS_OVER_ADDITIONS: [(Given, Expected); 24] = [
+    (Given::Submit(1, &FACTS), Expected::Done),
+    (
+        Given::Choose(3),
+        Expected::Chosen(&[(59, 8), (203, 6), (248, 6)]),
+    ),
+    (Given::Upkeep, Expected::Done),
+    (Given::Start(2, 1, BY_CITY), Expected::Done),
+    (Given::Add(1, ONE_CUSTOMER), Expected::Done),
+    (
+        Given::Status,
+        Expected::Numbers(Numbers {
+            additions: 1,
+            generation: 8,
+            ..FILLED
+        }),
+    ),
+    (Given::Audit, Expected::Audited(true)),
+    (Given::Query(1, BY_CITY), Expected::Answer(CITIES_OF_ONE)),
+    (Given::Step(2), Expected::Answer(CITIES_OF_ONE)),
+    (Given::Submit(2, &[STRANGER]), Expected::Done),
+    (Given::Query(2, BY_CITY), Expected::Answer(CITIES_OF_TWO)),
+    (Given::Start(3, 2, BY_CITY), Expected::Done),
+    (Given::Add(2, EARLIER), Expected::Done),
+    (Given::Step(3), Expected::More),
+    (Given::Step(3), Expected::Answer(CITIES_OF_TWO)),
+    (Given::Query(1, BY_YEAR), Expected::Answer(YEARS_OF_ONE)),
+    (Given::Upkeep, Expected::Done),
+    (Given::Audit, Expected::Audited(true)),
+    (
+        Given::Status,
+        Expected::Numbers(Numbers {
+            batches: 2,
+            rows: 4,
+            additions: 2,
+            target: 2,
+            generation: 14,
+            cuboids: &THREE_OF_TWO,
+        }),
+    ),
+    (Given::Query(2, BY_CITY), Expected::Answer(CITIES_OF_TWO)),
+    (
+        Given::Query(2, BY_YEAR),
+        Expected::Answer(&[(&["1993"], 980), (&["1997"], 4375)]),
+    ),
+    // The number of additions is there.
+    (Given::Add(2, EARLIER), Expected::Refused(Fault::Repeated)),
+    (Given::Upkeep, Expected::Done),
+    (Given::Audit, Expected::Audited(true)),
+];
+
 #[test]
 fn choices_are_as_worked_by_hand(rt: HostRuntime) {
     assert_eq!(rt; first_other_reply(rt.alloc(), 64, &CHOICES), Ok(None));
@@ -262,4 +366,16 @@ fn queries_step_in_their_slots(rt: HostRuntime) {
         Ok(None)
     );
     assert_eq!(rt; first_other_reply(rt.alloc(), 64, &SLOTS), Ok(None));
+}
+
+#[test]
+fn additions_leave_queries_and_cuboids(rt: HostRuntime) {
+    assert_eq!(rt;
+        first_other_reply(rt.alloc(), 64, &STEPS_OVER_ADDITIONS),
+        Ok(None)
+    );
+    assert_eq!(rt;
+        first_other_reply(rt.alloc(), 64, &CUBOIDS_OVER_ADDITIONS),
+        Ok(None)
+    );
 }

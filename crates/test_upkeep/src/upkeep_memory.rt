@@ -1,6 +1,7 @@
-//! A choice, an upkeep and an audit of which one allocation may fail. The call is then made again.
+//! A choice, an upkeep, an addition and an audit of which one allocation may fail. The call is then made again.
 use cube_model::Fault;
-use sample_sessions::{loaded, opened_again, status_of_three};
+use sample_sessions::{add, loaded, opened_again, status_of_three};
+use sample_star::ONE_CUSTOMER;
 use sector_device::MemDisk;
 use std::alloc::Global;
 use warehouse::{Session, Status};
@@ -10,6 +11,7 @@ use warehouse::{Session, Status};
 enum Call {
     Choose,
     Upkeep,
+    Add,
 }
 
 impl Call {
@@ -20,8 +22,17 @@ impl Call {
                 Ok(())
             }
             Call::Upkeep => session.upkeep(alloc),
+            Call::Add => add_once(alloc, session),
         }
     }
+}
+
+/// Adds a customer to the dimensions, unless that was done.
+fn add_once(alloc: Global, session: &mut Session<MemDisk>) -> Result<(), Fault> {
+    if session.status()?.additions == 1 {
+        return Ok(());
+    }
+    add(alloc, session, 1, &ONE_CUSTOMER)
 }
 
 /// Whether a status is of one batch of the sample rows.
@@ -66,24 +77,34 @@ fn audited(alloc: Global, session: &mut Session<MemDisk>) -> Result<bool, Fault>
     }
 }
 
-/// The status after a choice of three cuboids and an upkeep, at the generation of one commit for each, and what an audit
-/// answers.
+/// The status after a choice of three cuboids, an upkeep and an addition, at the generation of one commit for each, and what an
+/// audit answers.
 fn found_at_last(alloc: Global) -> Result<(Status, bool), Fault> {
     let session = match loaded(alloc, 1) {
         Ok(session) => session,
         Err(_) => loaded(alloc, 1)?,
     };
     let session = after(alloc, session, Call::Choose)?;
-    let mut session = after(alloc, session, Call::Upkeep)?;
+    let session = after(alloc, session, Call::Upkeep)?;
+    let mut session = after(alloc, session, Call::Add)?;
     let yes = audited(alloc, &mut session)?;
     let status = Status {
-        generation: 7,
+        generation: 8,
         ..session.status()?
     };
     Ok((status, yes))
 }
 
+/// The status that is wanted.
+fn wanted() -> Status {
+    Status {
+        additions: 1,
+        generation: 8,
+        ..status_of_three()
+    }
+}
+
 #[test]
 fn one_want_of_memory_is_made_good(rt: HostRuntime) {
-    assert_eq!(rt; found_at_last(rt.alloc()), Ok((status_of_three(), true)));
+    assert_eq!(rt; found_at_last(rt.alloc()), Ok((wanted(), true)));
 }

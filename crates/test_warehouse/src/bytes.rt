@@ -1,6 +1,7 @@
 //! The bytes of the device, by hand.
 use cube_model::Fault;
-use sample_sessions::{loaded, sector};
+use sample_sessions::{add, fresh, loaded, sector};
+use sample_star::ONE_CUSTOMER;
 use std::alloc::Global;
 
 /// A sector of some bytes and zeros.
@@ -97,6 +98,59 @@ fn the_objects_of_two_batches_have_their_places(rt: HostRuntime) {
         assert_eq!(rt;
             beginning(rt.alloc(), *place),
             Ok(**wanted),
+            "sector {place}"
+        );
+    }
+}
+
+/// The superblock after an addition and no batch: a catalogue of 140 bytes in sector 8.
+const ADDED_SUPERBLOCK: &[u8] =
+    b"SSBCUBE1\x01\x00\x00\x00\x40\x00\x00\x00\x02\x00\x00\x00\x00\x00\x00\x00\
+\x08\x00\x00\x00\x8c\x00\x00\x00";
+
+/// The customers with a third one, 129 bytes: the cities, nations and regions, the nations of the cities, the regions of the
+/// nations, the keys, and the cities of the rows.
+const THREE_CUSTOMERS: &[u8] = b"DIM1\x00\x00\x00\x00\x03\x00\x00\x00\
+\x03\x00\x00\x00\x0aUNITED KI1\
+\x0aUNITED ST3\
+\x0aUNITED ST1\
+\x02\x00\x00\x00\x0eUNITED KINGDOM\x0dUNITED STATES\
+\x02\x00\x00\x00\x06EUROPE\x07AMERICA\
+\x00\x00\x01\x00\x01\x00\
+\x00\x00\x01\x00\
+\x01\x00\x00\x00\x02\x00\x00\x00\x03\x00\x00\x00\
+\x00\x00\x01\x00\x02\x00";
+
+/// The catalogue then: the customers in sector 7, and a root that counts one addition.
+const ADDED_CATALOGUE: &[u8] = b"CAT1\x04\x00\x00\x00\x40\x00\x00\x00\
+\x01\x00\x00\x00\x07\x00\x00\x00\x81\x00\x00\x00\x00\x00\x00\x00\
+\x02\x00\x00\x00\x03\x00\x00\x00\x6e\x00\x00\x00\x00\x00\x00\x00\
+\x03\x00\x00\x00\x04\x00\x00\x00\x56\x00\x00\x00\x00\x00\x00\x00\
+\x04\x00\x00\x00\x05\x00\x00\x00\x61\x00\x00\x00\x00\x00\x00\x00\
+\x00\x00\x00\x00\x00\x00\x00\x00\x01\x00\x00\x00";
+
+/// A sector after the addition, and its bytes without the zeros at the end.
+static ADDED: [(u32, &[u8]); 5] = [
+    (0, ADDED_SUPERBLOCK),
+    (1, FIRST_SUPERBLOCK),
+    (6, FIRST_CATALOGUE),
+    (7, THREE_CUSTOMERS),
+    (8, ADDED_CATALOGUE),
+];
+
+/// What is in a sector of a disk without batches to whose dimensions a customer was added.
+fn stored_with_one_more(alloc: Global, place: u32) -> Result<[u8; 512], Fault> {
+    let mut session = fresh(alloc)?;
+    add(alloc, &mut session, 1, &ONE_CUSTOMER)?;
+    sector(&mut session.close(), place)
+}
+
+#[test]
+fn an_addition_is_as_laid_out_by_hand(rt: HostRuntime) {
+    for (place, bytes) in &ADDED {
+        assert_eq!(rt;
+            stored_with_one_more(rt.alloc(), *place),
+            Ok(padded(bytes)),
             "sector {place}"
         );
     }

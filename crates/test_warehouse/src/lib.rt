@@ -1,8 +1,10 @@
-//! Tests of warehouses: the root, creation and opening, runs of commands, plans, a submit that stops at each device
-//! call, the bytes on the device, images that break a rule, memory that is refused, and warehouses of the greatest
+//! Tests of warehouses: the root, creation and opening, runs of commands, plans, a submit and an addition that stop at each
+//! device call, the bytes on the device, images that break a rule, memory that is refused, and warehouses of the greatest
 //! size.
 #![tactic(auto)]
 
+#[cfg(test)]
+mod additions;
 #[cfg(test)]
 mod bytes;
 #[cfg(test)]
@@ -17,6 +19,8 @@ mod formatting;
 mod full;
 #[cfg(test)]
 mod hostile;
+#[cfg(test)]
+mod many_additions;
 #[cfg(test)]
 mod many_batches;
 #[cfg(test)]

@@ -2,13 +2,7 @@
 //! warehouse.
 use cube_model::{Agg, Fault, Measure};
 use sample_sessions::{Expected, Given, first_other_reply};
-use sample_star::{Asked, DISCOUNTED, EVERY_ROW, FACTS, FIRST_FACT, Fact, SECOND_FACT, THIRD_FACT};
-
-/// The second sample row, of a customer that there is not.
-const STRANGER: Fact<'static> = Fact {
-    custkey: 3,
-    ..SECOND_FACT
-};
+use sample_star::{Asked, DISCOUNTED, EVERY_ROW, FACTS, FIRST_FACT, Fact, STRANGER, THIRD_FACT};
 
 /// A row without any money.
 const NO_MONEY: Fact<'static> = Fact {

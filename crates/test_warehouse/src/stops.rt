@@ -1,20 +1,38 @@
-//! A second submit that stops after each of its device calls.
+//! A second submit, and an addition, that stop after each of their device calls.
 use cube_model::Fault;
-use sample_sessions::{OPENING, SUBMIT, is_found, loaded, opened, refusal, submit};
-use sample_star::FACTS;
+use sample_sessions::{OPENING, SUBMIT, add, is_found, loaded, opened, refusal, status, submit};
+use sample_star::{FACTS, ONE_CUSTOMER};
 use sector_device::{Fuse, MemDisk};
 use std::alloc::Global;
+use warehouse::{Session, Status};
 
-/// The answer of a second submit that is stopped after so many calls, and the disk then.
-fn stopped(alloc: Global, calls: u64) -> Result<(Result<(), Fault>, MemDisk), Fault> {
+/// The submit of a second batch, or the addition of a customer, which has as many device calls: the customers, the catalogue, a
+/// sync, the superblock, a sync.
+#[derive(Clone, Copy)]
+enum Call {
+    Submit,
+    Add,
+}
+
+impl Call {
+    fn make(self, alloc: Global, session: &mut Session<Fuse<MemDisk>>) -> Result<(), Fault> {
+        match self {
+            Call::Submit => submit(alloc, session, 2, &FACTS),
+            Call::Add => add(alloc, session, 1, &ONE_CUSTOMER),
+        }
+    }
+}
+
+/// The answer of a call that is stopped after so many device calls, and the disk then.
+fn stopped(alloc: Global, call: Call, calls: u64) -> Result<(Result<(), Fault>, MemDisk), Fault> {
     let disk = loaded(alloc, 1)?.close();
     let fuse = Fuse::new(disk, calls.saturating_add(OPENING + 1), true, false);
     let mut session = opened(alloc, fuse)?;
-    let answer = submit(alloc, &mut session, 2, &FACTS);
+    let answer = call.make(alloc, &mut session);
     Ok((answer, session.close().close()))
 }
 
-/// How many calls are made, the picks, and how many batches are found then.
+/// How many calls are made, the picks, and how many batches are found then: one more than additions where one is stopped.
 type Stop = (u64, &'static [u32], u32);
 
 /// After one call a sector has two candidates, after two calls two sectors have, and after four calls that of the
@@ -40,7 +58,7 @@ static STOPS: [Stop; 16] = [
 
 /// How a second submit is refused that is stopped, if it is, and whether just what it leaves is found.
 fn left(alloc: Global, stop: &Stop) -> Result<(Option<Fault>, bool), Fault> {
-    let (answer, disk) = stopped(alloc, stop.0)?;
+    let (answer, disk) = stopped(alloc, Call::Submit, stop.0)?;
     Ok((answer.err(), is_found(alloc, disk.crash(stop.1), stop.2)))
 }
 
@@ -49,5 +67,32 @@ fn a_stop_leaves_one_batch_or_two(rt: HostRuntime) {
     for stop in &STOPS {
         let wanted = (refusal(stop.0, SUBMIT), true);
         assert_eq!(rt; left(rt.alloc(), stop), Ok(wanted), "{stop:?}");
+    }
+}
+
+/// How an addition is refused that is stopped, if it is, and the status that it leaves.
+fn left_by_addition(alloc: Global, stop: &Stop) -> Result<(Option<Fault>, Status), Fault> {
+    let (answer, disk) = stopped(alloc, Call::Add, stop.0)?;
+    let session = opened(alloc, disk.crash(stop.1))?;
+    Ok((answer.err(), session.status()?))
+}
+
+/// The status of one batch of the sample rows after so many additions.
+fn status_after(additions: u32) -> Status {
+    Status {
+        additions,
+        generation: u64::from(additions) + 2,
+        ..status(1, 3)
+    }
+}
+
+#[test]
+fn a_stop_leaves_an_addition_or_none(rt: HostRuntime) {
+    for stop in &STOPS {
+        let wanted = (
+            refusal(stop.0, SUBMIT),
+            status_after(stop.2.saturating_sub(1)),
+        );
+        assert_eq!(rt; left_by_addition(rt.alloc(), stop), Ok(wanted), "{stop:?}");
     }
 }

@@ -1,5 +1,5 @@
 -- What is found after a run that was stopped.
-use Rattle.std.proofs.Common.{⊎_elim, inl, inr, ◌≤◌, ℕ, zero, suc, Some, None, Option, List, [], ◌∷◌, length, take, slice_get, refl, sym, subst, arith}
+use Rattle.std.proofs.Common.{◌≡◌, ⊎_elim, inl, inr, ◌≤◌, ℕ, zero, suc, Some, None, Option, List, [], ◌∷◌, length, take, slice_get, refl, sym, subst, arith}
 use Rattle.sector_device.specs.declared.device.Sectors.{Ghosts}
 use Rattle.sector_device.specs.Device.{Image, IsImage}
 use Rattle.cube_model.specs.Admission.{IsAdmissible}
@@ -8,19 +8,21 @@ use Rattle.object_store.specs.Shows.{Shows}
 use Rattle.object_store.specs.Frames.{shows_same}
 use Rattle.object_store.specs.Disk.{ShowsSome}
 use Rattle.object_store.specs.Moments.{begins}
-use Rattle.warehouse_objects.specs.Facts.{Change, Facts, a_batch, facts_in}
+use Rattle.added_rows.specs.Added.{widened}
+use Rattle.warehouse_objects.specs.Facts.{Change, Facts, a_batch, addition_refusal, facts_in, some_rows}
 use Rattle.warehouse_objects.specs.Warehouse.{Warehouse, loaded, with_views}
 use Rattle.warehouse_objects.specs.Stands.{Stands}
 use Rattle.warehouse_objects.proofs.CallerLemmas.{next_number}
 use Rattle.warehouse.specs.declared.command.Command.{Command}
-use Rattle.warehouse.specs.declared.command.Command.TheVariants.{Submit, Query, Status, Choose, Upkeep, Audit, Start, Step}
+use Rattle.warehouse.specs.declared.command.Command.TheVariants.{Submit, Query, Status, Choose, Upkeep, Audit, Add, Start, Step}
 use Rattle.warehouse.specs.declared.command.Reply.{Reply}
 use Rattle.warehouse.specs.declared.session.Session.{Session}
 use Rattle.warehouse.specs.Found.{MayBeFound, MayStand}
-use Rattle.warehouse.specs.Running.{Phase, Slots, amid, none_running, During, FoundIn, RanAll, acknowledged}
+use Rattle.warehouse.specs.Running.{Phase, Slots, amid, none_running, During, FoundIn, RanAll}
 use Rattle.warehouse.specs.Session.{IsAt, device_of, disk_of}
 use Rattle.warehouse.specs.Headline.{acknowledged_all, submitted, IsFoundAfter, IsRestarted, StoppedRunIsFound}
 use Rattle.warehouse.specs.Choosing.{views_of}
+use Rattle.warehouse.proofs.Numbering.{addition_number}
 use Rattle.warehouse.proofs.Whole.{same_facts, whole}
 
 as_it_is : (w : Warehouse) (last : Option Change) → MayBeFound (facts_in w) last w
@@ -42,6 +44,12 @@ in_command w (Choose k) c during =
     (λ chosen. (with_views w (views_of chosen.0), inl refl, chosen.2)) during
 in_command w Upkeep c during = (during.0, inl during.1.facts, during.2)
 in_command w Audit c stands = (w, as_it_is w None, stands)
+in_command w (Add number more) c during =
+    ⊎_elim {C = MayStand (facts_in w) (Some (some_rows more)) c}
+    (λ stands. (w, as_it_is w (Some (some_rows more)), stands))
+    (λ wider.
+    let admitted = subst (λ (n : ℕ). addition_refusal w.rows w.additions n more ≡ None) (addition_number w number more wider.0) wider.0 in
+    (widened w more, inr (some_rows more, refl, (admitted, refl)), wider.1)) during
 in_command w (Start slot as_of query) c stands = (w, as_it_is w None, stands)
 in_command w (Step slot) c stands = (w, as_it_is w None, stands)
 

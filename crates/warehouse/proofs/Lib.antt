@@ -11,9 +11,11 @@ pub mod FoundLaws
 mod Caught
 pub mod Cuboids
 mod Pairing
+pub mod Wider
 mod Compared
 mod Choices
 pub mod Outcomes
+pub mod Numbering
 pub mod Performing
 pub mod Whole
 pub mod Headlining

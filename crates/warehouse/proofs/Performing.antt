@@ -5,24 +5,27 @@ use Rattle.cube_model.specs.declared.answer.Answer as answers
 use Rattle.cube_model.specs.declared.fault.Fault.{Fault}
 use Rattle.cube_model.specs.declared.fault.Fault.TheVariants.{Device, Memory}
 use Rattle.cube_model.specs.declared.query.Query as queries
+use Rattle.cube_model.specs.declared.rows.DimRows.{DimRows}
 use Rattle.cube_model.specs.declared.rows.LineOrder.{LineOrder}
 use Rattle.cube_model.specs.Admission.{IsAdmissible}
 use Rattle.cube_model.specs.Answers.{answer_as_of}
 use Rattle.object_store.specs.Disk.{Leaves}
+use Rattle.added_rows.specs.Added.{widened}
+use Rattle.warehouse_objects.specs.Facts.{AdmitsRows}
 use Rattle.warehouse_objects.specs.Warehouse.{Warehouse, loaded, with_views}
 use Rattle.warehouse_objects.specs.Stands.{Stands}
 use Rattle.cuboid_commits.specs.Keeping.{IsKeptUp}
 use Rattle.cuboid_commits.specs.Upkeep.{AreWhole}
 use Rattle.warehouse.specs.declared.chosen.Chosen.{Chosen}
 use Rattle.warehouse.specs.declared.command.Command.{Command}
-use Rattle.warehouse.specs.declared.command.Command.TheVariants.{Submit, Query, Status, Choose, Upkeep, Audit}
+use Rattle.warehouse.specs.declared.command.Command.TheVariants.{Submit, Query, Status, Choose, Upkeep, Audit, Add}
 use Rattle.warehouse.specs.declared.command.Reply.{Reply}
 use Rattle.warehouse.specs.declared.command.Reply.TheVariants.{Done, Answer, Numbers, Audited, Refused}
 use Rattle.warehouse.specs.declared.command.Reply.TheVariants as replies
 use Rattle.warehouse.specs.declared.session.Session.{Session}
 use Rattle.warehouse.specs.declared.status.Status as statuses
 use Rattle.warehouse.specs.Choosing.{ChooseRefuses, IsChoice, views_of}
-use Rattle.warehouse.specs.Session.{IsAt, content_of, disk_of, has_failed, CommitsOnce, KeepsContent, SubmitRefuses, IsAsked, QueryRefuses}
+use Rattle.warehouse.specs.Session.{IsAt, content_of, disk_of, has_failed, AddRefuses, CommitsOnce, KeepsContent, SubmitRefuses, IsAsked, QueryRefuses}
 use Rattle.warehouse.specs.Status.{IsStatus}
 use Rattle.warehouse.specs.Running.{Phase, Slots, amid, broken, Does, During, Ran, RanAll, Refuses, Replies}
 use Rattle.warehouse.specs.Slots.{AreOf, AreRunning, DoesWith, HoldsWith}
@@ -63,6 +66,22 @@ module _ {D : Type 0} (g : Ghosts D) (w : Warehouse) (slots : Slots) (old new : 
   submit_refused number batch rows fault same failed causes leaves =
       subst (λ (b : List LineOrder). Does g old w slots (Submit number b) (Refused fault) new) same
       (refused_at (Submit number rows) (λ f. SubmitRefuses g old w number rows f × KeepsContent g old new) fault (λ reply after r. inr r) failed causes leaves)
+
+  abbrev AddLeaves : ℕ → DimRows → Type 0
+  AddLeaves number more = Leaves (disk_of g old) (disk_of g new) (λ c. Stands c w ⊎ (AdmitsRows w number more × Stands c (widened w more)))
+
+  pub add_done : (number : ℕ) (more rows : DimRows) → rows ≡ more
+      → AdmitsRows w number rows → CommitsOnce g old new → IsAt g new (widened w rows) → AddLeaves number rows → Does g old w slots (Add number more) Done new
+  add_done number more rows same admitted once now leaves =
+      subst (λ (r : DimRows). Does g old w slots (Add number r) Done new) same
+      (amid (widened w rows) slots, (inl (refl, (admitted, once), refl), leaves, now), now)
+
+  pub add_refused : (number : ℕ) (more rows : DimRows) (fault : Fault) → rows ≡ more
+      → (fault ≡ Device → has_failed new ≡ true) → ((fault ≡ Device → ⊥) → (AddRefuses g old w number rows fault × KeepsContent g old new) × IsAt g new w)
+      → AddLeaves number rows → Does g old w slots (Add number more) (Refused fault) new
+  add_refused number more rows fault same failed causes leaves =
+      subst (λ (r : DimRows). Does g old w slots (Add number r) (Refused fault) new) same
+      (refused_at (Add number rows) (λ f. AddRefuses g old w number rows f × KeepsContent g old new) fault (λ reply after r. inr r) failed causes leaves)
 
   pub query_done : (as_of : ℕ) (query : queries.Query) (found : answers.Answer)
       → IsAsked w as_of query × (found ≡ answer_as_of query as_of w.rows w.batches) → KeepsContent g old new → IsAt g new w

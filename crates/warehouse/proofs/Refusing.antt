@@ -1,7 +1,8 @@
--- No cause to refuse a batch speaks of the device.
-use Rattle.std.proofs.Common.{◌≡◌, ℕ, ◌+◌, ◌^◌, Bool, true, false, Option, Some, None, List, [], ◌∷◌, ◌++◌, is_none, nat_le, nat_lt, length, refl, subst, ◌⊎◌, inl, inr}
+-- No cause to refuse a batch, or rows of dimensions, speaks of the device.
+use Rattle.std.proofs.Common.{◌≡◌, ℕ, ◌+◌, ◌^◌, Bool, true, false, Option, Some, None, List, [], ◌∷◌, ◌++◌, is_none, nat_le, nat_lt, length, refl, subst, ◌∙◌, ◌⊎◌, inl, inr}
+use Rattle.std.specs.Option.{option_map}
 use Rattle.cube_model.specs.declared.fault.Fault.{Fault}
-use Rattle.cube_model.specs.declared.fault.Fault.TheVariants.{Device, Repeated, Gap, TooManyBatches, TooManyRows, FieldTooLong, UnknownCustomer, UnknownSupplier, UnknownPart, UnknownDate, SumRange}
+use Rattle.cube_model.specs.declared.fault.Fault.TheVariants.{Device, Repeated, Gap, TooManyBatches, TooManyRows, FieldTooLong, UnknownCustomer, UnknownSupplier, UnknownPart, UnknownDate, SumRange, DuplicateKey, HierarchyBroken, ReservedMember, TooManyMembers}
 use Rattle.cube_model.specs.declared.fault.Place.TheVariants.{Row}
 use Rattle.cube_model.specs.declared.measure.Measure.{Measure}
 use Rattle.cube_model.specs.declared.measure.Measure.TheVariants.{Quantity, ExtendedPrice, Revenue, SupplyCost, Discounted, Profit}
@@ -11,6 +12,8 @@ use Rattle.cube_model.specs.Admission.{all_rows, refusal, is_long, long_field, l
 use Rattle.cube_model.specs.Attributes.{customer_of, supplier_of, part_of, date_of}
 use Rattle.cube_model.specs.Causes.{first_cause, cause_if}
 use Rattle.cube_model.specs.Limits.{most_batch_rows, most_batches}
+use Rattle.cube_model.specs.Validity.{Rules, breaks_link, customer_rules, date_rules, dimension_cause, names_all, overflows, part_rules, repeats_key, row_cause, rows_cause, supplier_rules}
+use Rattle.dimensions.specs.Added.{added_cause, addition_cause, counted_after}
 use Rattle.warehouse.specs.Refusing.{is_of_device}
 
 abbrev pub IsApart : Option Fault → Type 0
@@ -66,6 +69,45 @@ refusals dimensions batches number rows =
 
 pub refusal_apart : (dimensions : DimRows) (batches : List (List LineOrder)) (number : ℕ) (rows : List LineOrder) (fault : Fault) → refusal dimensions batches number rows ≡ Some fault → is_of_device fault ≡ false
 refusal_apart dimensions batches number rows fault e = subst IsApart e (refusals dimensions batches number rows)
+
+-- ---- rows of dimensions
+
+module _ {Row : Type 0} (rules : Rules Row) where
+  row_apart : (earlier : List Row) (row : Row) → IsApart (row_cause rules earlier row)
+  row_apart earlier row =
+      then _ _ (so_if (repeats_key rules earlier row) (DuplicateKey rules.axis (length earlier + 1)) refl)
+      (then _ _ (so_if (names_all rules row) (ReservedMember rules.axis (length earlier + 1)) refl)
+      (then _ _ (so_if (overflows rules earlier row) (TooManyMembers rules.axis (length earlier + 1)) refl)
+      (then _ _ (so_if (breaks_link rules earlier row) (HierarchyBroken rules.axis (length earlier + 1)) refl) tt)))
+
+  rows_apart : (earlier rows : List Row) → IsApart (rows_cause rules earlier rows)
+  rows_apart earlier [] = tt
+  rows_apart earlier (row ∷ rows) = then (row_cause rules earlier row) _ (row_apart earlier row) (then (rows_cause rules (earlier ++ row ∷ []) rows) [] (rows_apart (earlier ++ row ∷ []) rows) tt)
+
+  dimension_apart : (rows : List Row) → IsApart (dimension_cause rules rows)
+  dimension_apart rows = then _ _ (so_if (nat_lt rules.row_limit (length rows)) TooManyRows refl) (then (rows_cause rules [] rows) [] (rows_apart [] rows) tt)
+
+  added_apart : (old new : List Row) → IsApart (added_cause rules old new)
+  added_apart old new = by (dimension_cause rules (old ++ new)) (dimension_apart (old ++ new))
+    where
+      counted_apart : (fault : Fault) → is_of_device (counted_after (length old) fault) ≡ is_of_device fault
+      counted_apart (DuplicateKey axis row) = refl
+      counted_apart (HierarchyBroken axis row) = refl
+      counted_apart (ReservedMember axis row) = refl
+      counted_apart (TooManyMembers axis row) = refl
+      counted_apart fault = refl
+
+      by : (cause : Option Fault) → IsApart cause → IsApart (option_map (counted_after (length old)) cause)
+      by None apart = tt
+      by (Some fault) apart = counted_apart fault ∙ apart
+
+pub addition_apart : (old new : DimRows) (fault : Fault) → addition_cause old new ≡ Some fault → is_of_device fault ≡ false
+addition_apart old new fault e =
+    subst IsApart e
+    (then _ _ (added_apart customer_rules old.customers new.customers)
+    (then _ _ (added_apart supplier_rules old.suppliers new.suppliers)
+    (then _ _ (added_apart part_rules old.parts new.parts)
+    (then _ _ (added_apart date_rules old.dates new.dates) tt))))
 
 pub device_or : (fault : Fault) → (fault ≡ Device) ⊎ (fault ≡ Device → ⊥)
 device_or Device = inl refl

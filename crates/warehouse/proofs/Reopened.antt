@@ -6,7 +6,7 @@ use Rattle.warehouse_objects.specs.Warehouse.{Warehouse}
 use Rattle.warehouse.specs.declared.command.Command.{Command}
 use Rattle.warehouse.specs.declared.command.Reply.{Reply}
 use Rattle.warehouse.specs.Found.{MayBeFound}
-use Rattle.warehouse.specs.Headline.{IsCrashed, IsFoundAfter, IsLeftByCrash, acknowledged_all, submitted}
+use Rattle.warehouse.specs.Headline.{IsFoundAfter, IsLeftByCrash, acknowledged_all, submitted}
 
 -- what is found without a change has the facts
 same_found : (facts : Facts) (now : Warehouse) → MayBeFound facts None now → facts_in now ≡ facts

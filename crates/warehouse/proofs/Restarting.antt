@@ -1,20 +1,22 @@
 -- What a restarted device shows.
-use Rattle.std.proofs.Common.{◌≡◌, ◌⊎◌, ⊎_elim, inl, inr, ◌≤◌, ℕ, None, Option, take, slice_get, List, [], ◌∷◌, ◌++◌, length, refl, sym, ap, subst, arith}
+use Rattle.std.proofs.Common.{◌≡◌, ◌⊎◌, ⊎_elim, inl, inr, ◌≤◌, ℕ, None, Option, take, slice_get, List, [], ◌∷◌, length, refl, sym, ap, subst, arith}
 use Rattle.std.proofs.lemmas.List.{length-append}
 use Rattle.sector_device.specs.declared.device.Sectors.{Ghosts}
 use Rattle.sector_device.specs.Device.{Image}
+use Rattle.cube_model.specs.declared.rows.DimRows.{DimRows}
+use Rattle.cube_model.specs.declared.rows.LineOrder.{LineOrder}
 use Rattle.object_store.specs.Content.{Content}
 use Rattle.object_store.specs.Disk.{disk, AllShow, Each, IsBlank}
 use Rattle.object_store.specs.Shows.{HasNone}
 use Rattle.object_store.proofs.CallerLemmas.{shows_one}
 use Rattle.object_store.proofs.Looking.{none_same}
-use Rattle.warehouse_objects.specs.Facts.{Adds, Change, Facts, a_batch, facts_in}
+use Rattle.warehouse_objects.specs.Facts.{Adds, Change, Facts, a_batch, facts_in, some_rows, with_next, with_rows}
 use Rattle.warehouse_objects.specs.Warehouse.{Warehouse, fresh}
 use Rattle.warehouse_objects.specs.Stands.{Stands}
 use Rattle.warehouse_objects.specs.Lawful.{ContentIsOneWarehouse}
 use Rattle.warehouse.specs.declared.command.Command.{Command}
 use Rattle.warehouse.specs.declared.command.Reply.{Reply}
-use Rattle.warehouse.specs.declared.command.Command.TheVariants.{Submit, Query, Status, Choose, Upkeep, Audit, Start, Step}
+use Rattle.warehouse.specs.declared.command.Command.TheVariants.{Submit, Query, Status, Choose, Upkeep, Audit, Add, Start, Step}
 use Rattle.warehouse.specs.declared.command.Reply.TheVariants.{Done, More, Answer, Numbers, Chosen, Audited, Refused}
 use Rattle.warehouse.specs.Found.{MayBeFound}
 use Rattle.warehouse.specs.Headline.{FewerIsNotFound, IsRestarted, RestartedShows, StoppedCreateIsFound, StoppedOpenIsFound, acknowledged_all, submitted}
@@ -39,40 +41,64 @@ create_again g start end rows leaves word image left device restarted =
     (λ shown. inr (λ k other is. (shown.0, restarted_shows g (g.state start).size image device shown.0 restarted shown.1 other is, shown.2)))
     ((leaves.moments word).each image left)
 
--- there are no fewer acknowledged batches than before
-no_fewer : (facts : Facts) (command : Command) (reply : Reply) → length facts.batches ≤ length (acknowledged facts command reply).batches
-no_fewer facts (Submit number batch) Done = omega (arith, length-append facts.batches (batch ∷ []))
-no_fewer facts (Submit number batch) More = omega arith
-no_fewer facts (Submit number batch) (Answer found) = omega arith
-no_fewer facts (Submit number batch) (Numbers numbers) = omega arith
-no_fewer facts (Submit number batch) (Chosen chosen) = omega arith
-no_fewer facts (Submit number batch) (Audited said) = omega arith
-no_fewer facts (Submit number batch) (Refused fault) = omega arith
-no_fewer facts (Query as_of query) reply = omega arith
-no_fewer facts Status reply = omega arith
-no_fewer facts (Choose k) reply = omega arith
-no_fewer facts Upkeep reply = omega arith
-no_fewer facts Audit reply = omega arith
-no_fewer facts (Start slot as_of query) reply = omega arith
-no_fewer facts (Step slot) reply = omega arith
+-- some facts have no fewer batches and no fewer additions than others
+record HaveNoFewer (less more : Facts) : Type 0 where
+  batches : length less.batches ≤ length more.batches
+  additions : less.additions ≤ more.additions
 
-none_fewer : (facts : Facts) (commands : List Command) (replies : List Reply) → length facts.batches ≤ length (acknowledged_all facts commands replies).batches
-none_fewer facts [] replies = omega arith
-none_fewer facts (command ∷ commands) [] = omega arith
+just_as_many : (facts : Facts) → HaveNoFewer facts facts
+just_as_many facts = record { batches = omega arith; additions = omega arith }
+
+no_fewer_then : (one two three : Facts) → HaveNoFewer one two → HaveNoFewer two three → HaveNoFewer one three
+no_fewer_then one two three first second = record { batches = omega (arith, first.batches, second.batches); additions = omega (arith, first.additions, second.additions) }
+
+with_batch : (facts : Facts) (batch : List LineOrder) → HaveNoFewer facts (with_next facts batch)
+with_batch facts batch = record { batches = omega (arith, length-append facts.batches (batch ∷ [])); additions = omega arith }
+
+with_more : (facts : Facts) (more : DimRows) → HaveNoFewer facts (with_rows facts more)
+with_more facts more = record { batches = omega arith; additions = omega arith }
+
+-- there are no fewer that are acknowledged than before
+no_fewer : (facts : Facts) (command : Command) (reply : Reply) → HaveNoFewer facts (acknowledged facts command reply)
+no_fewer facts (Submit number batch) Done = with_batch facts batch
+no_fewer facts (Submit number batch) More = just_as_many facts
+no_fewer facts (Submit number batch) (Answer found) = just_as_many facts
+no_fewer facts (Submit number batch) (Numbers numbers) = just_as_many facts
+no_fewer facts (Submit number batch) (Chosen chosen) = just_as_many facts
+no_fewer facts (Submit number batch) (Audited said) = just_as_many facts
+no_fewer facts (Submit number batch) (Refused fault) = just_as_many facts
+no_fewer facts (Add number more) Done = with_more facts more
+no_fewer facts (Add number more) More = just_as_many facts
+no_fewer facts (Add number more) (Answer found) = just_as_many facts
+no_fewer facts (Add number more) (Numbers numbers) = just_as_many facts
+no_fewer facts (Add number more) (Chosen chosen) = just_as_many facts
+no_fewer facts (Add number more) (Audited said) = just_as_many facts
+no_fewer facts (Add number more) (Refused fault) = just_as_many facts
+no_fewer facts (Query as_of query) reply = just_as_many facts
+no_fewer facts Status reply = just_as_many facts
+no_fewer facts (Choose k) reply = just_as_many facts
+no_fewer facts Upkeep reply = just_as_many facts
+no_fewer facts Audit reply = just_as_many facts
+no_fewer facts (Start slot as_of query) reply = just_as_many facts
+no_fewer facts (Step slot) reply = just_as_many facts
+
+none_fewer : (facts : Facts) (commands : List Command) (replies : List Reply) → HaveNoFewer facts (acknowledged_all facts commands replies)
+none_fewer facts [] replies = just_as_many facts
+none_fewer facts (command ∷ commands) [] = just_as_many facts
 none_fewer facts (command ∷ commands) (reply ∷ replies) =
-    omega (arith, no_fewer facts command reply, none_fewer (acknowledged facts command reply) commands replies)
+    no_fewer_then facts (acknowledged facts command reply) (acknowledged_all (acknowledged facts command reply) commands replies) (no_fewer facts command reply)
+    (none_fewer (acknowledged facts command reply) commands replies)
 
--- facts with a change have no fewer batches
-adds_none_fewer : (facts new : Facts) (change : Change) → Adds facts change new → length facts.batches ≤ length new.batches
-adds_none_fewer facts new (a_batch batch) adds =
-    let e : length new.batches ≡ length (facts.batches ++ batch ∷ []) = ap (λ (f : Facts). length f.batches) adds.1 in
-    omega (arith, e, length-append facts.batches (batch ∷ []))
+-- facts with a change have no fewer
+adds_none_fewer : (facts new : Facts) (change : Change) → Adds facts change new → HaveNoFewer facts new
+adds_none_fewer facts new (a_batch batch) adds = subst (HaveNoFewer facts) (sym adds.1) (with_batch facts batch)
+adds_none_fewer facts new (some_rows more) adds = subst (HaveNoFewer facts) (sym adds.1) (with_more facts more)
 
 -- nor has what may be found
-found_more : (facts : Facts) (last : Option Change) (found : Warehouse) → MayBeFound facts last found → length facts.batches ≤ length found.batches
+found_more : (facts : Facts) (last : Option Change) (found : Warehouse) → MayBeFound facts last found → HaveNoFewer facts (facts_in found)
 found_more facts last found =
-    ⊎_elim {C = length facts.batches ≤ length found.batches}
-    (λ same. let e : length found.batches ≡ length facts.batches = ap (λ (f : Facts). length f.batches) same in omega (arith, e))
+    ⊎_elim {C = HaveNoFewer facts (facts_in found)}
+    (λ same. subst (HaveNoFewer facts) (sym same) (just_as_many facts))
     (λ more. adds_none_fewer facts (facts_in found) more.0 more.2)
 
 pub fewer_not_found : {D : Type 0} (g : Ghosts D) → ContentIsOneWarehouse → FewerIsNotFound g
@@ -82,12 +108,11 @@ fewer_not_found g one w fewer commands replies device image k is found shown les
     let same : other.0 ≡ there.0 = shows_one (g.state device).size image other.0 there.0 other.1 there.1 in
     let v = there.2.0 in
     let same_w : fewer ≡ v = one there.0 fewer v (subst (λ (c : Content). Stands c fewer) same other.2) there.2.2 in
-    let e : length fewer.batches ≡ length v.batches = ap (λ (x : Warehouse). length x.batches) same_w in
-    absurd (omega (
-      arith,
-      less,
-      e,
-      found_more (facts_in found.found) None v there.2.1,
-      found_more (acknowledged_all (facts_in w) (take found.done commands) (take found.done replies)) (submitted (slice_get commands found.done)) found.found found.may,
-      none_fewer (facts_in w) (take found.done commands) (take found.done replies),
-    ))
+    let batches : length fewer.batches ≡ length v.batches = ap (λ (x : Warehouse). length x.batches) same_w in
+    let additions : fewer.additions ≡ v.additions = ap (λ (x : Warehouse). x.additions) same_w in
+    let first = none_fewer (facts_in w) (take found.done commands) (take found.done replies) in
+    let then = found_more (acknowledged_all (facts_in w) (take found.done commands) (take found.done replies)) (submitted (slice_get commands found.done)) found.found found.may in
+    let last = found_more (facts_in found.found) None v there.2.1 in
+    ⊎_elim {C = ⊥}
+    (λ few. absurd (omega (arith, few, batches, first.batches, then.batches, last.batches)))
+    (λ few. absurd (omega (arith, few, additions, first.additions, then.additions, last.additions))) less

@@ -12,7 +12,7 @@ use Rattle.warehouse_objects.specs.Facts.{Facts, facts_in}
 use Rattle.warehouse_objects.specs.Stands.{Stands}
 use Rattle.warehouse_objects.specs.Warehouse.{Warehouse}
 use Rattle.warehouse.specs.declared.command.Command.{Command}
-use Rattle.warehouse.specs.declared.command.Command.TheVariants.{Submit, Query, Status, Choose, Upkeep, Audit, Start, Step}
+use Rattle.warehouse.specs.declared.command.Command.TheVariants.{Submit, Query, Status, Choose, Upkeep, Audit, Add, Start, Step}
 use Rattle.warehouse.specs.declared.command.Reply.{Reply}
 use Rattle.warehouse.specs.declared.command.Reply.TheVariants.{Done, More, Answer, Numbers, Chosen, Audited, Refused}
 use Rattle.warehouse.specs.declared.session.Session.{Session}
@@ -91,32 +91,38 @@ session_holds g session running broken failed = failed
 
 -- ---- commands that leave the slots
 
--- batches only come after those of before, and the rows of dimensions stay
+-- batches only come after those of before
 only_more : (facts : Facts) (command : Command) (reply : Reply)
-    → (more : List (List LineOrder)) × ((acknowledged facts command reply).rows ≡ facts.rows) × ((acknowledged facts command reply).batches ≡ facts.batches ++ more)
-only_more facts (Submit number batch) Done = (batch ∷ [], refl, refl)
-only_more facts (Submit number batch) More = ([], refl, sym (append-nil facts.batches))
-only_more facts (Submit number batch) (Answer found) = ([], refl, sym (append-nil facts.batches))
-only_more facts (Submit number batch) (Numbers numbers) = ([], refl, sym (append-nil facts.batches))
-only_more facts (Submit number batch) (Chosen chosen) = ([], refl, sym (append-nil facts.batches))
-only_more facts (Submit number batch) (Audited said) = ([], refl, sym (append-nil facts.batches))
-only_more facts (Submit number batch) (Refused fault) = ([], refl, sym (append-nil facts.batches))
-only_more facts (Query as_of query) reply = ([], refl, sym (append-nil facts.batches))
-only_more facts Status reply = ([], refl, sym (append-nil facts.batches))
-only_more facts (Choose k) reply = ([], refl, sym (append-nil facts.batches))
-only_more facts Upkeep reply = ([], refl, sym (append-nil facts.batches))
-only_more facts Audit reply = ([], refl, sym (append-nil facts.batches))
-only_more facts (Start slot as_of query) reply = ([], refl, sym (append-nil facts.batches))
-only_more facts (Step slot) reply = ([], refl, sym (append-nil facts.batches))
+    → (more : List (List LineOrder)) × ((acknowledged facts command reply).batches ≡ facts.batches ++ more)
+only_more facts (Submit number batch) Done = (batch ∷ [], refl)
+only_more facts (Submit number batch) More = ([], sym (append-nil facts.batches))
+only_more facts (Submit number batch) (Answer found) = ([], sym (append-nil facts.batches))
+only_more facts (Submit number batch) (Numbers numbers) = ([], sym (append-nil facts.batches))
+only_more facts (Submit number batch) (Chosen chosen) = ([], sym (append-nil facts.batches))
+only_more facts (Submit number batch) (Audited said) = ([], sym (append-nil facts.batches))
+only_more facts (Submit number batch) (Refused fault) = ([], sym (append-nil facts.batches))
+only_more facts (Add number more) Done = ([], sym (append-nil facts.batches))
+only_more facts (Add number more) More = ([], sym (append-nil facts.batches))
+only_more facts (Add number more) (Answer found) = ([], sym (append-nil facts.batches))
+only_more facts (Add number more) (Numbers numbers) = ([], sym (append-nil facts.batches))
+only_more facts (Add number more) (Chosen chosen) = ([], sym (append-nil facts.batches))
+only_more facts (Add number more) (Audited said) = ([], sym (append-nil facts.batches))
+only_more facts (Add number more) (Refused fault) = ([], sym (append-nil facts.batches))
+only_more facts (Query as_of query) reply = ([], sym (append-nil facts.batches))
+only_more facts Status reply = ([], sym (append-nil facts.batches))
+only_more facts (Choose k) reply = ([], sym (append-nil facts.batches))
+only_more facts Upkeep reply = ([], sym (append-nil facts.batches))
+only_more facts Audit reply = ([], sym (append-nil facts.batches))
+only_more facts (Start slot as_of query) reply = ([], sym (append-nil facts.batches))
+only_more facts (Step slot) reply = ([], sym (append-nil facts.batches))
 
 -- what was started stays at the front
 still_extends : (s : Started) (w v : Warehouse) (command : Command) (reply : Reply) → Extends s w → Becomes w command reply v → Extends s v
 still_extends s w v command reply extends becomes =
     let same = same_facts w command reply v becomes in
     let more = only_more (facts_in w) command reply in record {
-      rows = ap (λ (facts : Facts). facts.rows) same ∙ more.1 ∙ extends.rows;
       more = extends.more ++ more.0;
-      batches = ap (λ (facts : Facts). facts.batches) same ∙ more.2 ∙ ap (λ (l : List (List LineOrder)). l ++ more.0) extends.batches ∙ append_assoc s.batches extends.more more.0;
+      batches = ap (λ (facts : Facts). facts.batches) same ∙ more.1 ∙ ap (λ (l : List (List LineOrder)). l ++ more.0) extends.batches ∙ append_assoc s.batches extends.more more.0;
     }
 
 pub with_slots : {D : Type 0} (g : Ghosts D) (old new : Session D g) (w : Warehouse) (slots : Slots) (command : Command) (reply : Reply) (running : List (Option RunningState))
@@ -162,7 +168,7 @@ module _ {D : Type 0} (g : Ghosts D) (old new : Session D g) (w : Warehouse) (sl
             running_set running slots slot (Some next) entry are started.1.2,
             of_set w slots slot entry of (λ t is.
                 let same : s ≡ t = cc in
-                subst (λ (x : Started). Extends x w) same (record { rows = sym (ap (λ (x : Started). x.rows) started.1.1.2); more = []; batches = sym (ap (λ (x : Started). x.batches) started.1.1.2) ∙ sym (append-nil s.batches) })),
+                subst (λ (x : Started). Extends x w) same (record { more = []; batches = sym (ap (λ (x : Started). x.batches) started.1.1.2) ∙ sym (append-nil s.batches) })),
           ),
         )
 
@@ -223,7 +229,7 @@ module _ {D : Type 0} (g : Ghosts D) (old new : Session D g) (w : Warehouse) (sl
               subst (λ (l : List (Option RunningState)). AreRunning l (slice_set slots slot entry)) (sym (put_back None (Some next))) (running_set running slots slot (Some next) entry are gone.2),
               of_set w slots slot entry of (λ t is.
                   let same : stepped s gone.0 ≡ t = cc in
-                  subst (λ (x : Started). Extends x w) same (record { rows = extends.rows; more = extends.more; batches = extends.batches })),
+                  subst (λ (x : Started). Extends x w) same (record { more = extends.more; batches = extends.batches })),
             ),
           )
 

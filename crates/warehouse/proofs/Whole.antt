@@ -6,16 +6,17 @@ use Rattle.object_store.specs.Moments.{leaves_then, leaves_weaker}
 use Rattle.cube_model.specs.declared.fault.Fault.{Fault}
 use Rattle.cube_model.specs.declared.fault.Fault.TheVariants.{Memory}
 use Rattle.planned_queries.specs.Stepping.{Started, stepped}
+use Rattle.added_rows.specs.Added.{widened}
 use Rattle.warehouse_objects.specs.Facts.{facts_in}
 use Rattle.warehouse_objects.specs.Warehouse.{Warehouse, loaded, with_views}
 use Rattle.warehouse_objects.specs.Stands.{Stands}
 use Rattle.warehouse.specs.declared.command.Command.{Command}
-use Rattle.warehouse.specs.declared.command.Command.TheVariants.{Submit, Query, Status, Choose, Upkeep, Audit, Start, Step}
+use Rattle.warehouse.specs.declared.command.Command.TheVariants.{Submit, Query, Status, Choose, Upkeep, Audit, Add, Start, Step}
 use Rattle.warehouse.specs.declared.command.Reply.{Reply}
 use Rattle.warehouse.specs.declared.command.Reply.TheVariants.{Done, More, Answer, Numbers, Chosen, Audited, Refused}
 use Rattle.warehouse.specs.declared.session.Session.{Session}
 use Rattle.warehouse.specs.Choosing.{ChooseRefuses, views_of}
-use Rattle.warehouse.specs.Session.{disk_of, KeepsContent, SubmitRefuses, QueryRefuses}
+use Rattle.warehouse.specs.Session.{disk_of, AddRefuses, KeepsContent, SubmitRefuses, QueryRefuses}
 use Rattle.warehouse.specs.Running.{Phase, Slots, amid, broken, Becomes, RanAll, Refuses, Replies, StepReplies, During, acknowledged, FoundIn}
 
 -- only a start and a step change slots
@@ -71,6 +72,10 @@ phase_is g old new w slots Audit reply after is =
     ⊎_elim {C = Ends w slots Audit reply after}
     (λ done. inl (w, slots, done.2, refl, refl))
     (refused_is w slots (λ fault. (fault ≡ Memory) × KeepsContent g old new) Audit reply after (λ fault. refl) refl) is
+phase_is g old new w slots (Add number more) reply after is =
+    ⊎_elim {C = Ends w slots (Add number more) reply after}
+    (λ done. inl (widened w more, slots, done.2, subst (λ (r : Reply). Becomes w (Add number more) r (widened w more)) (sym done.0) refl, refl))
+    (refused_is w slots (λ fault. AddRefuses g old w number more fault × KeepsContent g old new) (Add number more) reply after (λ fault. refl) refl) is
 phase_is g old new w slots (Start slot as_of query) reply after is =
     ⊎_elim {C = Ends w slots (Start slot as_of query) reply after}
     (λ none. inl (w, slots, none.2, refl, tt))
@@ -90,6 +95,13 @@ same_facts w (Submit number batch) (Numbers numbers) v is = ap facts_in is
 same_facts w (Submit number batch) (Chosen chosen) v is = ap facts_in is
 same_facts w (Submit number batch) (Audited said) v is = ap facts_in is
 same_facts w (Submit number batch) (Refused fault) v is = ap facts_in is
+same_facts w (Add number more) Done v is = ap facts_in is
+same_facts w (Add number more) More v is = ap facts_in is
+same_facts w (Add number more) (Answer found) v is = ap facts_in is
+same_facts w (Add number more) (Numbers numbers) v is = ap facts_in is
+same_facts w (Add number more) (Chosen chosen) v is = ap facts_in is
+same_facts w (Add number more) (Audited said) v is = ap facts_in is
+same_facts w (Add number more) (Refused fault) v is = ap facts_in is
 same_facts w (Query as_of query) reply v is = ap facts_in is
 same_facts w Status reply v is = ap facts_in is
 same_facts w (Choose k) Done v is = ap facts_in is

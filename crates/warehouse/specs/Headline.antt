@@ -1,5 +1,5 @@
--- The headline. However a run of commands is stopped, what the device may then hold is a warehouse of the batches that were
--- acknowledged by then, or of these and the one whose submit was running; and on the restarted device it is one list.
+-- The headline. However a run of commands is stopped, what the device may then hold is a warehouse of the dimension rows and batches that
+-- were acknowledged by then, or of these and the change whose command was running; and on the restarted device it is one list.
 use Rattle.std.specs.Prelude.{◌≡◌, ◌⊎◌, ◌≤◌, ◌<◌, ℕ, Option, Some, None, List, [], ◌∷◌, length, take, slice_get}
 use Rattle.sector_device.specs.declared.device.Sectors.{Ghosts}
 use Rattle.sector_device.specs.Device.{Image, IsImage}
@@ -7,7 +7,7 @@ use Rattle.cube_model.specs.declared.rows.DimRows.{DimRows}
 use Rattle.object_store.specs.Content.{Content}
 use Rattle.object_store.specs.Disk.{disk, AllShow, Each, IsBlank, Leaves, LeavesOrNone}
 use Rattle.object_store.specs.Shows.{Shows}
-use Rattle.warehouse_objects.specs.Facts.{Change, Facts, a_batch, facts_in}
+use Rattle.warehouse_objects.specs.Facts.{Change, Facts, a_batch, facts_in, some_rows}
 use Rattle.warehouse_objects.specs.Warehouse.{Warehouse, fresh}
 use Rattle.warehouse_objects.specs.Stands.{Stands}
 use Rattle.warehouse.specs.declared.command.Command.{Command}
@@ -27,6 +27,7 @@ acknowledged_all facts (command ∷ commands) (reply ∷ replies) = acknowledged
 -- what a command submits
 abbrev pub submitted : Option Command → Option Change
 submitted (Some (asks.Submit number batch)) = Some (a_batch batch)
+submitted (Some (asks.Add number more)) = Some (some_rows more)
 submitted _ = None
 
 -- a device that was restarted where a crash left an image: it has that image alone
@@ -34,8 +35,8 @@ pub record IsRestarted {D : Type 0} (g : Ghosts D) (size : ℕ) (image : Image) 
   pub same_size : (g.state device).size ≡ size
   pub one : (other : Image) → IsImage (g.state device) other → (i : ℕ) → other i ≡ image i
 
--- What is found after a run that was stopped after some of its commands, in the next one: a prefix of the batches that were
--- submitted, with every acknowledged one. The restarted device has it, whatever is left there.
+-- What is found after a run that was stopped after some of its commands, in the next one: a prefix of the changes that were
+-- submitted, each a batch or rows for the dimensions, with every acknowledged one. The restarted device has it, whatever is left there.
 pub record IsFoundAfter {D : Type 0} (g : Ghosts D) (w : Warehouse) (commands : List Command) (replies : List Reply) (device : D) : Type 0 where
   pub done : ℕ
   pub within : done ≤ length commands
@@ -68,8 +69,8 @@ pub record IsCrashed {D : Type 0} (g : Ghosts D) (w v : Warehouse) (slots : Slot
   pub left : (g.state (device_of new)).left_since (g.state (device_of mid)).moment image
   pub restarted : IsRestarted g (g.state (device_of mid)).size image device
 
--- The same after any of the commands: a crash later than some of them leaves all batches that these acknowledged. So no batch is
--- lost that was acknowledged before the crash.
+-- The same after any of the commands: a crash later than some of them leaves all changes that these acknowledged. So no batch and no
+-- dimension row is lost that was acknowledged before the crash.
 abbrev pub LaterStopIsFound : {D : Type 0} → Ghosts D → Type 0
 LaterStopIsFound {D} g = (w v : Warehouse) (slots : Slots) (earlier later : List Command) (replies others : List Reply) (device : D)
     → IsCrashed g w v slots earlier later replies others device
@@ -106,9 +107,10 @@ StoppedCreateIsFound {D} g = (start end : D) (rows : DimRows)
     → (device : D) → IsRestarted g (g.state start).size image device
     → Each (disk g device) IsBlank ⊎ AllShow (disk g device) (λ c. Stands c (fresh rows))
 
--- Acknowledged batches are there: a device with fewer batches than a warehouse is never what is found after a run that began there.
+-- What was acknowledged is there: a device with fewer batches than a warehouse, or fewer additions of dimension rows, is never what is found
+-- after a run that began there.
 abbrev pub FewerIsNotFound : {D : Type 0} → Ghosts D → Type 0
 FewerIsNotFound {D} g = (w fewer : Warehouse) (commands : List Command) (replies : List Reply) (device : D) (image : Image)
     → g.keeps_word device → IsImage (g.state device) image
     → IsFoundAfter g w commands replies device → AllShow (disk g device) (λ c. Stands c fewer)
-    → length fewer.batches < length w.batches → ⊥
+    → (length fewer.batches < length w.batches) ⊎ (fewer.additions < w.additions) → ⊥

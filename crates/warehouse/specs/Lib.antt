@@ -16,3 +16,4 @@ pub mod Headline
 pub mod Room
 pub mod Stepping
 pub mod Slots
+pub mod Widening

@@ -4,11 +4,13 @@ use Rattle.sector_device.specs.declared.device.Sectors.{Ghosts}
 use Rattle.cube_model.specs.declared.fault.Fault.{Fault}
 use Rattle.cube_model.specs.declared.fault.Fault.TheVariants.{Device, Failed, Memory, NotRunning}
 use Rattle.cube_model.specs.declared.query.Query.{Query}
+use Rattle.cube_model.specs.declared.rows.DimRows.{DimRows}
 use Rattle.cube_model.specs.declared.rows.LineOrder.{LineOrder}
 use Rattle.cube_model.specs.Answers.{answer_as_of}
 use Rattle.object_store.specs.Content.{Content}
 use Rattle.object_store.specs.Disk.{Leaves}
-use Rattle.warehouse_objects.specs.Facts.{Admits, Facts, with_next}
+use Rattle.added_rows.specs.Added.{widened}
+use Rattle.warehouse_objects.specs.Facts.{Admits, AdmitsRows, Facts, with_next, with_rows}
 use Rattle.warehouse_objects.specs.Warehouse.{Warehouse, loaded, with_views}
 use Rattle.warehouse_objects.specs.Stands.{Stands}
 use Rattle.cuboid_commits.specs.Keeping.{IsKeptUp}
@@ -22,7 +24,7 @@ use Rattle.warehouse.specs.declared.command.Reply.TheVariants as says
 use Rattle.warehouse.specs.declared.session.Session.{Session}
 use Rattle.warehouse.specs.declared.status.Status.{Status}
 use Rattle.warehouse.specs.Choosing.{ChooseRefuses, IsChoice, views_of}
-use Rattle.warehouse.specs.Session.{IsAt, content_of, disk_of, has_failed, CommitsOnce, KeepsContent, SubmitRefuses, IsAsked, QueryRefuses}
+use Rattle.warehouse.specs.Session.{IsAt, content_of, disk_of, has_failed, CommitsOnce, KeepsContent, AddRefuses, SubmitRefuses, IsAsked, QueryRefuses}
 use Rattle.warehouse.specs.Status.{IsStatus}
 use Rattle.warehouse.specs.Upkeep.{UpkeepRefuses}
 
@@ -77,8 +79,8 @@ StepReplies g old w slots slot (Some s) reply new after =
     ⊎ (Says (says.Answer (answer_of s)) ((s.left ≡ 0) × KeepsContent g old new) (amid w (slice_set slots slot None)) reply after
     ⊎ Refuses (λ fault. (fault ≡ Memory) × KeepsContent g old new) (amid w slots) reply after)
 
--- The reply to a command, with the session then, and the phase after it. A batch is one commit, a choice of cuboids one; nothing
--- else but upkeep commits.
+-- The reply to a command, with the session then, and the phase after it. A batch is one commit, an addition of dimension rows one, a
+-- choice of cuboids one; nothing else but upkeep commits.
 abbrev pub Replies : {D : Type 0} (g : Ghosts D) → Session D g → Warehouse → Slots → Command → Reply → Session D g → Phase → Type 0
 Replies g old w slots (asks.Submit number batch) reply new after =
     Says says.Done (Admits w number batch × CommitsOnce g old new) (amid (loaded w batch) slots) reply after
@@ -96,6 +98,9 @@ Replies g old w slots asks.Upkeep reply new after =
 Replies g old w slots asks.Audit reply new after =
     Says (says.Audited true) (KeepsContent g old new) (amid w slots) reply after
     ⊎ Refuses (λ fault. (fault ≡ Memory) × KeepsContent g old new) (amid w slots) reply after
+Replies g old w slots (asks.Add number more) reply new after =
+    Says says.Done (AdmitsRows w number more × CommitsOnce g old new) (amid (widened w more) slots) reply after
+    ⊎ Refuses (λ fault. AddRefuses g old w number more fault × KeepsContent g old new) (amid w slots) reply after
 Replies g old w slots (asks.Start slot as_of query) reply new after = StartReplies g old w slots slot as_of query reply new after
 Replies g old w slots (asks.Step slot) reply new after = StepReplies g old w slots slot (slice_index_or slots slot None) reply new after
 
@@ -107,6 +112,7 @@ During w asks.Status c = Stands c w
 During w (asks.Choose k) c = Stands c w ⊎ ((chosen : List Chosen) × IsChoice w k chosen × Stands c (with_views w (views_of chosen)))
 During w asks.Upkeep c = (v : Warehouse) × IsKeptUp w v × Stands c v
 During w asks.Audit c = Stands c w
+During w (asks.Add number more) c = Stands c w ⊎ (AdmitsRows w number more × Stands c (widened w more))
 During w (asks.Start slot as_of query) c = Stands c w
 During w (asks.Step slot) c = Stands c w
 
@@ -134,15 +140,26 @@ abbrev pub acknowledged_by : Facts → List LineOrder → Reply → Facts
 acknowledged_by facts batch says.Done = with_next facts batch
 acknowledged_by facts batch _ = facts
 
+-- the same after an addition: its rows are there where it was done
+abbrev pub acknowledged_rows : Facts → DimRows → Reply → Facts
+acknowledged_rows facts more says.Done = with_rows facts more
+acknowledged_rows facts more _ = facts
+
 -- and after any command
 abbrev pub acknowledged : Facts → Command → Reply → Facts
 acknowledged facts (asks.Submit number batch) reply = acknowledged_by facts batch reply
+acknowledged facts (asks.Add number more) reply = acknowledged_rows facts more reply
 acknowledged facts _ reply = facts
 
 -- what a submit makes of the warehouse
 abbrev pub BecomesLoaded : Warehouse → List LineOrder → Reply → Warehouse → Type 0
 BecomesLoaded w batch says.Done v = v ≡ loaded w batch
 BecomesLoaded w batch _ v = v ≡ w
+
+-- what an addition makes of it
+abbrev pub BecomesWidened : Warehouse → DimRows → Reply → Warehouse → Type 0
+BecomesWidened w more says.Done v = v ≡ widened w more
+BecomesWidened w more _ v = v ≡ w
 
 -- what a choice makes of it
 abbrev pub BecomesChosen : Warehouse → Reply → Warehouse → Type 0
@@ -152,6 +169,7 @@ BecomesChosen w _ v = v ≡ w
 -- what a command with this reply makes of the warehouse
 abbrev pub Becomes : Warehouse → Command → Reply → Warehouse → Type 0
 Becomes w (asks.Submit number batch) reply v = BecomesLoaded w batch reply v
+Becomes w (asks.Add number more) reply v = BecomesWidened w more reply v
 Becomes w (asks.Choose k) reply v = BecomesChosen w reply v
 Becomes w asks.Upkeep reply v = IsKeptUp w v
 Becomes w _ reply v = v ≡ w

@@ -1,10 +1,11 @@
 -- What a session shows of itself, and when it represents a warehouse.
-use Rattle.std.specs.Prelude.{◌≡◌, ◌⊎◌, ℕ, ◌+◌, ◌-◌, ◌^◌, ◌<◌, ◌≤◌, min, Bool, true, false, Some, length, List, []}
+use Rattle.std.specs.Prelude.{◌≡◌, ◌⊎◌, ℕ, ◌+◌, ◌-◌, ◌^◌, ◌<◌, ◌≤◌, min, Bool, true, false, None, Some, length, List, []}
 use Rattle.std.proofs.Common.{sym, subst}
 use Rattle.sector_device.specs.declared.device.Sectors.{Ghosts}
 use Rattle.cube_model.specs.declared.fault.Fault.{Fault}
 use Rattle.cube_model.specs.declared.fault.Fault.TheVariants.{Memory, BadQuery, NoSuchPrefix}
 use Rattle.cube_model.specs.declared.query.Query.{Query}
+use Rattle.cube_model.specs.declared.rows.DimRows.{DimRows}
 use Rattle.cube_model.specs.declared.rows.LineOrder.{LineOrder}
 use Rattle.cube_model.specs.Proper.{IsProper}
 use Rattle.warehouse_root.specs.Root as roots
@@ -14,7 +15,8 @@ use Rattle.object_store.specs.Frames.{always_shows}
 use Rattle.object_store.specs.Moments.{all_weaker}
 use Rattle.object_store.specs.Room.{Room}
 use Rattle.object_store.specs.Store as stores
-use Rattle.warehouse_objects.specs.Facts.{Admits, refusal_of}
+use Rattle.added_rows.specs.Added.{widened, widening_puts}
+use Rattle.warehouse_objects.specs.Facts.{Admits, AdmitsRows, number_refusal, refusal_of, rows_refusal_of}
 use Rattle.warehouse_objects.specs.Warehouse.{Warehouse, loaded}
 use Rattle.warehouse_objects.specs.Stands.{Stands, root_of}
 use Rattle.warehouse_objects.specs.Lawful.{loading_puts}
@@ -64,6 +66,15 @@ SubmitRefuses g session w number batch fault =
     (refusal_of w number batch ≡ Some fault)
     ⊎ (Admits w number batch
     × stores.Refuses (content_of g session) (room_of session) (loading_puts w number batch) [] (roots.root_of (root_of (loaded w batch))) fault)
+
+-- Why an addition of dimension rows is refused where the device has not failed: the first cause of the model, or memory in the place of one
+-- that is found by building the dimensions, or a cause of its commit. The commit puts each dimension that has new rows, and the root.
+abbrev pub AddRefuses : {D : Type 0} (g : Ghosts D) → Session D g → Warehouse → ℕ → DimRows → Fault → Type 0
+AddRefuses g session w number more fault =
+    (rows_refusal_of w number more ≡ Some fault)
+    ⊎ (((fault ≡ Memory) × (number_refusal w.additions number ≡ None))
+    ⊎ (AdmitsRows w number more
+    × stores.Refuses (content_of g session) (room_of session) (widening_puts w.rows more) [] (roots.root_of (root_of (widened w more))) fault))
 
 -- a query that is proper, over batches that are there
 pub record IsAsked (w : Warehouse) (as_of : ℕ) (query : Query) : Type 0 where

@@ -24,6 +24,7 @@ StandsAt (Some cuboid) (Some said) = IsSaidOf cuboid said
 pub record IsStatus (w : Warehouse) (generation : ℕ) (status : Status) : Type 0 where
   pub batches : status.batches ≡ length w.batches
   pub rows : status.rows ≡ length (all_rows w.batches)
+  pub additions : status.additions ≡ w.additions
   pub target : status.target ≡ w.target
   pub generation_is : status.generation ≡ generation
   pub cuboids : (place : ℕ) → place < most_cuboids → StandsAt (slice_get w.cuboids place) (slice_index_or status.cuboids place None)

@@ -1,5 +1,6 @@
 //! What a run is asked, and what it answers.
 use crate::chosen::Chosen;
+use crate::new_rows::NewRows;
 use crate::status::Status;
 use cube_model::{Answer, Fault, Items, LineOrder, Query};
 
@@ -18,6 +19,8 @@ pub enum Command {
     Upkeep,
     /// Asks whether each stored cuboid is what it is to be.
     Audit,
+    /// Adds rows to the dimensions under a number.
+    Add(u32, NewRows),
     /// Starts a query in a slot from 0 to 15, over the first batches of then, so many of them. What ran there is dropped.
     Start(u8, u32, Query),
     /// Makes the next step of the query in a slot.
@@ -27,7 +30,7 @@ pub enum Command {
 /// The reply to a command.
 #[derive(Debug, PartialEq, Drop)]
 pub enum Reply {
-    /// The batch was added, the query was started, or each stored cuboid holds all batches.
+    /// The batch or the rows were added, the query was started, or each stored cuboid holds all batches.
     Done,
     /// A batch was counted in, and the query runs on.
     More,

@@ -187,7 +187,7 @@ impl<D: Sectors> Session<D> {
         ensures leaves { (w : Warehouse) → IsAt D.Sectors self.now w
             → Leaves (disk_of D.Sectors self.now) (disk_of D.Sectors self.now) (λ c. Stands c w) }
     {
-        self.can_put()?;
+        self.can_put(1)?;
         batch.prepared(alloc, &self.root, number)
     }
 }

@@ -1,6 +1,7 @@
 //! A warehouse of batches on a device: what each call answers, and what a crash at any point of it leaves.
 #![tactic(auto)]
 
+mod adding;
 mod beginning;
 mod checking;
 mod choosing;
@@ -11,6 +12,7 @@ mod creation;
 mod finishing;
 mod growing;
 pub mod laws;
+mod new_rows;
 mod opening;
 mod planning;
 mod prepared;
@@ -25,11 +27,13 @@ mod stepping;
 mod submit;
 mod tables;
 mod upkeep;
+mod widening;
 
 pub use chosen::Chosen;
 pub use command::{Command, Reply};
 pub use creation::create;
 pub use growing::GrowingBatch;
+pub use new_rows::NewRows;
 pub use opening::{open, open_as_is};
 pub use planned_queries::Running;
 pub use planner::{Plan, Priced};

@@ -9,6 +9,7 @@ ghost use Rattle.warehouse.specs.Running.{Phase, Slots, at, broken, Does, Holds,
 ghost use Rattle.warehouse.specs.Slots.{AreOf, AreRunning, DoesWith};
 
 use crate::command::{Command, Reply};
+use crate::new_rows::NewRows;
 use crate::query_slots::{MOST_RUNNING, QuerySlots};
 use crate::session::Session;
 use crate::stepping::Stepped;
@@ -75,6 +76,7 @@ fn perform<D: Sectors>(
         Command::Choose(k) => choose(alloc, session, *k),
         Command::Upkeep => keep_up(alloc, session),
         Command::Audit => audit(alloc, session),
+        Command::Add(number, rows) => add(alloc, session, *number, rows),
         Command::Start(slot, as_of, query) => start(alloc, session, slots, *slot, *as_of, query),
         Command::Step(slot) => step(alloc, session, slots, *slot),
     }
@@ -148,6 +150,17 @@ fn audit<D: Sectors>(alloc: Global, session: &mut Session<D>) -> Reply
 {
     match session.audit(alloc) {
         Ok(yes) => Reply::Audited(yes),
+        Err(fault) => Reply::Refused(fault),
+    }
+}
+
+// Adds rows to the dimensions.
+fn add<D: Sectors>(alloc: Global, session: &mut Session<D>, number: u32, rows: &NewRows) -> Reply
+    ensures word { D.keeps_word (device_of session.new) → D.keeps_word (device_of session.old) }
+    ensures ran { (w : Warehouse) (started : Slots) → IsAt D.Sectors session.old w → D.keeps_word (device_of session.new) → Does D.Sectors session.old w started (asks.Add number rows.now) result session.new }
+{
+    match session.add(alloc, number, rows.rows()) {
+        Ok(()) => Reply::Done,
         Err(fault) => Reply::Refused(fault),
     }
 }

@@ -22,6 +22,8 @@ pub struct Status {
     pub batches: u32,
     /// How many rows they have together.
     pub rows: u64,
+    /// How often rows were added to the dimensions.
+    pub additions: u32,
     /// How many of the first batches each stored cuboid is to hold.
     pub target: u32,
     /// How many commits made what is on the device.
@@ -47,6 +49,7 @@ impl<D: Sectors> Session<D> {
         Ok(Status {
             batches: batches.len() as u32,
             rows: row_total(batches),
+            additions: self.root.additions(),
             target: self.root.target(),
             generation: self.store.generation(),
             cuboids: in_places(self.root.cuboids()),

@@ -1,5 +1,5 @@
 //! Adding a batch to a warehouse.
-ghost use Rattle.std.specs.Prelude.{◌≡◌, ◌≢◌, ◌<◌, ◌⊎◌, ◌↔◌, true, false, Some, List, length, IfOk, IfErr, MatchResult, OnOk, IsErrOf};
+ghost use Rattle.std.specs.Prelude.{◌≡◌, ◌≢◌, ◌<◌, ◌≤◌, ◌⊎◌, ◌+◌, ◌↔◌, true, false, Some, List, length, IfOk, IfErr, MatchResult, OnOk, IsErrOf};
 ghost use Rattle.cube_model.specs.declared.fault.Fault.TheVariants.{Device, Failed, Memory};
 ghost use Rattle.cube_model.specs.declared.rows.LineOrder.{LineOrder};
 ghost use Rattle.wire.specs.Limits.{most_objects};
@@ -112,17 +112,18 @@ impl<D: Sectors> Session<D> {
         ensures leaves { (w : Warehouse) → IsAt D.Sectors self.now w
             → Leaves (disk_of D.Sectors self.now) (disk_of D.Sectors self.now) (λ c. Stands c w) }
     {
-        self.can_put()?;
+        self.can_put(1)?;
         check(&self.dims, &self.root, number, rows)?;
         let mut batch = self.begin_batch(alloc, rows.len())?;
         self.add_rows(alloc, &mut batch, rows)?;
         Ok(batch)
     }
 
-    // Whether a further batch may be put, as far as that does not depend on the batch. No device call is made.
-    pub(crate) fn can_put(&self) -> Result<(), Fault>
+    // Whether so many objects may be put, as far as that does not depend on what they are. No device call is made.
+    pub(crate) fn can_put(&self, puts: usize) -> Result<(), Fault>
+        requires { puts ≤ 4 }
         ensures fine { OnOk result (has_failed self.now ≡ false) }
-        ensures few { OnOk result (length (content_of D.Sectors self.now).objects < most_objects) }
+        ensures few { OnOk result (length (content_of D.Sectors self.now).objects + puts ≤ most_objects) }
         ensures agrees { (w : Warehouse) → IsAt D.Sectors self.now w → D.keeps_word (device_of self.now) → Agrees w self.now.dims.value self.now.root }
         ensures stands { IfErr result (λ _. (w : Warehouse) → IsAt D.Sectors self.now w → D.keeps_word (device_of self.now) → ⊥) }
         ensures failed { IsErrOf result Failed ↔ (has_failed self.now ≡ true) }
@@ -134,7 +135,7 @@ impl<D: Sectors> Session<D> {
         if self.is_broken() {
             return Err(Fault::Failed);
         }
-        if self.store.objects() as usize >= MOST_OBJECTS {
+        if self.store.objects() as usize + puts > MOST_OBJECTS {
             return Err(Fault::BadLayout); // more than a warehouse has
         }
         Ok(())

@@ -1,5 +1,5 @@
 -- How a choice of cuboids, upkeep and an audit end.
-use Rattle.std.proofs.Common.{◌≡◌, ⊎_elim, inl, inr, ℕ, Bool, true, List, Option, Result, Ok, Err, subst}
+use Rattle.std.proofs.Common.{◌≡◌, ⊎_elim, inl, inr, ℕ, Bool, true, List, Option, Result, Ok, Err}
 use Rattle.std.proofs.KnownBytes.{Keeps-refl}
 use Rattle.sector_device.specs.declared.device.Sectors.{Ghosts}
 use Rattle.cube_model.specs.declared.fault.Fault.{Fault}
@@ -13,7 +13,7 @@ use Rattle.warehouse.specs.Session.{IsAt, has_failed}
 use Rattle.warehouse.specs.Upkeep.{UpkeepRefuses}
 use Rattle.warehouse.proofs.Refusing.{device_or}
 use Rattle.warehouse_jobs.specs.Cuboids.{AuditEnds, ChoiceEnds, IsChosen, IsUpToDate, UpkeepEnds}
-use Rattle.warehouse_jobs.specs.Printed.{audit_text, choice_text, upkeep_text}
+use Rattle.warehouse_jobs.specs.Printed.{choice_text, upkeep_text}
 
 module _ {D : Type 0} (g : Ghosts D) (w : Warehouse) (old new : Session D g) (before after : Option (List ℕ)) where
   pub choose-refused : (IsIt : List Chosen → Type 0) (refuses : Fault → Type 0) (fault : Fault) (result : Result Unit Fault) → (fault ≡ Device → has_failed new ≡ true)

@@ -6,6 +6,7 @@ pub mod Stepping
 pub mod Reported
 pub mod Performed
 pub mod Added
+mod Additions
 mod Cuboids
 mod Written
 mod PlanLines

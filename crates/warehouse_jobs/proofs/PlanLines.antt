@@ -1,9 +1,8 @@
 -- The lines of plans.
-use Rattle.std.proofs.Common.{◌≡◌, ◌∙◌, ℕ, ◌+◌, ◌-◌, ◌<◌, ◌≤◌, List, [], ◌∷◌, ◌++◌, length, take, drop, get_or, ap, sym, arith, codes}
-use Rattle.std.proofs.lemmas.List.{get_or_default, take_rest}
+use Rattle.std.proofs.Common.{◌≡◌, ℕ, ◌-◌, ◌≤◌, List, [], ◌∷◌, ◌++◌, length, take, drop, get_or, ap, sym, arith, codes}
+use Rattle.std.proofs.lemmas.List.{take_rest}
 use Rattle.std.specs.List.{flat_map}
 use Rattle.planner.specs.declared.price.Priced.{Priced}
-use Rattle.ssb_reports.proofs.Rows.{flat_map-around}
 use Rattle.warehouse_jobs.specs.PlanLines.{other_line, plan_line, plans_text}
 
 -- the line of the plan that is taken, and those of the others

@@ -6,6 +6,7 @@ pub mod Reporting
 pub mod PlanLines
 pub mod Explaining
 pub mod Checking
+pub mod Adding
 pub mod Cuboids
 pub mod Jobs
 pub mod Lawful

@@ -1,5 +1,5 @@
 -- The lines that jobs write. Our own.
-use Rattle.std.specs.Prelude.{ℕ, Bool, true, false, List, [], ◌++◌, Option, Some, None, codes}
+use Rattle.std.specs.Prelude.{ℕ, zero, suc, Bool, true, false, List, [], ◌++◌, Option, Some, None, codes}
 use Rattle.std.specs.List.{flat_map}
 use Rattle.std.specs.Fmt.{decimal}
 use Rattle.lattice.specs.Names.{view_text}
@@ -26,6 +26,22 @@ taken_text rows Skipped = codes " skipped\n"
 abbrev pub batch_line : ℕ → ℕ → Taken → List ℕ
 batch_line number rows taken = codes "batch " ++ (decimal number ++ taken_text rows taken)
 
+-- how many additions there are
+abbrev pub additions_line : ℕ → List ℕ
+additions_line count = named_line (codes "additions ") count
+
+-- what became of the addition of a number, which has so many rows, and how many additions there are then
+abbrev pub addition_text : ℕ → ℕ → Taken → ℕ → List ℕ
+addition_text number rows Added additions =
+    codes "addition " ++ (decimal number ++ (codes " rows " ++ (decimal rows ++ (codes "\n" ++ additions_line additions))))
+addition_text number rows Skipped additions =
+    codes "addition " ++ (decimal number ++ (codes " skipped\n" ++ additions_line additions))
+
+-- how many batches there are, and how many additions, where there are some
+abbrev pub counts_text : ℕ → ℕ → List ℕ
+counts_text batches zero = count_line batches
+counts_text batches (suc before) = codes "batches " ++ (decimal batches ++ (codes "\n" ++ additions_line (suc before)))
+
 -- what is said of a stored cuboid
 abbrev pub cuboid_line : StoredCuboid → List ℕ
 cuboid_line cuboid =
@@ -40,7 +56,7 @@ place_text (Some cuboid) = cuboid_line cuboid
 -- the numbers of a warehouse, and then a line for each stored cuboid
 abbrev pub status_text : Status → List ℕ
 status_text status =
-    named_line (codes "batches ") status.batches
+    counts_text status.batches status.additions
     ++ (named_line (codes "rows ") status.rows
     ++ (named_line (codes "target ") status.target
     ++ (named_line (codes "generation ") status.generation ++ flat_map place_text status.cuboids)))

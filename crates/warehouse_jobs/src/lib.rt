@@ -1,7 +1,8 @@
-//! What is done to an open warehouse: a file is loaded, a query is reported or its plans are written, the numbers are written, and
-//! cuboids are chosen, kept up to date and audited; all that is stored is checked.
+//! What is done to an open warehouse: a file is loaded, rows are added to the dimensions, a query is reported or its plans are written,
+//! the numbers are written, and cuboids are chosen, kept up to date and audited; all that is stored is checked.
 #![tactic(auto)]
 
+mod adding;
 mod checking;
 mod choosing;
 mod explaining;
@@ -16,6 +17,7 @@ mod reporting;
 mod taken;
 mod telling;
 
+pub use adding::add;
 pub use checking::check;
 pub use explaining::explain;
 pub use job::{BatchNumber, BatchRows, Job};

@@ -3,7 +3,8 @@ ghost use Rattle.std.specs.Prelude.{ℕ, List, false};
 ghost use Rattle.std.specs.List.{flat_map};
 ghost use Rattle.lattice.specs.Names.{view_text};
 ghost use Rattle.ssb_reports.specs.Writing.{Writes};
-ghost use Rattle.warehouse_jobs.specs.Printed.{audit_text, batch_line, choice_text, chosen_line, count_line, cuboid_line, named_line, place_text, status_text, upkeep_text};
+ghost use Rattle.warehouse_jobs.specs.declared.taken.Taken.TheVariants.{Added, Skipped};
+ghost use Rattle.warehouse_jobs.specs.Printed.{addition_text, audit_text, batch_line, choice_text, chosen_line, count_line, counts_text, cuboid_line, named_line, place_text, status_text, upkeep_text};
 
 use crate::taken::Taken;
 use cube_model::{Axis, Fault};
@@ -58,14 +59,94 @@ fn write_batch_line<W: Write>(
     }
 }
 
+/// Writes what became of an addition of so many rows, and how many additions there are, and flushes it.
+pub(crate) fn write_addition<W: Write>(
+    out: &mut W,
+    number: u32,
+    rows: u128,
+    taken: Taken,
+    additions: u32,
+) -> Result<(), Fault>
+    ensures { Writes (W.contents out.old) (W.contents out.new) result (addition_text number rows taken additions) }
+{
+    write_addition_lines(out, number, rows, taken, additions)?;
+    flush(out)
+}
+
+fn write_addition_lines<W: Write>(
+    out: &mut W,
+    number: u32,
+    rows: u128,
+    taken: Taken,
+    additions: u32,
+) -> Result<(), Fault>
+    ensures { Writes (W.contents out.old) (W.contents out.new) result (addition_text number rows taken additions) }
+{
+    match taken {
+        Taken::Added => write_added(out, number, rows, additions),
+        Taken::Skipped => write_skipped(out, number, additions),
+    }
+}
+
+fn write_added<W: Write>(out: &mut W, number: u32, rows: u128, additions: u32) -> Result<(), Fault>
+    ensures { Writes (W.contents out.old) (W.contents out.new) result (addition_text number rows Added additions) }
+{
+    let (mut addition, mut row_count, mut count) = (Buffer::new(), Buffer::new(), Buffer::new());
+    let parts: [&[u8]; 8] = [
+        b"addition ",
+        addition.format(number).as_bytes(),
+        b" rows ",
+        row_count.format(rows).as_bytes(),
+        b"\n",
+        b"additions ",
+        count.format(additions).as_bytes(),
+        b"\n",
+    ];
+    write_parts(out, &parts)
+}
+
+fn write_skipped<W: Write>(out: &mut W, number: u32, additions: u32) -> Result<(), Fault>
+    ensures { (rows : ℕ) → Writes (W.contents out.old) (W.contents out.new) result (addition_text number rows Skipped additions) }
+{
+    let (mut addition, mut count) = (Buffer::new(), Buffer::new());
+    let parts: [&[u8]; 6] = [
+        b"addition ",
+        addition.format(number).as_bytes(),
+        b" skipped\n",
+        b"additions ",
+        count.format(additions).as_bytes(),
+        b"\n",
+    ];
+    write_parts(out, &parts)
+}
+
 fn write_status_lines<W: Write>(out: &mut W, status: &Status) -> Result<(), Fault>
     ensures { Writes (W.contents out.old) (W.contents out.new) result (status_text status.now) }
 {
-    write_named(out, b"batches ", u64::from(status.batches))?;
+    write_counts(out, status.batches, status.additions)?;
     write_named(out, b"rows ", status.rows)?;
     write_named(out, b"target ", u64::from(status.target))?;
     write_named(out, b"generation ", status.generation)?;
     write_places(out, &status.cuboids)
+}
+
+// Writes how many batches there are, and how many additions, where there are some.
+fn write_counts<W: Write>(out: &mut W, batches: u32, additions: u32) -> Result<(), Fault>
+    ensures { Writes (W.contents out.old) (W.contents out.new) result (counts_text batches additions) }
+{
+    if additions == 0 {
+        return write_named(out, b"batches ", u64::from(batches));
+    }
+    let (mut batch_count, mut addition_count) = (Buffer::new(), Buffer::new());
+    let parts: [&[u8]; 6] = [
+        b"batches ",
+        batch_count.format(batches).as_bytes(),
+        b"\n",
+        b"additions ",
+        addition_count.format(additions).as_bytes(),
+        b"\n",
+    ];
+    write_parts(out, &parts)
 }
 
 // Writes a line for each stored cuboid.

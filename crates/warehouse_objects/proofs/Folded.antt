@@ -1,7 +1,7 @@
 -- Batches that are read and counted one after another.
-use Rattle.std.proofs.Common.{◌≡◌, ◌⊎◌, inl, inr, ⊎_elim, get_or, map, ◌+◌, ◌<◌, ◌≤◌, suc, ℕ, List, ◌++◌, Option, Some, None, length, take, slice_get, Result, Ok, Err, IfErr, IsErrOf, OnOk, refl, sym, ◌∙◌, ap, subst, arith}
+use Rattle.std.proofs.Common.{◌≡◌, ◌⊎◌, inl, inr, ⊎_elim, get_or, map, ◌+◌, ◌<◌, ◌≤◌, ℕ, List, ◌++◌, Option, Some, None, length, take, slice_get, Result, Ok, Err, IfErr, IsErrOf, OnOk, refl, sym, ◌∙◌, ap, subst, add-one, arith}
 use Rattle.std.specs.Option.{IfSome, IsSomeAnd, option_map}
-use Rattle.std.proofs.lemmas.Option.{get_or_from_slice_get, slice_get-map, slice_get_within}
+use Rattle.std.proofs.lemmas.Option.{get_or_from_slice_get, slice_get-map}
 use Rattle.cube_model.specs.Admission.{all_rows}
 use Rattle.cube_model.specs.declared.fault.Fault.{Fault}
 use Rattle.cube_model.specs.declared.fault.Fault.TheVariants.{BadLayout, Device, Memory}
@@ -79,13 +79,17 @@ module _ (c : Content) (w : Warehouse) (stands : Stands c w) where
         by (Some bytes) at agree = by_batch bytes at agree (slice_get w.batches before) refl
 
   -- a batch can be taken after those before it
-  pub can_take_there : (dims : DimRows) (fold : FoldState) (before : ℕ) (batch : List LineOrder) → dims ≡ w.rows → slice_get w.batches before ≡ Some batch
-      → StandsFor dims fold (all_rows (take before w.batches)) → CanTake dims fold batch
-  can_take_there dims fold before batch same here so_far =
-      let within : suc before ≤ length w.batches = omega (arith, slice_get_within w.batches before batch here) in
-      let all : AreFoldable dims (all_rows (take (suc before) w.batches)) =
-      subst (λ (d : DimRows). AreFoldable d (all_rows (take (suc before) w.batches))) (sym same) (foldable w.rows w.batches stands.batches (suc before) within) in
-      (all_rows (take before w.batches), (so_far, subst (λ (l : List LineOrder). AreFoldable dims l) (rows_next w.batches before batch here) all))
+  pub can_take_there : (dims : DimRows) (fold : FoldState) (before : ℕ) (batch : List LineOrder) → slice_get w.batches before ≡ Some batch
+      → AreFoldable dims (all_rows (take (before + 1) w.batches)) → StandsFor dims fold (all_rows (take before w.batches)) → CanTake dims fold batch
+  can_take_there dims fold before batch here all so_far =
+      let more : all_rows (take (before + 1) w.batches) ≡ all_rows (take before w.batches) ++ batch =
+      ap (λ (n : ℕ). all_rows (take n w.batches)) (add-one before) ∙ rows_next w.batches before batch here in
+      (all_rows (take before w.batches), (so_far, subst (λ (l : List LineOrder). AreFoldable dims l) more all))
+
+  -- the dimensions of the warehouse have the keys of its batches
+  pub own_foldable : (dims : DimRows) (before : ℕ) → dims ≡ w.rows → before < length w.batches → AreFoldable dims (all_rows (take (before + 1) w.batches))
+  own_foldable dims before same less =
+      subst (λ (d : DimRows). AreFoldable d (all_rows (take (before + 1) w.batches))) (sym same) (foldable w.rows w.batches stands.batches (before + 1) (omega (arith, less)))
 
   -- how many rows the root says it has
   pub count_there : (before : ℕ) (batch : List LineOrder) → slice_get w.batches before ≡ Some batch → get_or (map length w.batches) before 0 ≡ length batch

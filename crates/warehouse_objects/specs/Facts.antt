@@ -1,10 +1,14 @@
 -- What was submitted to a warehouse, and what one command may add to it. Our own.
-use Rattle.std.specs.Prelude.{◌≡◌, ℕ, ◌+◌, Option, List, [], ◌∷◌, ◌++◌, length}
+use Rattle.std.specs.Prelude.{◌≡◌, ℕ, ◌+◌, nat_le, nat_lt, Option, None, List, [], ◌∷◌, ◌++◌, length}
 use Rattle.cube_model.specs.declared.fault.Fault.{Fault}
+use Rattle.cube_model.specs.declared.fault.Fault.TheVariants.{Gap, Repeated, TooManyAdditions}
 use Rattle.cube_model.specs.declared.rows.DimRows.{DimRows}
 use Rattle.cube_model.specs.declared.rows.LineOrder.{LineOrder}
 use Rattle.cube_model.specs.Admission.{IsAdmissible, refusal}
+use Rattle.cube_model.specs.Causes.{cause_if, first_cause}
+use Rattle.dimensions.specs.Added.{addition_cause, joined}
 use Rattle.warehouse_root.specs.declared.layout.Layout.{Layout}
+use Rattle.warehouse_root.specs.Limits.{most_additions}
 use Rattle.warehouse_objects.specs.Warehouse.{Warehouse}
 
 -- all of a warehouse but its cuboids and their target
@@ -21,13 +25,30 @@ facts_in w = record { layout = w.layout; rows = w.rows; batches = w.batches; add
 abbrev pub with_next : Facts → List LineOrder → Facts
 with_next facts batch = record facts { batches = facts.batches ++ batch ∷ [] }
 
+-- with rows added to the dimensions
+abbrev pub with_rows : Facts → DimRows → Facts
+with_rows facts more = record facts { rows = joined facts.rows more; additions = facts.additions + 1 }
+
+-- the first cause that forbids the number of an addition after so many: they are numbered from 1
+abbrev pub number_refusal : ℕ → ℕ → Option Fault
+number_refusal additions number = first_cause (
+    cause_if (nat_le number additions) Repeated
+    ∷ cause_if (nat_lt (additions + 1) number) Gap
+    ∷ cause_if (nat_le most_additions additions) TooManyAdditions ∷ [])
+
+-- the first cause that forbids an addition of a number after so many
+abbrev pub addition_refusal : DimRows → ℕ → ℕ → DimRows → Option Fault
+addition_refusal rows additions number more = first_cause (number_refusal additions number ∷ addition_cause rows more ∷ [])
+
 -- what one command may add
 pub data Change : Type 0 where
   a_batch : List LineOrder → Change
+  some_rows : DimRows → Change
 
 -- facts with a change that is admissible there
 abbrev pub Adds : Facts → Change → Facts → Type 0
 Adds facts (a_batch batch) new = IsAdmissible facts.rows facts.batches (length facts.batches + 1) batch × (new ≡ with_next facts batch)
+Adds facts (some_rows more) new = (addition_refusal facts.rows facts.additions (facts.additions + 1) more ≡ None) × (new ≡ with_rows facts more)
 
 -- a batch of a number may be added to a warehouse
 abbrev pub Admits : Warehouse → ℕ → List LineOrder → Type 0
@@ -36,3 +57,11 @@ Admits w number batch = IsAdmissible w.rows w.batches number batch
 -- the first cause that forbids it
 abbrev pub refusal_of : Warehouse → ℕ → List LineOrder → Option Fault
 refusal_of w number batch = refusal w.rows w.batches number batch
+
+-- the first cause that forbids an addition of a number to the dimensions of a warehouse
+abbrev pub rows_refusal_of : Warehouse → ℕ → DimRows → Option Fault
+rows_refusal_of w number more = addition_refusal w.rows w.additions number more
+
+-- an addition of a number may be made to the dimensions of a warehouse
+abbrev pub AdmitsRows : Warehouse → ℕ → DimRows → Type 0
+AdmitsRows w number more = rows_refusal_of w number more ≡ None

@@ -9,6 +9,7 @@ ghost use Rattle.object_store.specs.Store.{Breaks, IsStill, content_of, device_o
 ghost use Rattle.column_segment.specs.Segment.{IsSegment};
 ghost use Rattle.cube_query.specs.Asked.{asked_columns};
 ghost use Rattle.cube_query.specs.Groups.{IsOver, StandsFor};
+ghost use Rattle.cube_query.specs.Limits.{AreFoldable};
 ghost use Rattle.warehouse_root.specs.Objects.{segment_id};
 ghost use Rattle.warehouse_objects.specs.Counted.{CountsBatch};
 ghost use Rattle.warehouse_objects.specs.Warehouse.{Warehouse};
@@ -71,7 +72,8 @@ pub fn fold_batches<D: Sectors>(
 /// Counts the batch after the first so many into a fold, straight from the columns at which the fold's query looks. A refusal
 /// leaves the fold as it was.
 ///
-/// `BadLayout` where the batch is not there as the root says, and where the fold cannot take its rows.
+/// `BadLayout` where the batch is not there as the root says, and where the fold cannot take its rows. The dimensions may be those of
+/// an earlier time: it is enough that they have the keys of the batches up to this one.
 pub fn fold_batch<D: Sectors>(
     alloc: Global,
     store: &mut Store<D>,
@@ -88,7 +90,8 @@ pub fn fold_batch<D: Sectors>(
     ensures over { IsOver dims.now fold.new }
     ensures query { fold.new.query ≡ fold.old.query }
     ensures refused { IsErrOf result BadLayout → D.keeps_word (device_of store.new) → (w : Warehouse) → Stands (content_of D.Sectors store.old) w
-        → root.now ≡ root_of w → dims.now ≡ w.rows → before < length w.batches → StandsFor dims.now fold.old (all_rows (take before w.batches)) → ⊥ }
+        → root.now ≡ root_of w → before < length w.batches → AreFoldable dims.now (all_rows (take (before + 1) w.batches))
+        → StandsFor dims.now fold.old (all_rows (take before w.batches)) → ⊥ }
 
     // The content stays, at each moment.
     ensures leaves { Leaves (disk_of D.Sectors store.old) (disk_of D.Sectors store.new) (λ c. c ≡ content_of D.Sectors store.old) }
@@ -128,8 +131,8 @@ fn add_batch<D: Sectors>(
     ensures over { IsOver dims.now fold.new }
     ensures query { fold.new.query ≡ fold.old.query }
     ensures refused { IsErrOf result BadLayout → D.keeps_word (device_of store.new) → (w : Warehouse) → Stands (content_of D.Sectors store.old) w
-        → dims.now ≡ w.rows → (batch : List LineOrder) → slice_get w.batches before ≡ Some batch → count ≡ length batch
-        → StandsFor dims.now fold.old (all_rows (take before w.batches)) → ⊥ }
+        → (batch : List LineOrder) → slice_get w.batches before ≡ Some batch → count ≡ length batch
+        → AreFoldable dims.now (all_rows (take (before + 1) w.batches)) → StandsFor dims.now fold.old (all_rows (take before w.batches)) → ⊥ }
     ensures leaves { Leaves (disk_of D.Sectors store.old) (disk_of D.Sectors store.new) (λ c. c ≡ content_of D.Sectors store.old) }
     ensures stays { (IsErrOf result Device → ⊥) → IsStill D.Sectors store.old store.new }
     ensures device { IsErrOf result Device → Breaks D.Sectors store.old store.new }

@@ -1,5 +1,5 @@
 -- What the root of a warehouse says, how it is spelled, and which rules it keeps. Our layout.
-use Rattle.std.specs.Prelude.{◌≡◌, ℕ, ◌<◌, ◌≤◌, ◌==◌, ◌↔◌, if◌then◌else◌, List, [], ◌∷◌, ◌++◌, length, map, All}
+use Rattle.std.specs.Prelude.{◌≡◌, ℕ, ◌+◌, ◌<◌, ◌≤◌, ◌==◌, ◌↔◌, if◌then◌else◌, List, [], ◌∷◌, ◌++◌, length, map, All}
 use Rattle.std.specs.List.{AllPairs, flat_map}
 use Rattle.cube_model.specs.Limits.{most_batch_rows, most_batches}
 use Rattle.wire.specs.Spelling.{spelling}
@@ -104,6 +104,10 @@ with_batch rows totals root = record root { batches = root.batches ++ rows ∷ [
 -- the root with another target
 abbrev pub with_target : ℕ → PlainRoot → PlainRoot
 with_target target root = record root { target = target }
+
+-- the root where rows were added to dimensions once more
+abbrev pub with_addition : PlainRoot → PlainRoot
+with_addition root = record root { additions = root.additions + 1 }
 
 -- a cuboid in the place of that of its view
 abbrev pub put_cuboid : StoredCuboid → List StoredCuboid → List StoredCuboid

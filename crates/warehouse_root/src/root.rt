@@ -3,9 +3,9 @@ ghost use Rattle.std.specs.Prelude.{◌≡◌, ◌⊎◌, ◌↔◌, ◌≤◌, 
 ghost use Rattle.std.specs.List.{Contains};
 ghost use Rattle.cube_model.specs.declared.fault.Fault.{Fault};
 ghost use Rattle.cube_model.specs.Limits.{most_batch_rows, most_batches};
-ghost use Rattle.warehouse_root.specs.Limits.{most_cuboids};
+ghost use Rattle.warehouse_root.specs.Limits.{most_additions, most_cuboids};
 ghost use Rattle.warehouse_root.specs.Objects.{object_ids};
-ghost use Rattle.warehouse_root.specs.Root.{AreAscending, AreProperTotals, IsProper, IsProperCuboid, IsRoot, IsRootOf, PlainRoot, first_root, put_cuboid, root_of, with_batch, with_cuboid, with_cuboids, with_target};
+ghost use Rattle.warehouse_root.specs.Root.{AreAscending, AreProperTotals, IsProper, IsProperCuboid, IsRoot, IsRootOf, PlainRoot, first_root, put_cuboid, root_of, with_addition, with_batch, with_cuboid, with_cuboids, with_target};
 
 use crate::cuboid::StoredCuboid;
 use crate::decoding::keep_rules;
@@ -109,6 +109,24 @@ impl Root {
             batches,
             target,
             additions: self.additions,
+            totals: self.totals,
+            cuboids,
+        })
+    }
+
+    /// The root where rows were added to dimensions once more.
+    pub fn with_addition(&self, alloc: Global) -> Result<Root, Fault>
+        requires { self.now.additions < most_additions }
+        ensures ok { IfOk result (λ root. root ≡ with_addition self.now) }
+        ensures memory { IfErr result (λ fault. fault ≡ Fault.Memory) }
+    {
+        let batches = Vec::from_slice(alloc, &self.batches)?;
+        let cuboids = Vec::from_slice(alloc, &self.cuboids)?;
+        Ok(Root {
+            layout: self.layout,
+            batches,
+            target: self.target,
+            additions: self.additions + 1,
             totals: self.totals,
             cuboids,
         })

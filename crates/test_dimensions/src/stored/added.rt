@@ -3,59 +3,37 @@ use crate::stored::fixture::MORE_CUSTOMERS;
 use cube_model::{Axis, Fault};
 use dimension_objects::encode;
 use dimensions::Dims;
-use sample_star::{Location, STAR, Star, dim_rows};
+use sample_star::{
+    FIRST_CUSTOMER, Location, MOVED_CUSTOMER, NO_ROWS, STAR, Star, THIRD_CUSTOMER, dim_rows,
+};
 use std::alloc::Global;
-
-/// The customer that the bytes by hand have as a third one.
-const THIRD: Location<'static> = Location {
-    key: 3,
-    city: "UNITED ST1",
-    nation: "UNITED STATES",
-    region: "AMERICA",
-};
-
-/// The first customer of the sample.
-const FIRST: Location<'static> = Location {
-    key: 1,
-    city: "UNITED KI1",
-    nation: "UNITED KINGDOM",
-    region: "EUROPE",
-};
-
-/// A customer whose city is of another nation in the sample.
-const MOVED: Location<'static> = Location {
-    key: 4,
-    city: "UNITED KI1",
-    nation: "UNITED STATES",
-    region: "AMERICA",
-};
 
 /// Customers to be added, and why they are refused, if they are.
 static ADDITIONS: [(&[Location<'static>], Option<Fault>); 5] = [
-    (&[THIRD], None),
+    (&[THIRD_CUSTOMER], None),
     (
-        &[FIRST],
+        &[FIRST_CUSTOMER],
         Some(Fault::DuplicateKey {
             axis: Axis::Customer,
             row: 1,
         }),
     ),
     (
-        &[MOVED],
+        &[MOVED_CUSTOMER],
         Some(Fault::HierarchyBroken {
             axis: Axis::Customer,
             row: 1,
         }),
     ),
     (
-        &[THIRD, THIRD],
+        &[THIRD_CUSTOMER, THIRD_CUSTOMER],
         Some(Fault::DuplicateKey {
             axis: Axis::Customer,
             row: 2,
         }),
     ),
     (
-        &[THIRD, MOVED],
+        &[THIRD_CUSTOMER, MOVED_CUSTOMER],
         Some(Fault::HierarchyBroken {
             axis: Axis::Customer,
             row: 2,
@@ -73,9 +51,7 @@ fn with_customers(
         alloc,
         &Star {
             customers,
-            suppliers: &[],
-            parts: &[],
-            dates: &[],
+            ..NO_ROWS
         },
     )?;
     let more = dims.with_rows(alloc, &rows)?;

@@ -1,4 +1,4 @@
-use Rattle.std.proofs.Common.{◌≡◌, ◌∙◌, ℕ, Some, sym, ap, subst, take}
+use Rattle.std.proofs.Common.{◌≡◌, ◌∙◌, ℕ, sym, ap, subst, take}
 use Rattle.cube_model.specs.Admission.{all_rows}
 use Rattle.cube_query.specs.Groups.{StandsFor}
 use Rattle.lattice.specs.Views.{index_of}

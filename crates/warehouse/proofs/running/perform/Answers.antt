@@ -1,6 +1,6 @@
 use Rattle.std.proofs.Common.{sym, subst}
 use Rattle.warehouse.specs.declared.command.Command.{Command}
-use Rattle.warehouse.specs.declared.command.Command.TheVariants.{Submit, Query, Status, Choose, Upkeep, Audit}
+use Rattle.warehouse.specs.declared.command.Command.TheVariants.{Submit, Query, Status, Choose, Upkeep, Audit, Add}
 use Rattle.warehouse.specs.Slots.{DoesWith}
 use Rattle.warehouse.proofs.Slotting.{with_slots}
 use Rattle.warehouse.proofs.running.perform.Goals as goal
@@ -34,6 +34,11 @@ pub returns-in-Audit-clause-ran : goal.returns-in-Audit-clause-ran
 returns-in-Audit-clause-ran g c w slots at are of k =
     subst (λ (command : Command). DoesWith g.D.Sectors c.args.session.now w slots command c.audit.result c.audit.new.session c.args.slots.now.queries.items) (sym c.in-Audit.is)
     (with_slots g.D.Sectors c.args.session.now c.audit.new.session w slots Audit c.audit.result c.args.slots.now.queries.items (λ next same. same) are of (c.audit.ensures.ran w slots at k))
+
+pub returns-in-Add-clause-ran : goal.returns-in-Add-clause-ran
+returns-in-Add-clause-ran g c w slots at are of k =
+    subst (λ (command : Command). DoesWith g.D.Sectors c.args.session.now w slots command c.add.result c.add.new.session c.args.slots.now.queries.items) (sym c.in-Add.is)
+    (with_slots g.D.Sectors c.args.session.now c.add.new.session w slots (Add c.in-Add.number c.in-Add.rows) c.add.result c.args.slots.now.queries.items (λ next same. same) are of (c.add.ensures.ran w slots at k))
 
 pub returns-in-Start-clause-ran : goal.returns-in-Start-clause-ran
 returns-in-Start-clause-ran g c w slots at are of k =

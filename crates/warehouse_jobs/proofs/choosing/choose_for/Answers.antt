@@ -1,5 +1,5 @@
 use Rattle.std.proofs.lemmas.Result.{err_from_is_err_and}
-use Rattle.std.proofs.Common.{ap, Err, subst, sym, List}
+use Rattle.std.proofs.Common.{ap, Err, subst, List}
 use Rattle.warehouse.specs.declared.chosen.Chosen.{Chosen}
 use Rattle.warehouse.specs.Choosing.{ChooseForRefuses, IsChoiceFor}
 use Rattle.ssb_reports.specs.Writing.{Writes}

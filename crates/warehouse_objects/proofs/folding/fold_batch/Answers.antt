@@ -13,7 +13,7 @@ pub add_batch-requires-clause-asked : goal.add_batch-requires-clause-asked
 add_batch-requires-clause-asked g c = c.deref.ensures.value ∙ c.in_ok-columns.ensures.ok
 
 pub returns-then-before-batches-clause-refused : goal.returns-then-before-batches-clause-refused
-returns-then-before-batches-clause-refused g c = λ is k w stands rooted same lt so_far.
+returns-then-before-batches-clause-refused g c = λ is k w stands rooted lt keys so_far.
     absurd (omega (arith, c.if-before-batches.true, ap length c.batches-batches.ensures, ap (λ r. length r.batches) rooted, length-map w.batches length, lt))
 
 pub returns-clause-ok : goal.returns-clause-ok
@@ -26,8 +26,8 @@ returns-clause-ok g c =
     subst (λ (l : List LineOrder). StandsFor c.args.dims.now c.add_batch.new.fold l) (sym more) (here.2.stands (all_rows (take before w.batches)) begun)) c.add_batch.ensures.ok
 
 pub returns-clause-refused : goal.returns-clause-refused
-returns-clause-refused g c = λ is k w stands rooted same lt so_far.
+returns-clause-refused g c = λ is k w stands rooted lt keys so_far.
     let got = get_within w.batches c.args.before lt in
     let many = ap (λ (l : List ℕ). get_or l c.args.before 0) (c.batches-batches.ensures ∙ ap (λ r. r.batches) rooted)
     ∙ count_there (content_of g.D.Sectors c.args.store.now) w stands c.args.before got.0 got.1 in
-    c.add_batch.ensures.refused is k w stands same got.0 got.1 many so_far
+    c.add_batch.ensures.refused is k w stands got.0 got.1 many keys so_far

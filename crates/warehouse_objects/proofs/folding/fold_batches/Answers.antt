@@ -11,7 +11,7 @@ use Rattle.cube_query.specs.Asked.{asked_columns}
 use Rattle.cube_query.specs.Groups.{StandsFor}
 use Rattle.warehouse_objects.specs.Stands.{Stands}
 use Rattle.warehouse_objects.proofs.Batches.{get_within, rows_next}
-use Rattle.warehouse_objects.proofs.Folded.{count_there, err_fault}
+use Rattle.warehouse_objects.proofs.Folded.{count_there, err_fault, own_foldable}
 use Rattle.warehouse_objects.proofs.OneMoreRead.{breaks_then, reads_more, still_then}
 use Rattle.warehouse_objects.proofs.folding.fold_batches.Goals as goal
 
@@ -53,8 +53,8 @@ returns-in_err-add_batch-clause-refused g c =
     let got = get_within w.batches c.loop-before.before lt in
     let many = ap (λ (l : List ℕ). get_or l c.loop-before.before 0) (c.batches-batches.ensures ∙ ap (λ r. r.batches) rooted)
     ∙ count_there (content_of g.D.Sectors c.args.store.now) w stands c.loop-before.before got.0 got.1 in
-    c.in_err-add_batch.ensures.refused (ap (λ (f : Fault). Err f) (err_fault c.in_err-add_batch.field-0.0 BadLayout is)) k w (subst (λ (x : Content). Stands x w) (sym (so_far.still.content word)) stands) same got.0 got.1 many
-    (so_far.own word w stands begun))
+    c.in_err-add_batch.ensures.refused (ap (λ (f : Fault). Err f) (err_fault c.in_err-add_batch.field-0.0 BadLayout is)) k w (subst (λ (x : Content). Stands x w) (sym (so_far.still.content word)) stands) got.0 got.1 many
+    (own_foldable (content_of g.D.Sectors c.args.store.now) w stands c.args.dims.now c.loop-before.before same lt) (so_far.own word w stands begun))
 
 pub returns-in_err-add_batch-clause-leaves : goal.returns-in_err-add_batch-clause-leaves
 returns-in_err-add_batch-clause-leaves g c =

@@ -1,14 +1,13 @@
-use Rattle.std.proofs.Common.{◌∙◌, ◌+◌, ◌<◌, Err, take, sym, ap, subst, arith}
+use Rattle.std.proofs.Common.{◌+◌, ◌<◌, Err, take, sym, ap, subst, arith}
 use Rattle.std.proofs.lemmas.Result.{err_from_is_err_and}
 use Rattle.cube_model.specs.Admission.{all_rows}
 use Rattle.cube_model.specs.declared.fault.Fault.{Fault}
 use Rattle.cube_model.specs.declared.fault.Fault.TheVariants.{BadLayout}
 use Rattle.cube_model.specs.declared.rows.DimRows.{DimRows}
 use Rattle.cube_query.specs.Groups.{StandsFor}
-use Rattle.object_store.specs.Store.{content_of}
 use Rattle.warehouse_objects.proofs.Folded.{err_fault}
 use Rattle.planned_queries.specs.Stepping.{IsRunning, RunningState}
-use Rattle.planned_queries.proofs.Steps.{can_finish, folds_first, next_is_there, next_step, own_rows}
+use Rattle.planned_queries.proofs.Steps.{can_finish, folds_first, next_foldable, next_is_there, next_step}
 use Rattle.planned_queries.proofs.stepping.Running.advance.Goals as goal
 
 pub returns-in_err-found-clause-refused : goal.returns-in_err-found-clause-refused
@@ -19,7 +18,7 @@ returns-in_err-found-clause-refused g c =
     let state : RunningState = record { rows = inside.dims.value; fold = inside.fold; done = inside.done; as_of = inside.as_of } in
     let own : IsRunning state s = subst (λ (x : RunningState). IsRunning x s) (sym c.self.view_is) running in
     c.in_err-found.ensures.refused (ap (λ (f : Fault). Err f) (err_fault c.in_err-found.field-0.0 BadLayout is))
-    (can_finish state w s extends own (content_of g.D.Sectors c.args.store.now) c.deref.result.now c.deref.ensures stands))
+    (can_finish state w s extends own c.deref.result.now c.deref.ensures))
 
 pub returns-in_err-fold_batch-clause-refused : goal.returns-in_err-fold_batch-clause-refused
 returns-in_err-fold_batch-clause-refused g c =
@@ -30,7 +29,7 @@ returns-in_err-fold_batch-clause-refused g c =
     let own : IsRunning state s = subst (λ (x : RunningState). IsRunning x s) (sym c.self.view_is) running in
     let lt : inside.done < inside.as_of = omega (arith, c.if-self.false) in
     c.in_err-fold_batch.ensures.refused (ap (λ (f : Fault). Err f) (err_fault c.in_err-fold_batch.field-0.0 BadLayout is)) k w stands rooted
-    (c.deref-2.ensures ∙ own_rows state w s extends own) (next_is_there state w s extends own lt)
+    (next_is_there state w s extends own lt) (next_foldable state w s extends own c.deref-2.result.now c.deref-2.ensures lt)
     (subst (λ (d : DimRows). StandsFor d inside.fold (all_rows (take inside.done w.batches))) (sym c.deref-2.ensures) (folds_first state w s extends own)))
 
 pub returns-clause-steps : goal.returns-clause-steps

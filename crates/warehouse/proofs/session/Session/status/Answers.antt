@@ -24,6 +24,7 @@ returns-clause-ok g c w at k =
     let agree = c.kept_is_what_stands.ensures.agrees (content_of g.D.Sectors s) w (s.loaded at.fine k) (at.stands k) in record {
       batches = ap length c.batches-batches.ensures ∙ ap (λ (root : PlainRoot). length root.batches) (sym agree.root_is) ∙ length-map w.batches (λ (batch : List LineOrder). length batch);
       rows = c.row_total.ensures ∙ ap (λ (l : List ℕ). sum_by (λ rows. rows) l) (c.batches-batches.ensures ∙ ap (λ (root : PlainRoot). root.batches) (sym agree.root_is)) ∙ rows_together w.batches;
+      additions = c.additions.ensures ∙ ap (λ (root : PlainRoot). root.additions) (sym agree.root_is);
       target = c.target.ensures ∙ ap (λ (root : PlainRoot). root.target) (sym agree.root_is);
       generation_is = c.generation.ensures;
       cuboids = λ place lt.
