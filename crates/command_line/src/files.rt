@@ -29,6 +29,47 @@ pub fn open_dimensions<R: Files>(
     })
 }
 
+/// Opens the files of the dimensions that the command names, in its order.
+pub fn open_named<R: Files>(
+    rt: &R,
+    given: &ArgMatches<'_>,
+) -> Result<DimensionFiles<NamedFile<R::File>>, Fault> {
+    Ok(DimensionFiles {
+        customer: named(rt, given, "customer")?,
+        supplier: named(rt, given, "supplier")?,
+        part: named(rt, given, "part")?,
+        date: named(rt, given, "date")?,
+    })
+}
+
+/// The file of a word that a command may leave out. Where it does, there is nothing to read.
+#[derive(Drop)]
+pub struct NamedFile<F> {
+    file: Option<F>,
+}
+
+impl<F: Read> Read for NamedFile<F> {
+    fn read(&mut self, buf: &mut [u8]) -> io::Result<usize> {
+        match &mut self.file {
+            Some(file) => file.read(buf),
+            None => Ok(0),
+        }
+    }
+}
+
+// Opens the file that a word names, where the word is there.
+fn named<R: Files>(
+    rt: &R,
+    given: &ArgMatches<'_>,
+    name: &str,
+) -> Result<NamedFile<R::File>, Fault> {
+    let file = match given.get_str(name) {
+        Some(_) => Some(open(rt, given, name)?),
+        None => None,
+    };
+    Ok(NamedFile { file })
+}
+
 /// Opens the file that a word names.
 pub fn open<R: Files>(rt: &R, given: &ArgMatches<'_>, name: &str) -> Result<R::File, Fault> {
     let Some(path) = given.get_str(name) else {

@@ -1,9 +1,11 @@
 //! The commands of the program, over any system of files and streams.
 #![tactic(auto)]
 
+mod add;
 mod arguments;
 mod check;
 mod contents;
+mod crashes;
 mod create;
 mod cuboids;
 mod demand;

@@ -1,5 +1,7 @@
 //! The commands of the program.
-use crate::{check, create, cube, cuboids, demo, eval, explain, load, report, status, views};
+use crate::{
+    add, check, create, cube, cuboids, demo, eval, explain, load, report, self_test, status, views,
+};
 use clap::Command;
 use std::alloc::{AllocError, Global};
 
@@ -24,6 +26,7 @@ pub fn command<'a>(alloc: Global) -> Result<Command<'a>, AllocError> {
     push_asking(alloc, &mut commands)?;
     push_cuboids(alloc, &mut commands)?;
     push(&mut commands, Ok(demo::words(alloc)))?;
+    push(&mut commands, self_test::words(alloc))?;
     program(alloc).subcommands(commands)
 }
 
@@ -41,7 +44,8 @@ fn program<'a>(alloc: Global) -> Command<'a> {
 fn push_loading<'a>(alloc: Global, commands: &mut Vec<Command<'a>>) -> Result<(), AllocError> {
     push(commands, eval::words(alloc))?;
     push(commands, create::words(alloc))?;
-    push(commands, load::words(alloc))
+    push(commands, load::words(alloc))?;
+    push(commands, add::words(alloc))
 }
 
 // Adds the commands that query a warehouse. It can only fail when out of memory.

@@ -1,6 +1,7 @@
 //! The words of the program: its commands, their options, and what the help says of each.
 #![tactic(auto)]
 
+mod add;
 mod check;
 mod commands;
 mod create;
@@ -13,6 +14,7 @@ mod listed;
 mod load;
 mod options;
 mod report;
+mod self_test;
 mod status;
 mod views;
 

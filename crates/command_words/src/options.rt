@@ -72,6 +72,11 @@ pub fn dimension_tables<'a>(
     with_options(alloc, command, &DIMENSION_TABLES, true)
 }
 
+/// The same, where each table may be left out.
+pub fn named_tables<'a>(alloc: Global, command: Command<'a>) -> Result<Command<'a>, AllocError> {
+    with_options(alloc, command, &DIMENSION_TABLES, false)
+}
+
 /// The words of an ad-hoc query, after the other words of a command.
 pub fn cube_words<'a>(alloc: Global, command: Command<'a>) -> Result<Command<'a>, AllocError> {
     cube_options(alloc, command)?.arg(conditions(alloc))

@@ -7,9 +7,10 @@ const ABOUT: &str = "Prints the numbers of a warehouse.";
 
 const USAGE: &str = "ssbcube status DEV";
 
-const HELP: &str = "It prints 'batches N' and 'rows N', how many of each there are; 'target N', up
-to which batch the last upkeep set out to bring the stored cuboids; 'generation
-N', the number of commits; and 'cuboid V mark N runs N cells N' for each stored
+const HELP: &str = "It prints 'batches N' and 'rows N', how many of each there are, and between them
+'additions N', where rows were added to the dimension tables; 'target N', up to
+which batch the last upkeep set out to bring the stored cuboids; 'generation N',
+the number of commits; and 'cuboid V mark N runs N cells N' for each stored
 cuboid: its view, and how many of the first batches it holds.
 
 Example:

@@ -1,0 +1,138 @@
+//! The command `add`.
+ghost use Rattle.std.specs.Prelude.{IfOk};
+ghost use Rattle.cube_model.specs.Validity.{HaveShortTexts};
+
+use crate::device::{self, Access, Device};
+use crate::exit::{DONE, NO_COMMAND};
+use crate::files::{DimensionFiles, GivenFiles, open_named};
+use crate::job::met_in;
+use crate::output::{cut_short, output};
+use crate::refusal::{Met, Refusal, explained};
+use crate::unfinished::note_unfinished;
+use clap::ArgMatches;
+use cube_model::{DimRows, Fault};
+use file_device::LockFile;
+use ssb_eval::read_rows;
+use std::alloc::Global;
+use std::os::unix::fs::FileExt;
+use std::rt::Files;
+use table_hints::addition_hint;
+use warehouse::Session;
+use warehouse_root::limits::MOST_ADDITIONS;
+
+/// Adds the rows of the files of the command to the dimensions of its warehouse, and says so.
+pub fn add<R: Files + AllocGlobal + Print + Eprint>(
+    rt: &R,
+    given: &ArgMatches<'_>,
+) -> Result<u8, Refusal>
+where
+    R::File: FileExt + LockFile,
+{
+    let Some(number) = given.get_one::<u32>("number") else {
+        return Ok(NO_COMMAND);
+    };
+    let rows = match rows_of(rt, given) {
+        Ok(rows) => rows,
+        Err(fault) => return Err(explained(rt, given, Met::from(fault))),
+    };
+    match device::open(rt, given, Access::Commit) {
+        Ok(mut session) => print_addition(rt, given, &mut session, number, &rows),
+        Err(met) => Err(explained(rt, given, met)),
+    }
+}
+
+// The rows of the tables that the command names. One that it does not name has none.
+fn rows_of<R: Files + AllocGlobal>(rt: &R, given: &ArgMatches<'_>) -> Result<DimRows, Fault>
+    ensures short { IfOk result HaveShortTexts }
+{
+    let DimensionFiles {
+        customer,
+        supplier,
+        part,
+        date,
+    } = open_named(rt, given)?;
+    read_rows(rt.alloc(), customer, supplier, part, date)
+}
+
+// Adds rows to the dimensions of an open warehouse, and prints that it is done.
+fn print_addition<R: Files + AllocGlobal + Print + Eprint>(
+    rt: &R,
+    given: &ArgMatches<'_>,
+    session: &mut Session<Device<R::File>>,
+    number: u32,
+    rows: &DimRows,
+) -> Result<u8, Refusal>
+where
+    R::File: FileExt + LockFile,
+    requires short { HaveShortTexts rows.now }
+{
+    let mut out = output(rt)?;
+    match warehouse_jobs::add(rt.alloc(), session, number, rows, &mut out) {
+        Ok(()) => {
+            note_unfinished(rt, given, session);
+            Ok(DONE)
+        }
+        Err(Fault::Output) => cut_short(rt.alloc(), out.failure()),
+        Err(fault) => Err(refused(rt, given, session, number, fault)),
+    }
+}
+
+// The refusal of an addition with a number, and its cause where that can be found out.
+fn refused<R: Files + AllocGlobal>(
+    rt: &R,
+    given: &ArgMatches<'_>,
+    session: &Session<Device<R::File>>,
+    number: u32,
+    fault: Fault,
+) -> Refusal
+where
+    R::File: FileExt + LockFile,
+{
+    match hint_of(rt, given, session, number, fault) {
+        Ok(Some(hint)) => Refusal {
+            fault,
+            hint: Some(hint),
+        },
+        _ => explained(rt, given, met_in(rt.alloc(), fault, session)),
+    }
+}
+
+fn hint_of<R: Files + AllocGlobal>(
+    rt: &R,
+    given: &ArgMatches<'_>,
+    session: &Session<Device<R::File>>,
+    number: u32,
+    fault: Fault,
+) -> Result<Option<String>, Fault>
+where
+    R::File: FileExt + LockFile,
+{
+    let next = session.status()?.additions.saturating_add(1);
+    match fault {
+        Fault::Gap => Ok(Some(gap_hint(rt.alloc(), number, next)?)),
+        Fault::Repeated => Ok(Some(repeated_hint(rt.alloc(), number, next)?)),
+        Fault::TooManyAdditions => Ok(Some(crowd_hint(rt.alloc())?)),
+        _ => addition_hint(rt.alloc(), &GivenFiles { rt, given }, session.dims(), fault),
+    }
+}
+
+fn gap_hint(alloc: Global, number: u32, next: u32) -> Result<String, Fault> {
+    let said = format!(in alloc;
+        "--number {number}: the next addition to the warehouse is {next}"
+    )?;
+    Ok(said)
+}
+
+fn repeated_hint(alloc: Global, number: u32, next: u32) -> Result<String, Fault> {
+    let said = format!(in alloc;
+        "--number {number}: that addition was made, and a row of these files is not in the warehouse with its texts; the next addition is {next}"
+    )?;
+    Ok(said)
+}
+
+fn crowd_hint(alloc: Global) -> Result<String, Fault> {
+    let said = format!(in alloc;
+        "a warehouse has at most {MOST_ADDITIONS} additions; larger ones add more rows"
+    )?;
+    Ok(said)
+}

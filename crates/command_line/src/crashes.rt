@@ -1,0 +1,25 @@
+//! The command `self-test`.
+use crate::output::{cut_short, output};
+use crate::refusal::Refusal;
+use clap::ArgMatches;
+use cube_model::Fault;
+use self_test::test_crashes;
+use ssb_eval::exit_of;
+use std::rt::Clock;
+
+/// For how many seconds there are random stops, if the command does not say.
+const SECONDS: u32 = 10;
+
+/// Tests the program by crashes of a warehouse on a disk in memory, and gives the status of the program: 0 where nothing is wrong, else 1.
+pub fn self_test<R: AllocGlobal + Print + Clock>(
+    rt: &R,
+    given: &ArgMatches<'_>,
+) -> Result<u8, Refusal> {
+    let seconds = given.get_one::<u32>("seconds").unwrap_or(SECONDS);
+    let mut out = output(rt)?;
+    match test_crashes(rt, rt.alloc(), seconds, &mut out) {
+        Err(Fault::Output) => cut_short(rt.alloc(), out.failure()),
+        Err(fault) => Err(Refusal::from(fault)),
+        tested => Ok(exit_of(&tested)),
+    }
+}
