@@ -10,7 +10,7 @@ written, beginning with either.
 
 Of each image has to hold, while another program has the file open for reading, so that none can write it: the program finds a
 warehouse; its batches are those before the command, those whose lines were printed before the crash, and at most one more; it has their
-rows; its cuboids are those of before or after the command, with no lower mark; audit says yes; each of the thirteen reports is that of
+rows; its additions of dimension rows are those before the command or after it, and those after it once their line was printed; its cuboids are those of before or after the command, with no lower mark; audit says yes; each of the thirteen reports is that of
 as many batches; a note says where an upkeep was cut off; and the file is as it was. Then, alone: a report finishes an upkeep that was
 cut off, is the same, and changes the file only for that; and once the command was given again, and an upkeep after it, all is as
 after a run that was not cut off.
@@ -28,6 +28,7 @@ from pathlib import Path
 SECTOR = 512
 QUERIES = "1.1 1.2 1.3 2.1 2.2 2.3 3.1 3.2 3.3 3.4 4.1 4.2 4.3".split()
 DEVICE = "star.dev"
+ADDITION = ["add", DEVICE, "--number", "1", "--customer", "new.tbl"]
 CALL = re.compile(r'^(pwrite64|write|fdatasync|fsync|ftruncate)\((\d+)<([^>]*)>(?:, "((?:\\x[0-9a-f]{2})*)"(\.\.\.)?)?(?:, (\d+))?(?:, (\d+))?\)\s+= (-?\d+)')
 complaints = 0
 count = 0
@@ -180,26 +181,26 @@ class Command:
         global count
         tried = set()
         for place, (said, found) in enumerate(images(self.image, self.calls)):
-            loaded = len(re.findall(r"^batch \d+ rows \d+$", said, re.M))
+            printed = len(re.findall(r"^batch \d+ rows \d+$", said, re.M)), "additions" in said
             for image in found:
-                if (image, loaded) not in tried:
-                    tried.add((image, loaded))
-                    for complaint in self.complaints(image, loaded, rows):
+                if (image, printed) not in tried:
+                    tried.add((image, printed))
+                    for complaint in self.complaints(image, printed, rows):
                         complain(f"{self.name}, after {place} calls: {complaint}")
         count += len(tried)
         writes = sum(call[0] == "write" for call in self.calls)
         syncs = sum(call[0] == "sync" for call in self.calls)
         print(f"{self.name}: {writes} writes, {syncs} syncs, {len(tried)} images", flush=True)
 
-    def complaints(self, image, loaded, rows):
-        """What is wrong with an image that is left once so many batches were printed."""
+    def complaints(self, image, printed, rows):
+        """What is wrong with an image that is left once so many batches were printed, and maybe an addition."""
         device = "cut.dev"
         Path(device).write_bytes(image)
         with read_by_another(device):
             status = Status(device)
             if status.status != 0:
                 return ["no warehouse is found"]
-            found = self.other_numbers(status, loaded, rows) + self.other_cuboids(status) + self.other_answers(device, status)
+            found = self.other_numbers(status, printed, rows) + self.other_cuboids(status) + self.other_answers(device, status)
         if Path(device).read_bytes() != image:
             found.append("a command that only reads changed the file")
         found += self.unfinished(device, status, image)
@@ -210,8 +211,9 @@ class Command:
             found.append("audit does not say yes in the end")
         return found
 
-    def other_numbers(self, status, loaded, rows):
-        """What is wrong with the batches of an image that is left once so many were printed."""
+    def other_numbers(self, status, printed, rows):
+        """What is wrong with the batches and additions of an image that is left once so many were printed."""
+        loaded, added = printed
         first = self.before.numbers["batches"] + loaded
         batches = status.numbers["batches"]
         found = []
@@ -219,6 +221,10 @@ class Command:
             found.append(f"{batches} batches, {first} of them acknowledged")
         if status.numbers["rows"] != rows[batches]:
             found.append(f"{status.numbers['rows']} rows in {batches} batches")
+        additions = status.numbers.get("additions", 0)
+        allowed = [self.after] if added else [self.before, self.after]
+        if additions not in [one.numbers.get("additions", 0) for one in allowed]:
+            found.append(f"{additions} additions")
         return found
 
     def other_answers(self, device, status):
@@ -269,6 +275,18 @@ def closed_streams(rows):
                 complain(f"{' '.join(words)} {closed}: what was printed is in the warehouse")
 
 
+def write_new_customers():
+    """A table of two customers that the warehouse does not have."""
+    customers = Path("customer.tbl").read_text().splitlines(keepends=True)[:2]
+    Path("new.tbl").write_text("".join(f"{900001 + place}|{line.partition('|')[2]}" for place, line in enumerate(customers)))
+
+
+def add_customers():
+    """Adds them."""
+    write_new_customers()
+    must(*ADDITION)
+
+
 def half_done(command):
     """An image of a crash within an upkeep, once its target is durable and a cuboid is still to be brought to it."""
     for said, found in images(command.image, command.calls):
@@ -303,6 +321,8 @@ def main():
     Command("opening that finishes an upkeep", ["load", DEVICE, "--first", "1", "first.tbl"]).cut(rows)
     Path(DEVICE).write_bytes(half)
     Command("opening that finishes an upkeep, and a load", ["load", DEVICE, "--first", "5", "first.tbl"]).cut(rows)
+    write_new_customers()
+    Command("addition of two customers", ADDITION).cut(rows)
     Command("choose of one", ["choose", DEVICE, "1"]).cut(rows)
     closed_streams(rows)
     print(f"{count} images, {starts} starts with closed streams, {complaints} complaints")

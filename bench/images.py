@@ -3,7 +3,8 @@
 
 Usage, in an empty folder with ssbcube on the path: images.py TABLES [TRIES [SEED]]      (images.sh calls it)
 
-Five warehouses: without a batch, with batches, with cuboids, with an upkeep that a crash cut off, and with batches after the cuboids' marks.
+Six warehouses: without a batch, with batches, with cuboids, with an upkeep that a crash cut off, with batches after the cuboids' marks, and
+with rows added to the dimensions.
 Each try changes 1 to 8 bytes of one of them, by turns anywhere in the file and in the bytes that are in use, and runs one to three
 commands. Each has to end within ten seconds as if nothing were wrong, or with status 1 and NotFormatted, BadLayout, DeviceSize or
 Memory (audit also with `audit no`, and check with what it finds). Where no byte in use was changed, it has to print what it prints of the unchanged warehouse.
@@ -110,7 +111,7 @@ def complaint(words, done, plain, used):
 
 
 def warehouses(tables, program):
-    """The five."""
+    """The six."""
     for name in "customer supplier part date lineorder".split():
         shutil.copy(tables / f"star_{name}.tbl", f"{name}.tbl")
     device = crashes.DEVICE
@@ -126,6 +127,8 @@ def warehouses(tables, program):
     yield Warehouse("cuboids", Path(device).read_bytes(), program)
     crashes.must("load", device, "--first", "3", "--rows", "90", "lineorder.tbl")
     yield Warehouse("batches after the cuboids", Path(device).read_bytes(), program)
+    crashes.add_customers()
+    yield Warehouse("added rows", Path(device).read_bytes(), program)
 
 
 def main():

@@ -16,6 +16,8 @@ import subprocess
 import sys
 from pathlib import Path
 
+import crashes
+
 QUERIES = "1.1 1.2 1.3 2.1 2.2 2.3 3.1 3.2 3.3 3.4 4.1 4.2 4.3".split()
 DEVICE = Path("star.dev")
 DIMENSIONS = [word for name in "customer supplier part date".split() for word in (f"--{name}", f"{name}.tbl")]
@@ -125,6 +127,8 @@ def main():
     campaign.command("load", device, "--first", "1", "--rows", "90", "lineorder.tbl")
     campaign.command("views", device, "59", "86", "162")
     campaign.command("upkeep", device)
+    crashes.write_new_customers()
+    campaign.command(*crashes.ADDITION)
     for words in (["status"], ["audit"], ["views"], ["report", "1.1"], ["report", "3.1"], ["report", "4.3"],
                   ["cube", "--by", "c_region,d_year", "--agg", "sum:revenue"], ["explain", "3.1"]):
         campaign.command(words[0], device, *words[1:])
