@@ -88,6 +88,25 @@ class Campaign:
         put(after)
         print(f"{' '.join(words)}: {allocations} allocations, {self.refused - refused} refusals were said", flush=True)
 
+    def reading(self, *words):
+        """Runs a command that reads the tables alone, for each of its allocations."""
+        plain = self.refusing(words, COUNT="count")
+        if plain.status != 0:
+            sys.exit(f"ssbcube {' '.join(words)} ended with status {plain.status}: {plain.notes}")
+        allocations = int(Path("count").read_text())
+        refused = self.refused
+        for number in range(1, allocations + 1, self.every):
+            for which in ("REFUSE", "REFUSE_ALL"):
+                self.refusals += 1
+                done = self.refusing(words, **{which: number})
+                self.refused += done.status != 0
+                said = done.status == 1 and done.first_note in FAULTS and plain.out.startswith(done.out)
+                if not said and (done.status, done.out) != (0, plain.out):
+                    self.complain(f"{words[0]}, {which}={number}: status {done.status}, {done.first_note!r}, {done.out[:80]!r} printed")
+        if Run(words).out != plain.out:
+            self.complain(f"{words[0]}: with memory it prints another report")
+        print(f"{words[0]} of the tables: {allocations} allocations, {self.refused - refused} refusals were said", flush=True)
+
     def complaints_of(self, words, plain, wanted, **which):
         """What is wrong where these allocations of a command are refused."""
         done = self.refusing(words, **which)
@@ -132,6 +151,8 @@ def main():
     for words in (["status"], ["audit"], ["views"], ["report", "1.1"], ["report", "3.1"], ["report", "4.3"],
                   ["cube", "--by", "c_region,d_year", "--agg", "sum:revenue"], ["explain", "3.1"]):
         campaign.command(words[0], device, *words[1:])
+    for query in ("1.1", "4.3"):
+        campaign.reading("eval", *DIMENSIONS, "--lineorder", "lineorder.tbl", "--query", query)
     print(f"{campaign.refusals} refusals, {campaign.refused} of them said, {campaign.complaints} complaints")
     return 1 if campaign.complaints else 0
 
