@@ -188,6 +188,15 @@ module _ (dimensions : DimRows) (plan : Plan) (over : IsPlanOver dimensions plan
   pub kept_with_slots : IsKept plan new columns
   kept_with_slots = kept_ready dimensions plan over old columns kept new columns cover grow as_they_are
 
+  -- whatever was merged in at the slots
+  pub kept_after : (merged : List (Vec Tally Global)) → ((slot : ℕ) → length (entries_of new) ≤ slot → tallies_at merged slot ≡ tallies_at columns slot) → IsKept plan new merged
+  kept_after merged same = record {
+    proper = kept_with_slots.proper;
+    numbers = kept_with_slots.numbers;
+    cover = kept_with_slots.cover;
+    fresh = λ slot h. same slot h ∙ kept_with_slots.fresh slot h;
+  }
+
   module _ (modes : List (List ℕ)) (plain : PlainCells) where
     module _ (merged : List (Vec Tally Global)) (are : AreMergedIn (asked_of dimensions (query_of plan) plain.view modes) (query_of plan).aggregates (entries_of new) plain.cells columns merged) where
       slots_below : AreBelow (length (entries_of new)) are.group_slots

@@ -154,7 +154,7 @@ cell_count (Max measure) cell = refl
 cell_count (Avg measure) cell = refl
 
 -- ---- room
-after-count : (agg : Agg) (slot : ℕ) (cells : List Cell) (group_slots : List (Option ℕ)) (tally : Tally) → (after_cells agg slot cells group_slots tally).count ≤ tally.count + sum_by (λ cell. cell.count) cells
+pub after-count : (agg : Agg) (slot : ℕ) (cells : List Cell) (group_slots : List (Option ℕ)) (tally : Tally) → (after_cells agg slot cells group_slots tally).count ≤ tally.count + sum_by (λ cell. cell.count) cells
 after-count agg slot [] group_slots tally = omega arith
 after-count agg slot (cell ∷ cells) [] tally = omega arith
 after-count agg slot (cell ∷ cells) (None ∷ group_slots) tally =
@@ -167,7 +167,7 @@ after-count agg slot (cell ∷ cells) (Some other ∷ group_slots) tally =
       | false ↦ omega (arith, after-count agg slot cells group_slots tally, sum)
     ]
 
-after-size : (agg : Agg) (slot : ℕ) (cells : List Cell) (group_slots : List (Option ℕ)) (tally : Tally)
+pub after-size : (agg : Agg) (slot : ℕ) (cells : List Cell) (group_slots : List (Option ℕ)) (tally : Tally)
     → nat_abs (after_cells agg slot cells group_slots tally).sum ≤ nat_abs tally.sum + sum_by (λ cell. nat_abs (cell_tally agg cell).sum) cells
 after-size agg slot [] group_slots tally = omega arith
 after-size agg slot (cell ∷ cells) [] tally = omega arith

@@ -10,6 +10,7 @@ pub mod Lists
 pub mod Loops
 pub mod Numbering
 pub mod PlaceTables
+pub mod Scanned
 pub mod Marking
 pub mod OneRow
 pub mod Placing
@@ -30,6 +31,8 @@ pub mod Passes
 pub mod Ends
 mod CellMerges
 mod CellSlots
+mod CellParts
+mod RunMerging
 mod BatchFolds
 mod BatchTallies
 mod CellGroups

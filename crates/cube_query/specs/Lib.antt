@@ -1,4 +1,5 @@
 pub mod Asked
+pub mod CellRuns
 pub mod CellSlots
 pub mod CellTallies
 pub mod Chosen

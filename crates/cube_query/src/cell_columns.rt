@@ -1,5 +1,5 @@
 //! A cell of a cuboid, merged into the tallies at the slot of its group.
-ghost use Rattle.std.specs.Prelude.{◌≡◌, ◌⊎◌, ◌≤◌, ◌<◌, ◌^◌, ℕ, [], ◌∷◌, length, slice_set, Some, Err, IfErr, IfOk, OnErr, OnOk};
+ghost use Rattle.std.specs.Prelude.{◌≡◌, ◌≢◌, ◌⊎◌, ◌≤◌, ◌<◌, ◌^◌, ℕ, [], ◌∷◌, length, slice_set, Some, Err, IfErr, IfOk, OnErr, OnOk};
 ghost use Rattle.cube_query.specs.CellTallies.{cell_tally, counted, summary_in, with_cells, HasRoomFor, HaveRoomFor, MergesCells};
 ghost use Rattle.cube_query.specs.Columns.{tallies_at, tally_at};
 ghost use Rattle.cube_query.specs.Tallies.{merged};
@@ -11,7 +11,7 @@ use cuboid_cells::{Cell, Summaries, Summary};
 
 /// Merges a cell in at a slot of each column. A column that does not reach the slot is made longer.
 ///
-/// `BadLayout` says that a tally cannot take the cell. What the columns are after a refusal is not said.
+/// `BadLayout` says that a tally cannot take the cell. What the columns have at the slot after a refusal is not said.
 #[inline]
 pub fn merge_cell(
     columns: &mut [Vec<Tally>],
@@ -24,6 +24,7 @@ pub fn merge_cell(
         ≡ with_cells aggs.now other (cell.now ∷ []) (Some slot ∷ []) (tallies_at columns.old other)) }
     ensures refused { result ≡ Err Fault.BadLayout
         → HaveRoomFor aggs.now (cell.now ∷ []) (tallies_at columns.old slot) → ⊥ }
+    ensures others { (other : ℕ) → other ≢ slot → tallies_at columns.new other ≡ tallies_at columns.old other }
     ensures only { IfErr result (λ fault. (fault ≡ Fault.Memory) ⊎ (fault ≡ Fault.BadLayout)) }
 {
     for i in 0..aggs.len() {
@@ -37,6 +38,7 @@ pub fn merge_cell(
 fn merge_in_column(column: &mut Vec<Tally>, agg: Agg, cell: &Cell, slot: u32) -> Result<(), Fault>
     ensures merged { OnOk result (MergesCells agg (cell.now ∷ []) (Some slot ∷ []) column.old.items column.new.items) }
     ensures refused { result ≡ Err Fault.BadLayout → HasRoomFor agg (cell.now ∷ []) (tally_at column.old.items slot) → ⊥ }
+    ensures others { (other : ℕ) → other ≢ slot → tally_at column.new.items other ≡ tally_at column.old.items other }
     ensures only { IfErr result (λ fault. (fault ≡ Fault.Memory) ⊎ (fault ≡ Fault.BadLayout)) }
 {
     lengthen(column, slot as usize + 1)?;
@@ -53,6 +55,7 @@ fn merge_at(column: &mut [Tally], agg: Agg, cell: &Cell, slot: u32) -> Result<()
     ensures ok { OnOk result (column.new
         ≡ slice_set column.old slot (merged (tally_at column.old slot) (cell_tally agg cell.now))) }
     ensures err { OnErr result (HasRoomFor agg (cell.now ∷ []) (tally_at column.old slot) → ⊥) }
+    ensures same { OnErr result (column.new ≡ column.old) }
 {
     let tally = cell_tally(agg, cell)?;
     column[slot as usize] = column[slot as usize].merge(tally)?;

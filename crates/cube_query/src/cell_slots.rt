@@ -1,10 +1,11 @@
 //! The slots of the groups of cells, and the cells merged in at them.
-ghost use Rattle.std.specs.Prelude.{◌≡◌, ◌⊎◌, ◌<◌, ℕ, List, [], ◌∷◌, length, Some, Err, IfOk, IfErr, OnOk};
+ghost use Rattle.std.specs.Prelude.{◌≡◌, ◌⊎◌, ◌<◌, ◌≤◌, ℕ, List, [], ◌∷◌, length, Some, Err, IfOk, IfErr, OnOk};
 ghost use Rattle.std.specs.List.{All};
 ghost use Rattle.cuboid_cells.specs.Cells.{IsCellOf};
 ghost use Rattle.group_plan.specs.Numbers.{group_count};
 ghost use Rattle.cube_query.specs.CellSlots.{AreMergedIn, HasNoStandIn, HaveNoStandIn, IsCellSlot, IsMergedIn};
 ghost use Rattle.cube_query.specs.CellTallies.{GroupsHaveRoomFor};
+ghost use Rattle.cube_query.specs.Columns.{tallies_at};
 ghost use Rattle.cube_query.specs.Slots.{entries_of, slot_of, AreSlots, Cover, Grow};
 
 use crate::cell_columns::merge_cell;
@@ -48,8 +49,9 @@ pub fn with_cells(
     Ok(merged)
 }
 
-// Merges cells in at the slots of their groups, one after another. What the columns are after a refusal is not said.
-fn merge_cells(
+/// Merges cells in at the slots of their groups, one after another. After a refusal the columns have what they had where there is
+/// no slot, and what they have at the slots is not said.
+pub fn merge_cells(
     numbers: &CellNumbers,
     slots: &mut Slots,
     columns: &mut [Vec<Tally>],
@@ -63,6 +65,9 @@ fn merge_cells(
         (AreMergedIn numbers.now aggs.now (entries_of slots.new) cells.now columns.old columns.new) }
     ensures refused { result ≡ Err Fault.BadLayout → HaveNoStandIn numbers.now cells.now
         ⊎ (GroupsHaveRoomFor (entries_of slots.new) aggs.now cells.now columns.old → ⊥) }
+    ensures fresh { (first : List (ℕ × ℕ))
+        → Grow (group_count numbers.now.dimensions numbers.now.query.columns) first (entries_of slots.old)
+        → (slot : ℕ) → length (entries_of slots.new) ≤ slot → tallies_at columns.new slot ≡ tallies_at columns.old slot }
     ensures only { IfErr result (λ fault. (fault ≡ Fault.Memory) ⊎ (fault ≡ Fault.BadLayout)) }
     ensures cover { Cover (group_count numbers.now.dimensions numbers.now.query.columns) slots.new }
     ensures grow { (first : List (ℕ × ℕ))
@@ -91,6 +96,9 @@ fn merge_one(
         (IsMergedIn numbers.now aggs.now (entries_of slots.new) cell.now columns.old columns.new) }
     ensures refused { result ≡ Err Fault.BadLayout → HasNoStandIn numbers.now cell.now
         ⊎ (GroupsHaveRoomFor (entries_of slots.new) aggs.now (cell.now ∷ []) columns.old → ⊥) }
+    ensures fresh { (first : List (ℕ × ℕ))
+        → Grow (group_count numbers.now.dimensions numbers.now.query.columns) first (entries_of slots.old)
+        → (slot : ℕ) → length (entries_of slots.new) ≤ slot → tallies_at columns.new slot ≡ tallies_at columns.old slot }
     ensures only { IfErr result (λ fault. (fault ≡ Fault.Memory) ⊎ (fault ≡ Fault.BadLayout)) }
     ensures cover { Cover (group_count numbers.now.dimensions numbers.now.query.columns) slots.new }
     ensures keep { (number slot : ℕ) → slot_of (entries_of slots.old) number ≡ Some slot

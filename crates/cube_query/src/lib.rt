@@ -4,6 +4,7 @@
 mod answer;
 mod asked;
 mod cell_columns;
+mod cell_runs;
 mod cell_slots;
 mod chosen_rows;
 mod coarser;

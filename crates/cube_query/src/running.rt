@@ -1,5 +1,5 @@
 //! A fold over fact rows that come in any number of calls.
-ghost use Rattle.std.specs.Prelude.{◌≡◌, ◌≢◌, ◌⊎◌, ◌≤◌, ◌<◌, ℕ, List, false, true, length, map, Some, Err, IfOk, IfErr, OnOk, OnErr};
+ghost use Rattle.std.specs.Prelude.{◌≡◌, ◌≢◌, ◌⊎◌, ◌≤◌, ◌<◌, ℕ, List, [], false, true, length, map, Some, Err, IfOk, IfErr, IsErrOf, MatchResult, OnOk, OnErr};
 ghost use Rattle.std.specs.List.{All, AllByRecursion};
 ghost use Rattle.std.specs.Option.{option_map};
 ghost use Rattle.cube_model.specs.Answers.{answer};
@@ -7,9 +7,15 @@ ghost use Rattle.cube_model.specs.Proper.{IsProper};
 ghost use Rattle.cube_model.specs.Selection.{is_selected};
 ghost use Rattle.cube_model.specs.declared.rows.DimRows.{DimRows};
 ghost use Rattle.cube_model.specs.declared.rows.LineOrder.{LineOrder};
+ghost use Rattle.wire.specs.Runs.{HasRead, IsRefused};
 ghost use Rattle.column_segment.specs.Projected.{AgreeOn};
+ghost use Rattle.cuboid_cells.specs.Cells.{PlainCells};
+ghost use Rattle.cuboid_cells.specs.Pieces.{IsReadTo, size_of_run};
+ghost use Rattle.cuboid_cells.specs.Spelled.{IsRun};
+ghost use Rattle.cuboid_cells.specs.declared.span.Span.{Span};
 ghost use Rattle.cube_query.specs.Asked.{AreSame, asked_columns, is_asked};
-ghost use Rattle.cube_query.specs.CellSlots.{AreMergedIn, asked_of};
+ghost use Rattle.cube_query.specs.CellRuns.{IsRunMerged, TakesRun};
+ghost use Rattle.cube_query.specs.CellSlots.{AreMergedIn, HaveNoStandIn, asked_of};
 ghost use Rattle.cube_query.specs.CellTallies.{GroupsHaveRoomFor};
 ghost use Rattle.cube_query.specs.Columns.{tallies_at};
 ghost use Rattle.cube_query.specs.GroupLines.{AreGroupsOver, answer_over};
@@ -25,6 +31,7 @@ ghost use Rattle.cuboid_upkeep.specs.Grouping.{StandFor};
 ghost use Rattle.lattice.specs.Determined.{Serves};
 
 use crate::asked::asked_columns;
+use crate::cell_runs::merge_run;
 use crate::cell_slots::with_cells;
 use crate::chosen_rows::ChosenRows;
 use crate::column_rows::ColumnRows;
@@ -39,13 +46,14 @@ use crate::whole_batch::{has_one_group, selected_rows, with_batch};
 use column_kernels::Mask;
 use column_segment::{FactColumn, FactColumns, Segment};
 use cube_model::{Answer, Fault, LineOrder, Query};
-use cuboid_cells::Cells;
+use cuboid_cells::{Cells, RunReader};
 use cuboid_upkeep::{CellNumbers, one_key_one_group};
 use dictionary::Dictionary;
 use dimensions::Dims;
 use group_plan::{FactRows, Plan, RowSlice};
 use std::alloc::{AllocError, Global};
 use std::marker::Model;
+use wire::Source;
 
 /// The groups of a query over the fact rows that were added so far.
 ///
@@ -53,7 +61,7 @@ use std::marker::Model;
 /// borrows nothing: each call is handed the dimensions, which are those that it began with.
 ///
 /// Memory grows with the groups, and not with the rows: with those that there can be, or where these are more than
-/// 65,536, with those that had a row. Up to 1,048,576 that there can be, it takes four bytes more for each of them.
+/// 65,536, with those that had a row. Up to 4,194,304 that there can be, it takes four bytes more for each of them.
 pub struct Fold {
     alloc: Global,
     plan: Plan,
@@ -193,6 +201,42 @@ impl Fold {
         )?;
         self.columns = merged;
         Ok(())
+    }
+
+    /// Counts the cells of a run in, in place of the rows that they represent, piece by piece as they are read from a source.
+    ///
+    /// No cell is read yet. The view of the run has to serve the query. The fifth codes of cells are places among the modes, which
+    /// only a view that groups by ship mode looks at. `BadLayout` says that the text is no run, or that its cells represent
+    /// no rows that can be taken, as `add_cells` does. Each cell is read once. It takes memory for new groups, and for the time of
+    /// the call some for each member of the view's levels and for one piece. After a refusal the fold is to be dropped.
+    pub fn add_run<S: Source>(
+        &mut self,
+        dims: &Dims,
+        source: &mut S,
+        run: &mut RunReader,
+        modes: Option<&Dictionary>,
+    ) -> Result<(), Fault>
+        requires over { IsOver dims.now self.old }
+        requires serves { Serves run.old.head.view self.old.query }
+        requires total { S.totals source.old run.old.id ≡ Some (size_of_run run.old) }
+        ensures over { IsOver dims.now self.new }
+        ensures query { self.new.query ≡ self.old.query }
+        ensures ok { OnOk result (S.keeps_word source.new → IsReadTo (S.texts source.old run.old.id) run.old []
+            → TakesRun dims.now (modes_of (option_map (λ modes. modes.now) modes.entry)) (S.texts source.old run.old.id) run.old.head self.old self.new) }
+        ensures refused { IsErrOf result Fault.BadLayout → S.keeps_word source.new → IsReadTo (S.texts source.old run.old.id) run.old []
+            → (bytes : List ℕ) (span : Span) (plain : PlainCells) → S.texts source.old run.old.id ≡ Some bytes → IsRun bytes span plain
+            → (rows : List LineOrder) → StandFor dims.now (modes_of (option_map (λ modes. modes.now) modes.entry)) rows plain
+            → CanTake dims.now self.old rows → ⊥ }
+        ensures run { MatchResult result (λ _. HasRead S.Source source.old source.new)
+            (λ fault. (((fault ≡ Fault.Memory) ⊎ (fault ≡ Fault.BadLayout)) × HasRead S.Source source.old source.new)
+            ⊎ IsRefused S.Source fault source.old source.new) }
+    {
+        one_key_one_group(dims);
+        let slots = &mut self.slots;
+        let columns = self.columns.as_mut_slice();
+        with_run(
+            self.alloc, dims, &self.plan, slots, columns, source, run, modes,
+        )
     }
 
     // Counts the rows of a batch in by its columns. A refusal leaves the fold as it was.
@@ -411,6 +455,43 @@ fn columns_with_cells(
     let numbers = CellNumbers::of(alloc, dims, plan, view, modes)?;
     let aggregates = plan.query().aggregates.as_slice();
     with_cells(alloc, &numbers, slots, columns, aggregates, cells)
+}
+
+// Merges the cells of a run into the columns of a fold, as they are read. Numbers of groups that have no slot are given one.
+fn with_run<S: Source>(
+    alloc: Global,
+    dims: &Dims,
+    plan: &Plan,
+    slots: &mut Slots,
+    columns: &mut [Vec<Tally>],
+    source: &mut S,
+    run: &mut RunReader,
+    modes: Option<&Dictionary>,
+) -> Result<(), Fault>
+    requires over { IsPlanOver dims.now plan.now }
+    requires numbers { AreSlots (group_count dims.now (query_of plan.now).columns) (entries_of slots.old) }
+    requires cover { Cover (group_count dims.now (query_of plan.now).columns) slots.old }
+    requires columns { length columns.old ≡ length (query_of plan.now).aggregates }
+    requires total { S.totals source.old run.old.id ≡ Some (size_of_run run.old) }
+    ensures merged { OnOk result (S.keeps_word source.new → IsReadTo (S.texts source.old run.old.id) run.old []
+        → IsRunMerged (asked_of dims.now (query_of plan.now) run.old.head.view (modes_of (option_map (λ modes. modes.now) modes.entry)))
+        (query_of plan.now).aggregates (entries_of slots.new) (S.texts source.old run.old.id) run.old.head columns.old columns.new) }
+    ensures refused { IsErrOf result Fault.BadLayout → S.keeps_word source.new → IsReadTo (S.texts source.old run.old.id) run.old []
+        → (bytes : List ℕ) (span : Span) (plain : PlainCells) → S.texts source.old run.old.id ≡ Some bytes → IsRun bytes span plain
+        → HaveNoStandIn (asked_of dims.now (query_of plan.now) run.old.head.view (modes_of (option_map (λ modes. modes.now) modes.entry))) plain.cells
+        ⊎ (GroupsHaveRoomFor (entries_of slots.new) (query_of plan.now).aggregates plain.cells columns.old → ⊥) }
+    ensures fresh { (slot : ℕ) → length (entries_of slots.new) ≤ slot → tallies_at columns.new slot ≡ tallies_at columns.old slot }
+    ensures cover { Cover (group_count dims.now (query_of plan.now).columns) slots.new }
+    ensures grow { Grow (group_count dims.now (query_of plan.now).columns) (entries_of slots.old)
+        (entries_of slots.new) }
+    ensures run { MatchResult result (λ _. HasRead S.Source source.old source.new)
+        (λ fault. (((fault ≡ Fault.Memory) ⊎ (fault ≡ Fault.BadLayout)) × HasRead S.Source source.old source.new)
+        ⊎ IsRefused S.Source fault source.old source.new) }
+{
+    let view = run.head().view;
+    let numbers = CellNumbers::of(alloc, dims, plan, view, modes)?;
+    let aggregates = plan.query().aggregates.as_slice();
+    merge_run(alloc, &numbers, slots, columns, aggregates, source, run)
 }
 
 // Makes all ready for the one group of a query: its slot, and a place for each slot. Nothing is counted yet.

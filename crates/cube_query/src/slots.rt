@@ -9,8 +9,8 @@ use std::alloc::{AllocError, Global};
 /// Up to how many numbers each has its slot from the start.
 const MOST_FROM_THE_START: u128 = 65_536;
 
-/// Up to how many numbers a table tells their slots: one of four megabytes.
-const MOST_IN_A_TABLE: u128 = 1_048_576;
+/// Up to how many numbers a table tells their slots: one of 16 megabytes.
+const MOST_IN_A_TABLE: u128 = 4_194_304;
 
 /// Which slot the number of a group has.
 #[derive(Drop)]

@@ -5,13 +5,9 @@ use Rattle.std.proofs.lemmas.List.Elements.{All-cons, All-head, All-nil}
 use Rattle.std.proofs.lemmas.List.Kept.{AllPairs-cons}
 use Rattle.cuboid_cells.specs.declared.cell.Cell.{Cell}
 use Rattle.cuboid_cells.specs.Cells.{AreAscending, cell_at, number_of}
+use Rattle.cuboid_cells.specs.Pieces.{Climbs}
 
--- each key is above those before it, and none is below `low`
-abbrev pub Climbs : ℕ → List Cell → Type 0
-Climbs low [] = Unit {0}
-Climbs low (cell ∷ cells) = (low ≤ number_of cell.key) × Climbs (number_of cell.key + 1) cells
-
--- the same, and all are below `high`
+-- the same as `Climbs`, and all are below `high`
 abbrev pub ClimbsTo : ℕ → List Cell → ℕ → Type 0
 ClimbsTo low [] high = low ≤ high
 ClimbsTo low (cell ∷ cells) high = (low ≤ number_of cell.key) × ClimbsTo (number_of cell.key + 1) cells high

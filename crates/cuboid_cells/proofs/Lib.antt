@@ -1,7 +1,7 @@
 pub mod CallerLemmas
 mod Climbing
+pub mod Continuing
 mod Decoded
 mod Fields
-mod Following
 mod Underway
 mod Behind

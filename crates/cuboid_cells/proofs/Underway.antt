@@ -12,7 +12,8 @@ use Rattle.cuboid_cells.specs.Cells.{AreProper, CellFits, IsCellOf, cell_at, num
 use Rattle.cuboid_cells.specs.Limits.{most_cells}
 use Rattle.cuboid_cells.specs.Merges.{HasTooMany, PassesType, merged, merged_if_any}
 use Rattle.cuboid_cells.specs.Steps.{AreMerged, HaveBadFirsts, IsBelowFirst, IsStep, TakesBoth, TakesOne, cells_of}
-use Rattle.cuboid_cells.proofs.Climbing.{Climbs, ClimbsTo, climb_more, climbs_ascend, climbs_from, lower, none_at}
+use Rattle.cuboid_cells.specs.Pieces.{Climbs}
+use Rattle.cuboid_cells.proofs.Climbing.{ClimbsTo, climb_more, climbs_ascend, climbs_from, lower, none_at}
 
 -- a cell of the view that fits its fields
 pub record IsGood (view : View) (cell : Cell) : Type 0 where

@@ -1,5 +1,5 @@
 -- What one step of a merge takes from the fronts of two lists of cells. Our own.
-use Rattle.std.specs.Prelude.{◌≡◌, ◌⊎◌, ◌<◌, Option, Some, None, List, [], ◌∷◌, All}
+use Rattle.std.specs.Prelude.{◌≡◌, ◌⊎◌, ◌<◌, List, [], ◌∷◌, All}
 use Rattle.lattice.specs.declared.view.View.{View}
 use Rattle.cuboid_cells.specs.declared.cell.Cell.{Cell}
 use Rattle.cuboid_cells.specs.declared.merging.Step.{Step}
@@ -54,8 +54,3 @@ pub record AreMerged (view : View) (one other cells : List Cell) : Type 0 where
   pub merge : AreMergeOf one other cells
   pub each : All (IsCellOf view) cells
   pub fit : All CellFits cells
-
--- a cell has a key above that of the last cell so far, if there is one
-abbrev pub IsAboveLast : Option Cell → Cell → Type 0
-IsAboveLast None cell = Unit {0}
-IsAboveLast (Some last) cell = number_of last.key < number_of cell.key

@@ -1,7 +1,8 @@
 //! Reading the parts of a run from the front of bytes.
-ghost use Rattle.std.specs.Prelude.{◌≡◌, ◌+◌, ◌*◌, ◌≤◌, ◌<◌, ◌↔◌, length, IfErr, IfNone, IfOk, IfSome, IsErr, IsOkUnless, IsTrue};
+ghost use Rattle.std.specs.Prelude.{◌≡◌, ◌+◌, ◌*◌, ◌≤◌, ◌<◌, ◌↔◌, length, IfErr, IfNone, IfOk, IfSome, IsErr, IsOkUnless, IsTrue, OnOk};
 ghost use Rattle.cuboid_cells.specs.Cells.{FollowRules};
 ghost use Rattle.cube_model.specs.declared.fault.Fault.{Fault};
+ghost use Rattle.cuboid_cells.specs.Pieces.{AreCellsFrom, least_after};
 ghost use Rattle.cuboid_cells.specs.Reading.{ReadsCell, ReadsCells, ReadsHeader, ReadsKey, ReadsMode, ReadsSummaries, ReadsSummary, ReadsThree};
 ghost use Rattle.cuboid_cells.specs.Spelled.{cell_bytes, mode_bytes};
 
@@ -9,7 +10,7 @@ use crate::cell::Cell;
 use crate::encoding::{bytes_of_cell, name};
 use crate::key::Key;
 use crate::limits::{ALL_CODE, MOST_CELLS};
-use crate::rules::may_follow;
+use crate::rules::{may_follow, number_after};
 use crate::summary::{Summaries, Summary};
 use cube_model::Fault;
 use lattice::View;
@@ -73,8 +74,6 @@ pub(crate) fn read_header<'a>(cursor: &mut Cursor<'a>) -> Result<Header<'a>, Fau
 }
 
 // So many cells at the front of bytes, which are cells of a view if they keep its rules, and whether they do.
-//
-// A cell is looked at as soon as it is read, while it is at hand: all of them together may be more than a cache holds.
 pub(crate) fn read_cells(
     alloc: Global,
     cursor: &mut Cursor<'_>,
@@ -87,13 +86,39 @@ pub(crate) fn read_cells(
     ensures memory { IfErr result (λ fault. fault ≡ Fault.Memory) }
 {
     let mut cells = Vec::with_capacity(alloc, count)?;
+    match read_on(cursor, view, 0, count, &mut cells)? {
+        Some(_) => Ok((cells, true)),
+        None => Ok((cells, false)),
+    }
+}
+
+// So many cells at the front of bytes, in place of those that are given, and the least number that the key of a cell after them
+// can have. Nothing where they are no cells of the view that ascend by their keys from a number on.
+//
+// A cell is looked at as soon as it is read, while it is at hand: all of them together may be more than a cache holds.
+pub(crate) fn read_on(
+    cursor: &mut Cursor<'_>,
+    view: View,
+    least: u128,
+    count: usize,
+    cells: &mut Vec<Cell>,
+) -> Result<Option<u128>, Fault>
+    requires { cell_bytes view.ship_mode * count ≤ length cursor.old }
+    ensures ok { OnOk result (ReadsCells view.ship_mode count cursor.old cursor.new cells.new.items) }
+    ensures some { IfOk result (λ found. IfSome found (λ next. AreCellsFrom view least cells.new.items × (next ≡ least_after least cells.new.items))) }
+    ensures none { IfOk result (λ found. IfNone found (AreCellsFrom view least cells.new.items → ⊥)) }
+    ensures memory { IfErr result (λ fault. fault ≡ Fault.Memory) }
+{
+    cells.clear();
     let mut fine = true;
+    let mut next = least;
     for _ in 0..count {
         let cell = next_cell(cursor, view.ship_mode);
-        fine = fine & may_follow(view, &cells, &cell);
+        fine = fine & may_follow(view, next, &cell);
+        next = number_after(cell.key);
         cells.push(cell)?;
     }
-    Ok((cells, fine))
+    if fine { Ok(Some(next)) } else { Ok(None) }
 }
 
 // The cell at the front of bytes, which the caller knows to be there.

@@ -1,26 +1,23 @@
 //! The rules of cells that are read one after the other.
-ghost use Rattle.std.specs.Prelude.{◌↔◌, ◌-◌, IsTrue, length, slice_get};
-ghost use Rattle.cuboid_cells.specs.Cells.{IsCellOf};
-ghost use Rattle.cuboid_cells.specs.Steps.{IsAboveLast};
+ghost use Rattle.std.specs.Prelude.{◌≡◌, ◌+◌, ◌≤◌, ◌↔◌, IsTrue};
+ghost use Rattle.cuboid_cells.specs.Cells.{IsCellOf, number_of};
 
 use crate::cell::Cell;
+use crate::key::Key;
 use lattice::View;
 
-// Whether a cell is one of a view, and its key is above that of the last of the cells before it.
+// Whether a cell is one of a view, and the number of its key is not below that which is the least.
 #[inline(always)]
-pub(crate) fn may_follow(view: View, cells: &[Cell], cell: &Cell) -> bool
-    ensures { IsTrue result ↔ (IsCellOf view cell.now × IsAboveLast (slice_get cells.now (length cells.now - 1)) cell.now) }
+pub(crate) fn may_follow(view: View, least: u128, cell: &Cell) -> bool
+    ensures { IsTrue result ↔ (IsCellOf view cell.now × (least ≤ number_of cell.now.key)) }
 {
-    cell.is_of(view) && is_above(cells, cell)
+    cell.is_of(view) && least <= cell.key.number()
 }
 
-// Whether a cell's key is above that of the last of the cells before it.
+// The least number that a key above this one can have.
 #[inline(always)]
-fn is_above(cells: &[Cell], cell: &Cell) -> bool
-    ensures { IsTrue result ↔ IsAboveLast (slice_get cells.now (length cells.now - 1)) cell.now }
+pub(crate) fn number_after(key: Key) -> u128
+    ensures { result ≡ number_of key + 1 }
 {
-    match cells.last() {
-        Some(last) => last.key.number() < cell.key.number(),
-        None => true,
-    }
+    key.number() + 1
 }

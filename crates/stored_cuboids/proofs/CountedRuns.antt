@@ -1,6 +1,7 @@
 -- The runs of a cuboid, counted into a fold one after another.
-use Rattle.std.proofs.Common.{◌≡◌, ◌∙◌, zero, suc, sym, ap, refl, subst, arith, ℕ, ◌<◌, ◌≤◌, List, [], ◌∷◌, ◌++◌, length, take, get_or, slice_get, Some, All}
-use Rattle.std.proofs.lemmas.List.Elements.{All-head, All-tail}
+use Rattle.std.proofs.Common.{◌≡◌, ◌∙◌, zero, suc, sym, ap, refl, subst, arith, ℕ, ◌<◌, ◌≤◌, List, [], ◌∷◌, ◌++◌, length, take, get_or, slice_get, Option, Some, None, All}
+use Rattle.std.specs.Option.{IsSomeAnd}
+use Rattle.std.proofs.lemmas.List.Elements.{All-tail}
 use Rattle.std.proofs.lemmas.Option.{get_or_from_slice_get, slice_get_within}
 use Rattle.cube_model.specs.Admission.{all_rows}
 use Rattle.cube_model.specs.declared.rows.DimRows.{DimRows}
@@ -8,17 +9,22 @@ use Rattle.cube_model.specs.declared.rows.LineOrder.{LineOrder}
 use Rattle.cube_query.specs.Groups.{CanTake, FoldState, StandsFor}
 use Rattle.cube_query.specs.Limits.{AreFoldable}
 use Rattle.cuboid_cells.specs.Cells.{PlainCells}
-use Rattle.cuboid_cells.specs.Spelled.{IsSpan}
+use Rattle.cuboid_cells.specs.declared.cell.Cell.{Cell}
+use Rattle.cuboid_cells.specs.declared.span.Span.{Span}
+use Rattle.cuboid_cells.specs.Pieces.{IsReadTo, RunPlace}
+use Rattle.cuboid_cells.specs.Spelled.{IsRun, IsSpan}
 use Rattle.cuboid_cells.specs.Steps.{cells_of}
+use Rattle.cuboid_cells.proofs.Continuing.{begins as run_begins}
+use Rattle.cube_query.specs.CellRuns.{IsRunOf, TakesRun}
 use Rattle.cuboid_upkeep.specs.Grouping.{StandFor}
 use Rattle.lattice.specs.declared.view.View.{View}
-use Rattle.object_store.specs.Content.{Content}
+use Rattle.object_store.specs.Content.{Content, bytes_of}
 use Rattle.warehouse_root.specs.Objects.{run_id}
 use Rattle.warehouse_objects.proofs.CallerLemmas.{foldable, laid_of}
 use Rattle.warehouse_objects.specs.Stands.{Follow, HoldsGroupings, IsLaidOut, Stands, rows_in}
 use Rattle.warehouse_objects.specs.Warehouse.{Cuboid, StoredRun, Warehouse, cuboid_at, modes_of}
 use Rattle.stored_cuboids.specs.Counted.{AreCounted, CountsRun}
-use Rattle.stored_cuboids.specs.Steps.{AreRead}
+use Rattle.stored_cuboids.specs.Steps.{AreRead, GoesOn, IsNextRun}
 use Rattle.stored_cuboids.specs.declared.reading.Progress.{Progress}
 use Rattle.stored_cuboids.proofs.Standing.{follow_up, rows_after}
 use Rattle.stored_cuboids.proofs.StoredRuns.{IsAt, begins, is_at, is_proper, read_cells, read_more, read_to}
@@ -89,3 +95,56 @@ module _ (c : Content) (w : Warehouse) (view : ℕ) (stored : Cuboid) (stands : 
                   (subst (λ (rows : List LineOrder). AreFoldable w.rows rows) (sym rows_next) (foldable w.rows w.batches stands.batches run.span.to within)),
             ),
           )
+
+-- ---- a run that is counted as it is read
+some_bytes : (found : Option (List ℕ)) (P : List ℕ → Type 0) → IsSomeAnd found P → (bytes : List ℕ) × (found ≡ Some bytes) × P bytes
+some_bytes None P is = absurd is
+some_bytes (Some bytes) P is = (bytes, refl, is)
+
+-- a run has as many cells as its header says
+header_count : (text : Option (List ℕ)) (run : RunPlace) → IsReadTo text run [] → (cells : List Cell) → IsRunOf text run.head cells → length cells ≡ run.head.count
+header_count text run to cells is =
+    let found = some_bytes text (λ bytes. IsRun bytes run.head.span (cells_of run.head.view cells)) is in
+    (run_begins text run [] to found.0 run.head.span (cells_of run.head.view cells) found.1 found.2).count
+
+-- the header of the next run goes on
+pub head_goes_on : (content : Content) (id : ℕ) (view : View) (at : Progress) (run : RunPlace) → IsReadTo (bytes_of content id) run [] → (cells : PlainCells) (next : Progress) → IsNextRun content id view at cells next
+    → GoesOn view at run.head next
+head_goes_on content id view at run to cells next goes =
+    let found = some_bytes (bytes_of content id) (λ bytes. IsRun bytes goes.span cells) goes.there in
+    let b = run_begins (bytes_of content id) run [] to found.0 goes.span cells found.1 found.2 in record {
+      same = sym b.view ∙ goes.goes_on.same;
+      from = ap (λ (s : Span). s.from) (sym b.span) ∙ goes.goes_on.from;
+      to = goes.goes_on.to ∙ ap (λ (s : Span). s.to) b.span;
+      left = omega (arith, goes.goes_on.left, b.count);
+    }
+
+module _ (content now : Content) (same : now ≡ content) (id : ℕ) (view : View) (at : Progress) (run : RunPlace) (own : run.id ≡ id) (to : IsReadTo (bytes_of content id) run []) where
+  abbrev text_is : bytes_of now run.id ≡ bytes_of content id
+  text_is = ap (λ (c : Content). bytes_of c run.id) same ∙ ap (bytes_of content) own
+
+  here : IsReadTo (bytes_of now run.id) run []
+  here = subst (λ (t : Option (List ℕ)). IsReadTo t run []) (sym text_is) to
+
+  pub counts_run : (next : Progress) → GoesOn view at run.head next → (dims : DimRows) (old new : FoldState) → (IsReadTo (bytes_of now run.id) run [] → TakesRun dims [] (bytes_of now run.id) run.head old new)
+      → CountsRun content id view at dims old new next
+  counts_run next goes dims old new takes =
+      let t = takes here in
+      let is : IsRunOf (bytes_of content id) run.head t.cells = subst (λ (text : Option (List ℕ)). IsRunOf text run.head t.cells) text_is t.is in
+      let many : length t.cells ≡ run.head.count = header_count (bytes_of content id) run to t.cells is in
+      record {
+        cells = cells_of run.head.view t.cells;
+        read = record {
+          span = run.head.span;
+          there = is;
+          goes_on = record { same = goes.same; from = goes.from; to = goes.to; left = omega (arith, goes.left, many) };
+        };
+        takes = t.takes;
+      }
+
+  pub not_counted : (dims : DimRows) (old : FoldState) → (IsReadTo (bytes_of now run.id) run [] → (bytes : List ℕ) (span : Span) (plain : PlainCells) → bytes_of now run.id ≡ Some bytes → IsRun bytes span plain
+      → (rows : List LineOrder) → StandFor dims [] rows plain → CanTake dims old rows → ⊥)
+      → (cells : PlainCells) (next : Progress) (rows : List LineOrder) → IsNextRun content id view at cells next → StandFor dims [] rows cells → CanTake dims old rows → ⊥
+  not_counted dims old refuses cells next rows goes stand can =
+      let found = some_bytes (bytes_of content id) (λ bytes. IsRun bytes goes.span cells) goes.there in
+      refuses here found.0 goes.span cells (text_is ∙ found.1) found.2 rows stand can

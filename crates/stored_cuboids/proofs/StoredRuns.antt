@@ -25,7 +25,7 @@ use Rattle.warehouse_objects.specs.Stands.{Follow, HoldsGroupings, IsLaid, IsLai
 use Rattle.warehouse_objects.proofs.CallerLemmas.{object_run}
 use Rattle.stored_cuboids.specs.declared.reading.Progress.{Progress}
 use Rattle.stored_cuboids.specs.Merged.{AreMergedWith, HasMerge, IsSound}
-use Rattle.stored_cuboids.specs.Steps.{AreMerged, AreRead, GoesOn, HasRun, IsNextRun, TakesRun}
+use Rattle.stored_cuboids.specs.Steps.{AreMerged, AreRead, GoesOn, HasRun, IsNextRun, TakesRun, head_of}
 use Rattle.stored_cuboids.proofs.Standing.{merge_stands}
 use Rattle.stored_cuboids.proofs.Merging.{cells_least, cells_more, follow_more, follow_next, follow_one, merged_more, merged_next, merged_view}
 
@@ -73,10 +73,10 @@ run_one (Some bytes) one other cells others is too = IsRun-one bytes one other c
 
 -- the run of an object, which another is said to be
 pub next_one : (c : Content) (id : ℕ) (view : View) (so_far next : Progress) (span : Span) (cells others : PlainCells) → HasRun c id span cells → IsNextRun c id view so_far others next
-    → GoesOn view so_far span cells next × (others ≡ cells)
+    → GoesOn view so_far (head_of span cells) next × (others ≡ cells)
 next_one c id view so_far next span cells others is goes =
     let one = run_one (bytes_of c id) goes.span span others cells goes.there is in (
-      subst (λ (s : Span). GoesOn view so_far s cells next) one.0 (subst (λ (m : PlainCells). GoesOn view so_far goes.span m next) one.1 goes.goes_on),
+      subst (λ (s : Span). GoesOn view so_far (head_of s cells) next) one.0 (subst (λ (m : PlainCells). GoesOn view so_far (head_of goes.span m) next) one.1 goes.goes_on),
       one.1,
     )
 

@@ -3,6 +3,7 @@ use Rattle.std.specs.Prelude.{◌≡◌, ℕ, ◌+◌, [], length, take}
 use Rattle.std.specs.Option.{IsSomeAnd}
 use Rattle.object_store.specs.Content.{Content, bytes_of}
 use Rattle.lattice.specs.declared.view.View.{View}
+use Rattle.cuboid_cells.specs.declared.head.RunHead.{RunHead}
 use Rattle.cuboid_cells.specs.declared.span.Span.{Span}
 use Rattle.cuboid_cells.specs.Cells.{AreProper, PlainCells}
 use Rattle.cuboid_cells.specs.Merges.{IsMergeOf}
@@ -17,18 +18,22 @@ use Rattle.stored_cuboids.specs.Merged.{AreMergedWith}
 abbrev pub HasRun : Content → ℕ → Span → PlainCells → Type 0
 HasRun content id span cells = IsSomeAnd (bytes_of content id) (λ bytes. IsRun bytes span cells)
 
--- a run is of a view, begins where the runs so far end, and has no more cells than are left
-pub record GoesOn (view : View) (at : Progress) (span : Span) (cells : PlainCells) (next : Progress) : Type 0 where
-  pub same : cells.view ≡ view
-  pub from : span.from ≡ at.end
-  pub to : next.end ≡ span.to
-  pub left : next.left + length cells.cells ≡ at.left
+-- the header of the run of cells over some batches
+abbrev pub head_of : Span → PlainCells → RunHead
+head_of span cells = record { view = cells.view; span = span; count = length cells.cells }
+
+-- by its header a run is of a view, begins where the runs so far end, and has no more cells than are left
+pub record GoesOn (view : View) (at : Progress) (head : RunHead) (next : Progress) : Type 0 where
+  pub same : head.view ≡ view
+  pub from : head.span.from ≡ at.end
+  pub to : next.end ≡ head.span.to
+  pub left : next.left + head.count ≡ at.left
 
 -- an object of a content is the run that goes on where the runs so far end
 pub record IsNextRun (content : Content) (id : ℕ) (view : View) (at : Progress) (cells : PlainCells) (next : Progress) : Type 0 where
   pub span : Span
   pub there : HasRun content id span cells
-  pub goes_on : GoesOn view at span cells next
+  pub goes_on : GoesOn view at (head_of span cells) next
 
 -- a run of a content is merged into the cells of those before it
 pub record TakesRun (content : Content) (id : ℕ) (old : PlainCells) (at : Progress) (new : PlainCells) (next : Progress) : Type 0 where

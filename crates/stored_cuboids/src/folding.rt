@@ -1,14 +1,19 @@
 //! The runs of a stored cuboid, counted into a fold.
-ghost use Rattle.std.specs.Prelude.{◌≡◌, ◌⊎◌, [], List, Some, false, take, IfErr, IfOk, IsErrOf, OnOk};
+ghost use Rattle.std.specs.Prelude.{◌≡◌, ◌⊎◌, ℕ, [], List, Some, false, take, IfErr, IfOk, IsErrOf, OnOk};
 ghost use Rattle.cube_model.specs.declared.fault.Fault.TheVariants.{BadLayout, Device, Memory};
 ghost use Rattle.cube_model.specs.declared.rows.LineOrder.{LineOrder};
 ghost use Rattle.cube_model.specs.Admission.{all_rows};
 ghost use Rattle.object_store.specs.Disk.{Leaves};
-ghost use Rattle.object_store.specs.Store.{Breaks, IsStill, content_of, device_of, disk_of, has_failed};
+ghost use Rattle.object_store.specs.Content.{bytes_of};
+ghost use Rattle.object_store.specs.Store.{Breaks, IsStill, content_of, device_of, disk_of, has_failed, size_in};
 ghost use Rattle.lattice.specs.Determined.{Serves};
 ghost use Rattle.lattice.specs.Views.{index_of};
 ghost use Rattle.cuboid_cells.specs.Cells.{PlainCells};
+ghost use Rattle.cuboid_cells.specs.Pieces.{IsReadTo, size_of_run};
+ghost use Rattle.cuboid_cells.specs.Spelled.{IsRun};
+ghost use Rattle.cuboid_cells.specs.declared.span.Span.{Span};
 ghost use Rattle.cuboid_upkeep.specs.Grouping.{StandFor};
+ghost use Rattle.cube_query.specs.CellRuns.{TakesRun};
 ghost use Rattle.cube_query.specs.Groups.{CanTake, IsOver, StandsFor};
 ghost use Rattle.warehouse_objects.specs.Warehouse.{Cuboid, Warehouse, cuboid_at};
 ghost use Rattle.warehouse_objects.specs.Stands.{Stands, said_of};
@@ -16,9 +21,10 @@ ghost use Rattle.stored_cuboids.specs.Counted.{CountsRun};
 ghost use Rattle.stored_cuboids.specs.Steps.{IsNextRun};
 ghost use Rattle.stored_cuboids.specs.declared.reading.Progress.{Progress};
 
-use crate::reading::{Progress, read_next};
+use crate::reading::{Progress, open_next};
 use cube_model::Fault;
 use cube_query::Fold;
+use cuboid_cells::RunReader;
 use dimensions::Dims;
 use lattice::View;
 use object_store::Store;
@@ -26,8 +32,8 @@ use sector_device::Sectors;
 use std::alloc::Global;
 use warehouse_root::{StoredCuboid, run_id};
 
-/// Counts the cells of the stored cuboid of a view into a fold that represents no row yet: its runs, one after another. One run is
-/// in memory at a time.
+/// Counts the cells of the stored cuboid of a view into a fold that represents no row yet: its runs, one after another, each piece by
+/// piece as it is read.
 ///
 /// `BadLayout` where a run is missing or is none of this view, where the runs do not follow each other from the first batch to
 /// the mark or have another count of cells than the root says, and where the fold cannot take their cells. It can also run out of
@@ -98,7 +104,34 @@ fn fold_run<D: Sectors>(
     ensures device { IsErrOf result Device → Breaks D.Sectors store.old store.new }
     ensures causes { IfErr result (λ fault. (fault ≡ Memory) ⊎ ((fault ≡ Device) ⊎ (fault ≡ BadLayout))) }
 {
-    let (cells, next) = read_next(alloc, store, view, at, id)?;
-    fold.add_cells(dims, &cells, None)?;
+    let (mut reader, next) = open_next(alloc, store, view, at, id)?;
+    fold_cells(store, dims, fold, &mut reader)?;
     Ok(next)
+}
+
+// Counts the cells of a run into a fold, as they are read.
+fn fold_cells<D: Sectors>(
+    store: &mut Store<D>,
+    dims: &Dims,
+    fold: &mut Fold,
+    run: &mut RunReader,
+) -> Result<(), Fault>
+    requires fine { has_failed store.old ≡ false }
+    requires over { IsOver dims.now fold.old }
+    requires serves { Serves run.old.head.view fold.old.query }
+    requires total { size_in store.old run.old.id ≡ Some (size_of_run run.old) }
+    ensures ok { OnOk result (D.keeps_word (device_of store.new) → IsReadTo (bytes_of (content_of D.Sectors store.old) run.old.id) run.old []
+        → TakesRun dims.now [] (bytes_of (content_of D.Sectors store.old) run.old.id) run.old.head fold.old fold.new) }
+    ensures over { IsOver dims.now fold.new }
+    ensures query { fold.new.query ≡ fold.old.query }
+    ensures refused { IsErrOf result BadLayout → D.keeps_word (device_of store.new)
+        → IsReadTo (bytes_of (content_of D.Sectors store.old) run.old.id) run.old []
+        → (bytes : List ℕ) (span : Span) (plain : PlainCells) → bytes_of (content_of D.Sectors store.old) run.old.id ≡ Some bytes → IsRun bytes span plain
+        → (rows : List LineOrder) → StandFor dims.now [] rows plain → CanTake dims.now fold.old rows → ⊥ }
+    ensures leaves { Leaves (disk_of D.Sectors store.old) (disk_of D.Sectors store.new) (λ c. c ≡ content_of D.Sectors store.old) }
+    ensures stays { (IsErrOf result Device → ⊥) → IsStill D.Sectors store.old store.new }
+    ensures device { IsErrOf result Device → Breaks D.Sectors store.old store.new }
+    ensures causes { IfErr result (λ fault. (fault ≡ Memory) ⊎ ((fault ≡ Device) ⊎ (fault ≡ BadLayout))) }
+{
+    fold.add_run(dims, store, run, None)
 }

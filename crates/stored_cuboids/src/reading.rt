@@ -1,15 +1,17 @@
 //! Reading the runs of a stored cuboid, one after another.
-ghost use Rattle.std.specs.Prelude.{◌≡◌, ◌⊎◌, ◌↔◌, false, IfErr, IfNone, IfOk, IfSome, IsErrOf, IsTrue};
+ghost use Rattle.std.specs.Prelude.{◌≡◌, ◌⊎◌, ◌↔◌, [], Some, false, IfErr, IfNone, IfOk, IfSome, IsErrOf, IsTrue};
 ghost use Rattle.cube_model.specs.declared.fault.Fault.TheVariants.{BadLayout, Device, Memory};
 ghost use Rattle.object_store.specs.Disk.{Leaves};
-ghost use Rattle.object_store.specs.Store.{Breaks, IsStill, content_of, device_of, disk_of, has_failed};
+ghost use Rattle.object_store.specs.Content.{bytes_of};
+ghost use Rattle.object_store.specs.Store.{Breaks, IsStill, content_of, device_of, disk_of, has_failed, size_in};
 ghost use Rattle.cuboid_cells.specs.Cells.{PlainCells};
+ghost use Rattle.cuboid_cells.specs.Pieces.{IsReadTo, size_of_run};
 ghost use Rattle.cuboid_cells.specs.declared.span.Span.{Span};
-ghost use Rattle.stored_cuboids.specs.Steps.{GoesOn, HasRun, IsNextRun};
+ghost use Rattle.stored_cuboids.specs.Steps.{GoesOn, HasRun, IsNextRun, head_of};
 ghost use Rattle.stored_cuboids.specs.declared.reading.Progress.{Progress};
 
 use cube_model::Fault;
-use cuboid_cells::{Cells, Span, decode_from};
+use cuboid_cells::{Cells, RunHead, RunReader, Span, decode_from};
 use lattice::View;
 use object_store::Store;
 use sector_device::Sectors;
@@ -56,10 +58,55 @@ pub(crate) fn read_next<D: Sectors>(
     ensures causes { IfErr result (λ fault. (fault ≡ Memory) ⊎ ((fault ≡ Device) ⊎ (fault ≡ BadLayout))) }
 {
     let (span, cells) = read_run(alloc, store, id)?;
-    match go_on(view, at, span, &cells) {
+    match go_on(view, at, head_of(span, &cells)) {
         Some(next) => Ok((cells, next)),
         None => Err(Fault::BadLayout),
     }
+}
+
+// The run of a view that an object has, of which the header is read, and how far the runs are read with it.
+//
+// `BadLayout` as `read_next`, and that the object is a run is known once all cells are read.
+pub(crate) fn open_next<D: Sectors>(
+    alloc: Global,
+    store: &mut Store<D>,
+    view: View,
+    at: Progress,
+    id: u32,
+) -> Result<(RunReader, Progress), Fault>
+    requires fine { has_failed store.old ≡ false }
+    ensures id { IfOk result (λ both. both.0.id ≡ id) }
+    ensures total { IfOk result (λ both. size_in store.new id ≡ Some (size_of_run both.0)) }
+    ensures ok { IfOk result (λ both. D.keeps_word (device_of store.new) → IsReadTo (bytes_of (content_of D.Sectors store.old) id) both.0 []) }
+    ensures goes_on { IfOk result (λ both. GoesOn view at both.0.head both.1) }
+    ensures refused { IsErrOf result BadLayout → D.keeps_word (device_of store.new) → (cells : PlainCells) (next : Progress)
+        → IsNextRun (content_of D.Sectors store.old) id view at cells next → ⊥ }
+    ensures leaves { Leaves (disk_of D.Sectors store.old) (disk_of D.Sectors store.new) (λ c. c ≡ content_of D.Sectors store.old) }
+    ensures stays { (IsErrOf result Device → ⊥) → IsStill D.Sectors store.old store.new }
+    ensures device { IsErrOf result Device → Breaks D.Sectors store.old store.new }
+    ensures causes { IfErr result (λ fault. (fault ≡ Memory) ⊎ ((fault ≡ Device) ⊎ (fault ≡ BadLayout))) }
+{
+    let reader = open_run(alloc, store, id)?;
+    match go_on(view, at, reader.head()) {
+        Some(next) => Ok((reader, next)),
+        None => Err(Fault::BadLayout),
+    }
+}
+
+// The run that an object has, of which the header is read.
+fn open_run<D: Sectors>(alloc: Global, store: &mut Store<D>, id: u32) -> Result<RunReader, Fault>
+    requires fine { has_failed store.old ≡ false }
+    ensures id { IfOk result (λ run. run.id ≡ id) }
+    ensures total { IfOk result (λ run. size_in store.new id ≡ Some (size_of_run run)) }
+    ensures ok { IfOk result (λ run. D.keeps_word (device_of store.new) → IsReadTo (bytes_of (content_of D.Sectors store.old) id) run []) }
+    ensures refused { IsErrOf result BadLayout → D.keeps_word (device_of store.new) → (span : Span) (cells : PlainCells)
+        → HasRun (content_of D.Sectors store.old) id span cells → ⊥ }
+    ensures leaves { Leaves (disk_of D.Sectors store.old) (disk_of D.Sectors store.new) (λ c. c ≡ content_of D.Sectors store.old) }
+    ensures stays { (IsErrOf result Device → ⊥) → IsStill D.Sectors store.old store.new }
+    ensures device { IsErrOf result Device → Breaks D.Sectors store.old store.new }
+    ensures causes { IfErr result (λ fault. (fault ≡ Memory) ⊎ ((fault ≡ Device) ⊎ (fault ≡ BadLayout))) }
+{
+    RunReader::open(alloc, store, id)
 }
 
 // The run that an object has: its batches, and its cells.
@@ -80,19 +127,29 @@ fn read_run<D: Sectors>(
     decode_from(alloc, store, id)
 }
 
-// How far the runs are read with one more. Nothing where it is none of this view, does not begin where the others end, or
-// has more cells than are left.
-fn go_on(view: View, at: Progress, span: Span, cells: &Cells) -> Option<Progress>
-    ensures some { IfSome result (GoesOn view at span cells.now) }
-    ensures none { IfNone result ((next : Progress) → GoesOn view at span cells.now next → ⊥) }
+// How far the runs are read with one more. Nothing where its header says that it is none of this view, does not begin where the
+// others end, or has more cells than are left.
+fn go_on(view: View, at: Progress, head: RunHead) -> Option<Progress>
+    ensures some { IfSome result (GoesOn view at head) }
+    ensures none { IfNone result ((next : Progress) → GoesOn view at head next → ⊥) }
 {
-    let count = cells.as_slice().len();
-    let (own, number) = (cells.view().index(), view.index());
-    if own != number || span.from != at.end || count > at.left as usize {
+    let (own, number) = (head.view.index(), view.index());
+    if own != number || head.span.from != at.end || head.count > at.left as usize {
         return None;
     }
     Some(Progress {
-        end: span.to,
-        left: at.left - count as u32,
+        end: head.span.to,
+        left: at.left - head.count as u32,
     })
+}
+
+// The header of the run of cells over some batches.
+fn head_of(span: Span, cells: &Cells) -> RunHead
+    ensures { result ≡ head_of span cells.now }
+{
+    RunHead {
+        view: cells.view(),
+        span,
+        count: cells.as_slice().len(),
+    }
 }

@@ -35,7 +35,7 @@ pub use creation::create;
 pub use growing::GrowingBatch;
 pub use new_rows::NewRows;
 pub use opening::{open, open_as_is};
-pub use planned_queries::Running;
+pub use planned_queries::{Found, Running};
 pub use planner::{Plan, Priced};
 pub use query_slots::MOST_RUNNING;
 pub use reopening::open_and_query;

@@ -1,6 +1,7 @@
-use Rattle.std.proofs.Common.{◌≡◌, ℕ, List, length, take}
+use Rattle.std.proofs.Common.{◌≡◌, ℕ, ◌≤◌, List, length, take}
 use Rattle.group_plan.specs.Numbers.{group_count}
 use Rattle.cube_query.specs.CellSlots.{AreMergedIn}
+use Rattle.cube_query.specs.Columns.{tallies_at}
 use Rattle.cube_query.specs.Slots.{entries_of, Cover, Grow}
 use Rattle.cube_query.proofs.cell_slots.merge_cells.Given as goal
 
@@ -10,3 +11,5 @@ invariant-loop-place l = AreMergedIn l.numbers l.aggs (entries_of l.slots) (take
     × Cover (group_count l.numbers.dimensions l.numbers.query.columns) l.slots
     × ((first : List (ℕ × ℕ)) → Grow (group_count l.numbers.dimensions l.numbers.query.columns) first (entries_of l.initial.slots)
     → Grow (group_count l.numbers.dimensions l.numbers.query.columns) first (entries_of l.slots))
+    × ((first : List (ℕ × ℕ)) → Grow (group_count l.numbers.dimensions l.numbers.query.columns) first (entries_of l.initial.slots)
+    → (slot : ℕ) → length (entries_of l.slots) ≤ slot → tallies_at l.columns slot ≡ tallies_at l.initial.columns slot)

@@ -5,7 +5,6 @@ use Rattle.cube_model.specs.declared.fault.Fault.{Fault}
 use Rattle.cube_model.specs.declared.fault.Fault.TheVariants.{BadLayout}
 use Rattle.cube_query.specs.Groups.{StandsFor}
 use Rattle.lattice.proofs.Places.{one_view}
-use Rattle.lattice.specs.Determined.{Serves}
 use Rattle.object_store.specs.Content.{Content}
 use Rattle.object_store.specs.Store.{IsStill, content_of}
 use Rattle.warehouse_root.specs.declared.cuboid.StoredCuboid.{StoredCuboid}

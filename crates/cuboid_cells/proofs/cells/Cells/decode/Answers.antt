@@ -1,4 +1,4 @@
-use Rattle.std.proofs.Common.{ℕ, ◌<◌, List, length, IsTrue, inr, refl, sym, ap, subst, arith}
+use Rattle.std.proofs.Common.{ℕ, ◌<◌, List, length, IsTrue, inr, refl, ap, subst, arith}
 use Rattle.std.proofs.lemmas.Result.{err_from_is_err_and}
 use Rattle.cuboid_cells.specs.Reading.{ReadsHeader}
 use Rattle.cuboid_cells.proofs.Decoded.{header_is_of, is_run, kept, they_keep, too_short}

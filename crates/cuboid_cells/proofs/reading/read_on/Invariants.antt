@@ -1,9 +1,9 @@
 use Rattle.std.proofs.Common.{◌≡◌, ◌+◌, ◌*◌, ◌++◌, ◌↔◌, length, All, IsTrue}
 use Rattle.std.specs.List.{flat_map}
-use Rattle.cuboid_cells.specs.Cells.{FollowRules}
+use Rattle.cuboid_cells.specs.Pieces.{AreCellsFrom, least_after}
 use Rattle.cuboid_cells.specs.Reading.{IsReadable}
 use Rattle.cuboid_cells.specs.Spelled.{cell_bytes, cell_of}
-use Rattle.cuboid_cells.proofs.reading.read_cells.Given as goal
+use Rattle.cuboid_cells.proofs.reading.read_on.Given as goal
 
 abbrev pub invariant-loop : goal.invariant-loop
 invariant-loop l = record {
@@ -11,5 +11,6 @@ invariant-loop l = record {
   readable : All (IsReadable l.view.ship_mode) l.cells.items;
   spelled : l.initial.cursor ≡ flat_map (cell_of l.view.ship_mode) l.cells.items ++ l.cursor;
   left : length l.initial.cursor ≡ cell_bytes l.view.ship_mode * l.counter + length l.cursor;
-  rules : IsTrue l.fine ↔ FollowRules l.view l.cells.items;
+  next : l.next ≡ least_after l.least l.cells.items;
+  rules : IsTrue l.fine ↔ AreCellsFrom l.view l.least l.cells.items;
 }
