@@ -1,16 +1,18 @@
 //! The command `eval`.
 use crate::exit::DONE;
 use crate::files::{DimensionFiles, open, open_dimensions};
+use crate::layout::asked_of;
 use crate::notes::note_conditions;
 use crate::output::{cut_short, output};
 use crate::progress::Progress;
-use crate::query::query_of;
 use crate::refusal::{Met, Refusal, explained};
+use crate::saving::{begin, cut_off, finish, part_of, remove};
 use crate::screens::Screens;
 use clap::ArgMatches;
-use cube_model::{Fault, Query};
+use cube_model::Fault;
 use dimensions::Dims;
-use ssb_eval::eval_keeping_dims;
+use report_formats::Asked;
+use ssb_eval::eval_formatted;
 use std::alloc::Global;
 use std::io::{self, Read};
 use std::rt::{Clock, Files};
@@ -22,29 +24,71 @@ pub fn eval<R: Files + AllocGlobal + Print + Eprint + Clock>(
     screens: Screens,
 ) -> Result<u8, Refusal> {
     match opened(rt, given) {
-        Ok((query, dimensions, lineorder)) => {
+        Ok((asked, dimensions, lineorder)) => {
             let lineorder = Progress::new(rt, lineorder, screens.errors);
-            answer(rt, given, &query, dimensions, lineorder)
+            answer(rt, given, &asked, dimensions, lineorder)
         }
         Err(fault) => Err(explained(rt, given, Met::from(fault))),
     }
 }
 
-// Writes the report of a query over the files of its tables and the notes on its conditions, and gives the status of the program.
+// Writes a report over the files of its tables to where the words have it go, and the notes on its conditions. It gives the status of
+// the program.
 fn answer<R: Files + AllocGlobal + Print + Eprint, F: Read + Drop, L: Read + Drop>(
     rt: &R,
     given: &ArgMatches<'_>,
-    query: &Query,
+    asked: &Asked,
+    dimensions: DimensionFiles<F>,
+    lineorder: L,
+) -> Result<u8, Refusal> {
+    match given.get_str("output") {
+        None => print_report(rt, given, asked, dimensions, lineorder),
+        Some(path) => save_report(rt, given, asked, dimensions, lineorder, path),
+    }
+}
+
+// Prints a report.
+fn print_report<R: Files + AllocGlobal + Print + Eprint, F: Read + Drop, L: Read + Drop>(
+    rt: &R,
+    given: &ArgMatches<'_>,
+    asked: &Asked,
     dimensions: DimensionFiles<F>,
     lineorder: L,
 ) -> Result<u8, Refusal> {
     let mut out = output(rt)?;
-    match report(rt.alloc(), query, dimensions, lineorder, &mut out) {
+    match report(rt.alloc(), asked, dimensions, lineorder, &mut out) {
         Ok(dims) => {
             note_conditions(rt, given, &dims);
             Ok(DONE)
         }
         Err(fault) => not_done(rt, given, fault, out.failure()),
+    }
+}
+
+// Saves a report in a file.
+fn save_report<R: Files + AllocGlobal + Eprint, F: Read + Drop, L: Read + Drop>(
+    rt: &R,
+    given: &ArgMatches<'_>,
+    asked: &Asked,
+    dimensions: DimensionFiles<F>,
+    lineorder: L,
+    path: &str,
+) -> Result<u8, Refusal> {
+    let part = part_of(rt.alloc(), path)?;
+    let mut out = begin(rt, given, path, part.as_str())?;
+    let done = report(rt.alloc(), asked, dimensions, lineorder, &mut out);
+    let failure = out.failure();
+    drop(out);
+    match done {
+        Ok(dims) => {
+            let status = finish(rt, path, part.as_str())?;
+            note_conditions(rt, given, &dims);
+            Ok(status)
+        }
+        Err(fault) => {
+            remove(rt, part.as_str());
+            Err(unsaved(rt, given, part.as_str(), fault, failure))
+        }
     }
 }
 
@@ -61,21 +105,35 @@ fn not_done<R: Files + AllocGlobal>(
     }
 }
 
-// The query, and the files of its tables.
+// The refusal of a report that was not saved.
+fn unsaved<R: Files + AllocGlobal>(
+    rt: &R,
+    given: &ArgMatches<'_>,
+    part: &str,
+    fault: Fault,
+    failure: Option<io::Error>,
+) -> Refusal {
+    match fault {
+        Fault::Output => cut_off(rt.alloc(), part, failure),
+        fault => explained(rt, given, Met::from(fault)),
+    }
+}
+
+// The report that is asked for, and the files of its tables.
 fn opened<R: Files + AllocGlobal>(
     rt: &R,
     given: &ArgMatches<'_>,
-) -> Result<(Query, DimensionFiles<R::File>, R::File), Fault> {
-    let query = query_of(rt.alloc(), given)?;
+) -> Result<(Asked, DimensionFiles<R::File>, R::File), Fault> {
+    let asked = asked_of(rt.alloc(), given)?;
     let dimensions = open_dimensions(rt, given)?;
     let lineorder = open(rt, given, "lineorder")?;
-    Ok((query, dimensions, lineorder))
+    Ok((asked, dimensions, lineorder))
 }
 
 // Writes the report, and gives the dimensions.
 fn report<F: Read + Drop, L: Read + Drop, W: io::Write>(
     alloc: Global,
-    query: &Query,
+    asked: &Asked,
     dimensions: DimensionFiles<F>,
     lineorder: L,
     out: &mut W,
@@ -86,5 +144,5 @@ fn report<F: Read + Drop, L: Read + Drop, W: io::Write>(
         part,
         date,
     } = dimensions;
-    eval_keeping_dims(alloc, customer, supplier, part, date, lineorder, query, out)
+    eval_formatted(alloc, customer, supplier, part, date, lineorder, asked, out)
 }

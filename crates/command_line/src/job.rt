@@ -1,18 +1,20 @@
 //! A job that a command has done to its warehouse.
 use crate::device::{self, Access, Device};
 use crate::exit::{DONE, UNFINISHED};
+use crate::layout::asked_of;
 use crate::load::cut_of;
 use crate::notes::note_conditions;
-use crate::output::{Output, is_closed, output, unwritten};
-use crate::query::query_of;
+use crate::output::{Output, cut_short, is_closed, output, unwritten};
 use crate::refusal::{Met, Refusal, explained};
 use crate::repeated::StoredBatch;
 use crate::report::swapped;
+use crate::saving::{begin, cut_off, finish, part_of, remove};
 use crate::space::{Room, note_room};
 use crate::unfinished::note_unfinished;
 use clap::ArgMatches;
 use cube_model::Fault;
 use file_device::LockFile;
+use report_formats::Asked;
 use ssb_eval::exit_of;
 use std::alloc::Global;
 use std::fs::OpenFile;
@@ -20,7 +22,7 @@ use std::io::{self, Read};
 use std::os::unix::fs::FileExt;
 use std::rt::Files;
 use warehouse::Session;
-use warehouse_jobs::{Job, perform};
+use warehouse_jobs::{Job, perform, report_formatted};
 
 /// Asks the query of a command, over the batches that it names, and writes the notes on its conditions.
 pub fn ask<R: Files + AllocGlobal + Print + Eprint>(
@@ -30,31 +32,96 @@ pub fn ask<R: Files + AllocGlobal + Print + Eprint>(
 where
     R::File: FileExt + LockFile,
 {
-    let query = match query_of(rt.alloc(), given) {
-        Ok(query) => query,
+    let asked = match asked_of(rt.alloc(), given) {
+        Ok(asked) => asked,
         Err(fault) => return Err(unasked(rt, given, fault)),
     };
-    let as_of = given.get_one::<u32>("as-of");
     match device::open(rt, given, Access::Read) {
-        Ok(mut session) => answer_in(rt, given, &mut session, Job::Report { as_of, query }),
+        Ok(mut session) => answer_in(rt, given, &mut session, &asked),
         Err(met) => Err(explained(rt, given, met)),
     }
 }
 
-// Asks a query of an open warehouse, and writes the notes on its conditions.
+// Reports the answer of an open warehouse to where the words have it go, and writes the notes on the conditions.
 fn answer_in<R: Files + AllocGlobal + Print + Eprint>(
     rt: &R,
     given: &ArgMatches<'_>,
     session: &mut Session<Device<R::File>>,
-    job: Job,
+    asked: &Asked,
 ) -> Result<u8, Refusal>
 where
     R::File: FileExt + LockFile,
 {
-    let status = done_in(rt, given, session, job, io::empty())?;
+    let status = match given.get_str("output") {
+        None => print_report(rt, given, session, asked)?,
+        Some(path) => save_report(rt, given, session, asked, path)?,
+    };
     note_unfinished(rt, given, session);
     note_conditions(rt, given, session.dims());
     Ok(status)
+}
+
+// Prints a report of an open warehouse.
+fn print_report<R: Files + AllocGlobal + Print>(
+    rt: &R,
+    given: &ArgMatches<'_>,
+    session: &mut Session<Device<R::File>>,
+    asked: &Asked,
+) -> Result<u8, Refusal>
+where
+    R::File: FileExt + LockFile,
+{
+    let mut out = output(rt)?;
+    let as_of = given.get_one::<u32>("as-of");
+    match report_formatted(rt.alloc(), session, as_of, asked, &mut out) {
+        Ok(()) => Ok(DONE),
+        Err(Fault::Output) => cut_short(rt.alloc(), out.failure()),
+        Err(fault) => Err(explained(rt, given, met_in(rt.alloc(), fault, session))),
+    }
+}
+
+// Saves a report of an open warehouse in a file.
+fn save_report<R: Files + AllocGlobal>(
+    rt: &R,
+    given: &ArgMatches<'_>,
+    session: &mut Session<Device<R::File>>,
+    asked: &Asked,
+    path: &str,
+) -> Result<u8, Refusal>
+where
+    R::File: FileExt + LockFile,
+{
+    let part = part_of(rt.alloc(), path)?;
+    let mut out = begin(rt, given, path, part.as_str())?;
+    let as_of = given.get_one::<u32>("as-of");
+    let done = report_formatted(rt.alloc(), session, as_of, asked, &mut out);
+    let failure = out.failure();
+    drop(out);
+    match done {
+        Ok(()) => finish(rt, path, part.as_str()),
+        Err(fault) => {
+            remove(rt, part.as_str());
+            Err(unsaved(rt, given, session, part.as_str(), fault, failure))
+        }
+    }
+}
+
+// The refusal of a report that was not saved.
+fn unsaved<R: Files + AllocGlobal>(
+    rt: &R,
+    given: &ArgMatches<'_>,
+    session: &Session<Device<R::File>>,
+    part: &str,
+    fault: Fault,
+    failure: Option<io::Error>,
+) -> Refusal
+where
+    R::File: FileExt + LockFile,
+{
+    match fault {
+        Fault::Output => cut_off(rt.alloc(), part, failure),
+        fault => explained(rt, given, met_in(rt.alloc(), fault, session)),
+    }
 }
 
 /// The refusal of words that spell no query.

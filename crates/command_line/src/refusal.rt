@@ -1,8 +1,8 @@
 //! A refusal, and what the program knows of it.
 use crate::device_hints::{device_hint, failure_hint};
 use crate::files::GivenFiles;
+use crate::layout::asked_hint;
 use crate::load::cut_of;
-use crate::query::query_hint;
 use crate::repeated::{StoredBatch, repeated_hint};
 use crate::space::{Room, room_hint};
 use clap::ArgMatches;
@@ -76,7 +76,7 @@ fn hint_of<R: Files + AllocGlobal>(
 ) -> Result<Option<String>, Fault> {
     let files = GivenFiles { rt, given };
     match met.fault {
-        Fault::BadQuery => query_hint(rt.alloc(), given),
+        Fault::BadQuery => asked_hint(rt.alloc(), given),
         Fault::Input => files.unreadable(rt.alloc()),
         Fault::Repeated => repeated_hint(rt.alloc(), &files, met.stored),
         Fault::NoSuchPrefix => prefix_hint(rt.alloc(), given, met.batches),

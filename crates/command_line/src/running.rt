@@ -4,7 +4,7 @@ use crate::exit::{DONE, NO_COMMAND};
 use crate::refusal::Refusal;
 use crate::screens::Screens;
 use crate::streams::hold_streams;
-use crate::{add, check, crashes, create, cuboids, demo, eval, job, load, plans, views};
+use crate::{add, check, crashes, create, cuboids, demo, eval, generate, job, load, plans, views};
 use clap::ArgMatches;
 use clap::error::{Error, ErrorKind};
 use command_words::command;
@@ -76,6 +76,7 @@ where
         Some(("add", given)) => add::add(rt, given),
         Some(("demo", _)) => demo::demo(rt),
         Some(("self-test", given)) => crashes::self_test(rt, given),
+        Some(("generate", given)) => generate::generate(rt, given),
         Some((name, given)) => consult(rt, name, given),
         None => Ok(NO_COMMAND),
     }

@@ -1,6 +1,7 @@
 //! The commands of the program.
 use crate::{
-    add, check, create, cube, cuboids, demo, eval, explain, load, report, self_test, status, views,
+    add, check, create, cube, cuboids, demo, eval, explain, generate, load, report, self_test,
+    status, views,
 };
 use clap::Command;
 use std::alloc::{AllocError, Global};
@@ -27,6 +28,7 @@ pub fn command<'a>(alloc: Global) -> Result<Command<'a>, AllocError> {
     push_cuboids(alloc, &mut commands)?;
     push(&mut commands, Ok(demo::words(alloc)))?;
     push(&mut commands, self_test::words(alloc))?;
+    push(&mut commands, generate::words(alloc))?;
     program(alloc).subcommands(commands)
 }
 

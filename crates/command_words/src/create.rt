@@ -1,6 +1,6 @@
 //! The words of the command `create`.
-use crate::options::{dimension_tables, on_device, option};
-use clap::{Arg, ArgAction, Command};
+use crate::options::{dimension_tables, on_device, option, overwrite};
+use clap::Command;
 use std::alloc::{AllocError, Global};
 
 const ABOUT: &str = "Makes a warehouse in a file, with the four dimension tables.";
@@ -30,15 +30,8 @@ refusal a file that it made is removed again.";
 /// The words of the command.
 pub fn words<'a>(alloc: Global) -> Result<Command<'a>, AllocError> {
     let sectors = "The sectors of the file, 64 to 4294967295, or its size, as 4G";
+    let replaced = "Replaces what the file holds, if that is no warehouse";
     let create = on_device(alloc, "create", ABOUT, USAGE, HELP)?;
     let create = create.arg(option(alloc, "sectors", "N", sectors).required(true))?;
-    dimension_tables(alloc, create)?.arg(overwrite(alloc))
-}
-
-// The option that lets the file hold anything but a warehouse.
-fn overwrite<'a>(alloc: Global) -> Arg<'a> {
-    Arg::new(alloc, "overwrite")
-        .long("overwrite")
-        .action(ArgAction::SetTrue)
-        .help("Replaces what the file holds, if that is no warehouse")
+    dimension_tables(alloc, create)?.arg(overwrite(alloc, replaced))
 }

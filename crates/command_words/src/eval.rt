@@ -1,5 +1,5 @@
 //! The words of the command `eval`.
-use crate::options::{CUBE_HELP, cube_words, described, dimension_tables, option};
+use crate::options::{CUBE_HELP, cube_words, described, dimension_tables, layout_words, option};
 use clap::Command;
 use std::alloc::{AllocError, Global};
 
@@ -7,7 +7,9 @@ const ABOUT: &str = "Answers one query over five table files, and keeps nothing.
 
 const USAGE: &str = "ssbcube eval --customer FILE --supplier FILE --part FILE
                     --date FILE --lineorder FILE --query Q
-       ssbcube eval ... [--set SET] [--by A,A] --agg G,G [CONDITION]...";
+       ssbcube eval ... [--set SET] [--by A,A] --agg G,G [CONDITION]...
+       ssbcube eval ... [--format FORMAT] [--decimals N]
+                    [--output FILE [--overwrite]] ...";
 
 /// The words of the command.
 pub fn words<'a>(alloc: Global) -> Result<Command<'a>, AllocError> {
@@ -15,7 +17,7 @@ pub fn words<'a>(alloc: Global) -> Result<Command<'a>, AllocError> {
     let eval = with_tables(alloc, eval)?;
     let number = "A query of the benchmark, 1.1 to 4.3";
     let eval = eval.arg(option(alloc, "query", "Q", number))?;
-    cube_words(alloc, eval)
+    cube_words(alloc, layout_words(alloc, eval)?)
 }
 
 // The words of the tables, after the other words of the command.

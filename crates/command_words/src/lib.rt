@@ -10,6 +10,7 @@ mod cuboids;
 mod demo;
 mod eval;
 mod explain;
+mod generate;
 mod listed;
 mod load;
 mod options;

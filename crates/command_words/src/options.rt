@@ -33,9 +33,21 @@ Examples of queries, to follow the other words of the command:
   --set cube --by c_region,d_year --agg count,avg:revenue
   --set rollup --by d_year,d_yearmonthnum --agg sum:revenue
 
-The report goes to standard output. A refusal goes to standard error with
-status 1: a line such as 'fault 24 BadQuery', followed by an explanation where
-more is known.";
+Formats, for --format:
+  bars  fields separated by bars, and the number of lines at the end
+  csv   as RFC 4180 has it, with CR LF after a line; ALL is an empty field, and
+        an empty text two quotation marks
+  tsv   fields separated by tabs; a tab, LF, CR or backslash in a text is
+        \\t \\n \\r or \\\\; ALL is an empty field
+  json  an object a line; ALL is null
+  An average is a fraction in lowest terms, and in json an object such as
+  {\"sum\":1475,\"count\":2}. With --decimals N it is a decimal with N digits
+  after the point, rounded half up: 737.5 is 738 with none, and -737.5 -738.
+
+The report goes to standard output, or to a file with --output: that is there
+once it is whole, and one that was there is replaced with --overwrite only. A
+refusal goes to standard error with status 1: a line such as 'fault 24 BadQuery',
+followed by an explanation where more is known.";
 
 /// The option, the value and the help of each dimension table.
 static DIMENSION_TABLES: [(&str, &str, &str); 4] = [
@@ -64,6 +76,9 @@ static CUBE_WORDS: [(&str, &str, &str); 3] = [
     ("agg", "G,G", "Aggregates, such as count,sum:revenue"),
 ];
 
+/// The names of the formats of a report.
+static FORMATS: [&str; 4] = ["bars", "csv", "tsv", "json"];
+
 /// The words of the four dimension tables, after the other words of a command.
 pub fn dimension_tables<'a>(
     alloc: Global,
@@ -85,6 +100,31 @@ pub fn cube_words<'a>(alloc: Global, command: Command<'a>) -> Result<Command<'a>
 /// The words of an ad-hoc query but the conditions, after the other words of a command.
 pub fn cube_options<'a>(alloc: Global, command: Command<'a>) -> Result<Command<'a>, AllocError> {
     with_options(alloc, command, &CUBE_WORDS, false)
+}
+
+/// The words that say how a report is written and where, after the other words of a command.
+pub fn layout_words<'a>(alloc: Global, command: Command<'a>) -> Result<Command<'a>, AllocError> {
+    let digits = "Averages as decimals, with N digits after the point";
+    let file = "Writes the report to a new file";
+    let replaced = "Replaces the file of --output, if it is there";
+    let command = command.arg(format(alloc))?;
+    let command = command.arg(number(alloc, "decimals", digits, 0, 18))?;
+    let command = command.arg(option(alloc, "output", "FILE", file))?;
+    command.arg(overwrite(alloc, replaced).requires_arg("output")?)
+}
+
+// The option that names the format of a report.
+fn format<'a>(alloc: Global) -> Arg<'a> {
+    let help = "How the report is written; bars if left out";
+    option(alloc, "format", "FORMAT", help).value_parser(ValueParser::Names(&FORMATS))
+}
+
+/// The option that lets a file be replaced.
+pub fn overwrite<'a>(alloc: Global, help: &'a str) -> Arg<'a> {
+    Arg::new(alloc, "overwrite")
+        .long("overwrite")
+        .action(ArgAction::SetTrue)
+        .help(help)
 }
 
 // Some options with their values and their help, after the other words of a command.

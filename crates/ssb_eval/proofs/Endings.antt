@@ -6,14 +6,13 @@ use Rattle.cube_model.specs.declared.fault.Fault.{Fault}
 use Rattle.cube_model.specs.declared.query.Query.{Query}
 use Rattle.cube_model.specs.declared.answer.Answer.{Answer}
 use Rattle.cube_model.specs.declared.rows.DimRows.{DimRows}
-use Rattle.ssb_eval.specs.Evaluation.{Gives, Reports, Texts, answer_of, dimensions_of, eval_of}
+use Rattle.ssb_eval.specs.Evaluation.{Gives, Reports, Texts, answer_of, dimensions_of, eval_as}
 use Rattle.ssb_eval.proofs.Tables.{gives-on, gives-stop}
-use Rattle.ssb_reports.specs.Report.{report_of}
 use Rattle.ssb_reports.specs.Writing.{Writes}
 
--- the report over dimensions
-abbrev report_over : Query → Texts → DimRows → Result (List ℕ) Fault
-report_over query texts dimensions = and_then (answer_of query dimensions texts.lineorder) (λ found. Ok (report_of query found))
+-- the text over dimensions
+abbrev text_over : (Answer → List ℕ) → Query → Texts → DimRows → Result (List ℕ) Fault
+text_over text query texts dimensions = and_then (answer_of query dimensions texts.lineorder) (λ found. Ok (text found))
 
 keeps_same : (known : Option (List ℕ)) → Keeps known known
 keeps_same None = tt
@@ -32,17 +31,20 @@ pub reports-refused : {A : Type 0} (old new : Option (List ℕ)) (outcome : Resu
 reports-refused old new outcome fault result stop reports = rw (stop.1, stop.2) reports
 
 -- the dimensions were refused
-pub eval-no_dims : (query : Query) (texts : Texts) (fault : Fault) → Gives (dimensions_of texts) (Err fault) → Gives (eval_of query texts) (Err fault)
-eval-no_dims query texts fault gives = gives-stop (dimensions_of texts) (report_over query texts) fault (Err fault) (fault, refl, refl) gives
+pub eval-no_dims : (text : Answer → List ℕ) (query : Query) (texts : Texts) (fault : Fault)
+    → Gives (dimensions_of texts) (Err fault) → Gives (eval_as text query texts) (Err fault)
+eval-no_dims text query texts fault gives = gives-stop (dimensions_of texts) (text_over text query texts) fault (Err fault) (fault, refl, refl) gives
 
 -- the facts were refused
-pub eval-no_answer : (query : Query) (texts : Texts) (dimensions : DimRows) (fault : Fault) → dimensions_of texts ≡ Ok dimensions → Gives (answer_of query dimensions texts.lineorder) (Err fault) → Gives (eval_of query texts) (Err fault)
-eval-no_answer query texts dimensions fault is gives =
-    gives-on (dimensions_of texts) (report_over query texts) dimensions (Err fault) is
-    (gives-stop (answer_of query dimensions texts.lineorder) (λ found. Ok (report_of query found)) fault (Err fault) (fault, refl, refl) gives)
+pub eval-no_answer : (text : Answer → List ℕ) (query : Query) (texts : Texts) (dimensions : DimRows) (fault : Fault)
+    → dimensions_of texts ≡ Ok dimensions → Gives (answer_of query dimensions texts.lineorder) (Err fault) → Gives (eval_as text query texts) (Err fault)
+eval-no_answer text query texts dimensions fault is gives =
+    gives-on (dimensions_of texts) (text_over text query texts) dimensions (Err fault) is
+    (gives-stop (answer_of query dimensions texts.lineorder) (λ found. Ok (text found)) fault (Err fault) (fault, refl, refl) gives)
 
--- the report is that of the answer
-pub eval-is : (query : Query) (texts : Texts) (dimensions : DimRows) (answer : Answer) → dimensions_of texts ≡ Ok dimensions → answer_of query dimensions texts.lineorder ≡ Ok answer → eval_of query texts ≡ Ok (report_of query answer)
-eval-is query texts dimensions answer is found =
-    gives-on (dimensions_of texts) (report_over query texts) dimensions (Ok (report_of query answer)) is
-    (ap (λ one. and_then one (λ answer. Ok (report_of query answer))) found)
+-- the text is that of the answer
+pub eval-is : (text : Answer → List ℕ) (query : Query) (texts : Texts) (dimensions : DimRows) (answer : Answer)
+    → dimensions_of texts ≡ Ok dimensions → answer_of query dimensions texts.lineorder ≡ Ok answer → eval_as text query texts ≡ Ok (text answer)
+eval-is text query texts dimensions answer is found =
+    gives-on (dimensions_of texts) (text_over text query texts) dimensions (Ok (text answer)) is
+    (ap (λ one. and_then one (λ answer. Ok (text answer))) found)

@@ -18,6 +18,8 @@ use Rattle.cube_model.specs.Answers.{answer}
 use Rattle.cube_model.specs.Validity.{invalid_cause}
 use Rattle.cube_query.specs.GroupLines.{answer_over}
 use Rattle.cube_query.specs.declared.finished.Groups.{Groups}
+use Rattle.report_formats.specs.declared.asked.Asked.{Asked}
+use Rattle.report_formats.specs.Fields.{formatted}
 use Rattle.ssb_reports.specs.Report.{report_of}
 use Rattle.ssb_reports.specs.Writing.{AppendsBeginning}
 
@@ -76,12 +78,20 @@ abbrev pub answer_in : DimRows → Result Groups Fault → Result Answer Fault
 answer_in dimensions (Ok groups) = Ok (answer_over dimensions groups)
 answer_in dimensions (Err fault) = Err fault
 
--- the bytes of the report
-abbrev pub eval_of : Query → Texts → Result (List ℕ) Fault
-eval_of query texts =
+-- the bytes that a text of the answer has
+abbrev pub eval_as : (Answer → List ℕ) → Query → Texts → Result (List ℕ) Fault
+eval_as text query texts =
     and_then (dimensions_of texts) (λ dimensions.
     and_then (answer_of query dimensions texts.lineorder) (λ found.
-    Ok (report_of query found)))
+    Ok (text found)))
+
+-- the bytes of the report
+abbrev pub eval_of : Query → Texts → Result (List ℕ) Fault
+eval_of query texts = eval_as (report_of query) query texts
+
+-- the bytes of a report in a layout
+abbrev pub formatted_of : Asked → Texts → Result (List ℕ) Fault
+formatted_of asked texts = eval_as (formatted asked) asked.query texts
 
 -- a call found what a definition says, or its refusal; or memory was refused, or a reader failed
 abbrev pub Gives : {A : Type 0} → Result A Fault → Result A Fault → Type 0

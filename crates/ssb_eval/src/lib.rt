@@ -5,9 +5,11 @@ mod dimension_tables;
 mod evaluation;
 mod exit;
 mod facts;
+mod formatting;
 mod laws;
 
 pub use dimension_tables::{read_dimensions, read_rows};
 pub use evaluation::{eval_keeping_dims, eval_texts};
 pub use exit::exit_of;
+pub use formatting::eval_formatted;
 pub use laws::facts_are_the_rows_of_their_text;

@@ -11,7 +11,9 @@ mod report;
 mod writing;
 
 pub use benchmark::query_of;
+pub use field::Field;
+pub use fields::Fields;
 pub use lines::Lines;
 pub use number::QNumber;
-pub use report::write_report;
-pub use writing::{flush, write_bytes, write_number};
+pub use report::{write_count, write_joined, write_report};
+pub use writing::{flush, write_bytes, write_number, write_parts};

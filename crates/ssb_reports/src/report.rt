@@ -1,6 +1,6 @@
 //! The report of an answer.
 ghost use Rattle.std.specs.Prelude.{◌≡◌, ◌++◌, ◌≤◌, drop, length};
-ghost use Rattle.std.specs.List.{flat_map};
+ghost use Rattle.std.specs.List.{flat_map, join_with_byte};
 ghost use Rattle.ssb_reports.specs.Parted.{parted, lead_behind};
 ghost use Rattle.ssb_reports.specs.Report.{report_of, row_text, line_text, count_text};
 ghost use Rattle.ssb_reports.specs.Writing.{Writes};
@@ -40,7 +40,8 @@ fn write_lines<L: Lines, W: Write>(out: &mut W, lines: &L) -> Result<(), Fault>
     Ok(())
 }
 
-fn write_count<W: Write>(out: &mut W, count: usize) -> Result<(), Fault>
+/// Hands a writer how many lines a report has.
+pub fn write_count<W: Write>(out: &mut W, count: usize) -> Result<(), Fault>
     ensures { Writes (W.contents out.old) (W.contents out.new) result (count_text count) }
 {
     write_bytes(out, b"rows ")?;
@@ -56,32 +57,46 @@ pub(crate) fn write_row<W: Write, F: Fields, G: Fields>(
 ) -> Result<(), Fault>
     ensures { Writes (W.contents out.old) (W.contents out.new) result (row_text (F.texts fields.now ++ G.texts others.now)) }
 {
-    write_fields(out, b"", fields, 0)?;
-    write_fields(out, lead_behind(fields), others, 0)?;
+    write_joined(out, b'|', fields, others)?;
     write_bytes(out, b"\n")
+}
+
+/// Writes some fields and others after them, with a separator between each two.
+pub fn write_joined<W: Write, F: Fields, G: Fields>(
+    out: &mut W,
+    separator: u8,
+    fields: &F,
+    others: &G,
+) -> Result<(), Fault>
+    ensures { Writes (W.contents out.old) (W.contents out.new) result (join_with_byte separator (F.texts fields.now ++ G.texts others.now)) }
+{
+    let bar = [separator];
+    write_fields(out, &bar, b"", fields, 0)?;
+    write_fields(out, &bar, lead_behind(&bar, fields), others, 0)
 }
 
 // Writes the fields from a place on with a bar between each two, and a lead in front of the first.
 fn write_fields<W: Write, F: Fields>(
     out: &mut W,
+    bar: &[u8],
     lead: &[u8],
     fields: &F,
     place: usize,
 ) -> Result<(), Fault>
     requires { place ≤ length (F.texts fields.now) }
-    ensures { Writes (W.contents out.old) (W.contents out.new) result (parted lead.now (drop place (F.texts fields.now))) }
+    ensures { Writes (W.contents out.old) (W.contents out.new) result (parted bar.now lead.now (drop place (F.texts fields.now))) }
 {
     if place == fields.count() {
         return Ok(());
     }
     write_bytes(out, lead)?;
     fields.write_field(place, out)?;
-    write_fields(out, b"|", fields, place + 1)
+    write_fields(out, bar, bar, fields, place + 1)
 }
 
 // What leads the next field.
-fn lead_behind<F: Fields>(fields: &F) -> &'static [u8]
-    ensures { result.now ≡ lead_behind (F.texts fields.now) }
+fn lead_behind<'b, F: Fields>(bar: &'b [u8], fields: &F) -> &'b [u8]
+    ensures { result.now ≡ lead_behind bar.now (F.texts fields.now) }
 {
-    if fields.count() == 0 { b"" } else { b"|" }
+    if fields.count() == 0 { b"" } else { bar }
 }

@@ -1,6 +1,7 @@
 //! Bytes to a writer.
 ghost use Rattle.std.specs.Prelude.{◌≡◌, ◌≤◌, length, IfOk, IfErr};
 ghost use Rattle.std.specs.Io.KnownBytes.{Keeps, WriteAppends};
+ghost use Rattle.std.specs.List.{flat_map};
 ghost use Rattle.ssb_reports.specs.Writing.{Writes};
 
 use cube_model::Fault;
@@ -42,6 +43,16 @@ pub fn write_number<W: Write, I: Integer>(out: &mut W, number: I) -> Result<(), 
 {
     let mut buffer = Buffer::new();
     write_bytes(out, buffer.format(number).as_bytes())
+}
+
+/// Hands a writer some parts one after the other.
+pub fn write_parts<W: Write>(out: &mut W, parts: &[&[u8]]) -> Result<(), Fault>
+    ensures { Writes (W.contents out.old) (W.contents out.new) result (flat_map (λ part. part.now) parts.now) }
+{
+    for part in parts {
+        write_bytes(out, part)?;
+    }
+    Ok(())
 }
 
 /// Has a writer pass on what it holds back.

@@ -93,3 +93,14 @@ pub fn first_line(alloc: Global, text: &[u8]) -> Result<Vec<u8>, AllocError> {
     }
     Ok(line)
 }
+
+/// A text without its carriage returns.
+pub fn without_returns(alloc: Global, text: &[u8]) -> Result<Vec<u8>, AllocError> {
+    let mut bytes = Vec::new(alloc);
+    for byte in text {
+        if *byte != b'\r' {
+            bytes.push(*byte)?;
+        }
+    }
+    Ok(bytes)
+}

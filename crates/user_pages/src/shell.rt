@@ -1,6 +1,6 @@
 //! The commands that a page gives to its reader's shell.
 use crate::kept::Kept;
-use crate::making::{first_line, numbered, replacement, unescaped};
+use crate::making::{first_line, numbered, replacement, unescaped, without_returns};
 use crate::quoting::words;
 use command_line::{LockFile, Screens, run};
 use std::fs::OpenOptions;
@@ -35,7 +35,7 @@ impl Shell {
     ///
     /// It knows `ssbcube`, `alias ssb='..'`, `ssb`, `cat` with one file, `echo $?`, and two commands that write a file, or with `>>`
     /// the end of one: `printf 'TEXT' > FILE` and `seq A B | sed 's/.*/TEXT/' > FILE`. Of a command with ` 2>&1 | head -1` after it the first
-    /// line is kept. The tables are not copied: they are in the folder already.
+    /// line is kept, and with ` | tr -d '\r'` after it what is no carriage return. The tables are not copied: they are in the folder already.
     pub fn run<R: Files + AllocGlobal + Clock + Input>(
         &mut self,
         rt: &R,
@@ -48,6 +48,10 @@ impl Shell {
         if let Some(alias) = command.strip_prefix("alias ssb=") {
             self.alias = Some(String::from_str(alloc, alias.trim_matches('\''))?);
             return Ok(Vec::new(alloc));
+        }
+        if let Some(command) = command.strip_suffix(" | tr -d '\\r'") {
+            let printed = self.run_command(rt, command)?;
+            return Ok(without_returns(alloc, printed.as_slice())?);
         }
         if let Some(command) = command.strip_suffix(" 2>&1 | head -1") {
             let printed = self.run_command(rt, command)?;

@@ -2,10 +2,11 @@
 ghost use Rattle.std.specs.Prelude.{◌≡◌, true, IfOk, IfErr};
 ghost use Rattle.cube_model.specs.declared.fault.Fault.TheVariants.{Failed};
 ghost use Rattle.object_store.specs.Disk.{Leaves};
+ghost use Rattle.ssb_reports.specs.Report.{report_of};
 ghost use Rattle.warehouse_objects.specs.Warehouse.{Warehouse};
 ghost use Rattle.warehouse_objects.specs.Stands.{Stands};
 ghost use Rattle.warehouse.specs.Session.{device_of, disk_of, has_failed, IsAt};
-ghost use Rattle.warehouse_jobs.specs.Reporting.{ReportEnds, Reports, asked_for};
+ghost use Rattle.warehouse_jobs.specs.Reporting.{Answers, Reports, asked_for};
 
 use cube_model::{Fault, Query};
 use sector_device::Sectors;
@@ -39,7 +40,7 @@ fn report_over<D: Sectors, W: Write>(
     out: &mut W,
 ) -> Result<(), Fault>
     ensures ends { (w : Warehouse) → IsAt D.Sectors session.old w → D.keeps_word (device_of session.new)
-        → ReportEnds D.Sectors w count query.now session.new (W.contents out.old) (W.contents out.new) result }
+        → Answers (report_of query.now) D.Sectors w count query.now session.new (W.contents out.old) (W.contents out.new) result }
     ensures leaves { (w : Warehouse) → IsAt D.Sectors session.old w → Leaves (disk_of D.Sectors session.old) (disk_of D.Sectors session.new) (λ c. Stands c w) }
     ensures word { D.keeps_word (device_of session.new) → D.keeps_word (device_of session.old) }
 {

@@ -1,0 +1,6 @@
+mod Csv
+mod Members
+mod Pairs
+mod Plain
+mod Tsv
+mod Utf8

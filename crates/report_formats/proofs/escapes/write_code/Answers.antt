@@ -1,0 +1,13 @@
+use Rattle.std.proofs.Common.{refl, rules}
+use Rattle.std.proofs.lemmas.Result.{err_from_is_err_and}
+use Rattle.ssb_reports.proofs.Beginnings.{Writes-on, Writes-stop}
+use Rattle.report_formats.specs.Escapes.{hex}
+use Rattle.report_formats.proofs.escapes.write_code.Goals as goal
+
+pub returns-in_err-write_bytes : goal.returns-in_err-write_bytes
+returns-in_err-write_bytes g c =
+    Writes-stop _ _ _ _ c.args.beginning.now (hex c.args.byte) _ (err_from_is_err_and _ c.from_residual.ensures.1) c.in_err-write_bytes.ensures refl
+
+pub returns : goal.returns
+returns g c =
+    Writes-on _ _ _ _ c.args.beginning.now (hex c.args.byte) _ c.in_ok-write_bytes.ensures (search rules) refl

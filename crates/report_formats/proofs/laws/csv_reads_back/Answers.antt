@@ -1,0 +1,5 @@
+use Rattle.report_formats.proofs.Csv.{csv-reads_back}
+use Rattle.report_formats.proofs.laws.csv_reads_back.Goals as goal
+
+pub returns : goal.returns
+returns c = csv-reads_back

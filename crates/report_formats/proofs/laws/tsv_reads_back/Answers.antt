@@ -1,0 +1,5 @@
+use Rattle.report_formats.proofs.Tsv.{tsv-reads_back}
+use Rattle.report_formats.proofs.laws.tsv_reads_back.Goals as goal
+
+pub returns : goal.returns
+returns c = tsv-reads_back

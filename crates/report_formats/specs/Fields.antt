@@ -1,0 +1,109 @@
+-- The fields of a report's lines, and the whole report. Our own.
+use Rattle.std.specs.Prelude.{ℕ, pos, Bool, false, true, ◌&&◌, if◌then◌else◌, List, [], ◌∷◌, ◌++◌, length, map, slice_index_or, min, codes, Option, None, Some}
+use Rattle.std.specs.List.{flat_map, zip}
+use Rattle.cube_model.specs.declared.answer.Answer.{Answer}
+use Rattle.cube_model.specs.declared.answer.Line.{Line}
+use Rattle.cube_model.specs.declared.answer.Member.{Member}
+use Rattle.cube_model.specs.declared.answer.Member.TheVariants.{All, Text}
+use Rattle.cube_model.specs.declared.answer.Value.{Value}
+use Rattle.cube_model.specs.declared.answer.Value.TheVariants.{Whole, Ratio}
+use Rattle.cube_model.specs.declared.attr.Attr.{Attr}
+use Rattle.cube_model.specs.declared.measure.Agg.{Agg}
+use Rattle.cube_model.specs.Names.{attr_name, agg_name}
+use Rattle.cube_model.specs.Proper.{is_average}
+use Rattle.ssb_reports.specs.Report.{count_text, report_of, value_text}
+use Rattle.report_formats.specs.declared.asked.Asked.{Asked}
+use Rattle.report_formats.specs.declared.layout.Format.{Format}
+use Rattle.report_formats.specs.declared.layout.Format.TheVariants.{Bars, Csv, Tsv, Json}
+use Rattle.report_formats.specs.declared.layout.Layout.{Layout}
+use Rattle.report_formats.specs.Decimals.{decimal_text}
+use Rattle.report_formats.specs.Escapes.{csv_text, tsv_text, json_text}
+use Rattle.report_formats.specs.Rows.{counts_averages, is_plain, row_text}
+
+-- a text of a column
+abbrev pub text_in : Format → List ℕ → List ℕ
+text_in Bars text = text
+text_in Csv text = csv_text text
+text_in Tsv text = tsv_text text
+text_in Json text = json_text text
+
+-- ALL in a column
+abbrev pub all_in : Format → List ℕ
+all_in Bars = codes "ALL"
+all_in Csv = []
+all_in Tsv = []
+all_in Json = codes "null"
+
+abbrev pub member_text : Format → Member → List ℕ
+member_text format (Text text) = text_in format text
+member_text format All = all_in format
+
+-- the name of a field, which json has in each line. No name has a character that json writes in another way
+abbrev pub name_text : Format → List ℕ → List ℕ
+name_text Json name = codes "\"" ++ (name ++ codes "\":")
+name_text Bars name = []
+name_text Csv name = []
+name_text Tsv name = []
+
+-- the member of a text, where none is ALL
+abbrev pub member_of : Option (List ℕ) → Member
+member_of (Some text) = Text text
+member_of None = All
+
+abbrev pub member_field : Format → Attr × Member → List ℕ
+member_field format field = name_text format (attr_name field.0) ++ member_text format field.1
+
+-- a whole number, and an average as a fraction or as a decimal with at most 18 digits after the point
+abbrev pub number_text : Option ℕ → Value → List ℕ
+number_text None value = value_text value
+number_text (Some digits) (Whole number) = value_text (Whole number)
+number_text (Some digits) (Ratio fraction) = decimal_text (min digits 18) fraction
+
+-- an average by its sum and its count
+abbrev pub average_text : Value → Value → List ℕ
+average_text sum count = (codes "{\"sum\":" ++ value_text sum) ++ ((codes ",\"count\":" ++ value_text count) ++ codes "}")
+
+abbrev pub counted_text : Layout → Value → Agg × Value → List ℕ
+counted_text layout count field =
+    if counts_averages layout && is_average field.0 then average_text field.1 count else number_text layout.decimals field.1
+
+abbrev pub value_field : Layout → Value → Agg × Value → List ℕ
+value_field layout count field = name_text layout.format (agg_name field.0) ++ counted_text layout count field
+
+-- the count of a line's rows, where the query asks for it after all aggregates of the report
+abbrev pub count_in : Asked → Line → Value
+count_in asked line = slice_index_or line.values (length asked.aggregates) (Whole (pos 0))
+
+abbrev pub member_fields : Asked → Line → List (List ℕ)
+member_fields asked line = map (member_field asked.layout.format) (zip asked.query.columns line.key)
+
+abbrev pub value_fields : Asked → Line → List (List ℕ)
+value_fields asked line = map (value_field asked.layout (count_in asked line)) (zip asked.aggregates line.values)
+
+abbrev pub line_text : Asked → Line → List ℕ
+line_text asked line = row_text asked.layout.format (member_fields asked line ++ value_fields asked line)
+
+-- the names of columns and aggregates, but in json
+abbrev pub names_text : Format → List (List ℕ) → List ℕ
+names_text Json names = []
+names_text Bars names = row_text Bars names
+names_text Csv names = row_text Csv names
+names_text Tsv names = row_text Tsv names
+
+abbrev pub header_text : Asked → List ℕ
+header_text asked = names_text asked.layout.format (map attr_name asked.query.columns ++ map agg_name asked.aggregates)
+
+-- the number of lines, with bars alone
+abbrev pub footer_text : Format → ℕ → List ℕ
+footer_text Bars count = count_text count
+footer_text Csv count = []
+footer_text Tsv count = []
+footer_text Json count = []
+
+abbrev pub laid_out : Asked → Answer → List ℕ
+laid_out asked answer =
+    header_text asked ++ (flat_map (line_text asked) answer.lines ++ footer_text asked.layout.format (length answer.lines))
+
+-- the report of the answer to the query that is asked. With bars, and averages as fractions, it is that of each report
+abbrev pub formatted : Asked → Answer → List ℕ
+formatted asked answer = if is_plain asked.layout then report_of asked.query answer else laid_out asked answer

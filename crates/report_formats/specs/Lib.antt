@@ -1,0 +1,6 @@
+pub mod Asked
+pub mod Decimals
+pub mod Escapes
+pub mod Fields
+pub mod Lawful
+pub mod Rows

@@ -1,0 +1,61 @@
+//! The report of a query over a warehouse, in a layout.
+ghost use Rattle.std.specs.Prelude.{◌≡◌, true, Err};
+ghost use Rattle.std.specs.Io.KnownBytes.{Keeps};
+ghost use Rattle.cube_model.specs.declared.fault.Fault.TheVariants.{Failed};
+ghost use Rattle.object_store.specs.Disk.{Leaves};
+ghost use Rattle.report_formats.specs.Fields.{formatted};
+ghost use Rattle.warehouse_objects.specs.Warehouse.{Warehouse};
+ghost use Rattle.warehouse_objects.specs.Stands.{Stands};
+ghost use Rattle.warehouse.specs.Session.{device_of, disk_of, has_failed, IsAt};
+ghost use Rattle.warehouse_jobs.specs.Reporting.{Answers, ReportsIn};
+
+use crate::reporting::batches_asked;
+use cube_model::Fault;
+use report_formats::{Asked, write_formatted};
+use sector_device::Sectors;
+use std::alloc::Global;
+use std::io::Write;
+use warehouse::Session;
+
+/// Writes the report that is asked for, over the first batches or over all, as the job `Report` writes one with bars.
+///
+/// `BadQuery` where its query is not proper, `NoSuchPrefix` where there are fewer batches, `Memory`, `Device` where the device
+/// fails, and `Output` where the writer fails, after a beginning of the report; `Failed` where the device failed in an earlier call.
+pub fn report_formatted<D: Sectors, W: Write>(
+    alloc: Global,
+    session: &mut Session<D>,
+    as_of: Option<u32>,
+    asked: &Asked,
+    out: &mut W,
+) -> Result<(), Fault>
+    ensures reports { (w : Warehouse) → IsAt D.Sectors session.old w → D.keeps_word (device_of session.new)
+        → ReportsIn D.Sectors w as_of asked.now session.old session.new (W.contents out.old) (W.contents out.new) result }
+
+    // Where the device failed in an earlier call, nothing is done.
+    ensures failed { has_failed session.old ≡ true → (result ≡ Err Failed) × (session.new ≡ session.old) × Keeps (W.contents out.old) (W.contents out.new) }
+    ensures word { D.keeps_word (device_of session.new) → D.keeps_word (device_of session.old) }
+{
+    if session.is_broken() {
+        return Err(Fault::Failed);
+    }
+    let count = batches_asked(session, as_of)?;
+    formatted_over(alloc, session, count, asked, out)
+}
+
+// Writes the report that is asked for over so many batches.
+fn formatted_over<D: Sectors, W: Write>(
+    alloc: Global,
+    session: &mut Session<D>,
+    count: u32,
+    asked: &Asked,
+    out: &mut W,
+) -> Result<(), Fault>
+    ensures ends { (w : Warehouse) → IsAt D.Sectors session.old w → D.keeps_word (device_of session.new)
+        → Answers (formatted asked.now) D.Sectors w count asked.now.query session.new (W.contents out.old) (W.contents out.new) result }
+    ensures leaves { (w : Warehouse) → IsAt D.Sectors session.old w → Leaves (disk_of D.Sectors session.old) (disk_of D.Sectors session.new) (λ c. Stands c w) }
+    ensures word { D.keeps_word (device_of session.new) → D.keeps_word (device_of session.old) }
+{
+    let found = session.query_groups(alloc, count, &asked.query)?;
+    let lines = found.lines();
+    write_formatted(asked, &lines, out)
+}
