@@ -1,0 +1,9 @@
+mod Bytes
+pub mod CallerLemmas
+mod Fits
+mod MergeLaws
+mod Places
+mod Ranges
+mod ReadBack
+mod Readable
+mod TheOne
