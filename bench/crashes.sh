@@ -4,7 +4,7 @@
 # every other sector. The program then opens each. At the top of the repository, once crates/ssbcube/out/ssbcube is built:
 # sh bench/crashes.sh
 #
-# It needs strace and python3. What each image has to hold is in crashes.py.
+# It needs strace and python3. What each image has to hold is in crashes.py. Another program is taken from the folder SSBCUBE_AT.
 set -u
 cd "$(dirname "$0")/.." || exit 1
 for tool in strace python3; do
@@ -12,7 +12,7 @@ for tool in strace python3; do
 done
 tables=$PWD/crates/user_pages/data
 script=$PWD/bench/crashes.py
-PATH=$PWD/crates/ssbcube/out:$PATH
+PATH=${SSBCUBE_AT:-$PWD/crates/ssbcube/out}:$PATH
 scratch=$(mktemp -d)
 trap 'rm -rf "$scratch"' EXIT
 cd "$scratch" || exit 1

@@ -5,8 +5,10 @@ At the top of the repository, once crates/ssbcube/out/ssbcube is built: python3 
 
 Each warehouse has other fact rows of the sample tables, in other batches, and cuboids that hold more or fewer of them: views are chosen
 or set, kept up, and batches are loaded before and after. `cube` answers over some first batches, by its plan; `eval` reads the text of
-the same rows. It prints how many queries were asked, how many of them a cuboid answered, and how many reports differ.
+the same rows. It prints how many queries were asked, how many of them a cuboid answered, and how many reports differ. Another program
+is taken from the folder SSBCUBE_AT.
 """
+import os
 import random
 import subprocess
 import sys
@@ -14,7 +16,7 @@ import tempfile
 from pathlib import Path
 
 ROOT = Path(__file__).resolve().parent.parent
-PROGRAM = ROOT / "crates/ssbcube/out/ssbcube"
+PROGRAM = Path(os.environ.get("SSBCUBE_AT", ROOT / "crates/ssbcube/out")) / "ssbcube"
 TABLES = ROOT / "crates/user_pages/data"
 QUERIES_EACH = 100
 

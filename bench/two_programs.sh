@@ -3,12 +3,13 @@
 # repository, once crates/ssbcube/out/ssbcube is built: sh bench/two_programs.sh [TRIES]
 #
 # 20 tries each of two loads at once; of a load while reports are asked; of a load that is killed while another one is tried again
-# until it is let in. Then a file that may not be written, and, where the system lets us mount one, a read-only mount.
+# until it is let in. Then a file that may not be written, and, where the system lets us mount one, a read-only mount. Another program
+# is taken from the folder SSBCUBE_AT.
 set -u
 cd "$(dirname "$0")/.." || exit 1
 tries=${1:-20}
 tables=$PWD/crates/user_pages/data
-PATH=$PWD/crates/ssbcube/out:$PATH
+PATH=${SSBCUBE_AT:-$PWD/crates/ssbcube/out}:$PATH
 scratch=$(mktemp -d)
 trap 'cd /; umount "$scratch/mounted" 2>/dev/null; rm -rf "$scratch"' EXIT
 cd "$scratch" || exit 1

@@ -1,11 +1,17 @@
-//! Tests of `wire` and `batch_loader`: numbers as bytes, sources, and the texts of the tables: what is read, what is
-//! refused, and readers that cut and fail.
+//! Tests of `wire`, `batch_loader` and `table_generator`: numbers as bytes, sources, and the texts of the tables: what is read, what is
+//! refused, readers that cut and fail, and tables that are generated.
 #![tactic(auto)]
 
 #[cfg(test)]
+mod cut_lines;
+#[cfg(test)]
 mod dimension_rows;
 #[cfg(test)]
+mod edited_lines;
+#[cfg(test)]
 mod fact_rows;
+#[cfg(test)]
+mod generated;
 #[cfg(test)]
 mod joined;
 #[cfg(test)]
@@ -14,6 +20,8 @@ mod line_by_line;
 mod numbers;
 #[cfg(test)]
 mod outcomes;
+#[cfg(test)]
+mod plain_rules;
 #[cfg(test)]
 mod reads;
 #[cfg(test)]
