@@ -49,25 +49,30 @@ fn refusal(column: Column, text: &[u8], line: u64, field: u8) -> Option<Fault> {
     }
 }
 
-/// The parts of a line, which are its fields and perhaps an empty one more, or its first fault.
-fn fields_of<'a>(columns: &[Column], line: &'a [u8], number: u64) -> Result<Parts<'a>, Fault> {
+/// The parts of a line without the carriage return at its end, and how many there are.
+fn fields_of(line: &[u8]) -> (Parts<'_>, usize) {
+    parts_of(line.strip_suffix(b"\r").unwrap_or(line))
+}
+
+/// The first fault of a line, if it has one.
+fn fault_of(columns: &[Column], line: &[u8], number: u64) -> Option<Fault> {
     if line.len() > 8192 {
         let place = Place::Line(number);
-        return Err(Fault::FieldTooLong { place, field: 0 });
+        return Some(Fault::FieldTooLong { place, field: 0 });
     }
-    let (parts, count) = parts_of(line.strip_suffix(b"\r").unwrap_or(line));
+    let (parts, count) = fields_of(line);
     let has_last_bar = line_ends_empty(columns, &parts, count);
     if count != columns.len() && !has_last_bar {
-        return Err(Fault::FieldCount { line: number });
+        return Some(Fault::FieldCount { line: number });
     }
     let mut field = 0u8;
     for (column, part) in columns.iter().zip(&parts) {
         field = field.saturating_add(1);
         if let Some(fault) = refusal(*column, part, number, field) {
-            return Err(fault);
+            return Some(fault);
         }
     }
-    Ok(parts)
+    None
 }
 
 /// Whether there is one part more than columns, and it is empty.
@@ -82,7 +87,7 @@ pub fn first_fault(columns: &[Column], text: &[u8]) -> Option<Fault> {
     for line in text.split_inclusive(|byte| *byte == b'\n') {
         number = number.saturating_add(1);
         let line = line.strip_suffix(b"\n").unwrap_or(line);
-        if let Err(fault) = fields_of(columns, line, number) {
+        if let Some(fault) = fault_of(columns, line, number) {
             return Some(fault);
         }
     }
@@ -100,11 +105,10 @@ pub fn are_of<R: KeptRow>(columns: &[Column], text: &[u8], rows: &[R]) -> bool {
     let mut left = rows.iter();
     for line in text.split_inclusive(|byte| *byte == b'\n') {
         let line = line.strip_suffix(b"\n").unwrap_or(line);
-        let is_same = match (left.next(), fields_of(columns, line, 1)) {
-            (Some(row), Ok(fields)) => row.is_of(&fields),
-            _ => false,
+        let Some(row) = left.next() else {
+            return false;
         };
-        if !is_same {
+        if fault_of(columns, line, 1).is_some() || !row.is_of(&fields_of(line).0) {
             return false;
         }
     }
