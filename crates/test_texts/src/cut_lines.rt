@@ -149,11 +149,11 @@ fn cut_about_the_limit(alloc: Global, line: &GoodLine) -> Result<Tally, Fault> {
 
 /// The texts and cuts of the lines of each table, in the order of the good lines, and the cuts of its long lines.
 static COUNTS: [(u32, usize, usize); 5] = [
-    (2652, 109319, 8064),
-    (2613, 102645, 7808),
-    (2691, 111949, 7584),
-    (3258, 205270, 11744),
-    (7579, 366453, 11200),
+    (2652, 109319, 73092),
+    (2613, 102645, 72852),
+    (2691, 111949, 72636),
+    (3258, 205270, 76436),
+    (7579, 366453, 76036),
 ];
 
 /// The good line at a place.

@@ -193,8 +193,14 @@ pub fn edited(
     Ok(text)
 }
 
-/// From how many bytes on a text is cut: those in front of the edit, where the cuts are those of the good line, and of a
-/// long line all but the last 20 that it is filled with.
+/// Whether a long line is cut at each byte that it is filled with: one of the longest lines that are read, or of a byte more.
+fn is_cut_everywhere(line: &GoodLine, edit: &Edit<'_>) -> bool {
+    let (byte, count) = edit.fill;
+    byte == b'y' && (8_192..=8_193).contains(&line.text.len().saturating_add(count))
+}
+
+/// From how many bytes on a text is cut: those in front of the edit are left out, where the cuts are those of the good line,
+/// and of most long lines all but the last 20 that they are filled with.
 pub fn first_cut(line: &GoodLine, place: usize, edit: &Edit<'_>) -> usize {
     if edit.pattern.first() != Some(&b'<') {
         return 0;
@@ -203,5 +209,8 @@ pub fn first_cut(line: &GoodLine, place: usize, edit: &Edit<'_>) -> usize {
     let front = fields
         .take(place)
         .fold(0usize, |sum, field| sum.saturating_add(field.len()));
+    if is_cut_everywhere(line, edit) {
+        return front;
+    }
     front.saturating_add(edit.fill.1.saturating_sub(20))
 }
