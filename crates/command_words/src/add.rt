@@ -1,14 +1,15 @@
-//! The words of the command `add`.
-use crate::options::{named_tables, number, on_device};
-use clap::Command;
-use std::alloc::{AllocError, Global};
+//! The command `add`.
+use crate::described::Described;
+use crate::word::{Kind, Value, Word};
+use crate::words::Words;
 
-const ABOUT: &str = "Adds rows to the dimension tables of a warehouse.";
-
-const USAGE: &str = "ssbcube add DEV --number N [--customer FILE] [--supplier FILE]
-                   [--part FILE] [--date FILE]";
-
-const HELP: &str = "Additions are numbered from 1. The rows of a table follow those that the
+/// The command `add`.
+pub(crate) static ADD: Described = Described {
+    name: "add",
+    about: "Adds rows to the dimension tables of a warehouse.",
+    usage: "ssbcube add DEV --number N [--customer FILE] [--supplier FILE]
+                   [--part FILE] [--date FILE]",
+    help: "Additions are numbered from 1. The rows of a table follow those that the
 warehouse has, and all have to keep the rules of 'ssbcube create': no key twice,
 and each member under one upper member. An addition is made whole or not at all.
 
@@ -23,12 +24,15 @@ Batches, stored cuboids and the answers over them stay as they are.
 
 Examples:
   ssbcube add star.dev --number 1 --customer new_customer.tbl
-  ssbcube add star.dev --number 2 --part new_part.tbl --date new_date.tbl";
-
-/// The words of the command.
-pub fn words<'a>(alloc: Global) -> Result<Command<'a>, AllocError> {
-    let help = "The number of the addition, 1 or more";
-    let add = on_device(alloc, "add", ABOUT, USAGE, HELP)?;
-    let add = add.arg(number(alloc, "number", help, 1, u32::MAX).required(true))?;
-    named_tables(alloc, add)
-}
+  ssbcube add star.dev --number 2 --part new_part.tbl --date new_date.tbl",
+    required: &[
+        Words::Device,
+        Words::Own(&[Word {
+            name: "number",
+            value: "N",
+            help: "The number of the addition, 1 or more",
+            kind: Kind::Option(Value::Number(1, u32::MAX as u64)),
+        }]),
+    ],
+    optional: &[Words::Tables],
+};

@@ -1,14 +1,13 @@
-//! The words of the command `check`.
-use crate::options::on_device;
-use clap::Command;
-use std::alloc::{AllocError, Global};
+//! The command `check`.
+use crate::described::Described;
+use crate::words::Words;
 
-const ABOUT: &str = "Says whether all that is stored of a warehouse is right.";
-
-const USAGE: &str = "ssbcube check DEV";
-
-const HELP: &str =
-    "Each batch is read whole: its bytes have to be those of a batch, its keys have to
+/// The command `check`.
+pub(crate) static CHECK: Described = Described {
+    name: "check",
+    about: "Says whether all that is stored of a warehouse is right.",
+    usage: "ssbcube check DEV",
+    help: "Each batch is read whole: its bytes have to be those of a batch, its keys have to
 be known in the dimensions, and its rows have to be as many as the root says. The
 totals of the root have to be those of the rows, and each stored cuboid has to be
 the grouping of its batches, as 'ssbcube audit' finds.
@@ -18,9 +17,7 @@ with status 1, such as 'batch 3: rows 5, the root says 6'. Bytes that were chang
 into others that break no rule are not found.
 
 Example:
-  ssbcube check star.dev";
-
-/// The words of the command.
-pub fn words<'a>(alloc: Global) -> Result<Command<'a>, AllocError> {
-    on_device(alloc, "check", ABOUT, USAGE, HELP)
-}
+  ssbcube check star.dev",
+    required: &[Words::Device],
+    optional: &[],
+};

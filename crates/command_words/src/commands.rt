@@ -1,8 +1,20 @@
 //! The commands of the program.
-use crate::{
-    add, check, create, cube, cuboids, demo, eval, explain, generate, load, report, self_test,
-    status, views,
-};
+use crate::add::ADD;
+use crate::check::CHECK;
+use crate::create::CREATE;
+use crate::cube::CUBE;
+use crate::cuboids::{AUDIT, CHOOSE, UPKEEP};
+use crate::demo::DEMO;
+use crate::described::with_words;
+use crate::eval::EVAL;
+use crate::explain::EXPLAIN;
+use crate::generate::GENERATE;
+use crate::load::LOAD;
+use crate::report::REPORT;
+use crate::self_test::SELF_TEST;
+use crate::status::STATUS;
+use crate::views::VIEWS;
+use crate::words::Words;
 use clap::Command;
 use std::alloc::{AllocError, Global};
 
@@ -20,15 +32,16 @@ A refusal goes to standard error with status 1: a line such as
 Status 2 means that the command line was not understood. 'ssbcube COMMAND
 --help' has the options of a command and examples.";
 
-/// The commands of the program, and their words.
+/// The commands of the program, and their words. It can only fail when out of memory.
 pub fn command<'a>(alloc: Global) -> Result<Command<'a>, AllocError> {
+    let described = [
+        &EVAL, &CREATE, &LOAD, &ADD, &REPORT, &CUBE, &EXPLAIN, &STATUS, &CHOOSE, &UPKEEP, &AUDIT,
+        &CHECK, &VIEWS, &DEMO, &SELF_TEST, &GENERATE,
+    ];
     let mut commands = Vec::new(alloc);
-    push_loading(alloc, &mut commands)?;
-    push_asking(alloc, &mut commands)?;
-    push_cuboids(alloc, &mut commands)?;
-    push(&mut commands, Ok(demo::words(alloc)))?;
-    push(&mut commands, self_test::words(alloc))?;
-    push(&mut commands, generate::words(alloc))?;
+    for described in described {
+        commands.push(described.command(alloc)?)?;
+    }
     program(alloc).subcommands(commands)
 }
 
@@ -42,36 +55,11 @@ fn program<'a>(alloc: Global) -> Command<'a> {
         .arg_required_else_help(true)
 }
 
-// Adds the commands that read tables. It can only fail when out of memory.
-fn push_loading<'a>(alloc: Global, commands: &mut Vec<Command<'a>>) -> Result<(), AllocError> {
-    push(commands, eval::words(alloc))?;
-    push(commands, create::words(alloc))?;
-    push(commands, load::words(alloc))?;
-    push(commands, add::words(alloc))
-}
-
-// Adds the commands that query a warehouse. It can only fail when out of memory.
-fn push_asking<'a>(alloc: Global, commands: &mut Vec<Command<'a>>) -> Result<(), AllocError> {
-    push(commands, report::words(alloc))?;
-    push(commands, cube::words(alloc))?;
-    push(commands, explain::words(alloc))?;
-    push(commands, status::words(alloc))
-}
-
-// Adds the commands of stored cuboids. It can only fail when out of memory.
-fn push_cuboids<'a>(alloc: Global, commands: &mut Vec<Command<'a>>) -> Result<(), AllocError> {
-    push(commands, cuboids::choose_words(alloc))?;
-    push(commands, cuboids::upkeep_words(alloc))?;
-    push(commands, cuboids::audit_words(alloc))?;
-    push(commands, check::words(alloc))?;
-    push(commands, views::words(alloc))
-}
-
-// Adds a command, where there was memory for its words.
-fn push<'a>(
-    commands: &mut Vec<Command<'a>>,
-    command: Result<Command<'a>, AllocError>,
-) -> Result<(), AllocError> {
-    commands.push(command?)?;
-    Ok(())
+/// The words of a query in a list of queries: the number of a query of the benchmark, or an ad-hoc query. It can only fail when
+/// out of memory.
+pub fn listed_query<'a>(alloc: Global) -> Result<Command<'a>, AllocError> {
+    let query = Command::new(alloc, "query")
+        .no_binary_name(true)
+        .disable_help_flag(true);
+    with_words(alloc, query, &[Words::Cube, Words::Asked], false)
 }

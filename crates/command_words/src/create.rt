@@ -1,14 +1,15 @@
-//! The words of the command `create`.
-use crate::options::{dimension_tables, on_device, option, overwrite};
-use clap::Command;
-use std::alloc::{AllocError, Global};
+//! The command `create`.
+use crate::described::Described;
+use crate::word::{Kind, Value, Word};
+use crate::words::Words;
 
-const ABOUT: &str = "Makes a warehouse in a file, with the four dimension tables.";
-
-const USAGE: &str = "ssbcube create DEV --sectors N --customer FILE --supplier FILE
-                      --part FILE --date FILE [--overwrite]";
-
-const HELP: &str = "DEV is a file of N sectors of 512 bytes. It is made where it is absent; an
+/// The command `create`.
+pub(crate) static CREATE: Described = Described {
+    name: "create",
+    about: "Makes a warehouse in a file, with the four dimension tables.",
+    usage: "ssbcube create DEV --sectors N --customer FILE --supplier FILE
+                      --part FILE --date FILE [--overwrite]",
+    help: "DEV is a file of N sectors of 512 bytes. It is made where it is absent; an
 empty file is taken too, and one of just that length whose first two sectors
 are all zero, as a create that was cut off leaves it. With --overwrite it may
 hold anything but a warehouse. The file is sparse.
@@ -25,13 +26,21 @@ Example:
       --supplier supplier.tbl --part part.tbl --date date.tbl
 
 It prints 'created 1000000 sectors' once the warehouse is durable. After a
-refusal a file that it made is removed again.";
-
-/// The words of the command.
-pub fn words<'a>(alloc: Global) -> Result<Command<'a>, AllocError> {
-    let sectors = "The sectors of the file, 64 to 4294967295, or its size, as 4G";
-    let replaced = "Replaces what the file holds, if that is no warehouse";
-    let create = on_device(alloc, "create", ABOUT, USAGE, HELP)?;
-    let create = create.arg(option(alloc, "sectors", "N", sectors).required(true))?;
-    dimension_tables(alloc, create)?.arg(overwrite(alloc, replaced))
-}
+refusal a file that it made is removed again.",
+    required: &[
+        Words::Device,
+        Words::Own(&[Word {
+            name: "sectors",
+            value: "N",
+            help: "The sectors of the file, 64 to 4294967295, or its size, as 4G",
+            kind: Kind::Option(Value::Text),
+        }]),
+        Words::Tables,
+    ],
+    optional: &[Words::Own(&[Word {
+        name: "overwrite",
+        value: "",
+        help: "Replaces what the file holds, if that is no warehouse",
+        kind: Kind::Flag,
+    }])],
+};

@@ -1,17 +1,15 @@
-//! The words of the command `cube`.
-use crate::options::{CUBE_HELP, as_of, cube_words, layout_words, on_device};
-use clap::Command;
-use std::alloc::{AllocError, Global};
+//! The command `cube`.
+use crate::described::Described;
+use crate::words::{CUBE_HELP, Words};
 
-const ABOUT: &str = "Answers an ad-hoc query over a warehouse.";
-
-const USAGE: &str = "ssbcube cube DEV [--as-of N] [--set SET] [--by A,A] --agg G,G
+/// The command `cube`.
+pub(crate) static CUBE: Described = Described {
+    name: "cube",
+    about: "Answers an ad-hoc query over a warehouse.",
+    usage: "ssbcube cube DEV [--as-of N] [--set SET] [--by A,A] --agg G,G
                     [--format FORMAT] [--decimals N]
-                    [--output FILE [--overwrite]] [CONDITION]...";
-
-/// The words of the command.
-pub fn words<'a>(alloc: Global) -> Result<Command<'a>, AllocError> {
-    let cube = on_device(alloc, "cube", ABOUT, USAGE, CUBE_HELP)?;
-    let cube = layout_words(alloc, cube.arg(as_of(alloc))?)?;
-    cube_words(alloc, cube)
-}
+                    [--output FILE [--overwrite]] [CONDITION]...",
+    help: CUBE_HELP,
+    required: &[Words::Device],
+    optional: &[Words::AsOf, Words::Layout, Words::Cube, Words::Conditions],
+};

@@ -1,15 +1,14 @@
-//! The words of the commands `choose`, `upkeep` and `audit`.
-use crate::options::{on_device, option};
-use clap::builder::ValueParser;
-use clap::{Arg, ArgAction, Command};
-use std::alloc::{AllocError, Global};
+//! The commands `choose`, `upkeep` and `audit`.
+use crate::described::Described;
+use crate::word::{Kind, Value, Word};
+use crate::words::Words;
 
-const CHOOSE_ABOUT: &str = "Chooses the cuboids that a warehouse stores.";
-
-const CHOOSE_USAGE: &str = "ssbcube choose DEV K [--for FILE]";
-
-const CHOOSE_HELP: &str =
-    "A cuboid holds the fact rows grouped by one level of each dimension, ALL where
+/// The command `choose`.
+pub(crate) static CHOOSE: Described = Described {
+    name: "choose",
+    about: "Chooses the cuboids that a warehouse stores.",
+    usage: "ssbcube choose DEV K [--for FILE]",
+    help: "A cuboid holds the fact rows grouped by one level of each dimension, ALL where
 it does not group by one: a count, and the sum, minimum and maximum of each
 measure. K views are chosen one by one, 0 to 16, each time the one that spares
 most rows; its benefit is how many rows it spares over all views that its cells
@@ -31,14 +30,30 @@ tie the view of the greatest number is taken. FILE of - is standard input.
 Examples:
   ssbcube choose star.dev 8
   ssbcube choose star.dev 4 --for queries.txt
-  ssbcube upkeep star.dev";
+  ssbcube upkeep star.dev",
+    required: &[
+        Words::Device,
+        Words::Own(&[Word {
+            name: "views",
+            value: "K",
+            help: "How many views, 0 to 16",
+            kind: Kind::Plain(Value::Number(0, u8::MAX as u64)),
+        }]),
+    ],
+    optional: &[Words::Own(&[Word {
+        name: "for",
+        value: "FILE",
+        help: "A file of queries, one a line, to choose for; - is standard input",
+        kind: Kind::Option(Value::Text),
+    }])],
+};
 
-const UPKEEP_ABOUT: &str = "Brings each stored cuboid to all batches.";
-
-const UPKEEP_USAGE: &str = "ssbcube upkeep DEV";
-
-const UPKEEP_HELP: &str =
-    "Each stored cuboid gets the cells of the batches that it does not hold yet, in
+/// The command `upkeep`.
+pub(crate) static UPKEEP: Described = Described {
+    name: "upkeep",
+    about: "Brings each stored cuboid to all batches.",
+    usage: "ssbcube upkeep DEV",
+    help: "Each stored cuboid gets the cells of the batches that it does not hold yet, in
 a commit of its own, which a crash leaves done or not begun. 'upkeep done' is
 printed once all hold all batches. A cuboid that would have more than
 262144 cells is passed over and named at the end.
@@ -47,39 +62,21 @@ Load first, then bring cuboids up to date: one upkeep for many batches is
 cheaper than one for each.
 
 Example:
-  ssbcube upkeep star.dev";
+  ssbcube upkeep star.dev",
+    required: &[Words::Device],
+    optional: &[],
+};
 
-const AUDIT_ABOUT: &str = "Says whether each stored cuboid is right.";
-
-const AUDIT_USAGE: &str = "ssbcube audit DEV";
-
-const AUDIT_HELP: &str =
-    "Each stored cuboid is worked out anew from the fact rows of the batches that
+/// The command `audit`.
+pub(crate) static AUDIT: Described = Described {
+    name: "audit",
+    about: "Says whether each stored cuboid is right.",
+    usage: "ssbcube audit DEV",
+    help: "Each stored cuboid is worked out anew from the fact rows of the batches that
 it holds, and compared. It prints 'audit yes', or 'audit no' with status 1.
 
 Example:
-  ssbcube audit star.dev";
-
-/// The words of `choose`.
-pub fn choose_words<'a>(alloc: Global) -> Result<Command<'a>, AllocError> {
-    let views = Arg::new(alloc, "views")
-        .value_name("K")
-        .action(ArgAction::Set)
-        .required(true)
-        .value_parser(ValueParser::unsigned(0, u64::from(u8::MAX)))
-        .help("How many views, 0 to 16");
-    let queries = "A file of queries, one a line, to choose for; - is standard input";
-    on_device(alloc, "choose", CHOOSE_ABOUT, CHOOSE_USAGE, CHOOSE_HELP)?
-        .arg(views)?
-        .arg(option(alloc, "for", "FILE", queries))
-}
-
-/// The words of `upkeep`.
-pub fn upkeep_words<'a>(alloc: Global) -> Result<Command<'a>, AllocError> {
-    on_device(alloc, "upkeep", UPKEEP_ABOUT, UPKEEP_USAGE, UPKEEP_HELP)
-}
-
-/// The words of `audit`.
-pub fn audit_words<'a>(alloc: Global) -> Result<Command<'a>, AllocError> {
-    on_device(alloc, "audit", AUDIT_ABOUT, AUDIT_USAGE, AUDIT_HELP)
-}
+  ssbcube audit star.dev",
+    required: &[Words::Device],
+    optional: &[],
+};

@@ -1,14 +1,15 @@
-//! The words of the command `load`.
-use crate::options::{number, on_device, word};
-use clap::Command;
+//! The command `load`.
+use crate::described::Described;
+use crate::word::{Kind, Value, Word};
+use crate::words::Words;
 use cube_model::limits::MOST_BATCH_ROWS;
-use std::alloc::{AllocError, Global};
 
-const ABOUT: &str = "Loads the rows of a fact table into a warehouse, batch by batch.";
-
-const USAGE: &str = "ssbcube load DEV --first N [--rows N] FILE";
-
-const HELP: &str = "The file is cut into batches of --rows rows, numbered from --first on. A FILE
+/// The command `load`.
+pub(crate) static LOAD: Described = Described {
+    name: "load",
+    about: "Loads the rows of a fact table into a warehouse, batch by batch.",
+    usage: "ssbcube load DEV --first N [--rows N] FILE",
+    help: "The file is cut into batches of --rows rows, numbered from --first on. A FILE
 of - is standard input.
 
 'batch 1 rows 65536' is printed once the batch is durable: it survives a crash
@@ -29,20 +30,28 @@ load all files into it.
 
 Examples:
   ssbcube load star.dev --first 1 lineorder.tbl
-  ssbcube load star.dev --first 93 more.tbl";
-
-/// The words of the command.
-pub fn words<'a>(alloc: Global) -> Result<Command<'a>, AllocError> {
-    let facts = "The fact table, such as lineorder.tbl; - is standard input";
-    let load = on_device(alloc, "load", ABOUT, USAGE, HELP)?;
-    let load = load.arg(word(alloc, "lineorder", "FILE", facts))?;
-    with_cut(alloc, load)
-}
-
-// The words that say how the file is cut, after the other words of the command.
-fn with_cut<'a>(alloc: Global, load: Command<'a>) -> Result<Command<'a>, AllocError> {
-    let first = "The number of the first batch, 1 or more";
-    let rows = "The rows of a batch, 1 to 65536; 65536 if left out";
-    load.arg(number(alloc, "first", first, 1, u32::MAX).required(true))?
-        .arg(number(alloc, "rows", rows, 1, MOST_BATCH_ROWS as u32))
-}
+  ssbcube load star.dev --first 93 more.tbl",
+    required: &[
+        Words::Device,
+        Words::Own(&[
+            Word {
+                name: "lineorder",
+                value: "FILE",
+                help: "The fact table, such as lineorder.tbl; - is standard input",
+                kind: Kind::Plain(Value::Text),
+            },
+            Word {
+                name: "first",
+                value: "N",
+                help: "The number of the first batch, 1 or more",
+                kind: Kind::Option(Value::Number(1, u32::MAX as u64)),
+            },
+        ]),
+    ],
+    optional: &[Words::Own(&[Word {
+        name: "rows",
+        value: "N",
+        help: "The rows of a batch, 1 to 65536; 65536 if left out",
+        kind: Kind::Option(Value::Number(1, MOST_BATCH_ROWS as u64)),
+    }])],
+};

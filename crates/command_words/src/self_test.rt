@@ -1,14 +1,14 @@
-//! The words of the command `self-test`.
-use crate::options::{described, number};
-use clap::Command;
-use std::alloc::{AllocError, Global};
+//! The command `self-test`.
+use crate::described::Described;
+use crate::word::{Kind, Value, Word};
+use crate::words::Words;
 
-const ABOUT: &str = "Tests this program by crashes of a warehouse on a disk in memory.";
-
-const USAGE: &str = "ssbcube self-test [--seconds N]";
-
-const HELP: &str =
-    "It makes a warehouse on a disk in memory, adds three batches, stores cuboids, brings
+/// The command `self-test`.
+pub(crate) static SELF_TEST: Described = Described {
+    name: "self-test",
+    about: "Tests this program by crashes of a warehouse on a disk in memory.",
+    usage: "ssbcube self-test [--seconds N]",
+    help: "It makes a warehouse on a disk in memory, adds three batches, stores cuboids, brings
 them up to date and asks some queries. It stops that at each call of the disk, in
 four ways: of what was not synced the disk has kept nothing, all, or every other
 sector. Then it stops it at random calls, with random sectors kept, until the
@@ -24,16 +24,12 @@ and what, with status 1. With --seconds 0 it makes no random stop. It reads no f
 and writes none.
 
 Example:
-  ssbcube self-test --seconds 60";
-
-/// The words of the command.
-pub fn words<'a>(alloc: Global) -> Result<Command<'a>, AllocError> {
-    let seconds = "Random stops until N seconds have passed; 10 if left out";
-    described(alloc, "self-test", ABOUT, USAGE, HELP).arg(number(
-        alloc,
-        "seconds",
-        seconds,
-        0,
-        u32::MAX,
-    ))
-}
+  ssbcube self-test --seconds 60",
+    required: &[],
+    optional: &[Words::Own(&[Word {
+        name: "seconds",
+        value: "N",
+        help: "Random stops until N seconds have passed; 10 if left out",
+        kind: Kind::Option(Value::Number(0, u32::MAX as u64)),
+    }])],
+};

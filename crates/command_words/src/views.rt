@@ -1,14 +1,14 @@
-//! The words of the command `views`.
-use crate::options::on_device;
-use clap::{Arg, ArgAction, Command};
-use std::alloc::{AllocError, Global};
+//! The command `views`.
+use crate::described::Described;
+use crate::word::{Kind, Word};
+use crate::words::Words;
 
-const ABOUT: &str = "Lists the cuboids that a warehouse stores, or sets their views.";
-
-const USAGE: &str = "ssbcube views DEV [VIEW]...";
-
-const HELP: &str =
-    "A VIEW is its number, 0 to 255, or one level each of customer, supplier, part and
+/// The command `views`.
+pub(crate) static VIEWS: Described = Described {
+    name: "views",
+    about: "Lists the cuboids that a warehouse stores, or sets their views.",
+    usage: "ssbcube views DEV [VIEW]...",
+    help: "A VIEW is its number, 0 to 255, or one level each of customer, supplier, part and
 date, separated by commas, such as nation,nation,ALL,year. Where it has ALL the
 view does not group by that dimension.
 
@@ -30,14 +30,12 @@ it holds the first batches up to its mark.
 Examples:
   ssbcube views star.dev
   ssbcube views star.dev nation,nation,ALL,year 248
-  ssbcube upkeep star.dev";
-
-/// The words of the command.
-pub fn words<'a>(alloc: Global) -> Result<Command<'a>, AllocError> {
-    let views = Arg::new(alloc, "view")
-        .value_name("VIEW")
-        .num_args(0..)
-        .action(ArgAction::Append)
-        .help("A view to store, such as 59 or nation,nation,ALL,year");
-    on_device(alloc, "views", ABOUT, USAGE, HELP)?.arg(views)
-}
+  ssbcube upkeep star.dev",
+    required: &[Words::Device],
+    optional: &[Words::Own(&[Word {
+        name: "view",
+        value: "VIEW",
+        help: "A view to store, such as 59 or nation,nation,ALL,year",
+        kind: Kind::Rest,
+    }])],
+};

@@ -1,0 +1,81 @@
+//! The words that a command takes.
+use clap::builder::ValueParser;
+use clap::{Arg, ArgAction};
+use std::alloc::{AllocError, Global};
+
+/// A word that a command takes: its name, the name of its value, what the help says of it, and its kind.
+#[derive(Clone, Copy)]
+pub(crate) struct Word {
+    pub name: &'static str,
+    pub value: &'static str,
+    pub help: &'static str,
+    pub kind: Kind,
+}
+
+/// What a word is.
+#[derive(Clone, Copy)]
+pub(crate) enum Kind {
+    /// A word without dashes, and what it has to be.
+    Plain(Value),
+    /// Any number of words without dashes, after the others.
+    Rest,
+    /// An option with a value.
+    Option(Value),
+    /// An option without a value.
+    Flag,
+    /// The same, where another option has to be given too.
+    FlagWith(&'static str),
+}
+
+/// What a value has to be.
+#[derive(Clone, Copy)]
+pub(crate) enum Value {
+    Text,
+    /// One of some names.
+    Name(&'static [&'static str]),
+    /// A number from a minimum to a maximum.
+    Number(u64, u64),
+}
+
+impl Word {
+    /// The word as the parser takes it, which may be left out or not. It can only fail when out of memory.
+    pub(crate) fn arg<'a>(self, alloc: Global, required: bool) -> Result<Arg<'a>, AllocError> {
+        let arg = Arg::new(alloc, self.name)
+            .help(self.help)
+            .required(required);
+        match self.kind {
+            Kind::Plain(value) => Ok(self.single(arg, value)),
+            Kind::Rest => Ok(
+                arg.value_name(self.value)
+                    .num_args(0..)
+                    .action(ArgAction::Append),
+            ),
+            Kind::Option(value) => Ok(self.single(arg, value).long(self.name)),
+            Kind::Flag => Ok(self.flag(arg)),
+            Kind::FlagWith(other) => self.flag(arg).requires_arg(other),
+        }
+    }
+
+    // With one value.
+    fn single<'a>(self, arg: Arg<'a>, value: Value) -> Arg<'a> {
+        arg.value_name(self.value)
+            .action(ArgAction::Set)
+            .value_parser(value.parser())
+    }
+
+    // Without a value.
+    fn flag<'a>(self, arg: Arg<'a>) -> Arg<'a> {
+        arg.long(self.name).action(ArgAction::SetTrue)
+    }
+}
+
+impl Value {
+    // How the parser checks it.
+    fn parser<'a>(self) -> ValueParser<'a> {
+        match self {
+            Value::Text => ValueParser::String,
+            Value::Name(names) => ValueParser::Names(names),
+            Value::Number(least, most) => ValueParser::Unsigned(least, most),
+        }
+    }
+}
