@@ -1,5 +1,5 @@
 -- What a fold represents when cells were merged in: the rows that they represent.
-use Rattle.std.proofs.Common.{◌≡◌, ◌∙◌, sym, ap, refl, subst, ℕ, zero, suc, ◌<◌, ◌≤◌, Bool, true, false, cond, List, [], ◌∷◌, ◌++◌, map, length, length-append, get_or, Option, Some, None, arith, All}
+use Rattle.std.proofs.Common.{◌≡◌, ◌∙◌, sym, ap, refl, subst, ℕ, zero, suc, ◌<◌, ◌≤◌, Bool, true, false, cond, List, [], ◌∷◌, ◌++◌, map, length, length-append, get_or, Option, Some, None, arith}
 use Rattle.std.specs.Prelude.{◌==◌, nat_abs}
 use Rattle.std.specs.List.{Contains, filter, list_any}
 use Rattle.std.specs.Ordering.{eq_by_cmp}
@@ -7,7 +7,6 @@ use Rattle.std.specs.declared.alloc.Global.{Global}
 use Rattle.std.specs.declared.vec.Vec.{Vec}
 use Rattle.std.proofs.lemmas.Bool.Decides.{nat_tests}
 use Rattle.std.proofs.lemmas.List.{length-map}
-use Rattle.std.proofs.lemmas.List.Elements.{All-cons, All-nil}
 use Rattle.std.proofs.lemmas.List.Sums.{sum_by-append}
 use Rattle.cube_model.specs.Keys.{key_cmp, keys_of}
 use Rattle.cube_model.specs.Selection.{is_selected}
@@ -18,16 +17,15 @@ use Rattle.cube_model.specs.declared.rows.LineOrder.{LineOrder}
 use Rattle.lattice.specs.declared.view.View.{View}
 use Rattle.lattice.specs.Determined.{Serves}
 use Rattle.cuboid_cells.specs.declared.cell.Cell.{Cell}
-use Rattle.cuboid_cells.specs.declared.key.Key.{Key}
 use Rattle.cuboid_cells.specs.Cells.{AreAscending, PlainCells, cell_at, number_of as key_number}
-use Rattle.cuboid_upkeep.specs.Codes.{IsMode}
 use Rattle.cuboid_upkeep.specs.Grouping.{HasMembers, StandFor, cell_over, key_of, rows_of}
 use Rattle.cuboid_upkeep.specs.Lawful.{OneKeyOneGroup}
-use Rattle.cuboid_upkeep.specs.StandIns.{AreStandIns}
-use Rattle.group_plan.specs.Numbers.{group_count, key_at, IsKnown}
+use Rattle.cuboid_upkeep.proofs.Standing.{row_of_cell}
+use Rattle.group_plan.specs.Numbers.{group_count, key_at}
 use Rattle.group_plan.specs.Plans.{IsPlanOver, query_of}
 use Rattle.group_plan.specs.declared.plan.Plan.{Plan}
 use Rattle.group_plan.proofs.Extending.{plan_of_over}
+use Rattle.cube_query.specs.CellRuns.{AreWantedMerged}
 use Rattle.cube_query.specs.CellSlots.{AreMergedIn, asked_of}
 use Rattle.cube_query.specs.CellTallies.{AreBelow, GroupsHaveRoomFor, HasRoomFor, HaveRoomFor, with_cells}
 use Rattle.cube_query.specs.Columns.{size_of, slotted, tallies_at}
@@ -40,8 +38,11 @@ use Rattle.cube_query.specs.declared.slots.Slots.{Slots}
 use Rattle.cube_query.specs.declared.tally.Tally.{Tally}
 use Rattle.cube_query.proofs.CellGroups.{AreApart, cells_are_rows, counts-rows, sizes-rows, slot_by, slotted-filter, tally_over}
 use Rattle.cube_query.proofs.CellMerges.{all_untouched}
+use Rattle.cube_query.proofs.CellSlots.{cell_slots-length}
+use Rattle.cube_query.proofs.RowSlots.{HasSlot}
+use Rattle.cube_query.proofs.Wanted.{leaves_none, slots_for, slots_for-length, wanted_slot, with_wanted}
 use Rattle.cube_query.proofs.Folds.{kept_numbers, kept_ready, shown, shown_ready, stands_count, tallied_for}
-use Rattle.cube_query.proofs.Marking.{AreGroupSlots-at, AreGroupSlots-length}
+use Rattle.cube_query.proofs.Marking.{AreGroupSlots-at}
 use Rattle.cube_query.proofs.Ranges.{range_of_agg}
 use Rattle.cube_query.proofs.Steps.{AreTallied-grow}
 use Rattle.cube_query.proofs.Sums.{length-filter-le, nat_abs-total, sum_by-filter}
@@ -61,42 +62,8 @@ apart (cell ∷ cells) up = (
   apart cells (λ i j d before h. up (suc i) (suc j) d (omega (arith, before)) (omega (arith, h))),
 )
 
--- ---- rows that represent cells
-pub stand_known : (dimensions : DimRows) (modes : List (List ℕ)) (view : View) (cells : List Cell) (stand : List LineOrder) → AreStandIns dimensions modes view cells stand → All (IsKnown dimensions) stand
-stand_known dimensions modes view [] [] standing = All-nil (IsKnown dimensions)
-stand_known dimensions modes view [] (row ∷ stand) standing = absurd standing
-stand_known dimensions modes view (cell ∷ cells) [] standing = absurd standing
-stand_known dimensions modes view (cell ∷ cells) (row ∷ stand) standing = All-cons (IsKnown dimensions) row stand standing.0.known (stand_known dimensions modes view cells stand standing.1)
-
-pub stand_count : (dimensions : DimRows) (modes : List (List ℕ)) (view : View) (cells : List Cell) (stand : List LineOrder) → AreStandIns dimensions modes view cells stand → length stand ≡ length cells
-stand_count dimensions modes view [] [] standing = refl
-stand_count dimensions modes view [] (row ∷ stand) standing = absurd standing
-stand_count dimensions modes view (cell ∷ cells) [] standing = absurd standing
-stand_count dimensions modes view (cell ∷ cells) (row ∷ stand) standing = ap suc (stand_count dimensions modes view cells stand standing.1)
-
--- a row that has the slot of a key
-pub record HasSlot (dimensions : DimRows) (modes : List (List ℕ)) (view : View) (query : Query) (entries : List (ℕ × ℕ)) (number : ℕ) (group_slot : Option ℕ) : Type 0 where
-  pub row : LineOrder
-  pub known : IsKnown dimensions row
-  pub ship_mode : view.ship_mode ≡ true → IsMode modes row.shipmode
-  pub number_is : key_number (key_of dimensions modes view row) ≡ number
-  pub slot : IsGroupSlot dimensions query entries row group_slot
-
+-- ---- rows that have the slots of cells
 module _ (dimensions : DimRows) (modes : List (List ℕ)) (view : View) (query : Query) (entries : List (ℕ × ℕ)) where
-  stand_slot : (cells : List Cell) (stand : List LineOrder) (group_slots : List (Option ℕ)) (number : ℕ) (found : Cell) → AreStandIns dimensions modes view cells stand
-      → AreGroupSlots dimensions query entries stand group_slots → cell_at number cells ≡ Some found → HasSlot dimensions modes view query entries number (slot_by cells group_slots number)
-  stand_slot [] stand group_slots number found standing are is = absurd (cc is)
-  stand_slot (cell ∷ cells) [] group_slots number found standing are is = absurd standing
-  stand_slot (cell ∷ cells) (row ∷ stand) [] number found standing are is = absurd are
-  stand_slot (cell ∷ cells) (row ∷ stand) (group_slot ∷ group_slots) number found standing are is =
-      (elim (key_number cell.key == number) as (λ b. (key_number cell.key == number) ≡ b → cond b (Some cell) (cell_at number cells) ≡ Some found
-      → HasSlot dimensions modes view query entries number (cond b group_slot (slot_by cells group_slots number))) [
-        | true ↦ λ e there.
-            (let own : key_number cell.key ≡ number = grind (arith, nat_tests) in
-            record { row = row; known = standing.0.known; ship_mode = standing.0.ship_mode; number_is = ap (λ (k : Key). key_number k) standing.0.key_is ∙ own; slot = are.0 })
-        | false ↦ λ e there. stand_slot cells stand group_slots number found standing.1 are.1 there
-      ]) refl is
-
   -- ---- the cell of a row
   row_found : (number : ℕ) (rows : List LineOrder) (row : LineOrder) → Contains rows row → key_number (key_of dimensions modes view row) ≡ number → cell_over dimensions modes view (rows_of dimensions modes view number rows) ≡ None → ⊥
   row_found number [] row there own none = absurd (omega (arith, there.1))
@@ -111,8 +78,11 @@ module _ (dimensions : DimRows) (modes : List (List ℕ)) (view : View) (query :
         | false ↦ λ still. row_found number rows row (k, omega (arith, within), is) own still
       ]) none
 
-  module _ (law : OneKeyOneGroup dimensions) (serves : Serves view query) (cells : List Cell) (stand : List LineOrder) (group_slots : List (Option ℕ))
-      (standing : AreStandIns dimensions modes view cells stand) (are : AreGroupSlots dimensions query entries stand group_slots) (rows : List LineOrder) (stand_for : StandFor dimensions modes rows (record { view = view; cells = cells })) where
+  module _ (law : OneKeyOneGroup dimensions) (serves : Serves view query) (cells : List Cell)
+      (group_slots : List (Option ℕ))
+      (have : (number : ℕ) (found : Cell) → cell_at number cells ≡ Some found
+      → HasSlot dimensions modes view query entries number (slot_by cells group_slots number)) (rows : List LineOrder)
+      (stand_for : StandFor dimensions modes rows (record { view = view; cells = cells })) where
     abbrev pub slot_of_row : LineOrder → Option ℕ
     slot_of_row row = slot_by cells group_slots (key_number (key_of dimensions modes view row))
 
@@ -122,14 +92,19 @@ module _ (dimensions : DimRows) (modes : List (List ℕ)) (view : View) (query :
         let members : HasMembers dimensions modes view row = subst (HasMembers dimensions modes view) there.2 (stand_for.known there.0 row there.1) in
         (elim (cell_at number cells) as (λ o. cell_at number cells ≡ o → IsGroupSlot dimensions query entries row (slot_of_row row)) [
           | None ↦ λ e. absurd (row_found number rows row there refl (sym (stand_for.group number) ∙ e))
-          | Some found ↦ λ e. turned row members (stand_slot cells stand group_slots number found standing are e)
+          | Some found ↦ λ e. turned row members (have number found e)
         ]) refl
       where
         turned : (row : LineOrder) → HasMembers dimensions modes view row → HasSlot dimensions modes view query entries (key_number (key_of dimensions modes view row)) (slot_of_row row) → IsGroupSlot dimensions query entries row (slot_of_row row)
         turned row members has =
             (elim (slot_of_row row) as (λ o. IsGroupSlot dimensions query entries has.row o → IsGroupSlot dimensions query entries row o) [
-              | None ↦ λ is. law modes view query has.row row None serves (record { axes = λ axis apart. has.known axis; ship_mode = has.ship_mode }) members has.number_is is
-              | Some slot ↦ λ is. (is.0, law modes view query has.row row (Some is.0) serves (record { axes = λ axis apart. has.known axis; ship_mode = has.ship_mode }) members has.number_is is.1, is.2)
+              | None ↦ λ is. law modes view query has.row row None serves has.members members has.number_is is
+              | Some slot ↦ λ is. (
+                is.0,
+                law modes view query has.row row (Some is.0) serves has.members members
+                    has.number_is is.1,
+                is.2,
+              )
             ]) has.slot
 
     all_slots : (part : List LineOrder) → ((row : LineOrder) → Contains part row → Contains rows row) → AreGroupSlots dimensions query entries part (map slot_of_row part)
@@ -215,19 +190,51 @@ module _ (dimensions : DimRows) (plan : Plan) (over : IsPlanOver dimensions plan
                 ∙ all_untouched aggs slot (length (entries_of new)) plain.cells are.group_slots [] slots_below h;
           }
 
-      pub stands_merged : OneKeyOneGroup dimensions → Serves plain.view (query_of plan) → (rows : List LineOrder) → StandFor dimensions modes rows plain
-          → (so_far : List LineOrder) → StandsFor dimensions (shown plan old columns) so_far → StandsFor dimensions (shown plan new merged) (so_far ++ rows)
-      stands_merged law serves rows stand_for so_far stands =
-          let query = query_of plan in
-          let entries = entries_of new in
-          let stand = are.slots.rows in
-          let standing = are.slots.stand in
-          let slots = are.slots.slots in
-          let count = AreGroupSlots-length dimensions query entries stand are.group_slots slots ∙ stand_count dimensions modes plain.view plain.cells stand standing in
-          let have = rows_have_slots dimensions modes plain.view query entries law serves plain.cells stand are.group_slots standing slots rows stand_for in
-          let counted = rows_counted dimensions modes plain.view query entries law serves plain.cells stand are.group_slots standing slots rows stand_for query.aggregates columns merged count are.merged in
-          stands_count dimensions plan over old columns kept new columns cover grow as_they_are rows
-          (map (slot_of_row dimensions modes plain.view query entries law serves plain.cells stand are.group_slots standing slots rows stand_for) rows) have merged counted so_far stands
+    pub represents_wanted : (merged : List (Vec Tally Global))
+        → AreWantedMerged (asked_of dimensions (query_of plan) plain.view modes) (query_of plan).aggregates
+        (entries_of new) plain.cells columns merged
+        → OneKeyOneGroup dimensions → Serves plain.view (query_of plan) → (rows : List LineOrder)
+        → StandFor dimensions modes rows plain
+        → (so_far : List LineOrder) → StandsFor dimensions (shown plan old columns) so_far
+        → StandsFor dimensions (shown plan new merged) (so_far ++ rows)
+    represents_wanted merged are law serves rows stand_for so_far stands =
+        let query = query_of plan in
+        let asked = asked_of dimensions query plain.view modes in
+        let entries = entries_of new in
+        let own = are.merged in
+        let group_slots = slots_for asked plain.cells are.wanted are.out own.group_slots in
+        let count = cell_slots-length asked entries are.wanted own.group_slots own.slots in
+        let rows_there = λ (cell : Cell) (among : Contains plain.cells cell). row_of_cell dimensions modes plain rows
+        (HasMembers dimensions modes plain.view) cell stand_for stand_for.known among in
+        let have = λ (number : ℕ) (found : Cell) (is : cell_at number plain.cells ≡ Some found).
+        wanted_slot asked entries plain.cells are.wanted are.out own.slots.rows own.group_slots number found
+        own.slots.stand own.slots.slots rows_there is in
+        let slots = rows_have_slots dimensions modes plain.view query entries law serves plain.cells group_slots have
+        rows stand_for in
+        let counted = rows_counted dimensions modes plain.view query entries law serves plain.cells group_slots have
+        rows stand_for query.aggregates columns merged
+        (slots_for-length asked plain.cells are.wanted are.out own.group_slots)
+        (λ slot. own.merged slot ∙ sym
+        (with_wanted asked slot plain.cells are.wanted are.out own.group_slots count query.aggregates
+        (tallies_at columns slot))) in
+        stands_count dimensions plan over old columns kept new columns cover grow as_they_are rows
+        (map (slot_of_row dimensions modes plain.view query entries law serves plain.cells group_slots have rows
+        stand_for) rows) slots merged counted so_far stands
+
+    pub stands_merged : (merged : List (Vec Tally Global))
+        → AreMergedIn (asked_of dimensions (query_of plan) plain.view modes) (query_of plan).aggregates (entries_of new)
+        plain.cells columns merged
+        → OneKeyOneGroup dimensions → Serves plain.view (query_of plan) → (rows : List LineOrder)
+        → StandFor dimensions modes rows plain
+        → (so_far : List LineOrder) → StandsFor dimensions (shown plan old columns) so_far
+        → StandsFor dimensions (shown plan new merged) (so_far ++ rows)
+    stands_merged merged are =
+        represents_wanted merged (record {
+          wanted = plain.cells;
+          out = leaves_none (asked_of dimensions (query_of plan) plain.view modes)
+              plain.cells;
+          merged = are;
+        })
 
     pub room_for_cells : (rows : List LineOrder) → StandFor dimensions modes rows plain → (so_far : List LineOrder) → StandsFor dimensions (shown plan old columns) so_far → AreFoldable dimensions (so_far ++ rows)
         → GroupsHaveRoomFor (entries_of new) (query_of plan).aggregates plain.cells columns

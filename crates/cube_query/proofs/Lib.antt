@@ -36,6 +36,8 @@ mod RunMerging
 mod BatchFolds
 mod BatchTallies
 mod CellGroups
+mod RowSlots
+mod Wanted
 mod CellFolds
 mod WholeBatches
 mod AskedRows

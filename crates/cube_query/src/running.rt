@@ -9,10 +9,9 @@ ghost use Rattle.cube_model.specs.declared.rows.DimRows.{DimRows};
 ghost use Rattle.cube_model.specs.declared.rows.LineOrder.{LineOrder};
 ghost use Rattle.wire.specs.Runs.{HasRead, IsRefused};
 ghost use Rattle.column_segment.specs.Projected.{AgreeOn};
-ghost use Rattle.cuboid_cells.specs.Cells.{PlainCells};
-ghost use Rattle.cuboid_cells.specs.Pieces.{IsReadTo, size_of_run};
-ghost use Rattle.cuboid_cells.specs.Spelled.{IsRun};
-ghost use Rattle.cuboid_cells.specs.declared.span.Span.{Span};
+ghost use Rattle.cuboid_cells.specs.Pieces.{AreLeft, size_of_run};
+ghost use Rattle.cuboid_cells.specs.Steps.{cells_of};
+ghost use Rattle.cuboid_cells.specs.declared.cell.Cell.{Cell};
 ghost use Rattle.cube_query.specs.Asked.{AreSame, asked_columns, is_asked};
 ghost use Rattle.cube_query.specs.CellRuns.{IsRunMerged, TakesRun};
 ghost use Rattle.cube_query.specs.CellSlots.{AreMergedIn, HaveNoStandIn, asked_of};
@@ -205,10 +204,12 @@ impl Fold {
 
     /// Counts the cells of a run in, in place of the rows that they represent, piece by piece as they are read from a source.
     ///
-    /// No cell is read yet. The view of the run has to serve the query. The fifth codes of cells are places among the modes, which
-    /// only a view that groups by ship mode looks at. `BadLayout` says that the text is no run, or that its cells represent
-    /// no rows that can be taken, as `add_cells` does. Each cell is read once. It takes memory for new groups, and for the time of
-    /// the call some for each member of the view's levels and for one piece. After a refusal the fold is to be dropped.
+    /// The cells are those that are left of the run. Its view has to serve the query. Cells that have no rows that are
+    /// selected, by their codes on the first axis that the view groups, are not all read, and what is wrong with such a
+    /// cell need not be found. The fifth codes of cells are places among the modes, which only a view that groups by
+    /// ship mode looks at. `BadLayout` says that the text is no run, or that its cells represent no rows that can be
+    /// taken, as `add_cells` does. No cell is read twice. It takes memory for new groups, and for the time of the call
+    /// some for each member of the view's levels and for one piece. After a refusal the fold is to be dropped.
     pub fn add_run<S: Source>(
         &mut self,
         dims: &Dims,
@@ -221,11 +222,13 @@ impl Fold {
         requires total { S.totals source.old run.old.id ≡ Some (size_of_run run.old) }
         ensures over { IsOver dims.now self.new }
         ensures query { self.new.query ≡ self.old.query }
-        ensures ok { OnOk result (S.keeps_word source.new → IsReadTo (S.texts source.old run.old.id) run.old []
-            → TakesRun dims.now (modes_of (option_map (λ modes. modes.now) modes.entry)) (S.texts source.old run.old.id) run.old.head self.old self.new) }
-        ensures refused { IsErrOf result Fault.BadLayout → S.keeps_word source.new → IsReadTo (S.texts source.old run.old.id) run.old []
-            → (bytes : List ℕ) (span : Span) (plain : PlainCells) → S.texts source.old run.old.id ≡ Some bytes → IsRun bytes span plain
-            → (rows : List LineOrder) → StandFor dims.now (modes_of (option_map (λ modes. modes.now) modes.entry)) rows plain
+        ensures ok { OnOk result (S.keeps_word source.new
+            → TakesRun dims.now (modes_of (option_map (λ modes. modes.now) modes.entry)) (S.texts source.old run.old.id) run.old
+            self.old self.new) }
+        ensures refused { IsErrOf result Fault.BadLayout → S.keeps_word source.new
+            → (cells : List Cell) → AreLeft (S.texts source.old run.old.id) run.old cells → (rows : List LineOrder)
+            → StandFor dims.now (modes_of (option_map (λ modes. modes.now) modes.entry)) rows
+            (cells_of run.old.head.view cells)
             → CanTake dims.now self.old rows → ⊥ }
         ensures run { MatchResult result (λ _. HasRead S.Source source.old source.new)
             (λ fault. (((fault ≡ Fault.Memory) ⊎ (fault ≡ Fault.BadLayout)) × HasRead S.Source source.old source.new)
@@ -473,13 +476,17 @@ fn with_run<S: Source>(
     requires cover { Cover (group_count dims.now (query_of plan.now).columns) slots.old }
     requires columns { length columns.old ≡ length (query_of plan.now).aggregates }
     requires total { S.totals source.old run.old.id ≡ Some (size_of_run run.old) }
-    ensures merged { OnOk result (S.keeps_word source.new → IsReadTo (S.texts source.old run.old.id) run.old []
-        → IsRunMerged (asked_of dims.now (query_of plan.now) run.old.head.view (modes_of (option_map (λ modes. modes.now) modes.entry)))
-        (query_of plan.now).aggregates (entries_of slots.new) (S.texts source.old run.old.id) run.old.head columns.old columns.new) }
-    ensures refused { IsErrOf result Fault.BadLayout → S.keeps_word source.new → IsReadTo (S.texts source.old run.old.id) run.old []
-        → (bytes : List ℕ) (span : Span) (plain : PlainCells) → S.texts source.old run.old.id ≡ Some bytes → IsRun bytes span plain
-        → HaveNoStandIn (asked_of dims.now (query_of plan.now) run.old.head.view (modes_of (option_map (λ modes. modes.now) modes.entry))) plain.cells
-        ⊎ (GroupsHaveRoomFor (entries_of slots.new) (query_of plan.now).aggregates plain.cells columns.old → ⊥) }
+    ensures merged { OnOk result (S.keeps_word source.new
+        → IsRunMerged
+        (asked_of dims.now (query_of plan.now) run.old.head.view (modes_of (option_map (λ modes. modes.now) modes.entry)))
+        (query_of plan.now).aggregates (entries_of slots.new) (S.texts source.old run.old.id) run.old
+        columns.old columns.new) }
+    ensures refused { IsErrOf result Fault.BadLayout → S.keeps_word source.new
+        → (cells : List Cell) → AreLeft (S.texts source.old run.old.id) run.old cells
+        → HaveNoStandIn
+        (asked_of dims.now (query_of plan.now) run.old.head.view (modes_of (option_map (λ modes. modes.now) modes.entry)))
+        cells
+        ⊎ (GroupsHaveRoomFor (entries_of slots.new) (query_of plan.now).aggregates cells columns.old → ⊥) }
     ensures fresh { (slot : ℕ) → length (entries_of slots.new) ≤ slot → tallies_at columns.new slot ≡ tallies_at columns.old slot }
     ensures cover { Cover (group_count dims.now (query_of plan.now).columns) slots.new }
     ensures grow { Grow (group_count dims.now (query_of plan.now).columns) (entries_of slots.old)

@@ -107,7 +107,7 @@ mode-one false a b xs ys fits others none no_other same = (none refl ∙ sym (no
 mode-one true a b xs ys fits others none no_other same = spelling-one 2 a b xs ys fits others same
 
 -- bytes begin with one key at most
-key-one : (grouped : Bool) (one other : Key) (xs ys : List ℕ) → KeyFits one → KeyFits other
+pub key-one : (grouped : Bool) (one other : Key) (xs ys : List ℕ) → KeyFits one → KeyFits other
     → (grouped ≡ false → one.ship_mode ≡ all_code) → (grouped ≡ false → other.ship_mode ≡ all_code)
     → key_of grouped one ++ xs ≡ key_of grouped other ++ ys → (one ≡ other) × (xs ≡ ys)
 key-one grouped one other xs ys fits others none no_other same =

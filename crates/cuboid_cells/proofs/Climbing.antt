@@ -17,6 +17,14 @@ pub lower : (low at : ℕ) (cells : List Cell) → low ≤ at → Climbs at cell
 lower low at [] below climbs = tt
 lower low at (cell ∷ cells) below climbs = (omega (arith, below, climbs.0), climbs.1)
 
+-- none has a key below
+pub all_from : (low : ℕ) (cells : List Cell) → Climbs low cells → All (λ cell. low ≤ number_of cell.key) cells
+all_from low [] climbs = All-nil (λ cell. low ≤ number_of cell.key)
+all_from low (cell ∷ cells) climbs =
+    let later = all_from (number_of cell.key + 1) cells climbs.1 in
+    All-cons (λ one. low ≤ number_of one.key) cell cells climbs.0
+    (λ k d within. omega (arith, later k d within, climbs.0))
+
 -- a cell after them
 pub climb_more : (low high : ℕ) (cells : List Cell) (cell : Cell) → ClimbsTo low cells high → high ≤ number_of cell.key
     → ClimbsTo low (cells ++ cell ∷ []) (number_of cell.key + 1)

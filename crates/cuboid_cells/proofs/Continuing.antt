@@ -1,10 +1,9 @@
 -- A run that is read piece by piece: what a piece adds, and what all of them are. For the proofs of other crates too.
-use Rattle.std.proofs.Common.{◌≡◌, ℕ, ◌+◌, ◌-◌, ◌*◌, ◌≤◌, ◌↔◌, ◌&&◌, Bool, true, false, Option, Some, None, Result, Ok, Err, OnOk, min, option_map, List, [], ◌∷◌, ◌++◌, length, take, drop, All, IsTrue, refl, sym, ap, ◌∙◌, subst, arith, append_assoc, append-nil, length-append, length-take}
+use Rattle.std.proofs.Common.{◌≡◌, ℕ, ◌+◌, ◌-◌, ◌*◌, ◌<◌, ◌≤◌, ◌↔◌, ◌&&◌, Bool, true, false, Option, Some, None, Result, Ok, Err, OnOk, min, option_map, List, [], ◌∷◌, ◌++◌, length, take, drop, get_or, All, IsTrue, refl, sym, ap, ◌∙◌, subst, arith, append_assoc, length-append, length-take}
 use Rattle.std.specs.List.{flat_map}
-use Rattle.std.specs.Option.{IsSomeAnd}
-use Rattle.std.proofs.Math.Seq.{drop-append_seam, take-append_seam}
+use Rattle.std.proofs.Math.Seq.{drop-append_seam}
 use Rattle.std.proofs.lemmas.Grind.{flat_map-append}
-use Rattle.std.proofs.lemmas.List.{take-append-drop}
+use Rattle.std.proofs.lemmas.List.{drop-drop, drop-take, length-drop, take-append-drop}
 use Rattle.std.proofs.lemmas.List.Elements.{All-append, All-cons, All-head, All-nil, All-tail}
 use Rattle.wire.specs.Parts.{Gives}
 use Rattle.lattice.specs.declared.view.View.{View}
@@ -13,14 +12,13 @@ use Rattle.lattice.proofs.Places.{one_view}
 use Rattle.cuboid_cells.specs.declared.cell.Cell.{Cell}
 use Rattle.cuboid_cells.specs.declared.head.RunHead.{RunHead}
 use Rattle.cuboid_cells.specs.declared.reading.Header.{Header}
-use Rattle.cuboid_cells.specs.declared.span.Span.{Span}
-use Rattle.cuboid_cells.specs.Cells.{AreAscending, FollowRules, IsCellOf, PlainCells, number_of}
-use Rattle.cuboid_cells.specs.Pieces.{AreCellsFrom, Climbs, IsHeadFor, IsReadTo, RunPlace, bytes_of_head, least_after}
+use Rattle.cuboid_cells.specs.Cells.{AreAscending, FollowRules, IsCellOf, KeyFits, number_of}
+use Rattle.cuboid_cells.specs.Pieces.{AreCellsFrom, AreLeft, Climbs, IsAtFirst, IsHeadFor, IsRunOf, ReadsOn, RunPlace, bytes_of_head, least_after}
 use Rattle.cuboid_cells.specs.Reading.{IsReadable, ReadsCells, ReadsHeader}
-use Rattle.cuboid_cells.specs.Spelled.{HoldsNoRun, IsRun, cell_bytes, cell_of, header_of, name_of}
+use Rattle.cuboid_cells.specs.Spelled.{cell_bytes, cell_of, header_of, name_of}
 use Rattle.cuboid_cells.specs.Steps.{cells_of}
 use Rattle.cuboid_cells.proofs.CallerLemmas.{are_readable, cells-one, header-one, length-cells, length-header_of, length-name_of, views_below}
-use Rattle.cuboid_cells.proofs.Climbing.{ClimbsTo, climbs_ascend, climbs_from}
+use Rattle.cuboid_cells.proofs.Climbing.{ClimbsTo, all_from, climbs_ascend, climbs_from}
 
 -- ---- cells that climb
 climbs_append : (low : ℕ) (a b : List Cell) → Climbs low a → Climbs (least_after low a) b → Climbs low (a ++ b)
@@ -35,14 +33,14 @@ least_append : (low : ℕ) (a b : List Cell) → least_after low (a ++ b) ≡ le
 least_append low [] b = refl
 least_append low (cell ∷ a) b = least_append (number_of cell.key + 1) a b
 
-climbs_to : (low : ℕ) (cells : List Cell) → Climbs low cells → ClimbsTo low cells (least_after low cells)
+pub climbs_to : (low : ℕ) (cells : List Cell) → Climbs low cells → ClimbsTo low cells (least_after low cells)
 climbs_to low [] climbs = omega arith
 climbs_to low (cell ∷ cells) climbs = (climbs.0, climbs_to (number_of cell.key + 1) cells climbs.1)
 
 ascend : (cells : List Cell) → Climbs 0 cells → AreAscending cells
 ascend cells climbs = climbs_ascend 0 (least_after 0 cells) cells (climbs_to 0 cells climbs)
 
-climb : (cells : List Cell) → AreAscending cells → Climbs 0 cells
+pub climb : (cells : List Cell) → AreAscending cells → Climbs 0 cells
 climb cells ascending = climbs_from 0 cells ascending (λ k d within. omega arith)
 
 -- cells that climb from nothing follow the rules
@@ -110,185 +108,243 @@ front grouped cells all left are also few same =
     (same ∙ ap (flat_map f) (sym halves) ∙ flat_map-append f (take n all) (drop n all)) in
     (drop n all, sym halves ∙ ap (λ (l : List Cell). l ++ drop n all) (sym parts.0), parts.1, readable.1)
 
--- a run that was read in part
-pub record Begins (run : RunPlace) (so_far : List Cell) (bytes : List ℕ) (batches : Span) (plain : PlainCells) : Type 0 where
-  pub span : batches ≡ run.head.span
-  pub view : plain.view ≡ run.head.view
-  pub count : length plain.cells ≡ run.head.count
-  pub rest : List Cell
-  pub cells : plain.cells ≡ so_far ++ rest
-  pub left : bytes ≡ flat_map (cell_of run.head.view.ship_mode) rest
-  pub readable : All (IsReadable run.head.view.ship_mode) rest
+-- places in bytes
+pub place_on : (grouped : Bool) (done n : ℕ)
+    → 20 + cell_bytes grouped * done + cell_bytes grouped * n ≡ 20 + cell_bytes grouped * (done + n)
+place_on false done n = omega arith
+place_on true done n = omega arith
 
-module _ (text : Option (List ℕ)) (run : RunPlace) (cells : List Cell) (to : IsReadTo text run cells) where
+-- ---- a run, of which some cells are left
+module _ (bytes : List ℕ) (run : RunPlace) (cells : List Cell) (left : AreLeft (Some bytes) run cells) where
   abbrev grouped : Bool
   grouped = run.head.view.ship_mode
 
-  many : cell_bytes grouped * length cells + length to.left ≡ cell_bytes grouped * run.head.count
-  many = omega (arith, to.head.whole, length-cells grouped cells)
+  abbrev f : Cell → List ℕ
+  f = cell_of grouped
 
-  pub within : run.done ≤ run.head.count
-  within = subst (λ (n : ℕ). n ≤ run.head.count) to.done (fits grouped (length cells) run.head.count (length to.left) many)
+  abbrev whole : List Cell
+  whole = left.before ++ cells
 
-  -- where the text is a run, the cells that were read are its first
-  pub begins : (bytes : List ℕ) (span : Span) (plain : PlainCells) → text ≡ Some bytes → IsRun bytes span plain → Begins run cells to.left span plain
-  begins bytes span plain there is =
-      let head : RunHead = run.head in
-      let all : List ℕ = bytes_of_head head ++ (flat_map (cell_of grouped) cells ++ to.left) in
-      let found : Some bytes ≡ Some all = sym there ∙ to.spelled in
-      let same : bytes ≡ all = cc found in
-      let p = header-one (name_of grouped) (name_of plain.view.ship_mode) (index_of head.view) head.span.from head.span.to head.count
-      (index_of plain.view) span.from span.to (length plain.cells) (flat_map (cell_of grouped) cells ++ to.left) (flat_map (cell_of plain.view.ship_mode) plain.cells)
-      (length-name_of grouped) (length-name_of plain.view.ship_mode) (omega (arith, views_below head.view)) (omega (arith, to.head.span.some, to.head.span.fits)) to.head.span.fits (omega (arith, to.head.few))
-      (omega (arith, views_below plain.view)) (omega (arith, is.span.some, is.span.fits)) is.span.fits (omega (arith, is.proper.rules.few))
-      (sym same ∙ is.spelled) in
-      let view : plain.view ≡ head.view = one_view plain.view head.view (sym p.1) in
-      let own : plain.view.ship_mode ≡ grouped = ap (λ (v : View). v.ship_mode) view in
-      let part = front grouped cells plain.cells to.left to.readable (subst (λ (g : Bool). All (IsReadable g) plain.cells) own (are_readable plain is.proper))
-      (omega (arith, within, to.done, p.4)) (p.5 ∙ ap (λ (g : Bool). flat_map (cell_of g) plain.cells) own) in
-      record {
-        span = λ i. record { from = sym p.2 i; to = sym p.3 i };
-        view = view;
-        count = sym p.4;
-        rest = part.0;
-        cells = part.1;
-        left = part.2;
-        readable = part.3;
-      }
+  -- the bytes from a cell on
+  pub rest_at : (some rest : List Cell) → cells ≡ some ++ rest
+      → drop (20 + cell_bytes grouped * (run.done + length some)) bytes ≡ flat_map f rest
+  rest_at some rest parts =
+      let head : List ℕ = header_of (name_of grouped) (index_of run.head.view) run.head.span.from run.head.span.to
+      (length whole) in
+      let done : List Cell = left.before ++ some in
+      let start : List ℕ = head ++ flat_map f done in
+      let split : whole ≡ done ++ rest = ap (λ (xs : List Cell). left.before ++ xs) parts
+      ∙ sym (append_assoc left.before some rest) in
+      let all : bytes ≡ start ++ flat_map f rest =
+      left.is.spelled ∙ ap (λ (xs : List Cell). head ++ flat_map f xs) split
+      ∙ ap (λ (xs : List ℕ). head ++ xs) (flat_map-append f done rest)
+      ∙ sym (append_assoc head (flat_map f done) (flat_map f rest)) in
+      let many : length done ≡ run.done + length some = omega (arith, length-append left.before some, left.done) in
+      let size : length start ≡ 20 + cell_bytes grouped * (run.done + length some) =
+      length-append head (flat_map f done)
+      ∙ (λ i. length-header_of (name_of grouped) (index_of run.head.view) run.head.span.from run.head.span.to
+      (length whole) (length-name_of grouped) i + length-cells grouped done i)
+      ∙ ap (λ (m : ℕ). 20 + cell_bytes grouped * m) many in
+      ap (λ (m : ℕ). drop m bytes) (sym size) ∙ ap (drop (length start)) all ∙ drop-append_seam start (flat_map f rest)
 
-  -- all cells were read: the text is their run
-  pub whole : run.done ≡ run.head.count → IsSomeAnd text (λ bytes. IsRun bytes run.head.span (cells_of run.head.view cells))
-  whole all =
-      let head : RunHead = run.head in
-      let count : length cells ≡ head.count = to.done ∙ all in
-      let none : length to.left ≡ 0 = omega (arith, many, ap (λ (n : ℕ). cell_bytes grouped * n) count) in
-      let left : to.left ≡ [] = nothing to.left none in
-      let ends : bytes_of_head head ++ (flat_map (cell_of grouped) cells ++ to.left) ≡ bytes_of_head (record { view = head.view; span = head.span; count = length cells }) ++ flat_map (cell_of grouped) cells =
-      ap (λ (xs : List ℕ). bytes_of_head head ++ (flat_map (cell_of grouped) cells ++ xs)) left
-      ∙ ap (λ (xs : List ℕ). bytes_of_head head ++ xs) (append-nil (flat_map (cell_of grouped) cells))
-      ∙ ap (λ (n : ℕ). bytes_of_head (record { view = head.view; span = head.span; count = n }) ++ flat_map (cell_of grouped) cells) (sym count) in
-      let rules = rules_of head.view cells to.rules in
-      subst (λ (t : Option (List ℕ)). IsSomeAnd t (λ bytes. IsRun bytes head.span (cells_of head.view cells))) (sym to.spelled) (record {
-        spelled = ends;
-        span = to.head.span;
-        proper = record {
-          rules = record { few = omega (arith, count, to.head.few); each = rules.0; ascending = rules.1 };
-          fit = λ k d lt. (to.readable k d lt).fits;
-        };
-      })
-    where
-      nothing : (xs : List ℕ) → length xs ≡ 0 → xs ≡ []
-      nothing [] none = refl
-      nothing (x ∷ xs) none = absurd (omega (arith, none))
+  rest_is : drop (20 + cell_bytes grouped * run.done) bytes ≡ flat_map f cells
+  rest_is = ap (λ (m : ℕ). drop (20 + cell_bytes grouped * m) bytes) (omega arith) ∙ rest_at [] cells refl
+
+  pub readable : All (IsReadable grouped) cells
+  readable = (all_parts (IsReadable grouped) left.before cells
+      (are_readable (cells_of run.head.view whole) left.is.proper)).1
+
+  pub each : All (IsCellOf run.head.view) cells
+  each = (all_parts (IsCellOf run.head.view) left.before cells left.is.proper.rules.each).1
 
   -- ---- a piece
-  module _ (n : ℕ) (new : List ℕ) (piece : List Cell) (reads : ReadsCells grouped n run.ahead new piece) where
+  module _ (n : ℕ) (new : List ℕ) (piece : List Cell) (reads : ReadsCells grouped n run.ahead new piece)
+      (few : run.done + n ≤ run.head.count) where
     abbrev later : List ℕ
-    later = drop (length run.ahead) to.left
+    later = drop (length run.ahead) (flat_map f cells)
 
-    left_is : to.left ≡ flat_map (cell_of grouped) piece ++ (new ++ later)
+    left_is : flat_map f cells ≡ flat_map f piece ++ (new ++ later)
     left_is =
-        sym (take-append-drop (length run.ahead) to.left)
-        ∙ ap (λ (xs : List ℕ). xs ++ later) (sym to.ahead ∙ reads.spelled)
-        ∙ append_assoc (flat_map (cell_of grouped) piece) new later
+        sym (take-append-drop (length run.ahead) (flat_map f cells))
+        ∙ ap (λ (xs : List ℕ). take (length run.ahead) xs ++ later) (sym rest_is)
+        ∙ ap (λ (xs : List ℕ). xs ++ later) (sym left.ahead ∙ reads.spelled)
+        ∙ append_assoc (flat_map f piece) new later
 
-    -- the cells that were read with it
-    pub more : AreCellsFrom run.head.view run.least piece → (next : RunPlace) → next.head ≡ run.head → next.done ≡ run.done + n → next.least ≡ least_after run.least piece
-        → next.ahead ≡ drop (cell_bytes grouped * n) run.ahead → IsReadTo text next (cells ++ piece)
-    more rules next head done least ahead =
-        let f = cell_of grouped in
-        let parts : flat_map f (cells ++ piece) ≡ flat_map f cells ++ flat_map f piece = flat_map-append f cells piece in
-        let all : flat_map f cells ++ to.left ≡ flat_map f (cells ++ piece) ++ (new ++ later) =
-        ap (λ (xs : List ℕ). flat_map f cells ++ xs) left_is ∙ sym (append_assoc (flat_map f cells) (flat_map f piece) (new ++ later))
-        ∙ ap (λ (xs : List ℕ). xs ++ (new ++ later)) (sym parts) in
-        let size : length (flat_map f piece) ≡ cell_bytes grouped * n = length-cells grouped piece ∙ ap (λ (m : ℕ). cell_bytes grouped * m) reads.many in
-        let rest : drop (cell_bytes grouped * n) run.ahead ≡ new =
-        ap (drop (cell_bytes grouped * n)) reads.spelled ∙ ap (λ (m : ℕ). drop m (flat_map f piece ++ new)) (sym size) ∙ drop-append_seam (flat_map f piece) new in
-        let own : IsReadTo text (record { id = next.id; head = run.head; done = run.done + n; least = least_after run.least piece; ahead = new }) (cells ++ piece) = record {
-          left = new ++ later;
-          spelled = to.spelled ∙ ap (λ (xs : List ℕ). Some (bytes_of_head run.head ++ xs)) all;
-          head = subst (λ (m : ℕ). IsHeadFor (20 + m) run.head) (sym (length-append (flat_map f cells) to.left) ∙ ap length all ∙ length-append (flat_map f (cells ++ piece)) (new ++ later)) to.head;
-          ahead = sym (take-append_seam new later);
-          done = omega (arith, length-append cells piece, to.done, reads.many);
-          readable = All-append (IsReadable grouped) cells piece to.readable reads.readable;
-          rules = cells_append run.head.view 0 cells piece to.rules (subst (λ (m : ℕ). AreCellsFrom run.head.view m piece) to.least rules);
-          least = ap (λ (m : ℕ). least_after m piece) to.least ∙ sym (least_append 0 cells piece);
-        } in
-        let same : ◌≡◌ {A = RunPlace} (record { id = next.id; head = run.head; done = run.done + n; least = least_after run.least piece; ahead = new }) next =
-        λ i. record { id = next.id; head = sym head i; done = sym done i; least = sym least i; ahead = sym (ahead ∙ rest) i } in
-        subst (λ (r : RunPlace). IsReadTo text r (cells ++ piece)) same own
+    found : (rest : List Cell) × (cells ≡ piece ++ rest) × (new ++ later ≡ flat_map f rest)
+        × All (IsReadable grouped) rest
+    found = front grouped piece cells (new ++ later) reads.readable readable
+        (omega (arith, few, left.many, left.done, reads.many)) (sym left_is)
 
-    -- where they keep no rules the text is no run
-    pub none : run.done + n ≤ run.head.count → (AreCellsFrom run.head.view run.least piece → ⊥) → HoldsNoRun text
-    none few refuses bytes span plain there is =
-        let b = begins bytes span plain there is in
-        let count : length cells + length b.rest ≡ run.head.count = sym (length-append cells b.rest) ∙ ap length (sym b.cells) ∙ b.count in
-        let part = front grouped piece b.rest (new ++ later) reads.readable b.readable (omega (arith, few, count, to.done, reads.many)) (sym left_is ∙ b.left) in
-        let rules = from_rules plain.view plain.cells (is.proper.rules.each, is.proper.rules.ascending) in
-        let own : AreCellsFrom run.head.view 0 (cells ++ b.rest) = subst (λ (v : View). AreCellsFrom v 0 (cells ++ b.rest)) b.view (subst (AreCellsFrom plain.view 0) b.cells rules) in
-        let last = (cells_parts run.head.view 0 cells b.rest own).1 in
-        let first = (cells_parts run.head.view (least_after 0 cells) piece part.0 (subst (AreCellsFrom run.head.view (least_after 0 cells)) part.1 last)).0 in
-        refuses (subst (λ (m : ℕ). AreCellsFrom run.head.view m piece) (sym to.least) first)
+    -- its cells keep the rules
+    keeps_rules : AreCellsFrom run.head.view run.least piece × Climbs (least_after run.least piece) found.0
+    keeps_rules =
+        let parts = climbs_parts run.least piece found.0 (subst (Climbs run.least) found.1 left.climb) in (
+          (
+            (all_parts (IsCellOf run.head.view) piece found.0 (subst (All (IsCellOf run.head.view)) found.1 each)).0,
+            parts.0,
+          ),
+          parts.1,
+        )
 
-  -- ---- other bytes ahead
-  pub with_ahead : (bytes ahead : List ℕ) → text ≡ Some bytes → ahead ≡ take (length ahead) (drop (20 + cell_bytes grouped * run.done) bytes)
-      → IsReadTo text (record { id = run.id; head = run.head; done = run.done; least = run.least; ahead = ahead }) cells
-  with_ahead bytes ahead there gives =
-      let before : List ℕ = bytes_of_head run.head ++ flat_map (cell_of grouped) cells in
-      let all : List ℕ = bytes_of_head run.head ++ (flat_map (cell_of grouped) cells ++ to.left) in
-      let found : Some bytes ≡ Some all = sym there ∙ to.spelled in
-      let same : bytes ≡ all = cc found in
-      let parts : bytes ≡ before ++ to.left = same ∙ sym (append_assoc (bytes_of_head run.head) (flat_map (cell_of grouped) cells) to.left) in
-      let head : length (bytes_of_head run.head) ≡ 20 = length-header_of (name_of grouped) (index_of run.head.view) run.head.span.from run.head.span.to run.head.count (length-name_of grouped) in
-      let size : length before ≡ 20 + cell_bytes grouped * run.done =
-      length-append (bytes_of_head run.head) (flat_map (cell_of grouped) cells) ∙ (omega (arith, head, length-cells grouped cells, ap (λ (m : ℕ). cell_bytes grouped * m) to.done)) in
-      let rest : drop (20 + cell_bytes grouped * run.done) bytes ≡ to.left =
-      ap (λ (m : ℕ). drop m bytes) (sym size) ∙ ap (drop (length before)) parts ∙ drop-append_seam before to.left in
-      record {
-        left = to.left;
-        spelled = to.spelled;
-        head = to.head;
-        ahead = gives ∙ ap (take (length ahead)) rest;
-        done = to.done;
-        readable = to.readable;
-        rules = to.rules;
-        least = to.least;
-      }
+-- each of them is a cell of the view that fits, and none has a key below the least
+pub cells_left : (text : Option (List ℕ)) (run : RunPlace) (cells : List Cell) → AreLeft text run cells
+    → (k : ℕ) (d : Cell) → k < length cells
+    → IsCellOf run.head.view (get_or cells k d) × KeyFits (get_or cells k d).key
+    × (run.least ≤ number_of (get_or cells k d).key)
+cells_left None run cells left k d within = absurd left.is
+cells_left (Some bytes) run cells left k d within = (
+  each bytes run cells left k d within,
+  (readable bytes run cells left k d within).fits.key,
+  all_from run.least cells left.climb k d within,
+)
+
+-- where all were read or passed over, none is
+pub none_left : (text : Option (List ℕ)) (run : RunPlace) (cells : List Cell) → AreLeft text run cells
+    → run.done ≡ run.head.count → cells ≡ []
+none_left text run [] left all = refl
+none_left text run (cell ∷ cells) left all = absurd (omega (arith, left.many, left.done, all))
+
+-- ---- further on
+-- bytes of a text further on
+pub gives_later : (text : Option (List ℕ)) (at m : ℕ) (part : List ℕ) → m ≤ length part → Gives text at part
+    → Gives text (at + m) (drop m part)
+gives_later None at m part few gives = absurd gives
+gives_later (Some bytes) at m part few gives =
+    let rest : List ℕ = drop at bytes in
+    let size : length part ≡ m + (length part - m) = omega (arith, few) in
+    let many : length (drop m part) ≡ length part - m = length-drop m part in
+    ap (drop m) (gives ∙ ap (λ (n : ℕ). take n rest) size)
+    ∙ drop-take m (length part - m) rest
+    ∙ ap (λ (n : ℕ). take n (drop m rest)) (sym many)
+    ∙ ap (take (length (drop m part))) (drop-drop m at bytes)
+
+-- no byte
+pub gives_none : (text : Option (List ℕ)) (at other : ℕ) (part : List ℕ) → Gives text at part → Gives text other []
+gives_none None at other part gives = absurd gives
+gives_none (Some bytes) at other part gives = refl
+
+-- fewer cells are left
+pub moved : (text : Option (List ℕ)) (run next : RunPlace) (cells some rest : List Cell) → AreLeft text run cells
+    → cells ≡ some ++ rest → next.head ≡ run.head → next.done ≡ run.done + length some
+    → Climbs next.least rest → Gives text (20 + cell_bytes next.head.view.ship_mode * next.done) next.ahead
+    → AreLeft text next rest
+moved text run next cells some rest left parts head done climb ahead =
+    let split : left.before ++ cells ≡ (left.before ++ some) ++ rest = ap (λ (xs : List Cell). left.before ++ xs) parts
+    ∙ sym (append_assoc left.before some rest) in
+    record {
+      before = left.before ++ some;
+      is = subst (λ (h : RunHead). IsRunOf text h ((left.before ++ some) ++ rest)) (sym head)
+          (subst (IsRunOf text run.head) split left.is);
+      many = omega (
+        arith,
+        left.many,
+        ap length parts,
+        length-append some rest,
+        length-append left.before some,
+        ap (λ (h : RunHead). h.count) head,
+      );
+      done = omega (arith, length-append left.before some, left.done, done);
+      climb = climb;
+      ahead = ahead;
+    }
+
+module _ (text : Option (List ℕ)) (run : RunPlace) (cells : List Cell) (left : AreLeft text run cells) where
+  -- other bytes are ahead
+  pub with_gives : (place : ℕ) (ahead : List ℕ) → place ≡ 20 + cell_bytes run.head.view.ship_mode * run.done
+      → Gives text place ahead
+      → AreLeft text (record { id = run.id; head = run.head; done = run.done; least = run.least; ahead = ahead }) cells
+  with_gives place ahead at gives = record {
+    before = left.before;
+    is = left.is;
+    many = left.many;
+    done = left.done;
+    climb = left.climb;
+    ahead = subst (λ (n : ℕ). Gives text n ahead) at gives;
+  }
+
+-- the cells of a piece were read
+pub more : (text : Option (List ℕ)) (run : RunPlace) (cells : List Cell) → AreLeft text run cells
+    → (n : ℕ) (new : List ℕ) (piece : List Cell) → ReadsCells run.head.view.ship_mode n run.ahead new piece
+    → run.done + n ≤ run.head.count
+    → (next : RunPlace) → next.head ≡ run.head → next.done ≡ run.done + n → next.least ≡ least_after run.least piece
+    → next.ahead ≡ drop (cell_bytes run.head.view.ship_mode * n) run.ahead → ReadsOn text cells next piece
+more None run cells left n new piece reads few next head done least ahead = absurd left.is
+more (Some bytes) run cells left n new piece reads few next head done least ahead =
+    let part = found bytes run cells left n new piece reads few in
+    let rules = keeps_rules bytes run cells left n new piece reads few in
+    let size : ℕ = cell_bytes run.head.view.ship_mode in
+    let enough : size * n ≤ length run.ahead = omega (arith, reads.left) in
+    let place : 20 + size * run.done + size * n ≡ 20 + cell_bytes next.head.view.ship_mode * next.done =
+    place_on run.head.view.ship_mode run.done n ∙ (λ i. 20 + cell_bytes (sym head i).view.ship_mode * sym done i) in
+    record {
+      rest = part.0;
+      parts = part.1;
+      now = moved (Some bytes) run next cells piece part.0 left part.1 head
+          (done ∙ ap (λ (m : ℕ). run.done + m) (sym reads.many))
+          (subst (λ (m : ℕ). Climbs m part.0) (sym least) rules.1)
+          (subst (Gives (Some bytes) (20 + cell_bytes next.head.view.ship_mode * next.done)) (sym ahead)
+          (subst (λ (m : ℕ). Gives (Some bytes) m (drop (size * n) run.ahead)) place
+          (gives_later (Some bytes) (20 + size * run.done) (size * n) run.ahead enough left.ahead)));
+    }
+
+-- where they keep no rules the text is no run
+pub none : (text : Option (List ℕ)) (run : RunPlace) (cells : List Cell) → AreLeft text run cells
+    → (n : ℕ) (new : List ℕ) (piece : List Cell) → ReadsCells run.head.view.ship_mode n run.ahead new piece
+    → run.done + n ≤ run.head.count
+    → (AreCellsFrom run.head.view run.least piece → ⊥) → ⊥
+none None run cells left n new piece reads few refuses = absurd left.is
+none (Some bytes) run cells left n new piece reads few refuses =
+    refuses (keeps_rules bytes run cells left n new piece reads few).0
 
 -- ---- the header
-pub opened : (bytes ahead left : List ℕ) (total id : ℕ) (head : RunHead) → length bytes ≡ total → ahead ≡ take (length ahead) bytes → IsHeadFor total head → ahead ≡ bytes_of_head head ++ left
-    → IsReadTo (Some bytes) (record { id = id; head = head; done = 0; least = 0; ahead = drop 20 ahead }) []
-opened bytes ahead left total id head many gives is spelled =
+pub opened : (bytes ahead rest : List ℕ) (total id : ℕ) (head : RunHead) → length bytes ≡ total
+    → ahead ≡ take (length ahead) bytes → IsHeadFor total head → ahead ≡ bytes_of_head head ++ rest
+    → IsAtFirst (Some bytes) (record { id = id; head = head; done = 0; least = 0; ahead = drop 20 ahead })
+opened bytes ahead rest total id head many gives own spelled span plain is =
     let later : List ℕ = drop (length ahead) bytes in
     let size : length (bytes_of_head head) ≡ 20 = length-header_of (name_of head.view.ship_mode) (index_of head.view) head.span.from head.span.to head.count (length-name_of head.view.ship_mode) in
-    let all : bytes ≡ bytes_of_head head ++ (left ++ later) =
-    sym (take-append-drop (length ahead) bytes) ∙ ap (λ (xs : List ℕ). xs ++ later) (sym gives ∙ spelled) ∙ append_assoc (bytes_of_head head) left later in
-    let rest : drop 20 ahead ≡ left = ap (λ (m : ℕ). drop m ahead) (sym size) ∙ ap (drop (length (bytes_of_head head))) spelled ∙ drop-append_seam (bytes_of_head head) left in
-    let own : IsReadTo (Some bytes) (record { id = id; head = head; done = 0; least = 0; ahead = left }) [] = record {
-      left = left ++ later;
-      spelled = ap (λ (xs : List ℕ). Some xs) all;
-      head = subst (λ (m : ℕ). IsHeadFor m head) (omega (arith, many, ap length all, length-append (bytes_of_head head) (left ++ later), size)) is;
-      ahead = sym (take-append_seam left later);
-      done = refl;
-      readable = All-nil (IsReadable head.view.ship_mode);
-      rules = (All-nil (IsCellOf head.view), tt);
-      least = refl;
-    } in
-    subst (λ (xs : List ℕ). IsReadTo (Some bytes) (record { id = id; head = head; done = 0; least = 0; ahead = xs }) []) (sym rest) own
+    let all : bytes ≡ bytes_of_head head ++ (rest ++ later) =
+    sym (take-append-drop (length ahead) bytes) ∙ ap (λ (xs : List ℕ). xs ++ later) (sym gives ∙ spelled)
+    ∙ append_assoc (bytes_of_head head) rest later in
+    let p = header-one (name_of head.view.ship_mode) (name_of plain.view.ship_mode) (index_of head.view) head.span.from
+    head.span.to head.count
+    (index_of plain.view) span.from span.to (length plain.cells) (rest ++ later)
+    (flat_map (cell_of plain.view.ship_mode) plain.cells)
+    (length-name_of head.view.ship_mode) (length-name_of plain.view.ship_mode) (omega (arith, views_below head.view))
+    (omega (arith, own.span.some, own.span.fits)) own.span.fits (omega (arith, own.few))
+    (omega (arith, views_below plain.view)) (omega (arith, is.span.some, is.span.fits)) is.span.fits
+    (omega (arith, is.proper.rules.few))
+    (sym all ∙ is.spelled) in
+    let view : head.view ≡ plain.view = sym (one_view plain.view head.view (sym p.1)) in
+    let head_is : ◌≡◌ {A = RunHead}
+    (record { view = head.view; span = record { from = head.span.from; to = head.span.to }; count = head.count })
+    (record { view = plain.view; span = record { from = span.from; to = span.to }; count = length plain.cells }) =
+    λ i. record { view = view i; span = record { from = p.2 i; to = p.3 i }; count = p.4 i } in (
+      head_is,
+      record {
+        before = [];
+        is = subst (λ (h : RunHead). IsRunOf (Some bytes) h plain.cells) (sym head_is) is;
+        many = omega (arith, p.4);
+        done = refl;
+        climb = climb plain.cells is.proper.rules.ascending;
+        ahead = subst (λ (n : ℕ). Gives (Some bytes) n (drop 20 ahead)) (start head.view.ship_mode)
+            (gives_later (Some bytes) 0 20 ahead
+            (omega (arith, ap length spelled, length-append (bytes_of_head head) rest, size)) gives);
+      },
+    )
+  where
+    start : (g : Bool) → 0 + 20 ≡ 20 + cell_bytes g * 0
+    start false = refl
+    start true = refl
 
--- ---- as the source gives them
-pub with_gives : (text : Option (List ℕ)) (run : RunPlace) (cells : List Cell) (place : ℕ) (ahead : List ℕ) → IsReadTo text run cells → place ≡ 20 + cell_bytes run.head.view.ship_mode * run.done → Gives text place ahead
-    → IsReadTo text (record { id = run.id; head = run.head; done = run.done; least = run.least; ahead = ahead }) cells
-with_gives None run cells place ahead to at gives = absurd gives
-with_gives (Some bytes) run cells place ahead to at gives =
-    with_ahead (Some bytes) run cells to bytes ahead refl (gives ∙ ap (λ (m : ℕ). take (length ahead) (drop m bytes)) at)
-
-pub opened_text : (text : Option (List ℕ)) (ahead left : List ℕ) (total id : ℕ) (head : RunHead) → Some total ≡ option_map length text → Gives text 0 ahead → IsHeadFor total head → ahead ≡ bytes_of_head head ++ left
-    → IsReadTo text (record { id = id; head = head; done = 0; least = 0; ahead = drop 20 ahead }) []
-opened_text None ahead left total id head many gives is spelled = absurd gives
-opened_text (Some bytes) ahead left total id head many gives is spelled =
+pub opened_text : (text : Option (List ℕ)) (ahead rest : List ℕ) (total id : ℕ) (head : RunHead)
+    → Some total ≡ option_map length text → Gives text 0 ahead → IsHeadFor total head
+    → ahead ≡ bytes_of_head head ++ rest
+    → IsAtFirst text (record { id = id; head = head; done = 0; least = 0; ahead = drop 20 ahead })
+opened_text None ahead rest total id head many gives is spelled = absurd gives
+opened_text (Some bytes) ahead rest total id head many gives is spelled =
     let size : total ≡ length bytes = cc many in
-    opened bytes ahead left total id head (sym size) gives is spelled
+    opened bytes ahead rest total id head (sym size) gives is spelled
 
 -- a header that was read from the first bytes of a text was read from the text
 pub on_text : (text bytes new : List ℕ) (header : Header) → bytes ≡ take (length bytes) text → ReadsHeader bytes new header → ReadsHeader text (new ++ drop (length bytes) text) header

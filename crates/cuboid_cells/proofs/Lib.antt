@@ -3,5 +3,6 @@ mod Climbing
 pub mod Continuing
 mod Decoded
 mod Fields
+mod Passing
 mod Underway
 mod Behind

@@ -8,7 +8,7 @@ use Rattle.cuboid_cells.specs.declared.key.Key.{Key}
 use Rattle.cuboid_cells.specs.declared.reading.Header.{Header}
 use Rattle.cuboid_cells.specs.declared.summary.Summaries.{Summaries}
 use Rattle.cuboid_cells.specs.declared.summary.Summary.{Summary}
-use Rattle.cuboid_cells.specs.Cells.{CellFits, KeyFits, SummariesFit, SummaryFits}
+use Rattle.cuboid_cells.specs.Cells.{CellFits, KeyFits, SummariesFit, SummaryFits, number_of}
 use Rattle.cuboid_cells.specs.Limits.{all_code, most_cells}
 use Rattle.cuboid_cells.specs.Spelled.{cell_bytes, cell_of, header_of, key_of, mode_bytes, mode_of, name_of, summaries_of, summary_of}
 
@@ -51,6 +51,13 @@ pub record ReadsKey (grouped : Bool) (old new : List ℕ) (key : Key) : Type 0 w
   pub absent : grouped ≡ false → key.ship_mode ≡ all_code
   pub spelled : old ≡ key_of grouped key ++ new
   pub left : length old ≡ 8 + mode_bytes grouped + length new
+
+-- the number of the key at the front of bytes
+pub record IsNumberIn (grouped : Bool) (bytes : List ℕ) (number : ℕ) : Type 0 where
+  pub key : Key
+  pub rest : List ℕ
+  pub reads : ReadsKey grouped bytes rest key
+  pub is : number ≡ number_of key
 
 -- what is kept of a measure was read from the front of `old`, and `new` is left
 pub record ReadsSummary (old new : List ℕ) (summary : Summary) : Type 0 where

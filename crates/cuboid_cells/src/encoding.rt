@@ -1,8 +1,8 @@
 //! Spelling cells.
-ghost use Rattle.std.specs.Prelude.{◌≡◌, ◌++◌, IfErr, OnOk};
+ghost use Rattle.std.specs.Prelude.{◌≡◌, ◌+◌, ◌++◌, IfErr, OnOk};
 ghost use Rattle.std.specs.List.{flat_map};
 ghost use Rattle.cube_model.specs.declared.fault.Fault.{Fault};
-ghost use Rattle.cuboid_cells.specs.Spelled.{cell_bytes, cell_of, header_of, key_of, mode_of, name_of, summaries_of, summary_of};
+ghost use Rattle.cuboid_cells.specs.Spelled.{cell_bytes, cell_of, header_of, key_of, mode_bytes, mode_of, name_of, summaries_of, summary_of};
 
 use crate::cell::Cell;
 use crate::key::Key;
@@ -28,6 +28,16 @@ pub(crate) fn bytes_of_cell(ship_modes: bool) -> usize
     match ship_modes {
         false => 160,
         true => 162,
+    }
+}
+
+// How many of them are those of its key.
+pub(crate) fn bytes_of_key(ship_modes: bool) -> usize
+    ensures { result ≡ 8 + mode_bytes ship_modes }
+{
+    match ship_modes {
+        false => 8,
+        true => 10,
     }
 }
 

@@ -13,6 +13,7 @@ mod merging;
 mod pieces;
 mod reading;
 mod rules;
+mod skipping;
 mod sources;
 mod span;
 mod summary;

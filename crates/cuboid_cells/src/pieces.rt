@@ -1,9 +1,8 @@
 //! Reading a run piece by piece.
-ghost use Rattle.std.specs.Prelude.{◌≡◌, ◌⊎◌, ◌↔◌, ◌<◌, ◌≤◌, ◌++◌, ℕ, [], List, Option, Some, length, All, IfErr, IfOk, IsErrOf, IsTrue, MatchResult, OnOk};
+ghost use Rattle.std.specs.Prelude.{◌≡◌, ◌⊎◌, ◌↔◌, ◌<◌, ◌≤◌, ℕ, List, Option, Some, length, IfErr, IfOk, IsErrOf, IsTrue, MatchResult, OnOk};
 ghost use Rattle.cube_model.specs.declared.fault.Fault.{Fault};
 ghost use Rattle.wire.specs.Runs.{HasRead, IsRefused};
-ghost use Rattle.cuboid_cells.specs.Cells.{IsCellOf};
-ghost use Rattle.cuboid_cells.specs.Pieces.{IsReadTo, size_of_run};
+ghost use Rattle.cuboid_cells.specs.Pieces.{AreCellsFrom, AreLeft, IsAtFirst, ReadsOn, least_after, size_of_run};
 ghost use Rattle.cuboid_cells.specs.Spelled.{HoldsNoRun, cell_bytes};
 ghost use Rattle.cuboid_cells.specs.declared.cell.Cell.{Cell};
 
@@ -18,20 +17,21 @@ use std::marker::Model;
 use wire::{Cursor, Source};
 
 // The bytes of the header.
-const HEAD: usize = 20;
+pub(crate) const HEAD: usize = 20;
 
 /// A run that is read from a source piece by piece. The memory that it takes does not depend on how many cells the run has.
 ///
-/// That the text is a run is known once all its cells are read.
+/// Cells can be passed over, of which nothing is looked at but some keys. So that the text is a run is known only where
+/// all its cells were read.
 #[derive(Drop)]
 pub struct RunReader {
-    id: u32,
-    head: RunHead,
-    // How many cells were read.
-    done: usize,
+    pub(crate) id: u32,
+    pub(crate) head: RunHead,
+    // How many cells were read or passed over.
+    pub(crate) done: usize,
     // The least number that the key of the next cell can have.
-    least: u128,
-    ahead: Ahead,
+    pub(crate) least: u128,
+    pub(crate) ahead: Ahead,
 }
 
 impl Model for RunReader {
@@ -54,7 +54,7 @@ impl RunReader {
     pub fn open<S: Source>(alloc: Global, source: &mut S, id: u32) -> Result<RunReader, Fault>
         ensures id { IfOk result (λ run. run.id ≡ id) }
         ensures total { IfOk result (λ run. S.totals source.old id ≡ Some (size_of_run run)) }
-        ensures ok { IfOk result (λ run. S.keeps_word source.new → IsReadTo (S.texts source.old id) run []) }
+        ensures ok { IfOk result (λ run. S.keeps_word source.new → IsAtFirst (S.texts source.old id) run) }
         ensures refused { IsErrOf result Fault.BadLayout → S.keeps_word source.new → HoldsNoRun (S.texts source.old id) }
         ensures run { MatchResult result (λ _. HasRead S.Source source.old source.new)
             (λ fault. (((fault ≡ Fault.Memory) ⊎ (fault ≡ Fault.BadLayout)) × HasRead S.Source source.old source.new)
@@ -86,7 +86,7 @@ impl RunReader {
         self.head
     }
 
-    /// Whether all cells were read.
+    /// Whether all cells were read or passed over.
     pub fn is_done(&self) -> bool
         ensures done { IsTrue result ↔ (self.now.done ≡ self.now.head.count) }
         ensures within { self.now.done ≤ self.now.head.count }
@@ -94,7 +94,8 @@ impl RunReader {
         self.done == self.head.count
     }
 
-    /// Reads the next cells, one at least, in place of those that are given.
+    /// Reads the next cells, one at least, in place of those that are given. They are cells of the view, and climb by
+    /// their keys from the least number that a key can have, whatever the bytes are.
     ///
     /// `BadLayout` where the bytes are those of no run. It can also fail when out of memory, or with what the source answers. After
     /// an error the reader is to be dropped.
@@ -108,11 +109,13 @@ impl RunReader {
         ensures id { self.new.id ≡ self.old.id }
         ensures head { self.new.head ≡ self.old.head }
         ensures more { OnOk result (self.old.done < self.new.done) }
-        ensures each { OnOk result (All (IsCellOf self.old.head.view) cells.new.items) }
-        ensures ok { OnOk result (S.keeps_word source.new → (before : List Cell) → IsReadTo (S.texts source.old self.old.id) self.old before
-            → IsReadTo (S.texts source.old self.old.id) self.new (before ++ cells.new.items)) }
-        ensures refused { IsErrOf result Fault.BadLayout → S.keeps_word source.new → (before : List Cell) → IsReadTo (S.texts source.old self.old.id) self.old before
-            → HoldsNoRun (S.texts source.old self.old.id) }
+        ensures rules { OnOk result (AreCellsFrom self.old.head.view self.old.least cells.new.items) }
+        ensures least { OnOk result (self.new.least ≡ least_after self.old.least cells.new.items) }
+        ensures ok { OnOk result (S.keeps_word source.new → (left : List Cell)
+            → AreLeft (S.texts source.old self.old.id) self.old left
+            → ReadsOn (S.texts source.old self.old.id) left self.new cells.new.items) }
+        ensures refused { IsErrOf result Fault.BadLayout → S.keeps_word source.new → (left : List Cell)
+            → AreLeft (S.texts source.old self.old.id) self.old left → ⊥ }
         ensures run { MatchResult result (λ _. HasRead S.Source source.old source.new)
             (λ fault. (((fault ≡ Fault.Memory) ⊎ (fault ≡ Fault.BadLayout)) × HasRead S.Source source.old source.new)
             ⊎ IsRefused S.Source fault source.old source.new) }
@@ -127,8 +130,9 @@ impl RunReader {
         requires more { self.old.done < self.old.head.count }
         ensures place { self.new ≡ record self.old { ahead = self.new.ahead } }
         ensures enough { OnOk result (cell_bytes self.old.head.view.ship_mode ≤ length self.new.ahead) }
-        ensures ok { OnOk result (S.keeps_word source.new → (before : List Cell) → IsReadTo (S.texts source.old self.old.id) self.old before
-            → IsReadTo (S.texts source.old self.old.id) self.new before) }
+        ensures ok { OnOk result (S.keeps_word source.new → (left : List Cell)
+            → AreLeft (S.texts source.old self.old.id) self.old left
+            → AreLeft (S.texts source.old self.old.id) self.new left) }
         ensures run { MatchResult result (λ _. HasRead S.Source source.old source.new)
             (λ fault. IsRefused S.Source fault source.old source.new) }
     {
@@ -148,11 +152,12 @@ impl RunReader {
         ensures id { self.new.id ≡ self.old.id }
         ensures head { self.new.head ≡ self.old.head }
         ensures more { OnOk result (self.old.done < self.new.done) }
-        ensures each { OnOk result (All (IsCellOf self.old.head.view) cells.new.items) }
-        ensures ok { OnOk result ((text : Option (List ℕ)) (before : List Cell) → IsReadTo text self.old before
-            → IsReadTo text self.new (before ++ cells.new.items)) }
+        ensures rules { OnOk result (AreCellsFrom self.old.head.view self.old.least cells.new.items) }
+        ensures least { OnOk result (self.new.least ≡ least_after self.old.least cells.new.items) }
+        ensures ok { OnOk result ((text : Option (List ℕ)) (left : List Cell) → AreLeft text self.old left
+            → ReadsOn text left self.new cells.new.items) }
         ensures refused { IfErr result (λ fault. (fault ≡ Fault.Memory) ⊎ ((fault ≡ Fault.BadLayout)
-            × ((text : Option (List ℕ)) (before : List Cell) → IsReadTo text self.old before → HoldsNoRun text))) }
+            × ((text : Option (List ℕ)) (left : List Cell) → AreLeft text self.old left → ⊥))) }
     {
         let view = self.head.view;
         let size = bytes_of_cell(view.ship_mode);

@@ -3,7 +3,7 @@ ghost use Rattle.std.specs.Prelude.{◌≡◌, ◌+◌, ◌*◌, ◌≤◌, ◌<
 ghost use Rattle.cuboid_cells.specs.Cells.{FollowRules};
 ghost use Rattle.cube_model.specs.declared.fault.Fault.{Fault};
 ghost use Rattle.cuboid_cells.specs.Pieces.{AreCellsFrom, least_after};
-ghost use Rattle.cuboid_cells.specs.Reading.{ReadsCell, ReadsCells, ReadsHeader, ReadsKey, ReadsMode, ReadsSummaries, ReadsSummary, ReadsThree};
+ghost use Rattle.cuboid_cells.specs.Reading.{IsNumberIn, ReadsCell, ReadsCells, ReadsHeader, ReadsKey, ReadsMode, ReadsSummaries, ReadsSummary, ReadsThree};
 ghost use Rattle.cuboid_cells.specs.Spelled.{cell_bytes, mode_bytes};
 
 use crate::cell::Cell;
@@ -146,6 +146,15 @@ fn next_key(cursor: &mut Cursor<'_>, ship_modes: bool) -> Key
         date: cursor.next_u16(),
         ship_mode: next_mode(cursor, ship_modes),
     }
+}
+
+// The number of the key at the front of bytes, which the caller knows to be there.
+pub(crate) fn number_in(bytes: &[u8], ship_modes: bool) -> u128
+    requires { 8 + mode_bytes ship_modes ≤ length bytes.now }
+    ensures { IsNumberIn ship_modes bytes.now result }
+{
+    let mut cursor = Cursor::new(bytes);
+    next_key(&mut cursor, ship_modes).number()
 }
 
 // A fifth code, if there is one.

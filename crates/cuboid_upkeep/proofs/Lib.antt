@@ -20,4 +20,5 @@ mod Rows
 mod Slots
 mod Tables
 mod TakenRows
+mod Unwanted
 pub mod CallerLemmas

@@ -35,7 +35,9 @@ use Rattle.cuboid_upkeep.proofs.Sorted.{ascending_apart, only_one}
 -- ---- the rows of a cell
 
 -- a row of each cell
-row_of_cell : (dimensions : DimRows) (modes : List (List ℕ)) (plain : PlainCells) (rows : List LineOrder) (P : LineOrder → Type 0) (cell : Cell) → StandFor dimensions modes rows plain → All P rows → Contains plain.cells cell
+pub row_of_cell : (dimensions : DimRows) (modes : List (List ℕ)) (plain : PlainCells) (rows : List LineOrder)
+    (P : LineOrder → Type 0) (cell : Cell) → StandFor dimensions modes rows plain → All P rows
+    → Contains plain.cells cell
     → (row : LineOrder) × P row × (key_of dimensions modes plain.view row ≡ cell.key)
 row_of_cell dimensions modes plain rows P cell stand all in_cells =
     let number = number_of cell.key in

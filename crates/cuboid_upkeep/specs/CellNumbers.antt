@@ -1,5 +1,5 @@
 -- The numbers of the groups that the cells of a view belong to in a query. Our own.
-use Rattle.std.specs.Prelude.{◌≡◌, ℕ, Bool, Option, List}
+use Rattle.std.specs.Prelude.{◌≡◌, ℕ, ◌<◌, ◌≤◌, Bool, IfSome, Option, None, List}
 use Rattle.std.specs.List.{list_all}
 use Rattle.cube_model.specs.declared.attr.Axis.TheVariants.{Customer, Supplier, Part, Date}
 use Rattle.cube_model.specs.declared.query.Query.{Query}
@@ -9,6 +9,8 @@ use Rattle.group_plan.specs.Numbers.{IsNumber}
 use Rattle.group_plan.specs.Parts.{holds_in}
 use Rattle.lattice.specs.declared.view.View.{View}
 use Rattle.cuboid_cells.specs.declared.cell.Cell.{Cell}
+use Rattle.cuboid_cells.specs.Cells.{IsCellOf, KeyFits, number_of}
+use Rattle.cuboid_upkeep.specs.Grouping.{HasMembers, key_of}
 use Rattle.cuboid_upkeep.specs.MemberParts.{AreParts}
 use Rattle.cuboid_upkeep.specs.StandIns.{IsStandIn}
 use Rattle.cuboid_upkeep.specs.declared.member_parts.MemberParts.{MemberParts}
@@ -25,6 +27,23 @@ pub record IsCellNumber (asked : AskedOfCells) (cell : Cell) (number : Option �
   pub row : LineOrder
   pub stands : IsStandIn asked.dimensions asked.modes asked.view cell row
   pub number_is : IsNumber asked.dimensions asked.query row number
+
+-- a row has the key of a cell, and is not selected
+pub record HasUnselected (asked : AskedOfCells) (cell : Cell) : Type 0 where
+  pub row : LineOrder
+  pub members : HasMembers asked.dimensions asked.modes asked.view row
+  pub key_is : key_of asked.dimensions asked.modes asked.view row ≡ cell.key
+  pub number_is : IsNumber asked.dimensions asked.query row None
+
+-- a cell need not be looked at: where a row has its key, one has that is not selected
+abbrev pub IsUnwanted : AskedOfCells → Cell → Type 0
+IsUnwanted asked cell = (row : LineOrder) → HasMembers asked.dimensions asked.modes asked.view row
+    → key_of asked.dimensions asked.modes asked.view row ≡ cell.key → HasUnselected asked cell
+
+-- so it is with the cells of the view whose keys have numbers from one on and, if there is another, below that
+abbrev pub AreUnwanted : AskedOfCells → ℕ → Option ℕ → Type 0
+AreUnwanted asked from to = (cell : Cell) → IsCellOf asked.view cell → KeyFits cell.key → from ≤ number_of cell.key
+    → IfSome to (λ end. number_of cell.key < end) → IsUnwanted asked cell
 
 -- whether rows of zeros keep the conditions on the numbers of rows, and what the members of each level give
 pub record AreTables (asked : AskedOfCells) (within : Bool) (customers suppliers parts dates : MemberParts) : Type 0 where

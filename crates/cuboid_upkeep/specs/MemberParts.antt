@@ -1,5 +1,5 @@
 -- What the members of a level give to the numbers of the groups of a query, by their codes. Our own.
-use Rattle.std.specs.Prelude.{◌≡◌, ℕ, ◌<◌, ◌==◌, cond, IfSome, Option, Some, None, slice_index_or}
+use Rattle.std.specs.Prelude.{◌≡◌, ℕ, ◌+◌, ◌*◌, ◌<◌, ◌≤◌, ◌==◌, cond, IfSome, Option, Some, None, slice_index_or}
 use Rattle.std.specs.Option.{option_map}
 use Rattle.cube_model.specs.declared.attr.Axis.{Axis}
 use Rattle.cube_model.specs.declared.query.Query.{Query}
@@ -40,3 +40,14 @@ IsPartAt dimensions query axis level code (Some part) =
 -- so it is at each code
 abbrev pub AreParts : DimRows → Query → Axis → Level → MemberParts → Type 0
 AreParts dimensions query axis level parts = (code : ℕ) → IsPartAt dimensions query axis level code (part_in parts code)
+
+-- no rows with the member of a code are selected, if there is a member
+abbrev pub IsUnselected : MemberParts → ℕ → Type 0
+IsUnselected parts code = (part : ℕ) → part_in parts code ≡ Some (Some part) → ⊥
+
+-- so it is with the codes of an axis in the keys that have numbers from one on and, if there is another, below that.
+-- The codes on the axes before it make a number, and the number that those after it make is below a unit
+abbrev pub AreUnselected : MemberParts → ℕ → ℕ → ℕ → Option ℕ → Type 0
+AreUnselected parts before unit from to = (code rest : ℕ) → code < all_code → rest < unit
+    → from ≤ (before + code) * unit + rest
+    → IfSome to (λ end. (before + code) * unit + rest < end) → IsUnselected parts code

@@ -4,10 +4,11 @@ ghost use Rattle.std.specs.Option.{option_map};
 ghost use Rattle.cube_model.specs.declared.rows.LineOrder.{LineOrder};
 ghost use Rattle.group_plan.specs.Plans.{IsPlanOver, query_of};
 ghost use Rattle.cuboid_cells.specs.Cells.{IsCellOf};
-ghost use Rattle.cuboid_upkeep.specs.CellNumbers.{IsCellNumber};
+ghost use Rattle.cuboid_upkeep.specs.CellNumbers.{AreUnwanted, IsCellNumber};
 ghost use Rattle.cuboid_upkeep.specs.Codes.{modes_of};
 ghost use Rattle.cuboid_upkeep.specs.StandIns.{IsCodeOfMode, IsStandIn};
 
+use crate::codes::is_all;
 use crate::member_parts::{MemberParts, parts_of_members};
 use cube_model::Axis;
 use cuboid_cells::Cell;
@@ -18,6 +19,12 @@ use group_plan::{Plan, PlanOver};
 use lattice::View;
 use std::alloc::{AllocError, Global};
 use std::marker::Model;
+
+// How many numbers a code has.
+const CODES: u128 = 65_536;
+
+// The code of every member together.
+const EVERY: u128 = 65_535;
 
 /// A code of a cell is that of no member.
 #[derive(Clone, Copy, Debug, PartialEq, Eq)]
@@ -127,6 +134,36 @@ impl<'a> CellNumbers<'a> {
             return Ok(None);
         }
         Ok(self.plan.number_by(customer, supplier, part, date))
+    }
+
+    /// The least number, from one on, that the key of a cell of the view can have which is to be looked at, and nothing
+    /// where there is no such cell: the others have no rows that are selected.
+    ///
+    /// Only the code on the first axis that the view groups is looked at, by which keys ascend.
+    pub fn next_number(&self, from: u128) -> Option<u128>
+        ensures { AreUnwanted self.now from result }
+    {
+        let view = self.view;
+        if !is_all(view.customer) {
+            return self
+                .customers
+                .next_number(0, CODES * CODES * CODES * CODES, from);
+        }
+        if !is_all(view.supplier) {
+            let before = EVERY * CODES;
+            return self
+                .suppliers
+                .next_number(before, CODES * CODES * CODES, from);
+        }
+        if !is_all(view.part) {
+            let before = (EVERY * CODES + EVERY) * CODES;
+            return self.parts.next_number(before, CODES * CODES, from);
+        }
+        if !is_all(view.date) {
+            let before = ((EVERY * CODES + EVERY) * CODES + EVERY) * CODES;
+            return self.dates.next_number(before, CODES, from);
+        }
+        Some(from)
     }
 }
 

@@ -1,6 +1,8 @@
 //! What the members of a level give to the numbers of groups.
-ghost use Rattle.std.specs.Prelude.{◌≡◌, All, IfOk, map};
-ghost use Rattle.cuboid_upkeep.specs.MemberParts.{AreParts, IsOfRow, given_by, part_by, part_in};
+ghost use Rattle.std.specs.Prelude.{◌≡◌, ◌↔◌, ◌+◌, ◌*◌, ◌<◌, ◌≤◌, ◌^◌, ℕ, All, IfNone, IfOk, IfSome, IsTrue, map};
+ghost use Rattle.cuboid_upkeep.specs.MemberParts.{AreParts, AreUnselected, IsOfRow, IsUnselected, given_by, part_by, part_in};
+ghost use Rattle.cuboid_cells.specs.Limits.{all_code};
+ghost use Rattle.cuboid_upkeep.specs.declared.member_parts.MemberPart.TheVariants.{Nothing};
 
 use crate::member_keys::keys_of_members;
 use cube_model::Axis;
@@ -32,6 +34,14 @@ impl MemberPart {
             MemberPart::Nothing => Some(None),
             MemberPart::Part(part) => Some(Some(part)),
         }
+    }
+
+    // Whether there is a member, and no row with it is selected.
+    #[inline]
+    fn is_nothing(&self) -> bool
+        ensures { IsTrue result ↔ (self.now ≡ Nothing) }
+    {
+        matches!(self, MemberPart::Nothing)
     }
 }
 
@@ -66,6 +76,38 @@ impl MemberParts {
             Some(part) => part.given(),
             None => None,
         }
+    }
+
+    // The least code, from one on, of a member with which rows may be selected. A code of no member counts as one,
+    // unless it is above all others.
+    fn next_code(&self, from: u128) -> Option<u16>
+        ensures below { IfSome result (λ next. next < all_code) }
+        ensures some { IfSome result (λ next. (code : ℕ) → from ≤ code → code < next → IsUnselected self.now code) }
+        ensures none { IfNone result ((code : ℕ) → from ≤ code → code < all_code → IsUnselected self.now code) }
+    {
+        let end = self.members.len().min(usize::from(ALL_CODE));
+        let mut code = from.min(end as u128) as usize;
+        while code < end {
+            if !self.members[code].is_nothing() {
+                return Some(code as u16);
+            }
+            code += 1;
+        }
+        None
+    }
+
+    // The least number, from one on, of a key whose code on the axis is that of a member with which rows may be
+    // selected. The codes on the axes before it make a number, and that of those after it is below a unit.
+    pub(crate) fn next_number(&self, before: u128, unit: u128, from: u128) -> Option<u128>
+        requires unit { 1 ≤ unit }
+        requires before { before + 65536 < 2 ^ 128 }
+        requires fits { (before + 65536) * unit < 2 ^ 128 }
+        ensures { AreUnselected self.now before unit from result }
+    {
+        let Some(code) = self.next_code((from / unit).saturating_sub(before)) else {
+            return None;
+        };
+        Some((before + u128::from(code)) * unit)
     }
 }
 

@@ -1,6 +1,5 @@
 -- The runs of a cuboid, counted into a fold one after another.
-use Rattle.std.proofs.Common.{◌≡◌, ◌∙◌, zero, suc, sym, ap, refl, subst, arith, ℕ, ◌<◌, ◌≤◌, List, [], ◌∷◌, ◌++◌, length, take, get_or, slice_get, Option, Some, None, All}
-use Rattle.std.specs.Option.{IsSomeAnd}
+use Rattle.std.proofs.Common.{◌≡◌, ◌∙◌, zero, suc, sym, ap, subst, arith, ℕ, ◌<◌, ◌≤◌, List, [], ◌∷◌, ◌++◌, length, take, get_or, slice_get, Option, Some, All}
 use Rattle.std.proofs.lemmas.List.Elements.{All-tail}
 use Rattle.std.proofs.lemmas.Option.{get_or_from_slice_get, slice_get_within}
 use Rattle.cube_model.specs.Admission.{all_rows}
@@ -11,11 +10,11 @@ use Rattle.cube_query.specs.Limits.{AreFoldable}
 use Rattle.cuboid_cells.specs.Cells.{PlainCells}
 use Rattle.cuboid_cells.specs.declared.cell.Cell.{Cell}
 use Rattle.cuboid_cells.specs.declared.span.Span.{Span}
-use Rattle.cuboid_cells.specs.Pieces.{IsReadTo, RunPlace}
-use Rattle.cuboid_cells.specs.Spelled.{IsRun, IsSpan}
+use Rattle.cuboid_cells.specs.Pieces.{AreLeft, IsAtFirst, RunPlace}
+use Rattle.cuboid_cells.specs.Spelled.{IsSpan}
 use Rattle.cuboid_cells.specs.Steps.{cells_of}
-use Rattle.cuboid_cells.proofs.Continuing.{begins as run_begins}
-use Rattle.cube_query.specs.CellRuns.{IsRunOf, TakesRun}
+use Rattle.cuboid_cells.specs.declared.head.RunHead.{RunHead}
+use Rattle.cube_query.specs.CellRuns.{TakesRun}
 use Rattle.cuboid_upkeep.specs.Grouping.{StandFor}
 use Rattle.lattice.specs.declared.view.View.{View}
 use Rattle.object_store.specs.Content.{Content, bytes_of}
@@ -24,10 +23,10 @@ use Rattle.warehouse_objects.proofs.CallerLemmas.{foldable, laid_of}
 use Rattle.warehouse_objects.specs.Stands.{Follow, HoldsGroupings, IsLaidOut, Stands, rows_in}
 use Rattle.warehouse_objects.specs.Warehouse.{Cuboid, StoredRun, Warehouse, cuboid_at, modes_of}
 use Rattle.stored_cuboids.specs.Counted.{AreCounted, CountsRun}
-use Rattle.stored_cuboids.specs.Steps.{AreRead, GoesOn, IsNextRun}
+use Rattle.stored_cuboids.specs.Steps.{AreRead, GoesOn, HasRun, IsNextRun}
 use Rattle.stored_cuboids.specs.declared.reading.Progress.{Progress}
 use Rattle.stored_cuboids.proofs.Standing.{follow_up, rows_after}
-use Rattle.stored_cuboids.proofs.StoredRuns.{IsAt, begins, is_at, is_proper, read_cells, read_more, read_to}
+use Rattle.stored_cuboids.proofs.StoredRuns.{IsAt, begins, has_run, is_at, is_proper, read_more, read_to}
 
 -- no run goes beyond the mark
 ends_within : (from : ℕ) (runs : List StoredRun) (r : ℕ) (run : StoredRun) (mark : ℕ) → slice_get runs r ≡ Some run → Follow from runs mark → All (λ x. IsSpan x.span) runs → run.span.to ≤ mark
@@ -74,11 +73,20 @@ module _ (c : Content) (w : Warehouse) (view : ℕ) (stored : Cuboid) (stands : 
       -- the run was counted
       pub counted_more : (own : View) (new : FoldState) (next : Progress) → CountsRun c (run_id view r) own so_far dims fold new next → AreCounted w stored dims (suc r) new next
       counted_more own new next counts =
-          let cells = read_cells c w view stored laid found r run here so_far read own counts.cells next counts.read in
-          let to = read_to c w view stored laid found r run here so_far read own counts.cells next counts.read in
-          let takes = counts.takes (rows_in w.batches run.span) (subst (λ (m : PlainCells). StandFor dims [] (rows_in w.batches run.span) m) (sym cells) grouping) in
+          let cells : PlainCells = cells_of stored.view run.cells in
+          let there = has_run c w view stored laid found r run here in
+          let both = counts.takes run.span cells there in
+          let goes : IsNextRun c (run_id view r) own so_far cells next =
           record {
-            read = read_more c w view stored laid found r run here so_far read own counts.cells next counts.read;
+            span = run.span;
+            there = there;
+            goes_on =
+                subst (λ (head : RunHead). GoesOn own so_far head next) both.0 counts.goes_on;
+          } in
+          let to = read_to c w view stored laid found r run here so_far read own cells next goes in
+          let takes = both.1 (rows_in w.batches run.span) grouping in
+          record {
+            read = read_more c w view stored laid found r run here so_far read own cells next goes;
             stands = subst (λ (n : ℕ). StandsFor dims new (all_rows (take n w.batches))) (sym to)
                 (subst (λ (rows : List LineOrder). StandsFor dims new rows) rows_next (takes.stands (all_rows (take so_far.end w.batches)) so_far_stands));
           }
@@ -97,54 +105,47 @@ module _ (c : Content) (w : Warehouse) (view : ℕ) (stored : Cuboid) (stands : 
           )
 
 -- ---- a run that is counted as it is read
-some_bytes : (found : Option (List ℕ)) (P : List ℕ → Type 0) → IsSomeAnd found P → (bytes : List ℕ) × (found ≡ Some bytes) × P bytes
-some_bytes None P is = absurd is
-some_bytes (Some bytes) P is = (bytes, refl, is)
-
--- a run has as many cells as its header says
-header_count : (text : Option (List ℕ)) (run : RunPlace) → IsReadTo text run [] → (cells : List Cell) → IsRunOf text run.head cells → length cells ≡ run.head.count
-header_count text run to cells is =
-    let found = some_bytes text (λ bytes. IsRun bytes run.head.span (cells_of run.head.view cells)) is in
-    (run_begins text run [] to found.0 run.head.span (cells_of run.head.view cells) found.1 found.2).count
-
 -- the header of the next run goes on
-pub head_goes_on : (content : Content) (id : ℕ) (view : View) (at : Progress) (run : RunPlace) → IsReadTo (bytes_of content id) run [] → (cells : PlainCells) (next : Progress) → IsNextRun content id view at cells next
+pub head_goes_on : (content : Content) (id : ℕ) (view : View) (at : Progress) (run : RunPlace)
+    → IsAtFirst (bytes_of content id) run → (cells : PlainCells) (next : Progress)
+    → IsNextRun content id view at cells next
     → GoesOn view at run.head next
-head_goes_on content id view at run to cells next goes =
-    let found = some_bytes (bytes_of content id) (λ bytes. IsRun bytes goes.span cells) goes.there in
-    let b = run_begins (bytes_of content id) run [] to found.0 goes.span cells found.1 found.2 in record {
-      same = sym b.view ∙ goes.goes_on.same;
-      from = ap (λ (s : Span). s.from) (sym b.span) ∙ goes.goes_on.from;
-      to = goes.goes_on.to ∙ ap (λ (s : Span). s.to) b.span;
-      left = omega (arith, goes.goes_on.left, b.count);
-    }
+head_goes_on content id view at run first cells next goes =
+    subst (λ (head : RunHead). GoesOn view at head next) (sym (first goes.span cells goes.there).0) goes.goes_on
 
-module _ (content now : Content) (same : now ≡ content) (id : ℕ) (view : View) (at : Progress) (run : RunPlace) (own : run.id ≡ id) (to : IsReadTo (bytes_of content id) run []) where
+module _ (content now : Content) (same : now ≡ content) (id : ℕ) (view : View) (at : Progress) (run : RunPlace)
+    (own : run.id ≡ id) (first : IsAtFirst (bytes_of content id) run) where
   abbrev text_is : bytes_of now run.id ≡ bytes_of content id
   text_is = ap (λ (c : Content). bytes_of c run.id) same ∙ ap (bytes_of content) own
 
-  here : IsReadTo (bytes_of now run.id) run []
-  here = subst (λ (t : Option (List ℕ)). IsReadTo t run []) (sym text_is) to
+  -- the cells that are left are those of the run
+  all_left : (span : Span) (cells : PlainCells) → HasRun content id span cells
+      → AreLeft (bytes_of now run.id) run cells.cells
+  all_left span cells is = subst (λ (text : Option (List ℕ)). AreLeft text run cells.cells) (sym text_is)
+      (first span cells is).1
 
-  pub counts_run : (next : Progress) → GoesOn view at run.head next → (dims : DimRows) (old new : FoldState) → (IsReadTo (bytes_of now run.id) run [] → TakesRun dims [] (bytes_of now run.id) run.head old new)
+  in_view : (span : Span) (cells : PlainCells) → HasRun content id span cells → (dims : DimRows) (rows : List LineOrder)
+      → StandFor dims [] rows cells → StandFor dims [] rows (cells_of run.head.view cells.cells)
+  in_view span cells is dims rows stand =
+      subst (λ (v : View). StandFor dims [] rows (cells_of v cells.cells))
+      (sym (ap (λ (head : RunHead). head.view) (first span cells is).0)) stand
+
+  pub counts_run : (next : Progress) → GoesOn view at run.head next → (dims : DimRows) (old new : FoldState)
+      → TakesRun dims [] (bytes_of now run.id) run old new
       → CountsRun content id view at dims old new next
-  counts_run next goes dims old new takes =
-      let t = takes here in
-      let is : IsRunOf (bytes_of content id) run.head t.cells = subst (λ (text : Option (List ℕ)). IsRunOf text run.head t.cells) text_is t.is in
-      let many : length t.cells ≡ run.head.count = header_count (bytes_of content id) run to t.cells is in
-      record {
-        cells = cells_of run.head.view t.cells;
-        read = record {
-          span = run.head.span;
-          there = is;
-          goes_on = record { same = goes.same; from = goes.from; to = goes.to; left = omega (arith, goes.left, many) };
-        };
-        takes = t.takes;
-      }
+  counts_run next goes dims old new takes = record {
+    head = run.head;
+    goes_on = goes;
+    takes = λ span cells is. (
+      (first span cells is).0,
+      λ rows stand. takes cells.cells (all_left span cells is) rows (in_view span cells is dims rows stand),
+    );
+  }
 
-  pub not_counted : (dims : DimRows) (old : FoldState) → (IsReadTo (bytes_of now run.id) run [] → (bytes : List ℕ) (span : Span) (plain : PlainCells) → bytes_of now run.id ≡ Some bytes → IsRun bytes span plain
-      → (rows : List LineOrder) → StandFor dims [] rows plain → CanTake dims old rows → ⊥)
+  pub not_counted : (dims : DimRows) (old : FoldState)
+      → ((cells : List Cell) → AreLeft (bytes_of now run.id) run cells → (rows : List LineOrder)
+      → StandFor dims [] rows (cells_of run.head.view cells) → CanTake dims old rows → ⊥)
       → (cells : PlainCells) (next : Progress) (rows : List LineOrder) → IsNextRun content id view at cells next → StandFor dims [] rows cells → CanTake dims old rows → ⊥
   not_counted dims old refuses cells next rows goes stand can =
-      let found = some_bytes (bytes_of content id) (λ bytes. IsRun bytes goes.span cells) goes.there in
-      refuses here found.0 goes.span cells (text_is ∙ found.1) found.2 rows stand can
+      refuses cells.cells (all_left goes.span cells goes.there) rows
+      (in_view goes.span cells goes.there dims rows stand) can

@@ -1,22 +1,27 @@
 -- The runs of a stored cuboid, counted into a fold one after another.
-use Rattle.std.specs.Prelude.{ℕ, List, [], take}
+use Rattle.std.specs.Prelude.{◌≡◌, ℕ, List, [], take}
 use Rattle.cube_model.specs.Admission.{all_rows}
 use Rattle.cube_model.specs.declared.rows.DimRows.{DimRows}
 use Rattle.cube_model.specs.declared.rows.LineOrder.{LineOrder}
 use Rattle.cube_query.specs.Groups.{FoldState, StandsFor, Takes}
 use Rattle.cuboid_cells.specs.Cells.{PlainCells}
+use Rattle.cuboid_cells.specs.declared.head.RunHead.{RunHead}
+use Rattle.cuboid_cells.specs.declared.span.Span.{Span}
 use Rattle.cuboid_upkeep.specs.Grouping.{StandFor}
 use Rattle.lattice.specs.declared.view.View.{View}
 use Rattle.object_store.specs.Content.{Content}
 use Rattle.warehouse_objects.specs.Warehouse.{Cuboid, Warehouse}
-use Rattle.stored_cuboids.specs.Steps.{AreRead, IsNextRun}
+use Rattle.stored_cuboids.specs.Steps.{AreRead, GoesOn, HasRun, head_of}
 use Rattle.stored_cuboids.specs.declared.reading.Progress.{Progress}
 
--- the next run of a content is counted into a fold, in place of the rows that its cells represent
+-- an object of a content is counted into a fold: its header goes on where the runs so far end, and where it is a run,
+-- the fold takes the rows that the cells of the run represent
 pub record CountsRun (content : Content) (id : ℕ) (view : View) (at : Progress) (dimensions : DimRows) (old new : FoldState) (next : Progress) : Type 0 where
-  pub cells : PlainCells
-  pub read : IsNextRun content id view at cells next
-  pub takes : (rows : List LineOrder) → StandFor dimensions [] rows cells → Takes dimensions old rows new
+  pub head : RunHead
+  pub goes_on : GoesOn view at head next
+  pub takes : (span : Span) (cells : PlainCells) → HasRun content id span cells
+      → (head ≡ head_of span cells)
+      × ((rows : List LineOrder) → StandFor dimensions [] rows cells → Takes dimensions old rows new)
 
 -- so many runs of a cuboid are read, and a fold represents the rows of their batches
 pub record AreCounted (w : Warehouse) (cuboid : Cuboid) (dimensions : DimRows) (count : ℕ) (fold : FoldState) (at : Progress) : Type 0 where

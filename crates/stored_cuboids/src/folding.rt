@@ -9,9 +9,9 @@ ghost use Rattle.object_store.specs.Store.{Breaks, IsStill, content_of, device_o
 ghost use Rattle.lattice.specs.Determined.{Serves};
 ghost use Rattle.lattice.specs.Views.{index_of};
 ghost use Rattle.cuboid_cells.specs.Cells.{PlainCells};
-ghost use Rattle.cuboid_cells.specs.Pieces.{IsReadTo, size_of_run};
-ghost use Rattle.cuboid_cells.specs.Spelled.{IsRun};
-ghost use Rattle.cuboid_cells.specs.declared.span.Span.{Span};
+ghost use Rattle.cuboid_cells.specs.Pieces.{AreLeft, size_of_run};
+ghost use Rattle.cuboid_cells.specs.Steps.{cells_of};
+ghost use Rattle.cuboid_cells.specs.declared.cell.Cell.{Cell};
 ghost use Rattle.cuboid_upkeep.specs.Grouping.{StandFor};
 ghost use Rattle.cube_query.specs.CellRuns.{TakesRun};
 ghost use Rattle.cube_query.specs.Groups.{CanTake, IsOver, StandsFor};
@@ -33,11 +33,12 @@ use std::alloc::Global;
 use warehouse_root::{StoredCuboid, run_id};
 
 /// Counts the cells of the stored cuboid of a view into a fold that represents no row yet: its runs, one after another, each piece by
-/// piece as it is read.
+/// piece as it is read. Cells that have no rows that are selected are not all read.
 ///
-/// `BadLayout` where a run is missing or is none of this view, where the runs do not follow each other from the first batch to
-/// the mark or have another count of cells than the root says, and where the fold cannot take their cells. It can also run out of
-/// memory, or fail because the device does. After a refusal the fold is to be dropped.
+/// `BadLayout` where a run is missing or its header is none of this view, where the runs do not follow each other from
+/// the first batch to the mark or have another count of cells than the root says, and where a part that is read is none
+/// of a run or the fold cannot take its cells. It can also run out of memory, or fail because the device does. After a
+/// refusal the fold is to be dropped.
 pub fn fold_runs<D: Sectors>(
     alloc: Global,
     store: &mut Store<D>,
@@ -120,14 +121,14 @@ fn fold_cells<D: Sectors>(
     requires over { IsOver dims.now fold.old }
     requires serves { Serves run.old.head.view fold.old.query }
     requires total { size_in store.old run.old.id ≡ Some (size_of_run run.old) }
-    ensures ok { OnOk result (D.keeps_word (device_of store.new) → IsReadTo (bytes_of (content_of D.Sectors store.old) run.old.id) run.old []
-        → TakesRun dims.now [] (bytes_of (content_of D.Sectors store.old) run.old.id) run.old.head fold.old fold.new) }
+    ensures ok { OnOk result (D.keeps_word (device_of store.new)
+        → TakesRun dims.now [] (bytes_of (content_of D.Sectors store.old) run.old.id) run.old fold.old fold.new) }
     ensures over { IsOver dims.now fold.new }
     ensures query { fold.new.query ≡ fold.old.query }
     ensures refused { IsErrOf result BadLayout → D.keeps_word (device_of store.new)
-        → IsReadTo (bytes_of (content_of D.Sectors store.old) run.old.id) run.old []
-        → (bytes : List ℕ) (span : Span) (plain : PlainCells) → bytes_of (content_of D.Sectors store.old) run.old.id ≡ Some bytes → IsRun bytes span plain
-        → (rows : List LineOrder) → StandFor dims.now [] rows plain → CanTake dims.now fold.old rows → ⊥ }
+        → (cells : List Cell) → AreLeft (bytes_of (content_of D.Sectors store.old) run.old.id) run.old cells
+        → (rows : List LineOrder) → StandFor dims.now [] rows (cells_of run.old.head.view cells)
+        → CanTake dims.now fold.old rows → ⊥ }
     ensures leaves { Leaves (disk_of D.Sectors store.old) (disk_of D.Sectors store.new) (λ c. c ≡ content_of D.Sectors store.old) }
     ensures stays { (IsErrOf result Device → ⊥) → IsStill D.Sectors store.old store.new }
     ensures device { IsErrOf result Device → Breaks D.Sectors store.old store.new }

@@ -1,11 +1,11 @@
 //! Reading the runs of a stored cuboid, one after another.
-ghost use Rattle.std.specs.Prelude.{◌≡◌, ◌⊎◌, ◌↔◌, [], Some, false, IfErr, IfNone, IfOk, IfSome, IsErrOf, IsTrue};
+ghost use Rattle.std.specs.Prelude.{◌≡◌, ◌⊎◌, ◌↔◌, Some, false, IfErr, IfNone, IfOk, IfSome, IsErrOf, IsTrue};
 ghost use Rattle.cube_model.specs.declared.fault.Fault.TheVariants.{BadLayout, Device, Memory};
 ghost use Rattle.object_store.specs.Disk.{Leaves};
 ghost use Rattle.object_store.specs.Content.{bytes_of};
 ghost use Rattle.object_store.specs.Store.{Breaks, IsStill, content_of, device_of, disk_of, has_failed, size_in};
 ghost use Rattle.cuboid_cells.specs.Cells.{PlainCells};
-ghost use Rattle.cuboid_cells.specs.Pieces.{IsReadTo, size_of_run};
+ghost use Rattle.cuboid_cells.specs.Pieces.{IsAtFirst, size_of_run};
 ghost use Rattle.cuboid_cells.specs.declared.span.Span.{Span};
 ghost use Rattle.stored_cuboids.specs.Steps.{GoesOn, HasRun, IsNextRun, head_of};
 ghost use Rattle.stored_cuboids.specs.declared.reading.Progress.{Progress};
@@ -66,7 +66,7 @@ pub(crate) fn read_next<D: Sectors>(
 
 // The run of a view that an object has, of which the header is read, and how far the runs are read with it.
 //
-// `BadLayout` as `read_next`, and that the object is a run is known once all cells are read.
+// `BadLayout` as `read_next`, and that the object is a run is known only where all cells are read.
 pub(crate) fn open_next<D: Sectors>(
     alloc: Global,
     store: &mut Store<D>,
@@ -77,7 +77,8 @@ pub(crate) fn open_next<D: Sectors>(
     requires fine { has_failed store.old ≡ false }
     ensures id { IfOk result (λ both. both.0.id ≡ id) }
     ensures total { IfOk result (λ both. size_in store.new id ≡ Some (size_of_run both.0)) }
-    ensures ok { IfOk result (λ both. D.keeps_word (device_of store.new) → IsReadTo (bytes_of (content_of D.Sectors store.old) id) both.0 []) }
+    ensures ok { IfOk result (λ both. D.keeps_word (device_of store.new)
+        → IsAtFirst (bytes_of (content_of D.Sectors store.old) id) both.0) }
     ensures goes_on { IfOk result (λ both. GoesOn view at both.0.head both.1) }
     ensures refused { IsErrOf result BadLayout → D.keeps_word (device_of store.new) → (cells : PlainCells) (next : Progress)
         → IsNextRun (content_of D.Sectors store.old) id view at cells next → ⊥ }
@@ -98,7 +99,8 @@ fn open_run<D: Sectors>(alloc: Global, store: &mut Store<D>, id: u32) -> Result<
     requires fine { has_failed store.old ≡ false }
     ensures id { IfOk result (λ run. run.id ≡ id) }
     ensures total { IfOk result (λ run. size_in store.new id ≡ Some (size_of_run run)) }
-    ensures ok { IfOk result (λ run. D.keeps_word (device_of store.new) → IsReadTo (bytes_of (content_of D.Sectors store.old) id) run []) }
+    ensures ok { IfOk result (λ run. D.keeps_word (device_of store.new)
+        → IsAtFirst (bytes_of (content_of D.Sectors store.old) id) run) }
     ensures refused { IsErrOf result BadLayout → D.keeps_word (device_of store.new) → (span : Span) (cells : PlainCells)
         → HasRun (content_of D.Sectors store.old) id span cells → ⊥ }
     ensures leaves { Leaves (disk_of D.Sectors store.old) (disk_of D.Sectors store.new) (λ c. c ≡ content_of D.Sectors store.old) }

@@ -4,3 +4,4 @@ mod merges;
 mod most_cells;
 mod runs;
 mod sample;
+mod skips;

@@ -23,4 +23,6 @@ mod reports;
 #[cfg(test)]
 mod running;
 #[cfg(test)]
+mod runs;
+#[cfg(test)]
 mod written_cells;

@@ -1,17 +1,18 @@
-use Rattle.std.proofs.Common.{◌≡◌, ◌-◌, ◌≤◌, ℕ, [], length}
+use Rattle.std.proofs.Common.{◌≡◌, ◌-◌, ◌≤◌, ℕ, List, length}
 use Rattle.wire.specs.Runs.{HasRead}
-use Rattle.cuboid_cells.specs.Pieces.{IsReadTo}
+use Rattle.cuboid_cells.specs.Pieces.{AreLeft}
+use Rattle.cuboid_cells.specs.declared.cell.Cell.{Cell}
 use Rattle.group_plan.specs.Numbers.{group_count}
 use Rattle.cube_query.specs.Columns.{tallies_at}
 use Rattle.cube_query.specs.Slots.{entries_of, Cover, Grow}
 use Rattle.cube_query.proofs.RunMerging.{AreMergedTo}
 use Rattle.cube_query.proofs.cell_runs.merge_run.Given as goal
 
-abbrev pub decreases-loop-run : goal.decreases-loop-run
-decreases-loop-run g l = l.run.head.count - l.run.done
+abbrev pub decreases-loop-source : goal.decreases-loop-source
+decreases-loop-source g l = l.run.head.count - l.run.done
 
-abbrev pub invariant-loop-run : goal.invariant-loop-run
-invariant-loop-run g l =
+abbrev pub invariant-loop-source : goal.invariant-loop-source
+invariant-loop-source g l =
     let text = g.S.Source.texts l.initial.source l.initial.run.id in
     let bound = group_count l.numbers.dimensions l.numbers.query.columns in record {
       read : HasRead g.S.Source l.initial.source l.source;
@@ -20,5 +21,6 @@ invariant-loop-run g l =
       cover : Cover bound l.slots;
       grow : Grow bound (entries_of l.initial.slots) (entries_of l.slots);
       fresh : (slot : ℕ) → length (entries_of l.slots) ≤ slot → tallies_at l.columns slot ≡ tallies_at l.initial.columns slot;
-      merged : g.S.Source.keeps_word l.source → IsReadTo text l.initial.run [] → AreMergedTo l.numbers l.aggs (entries_of l.slots) text l.run l.initial.columns l.columns;
+      merged : g.S.Source.keeps_word l.source → (cells : List Cell) → AreLeft text l.initial.run cells
+          → AreMergedTo l.numbers l.aggs (entries_of l.slots) text cells l.run l.initial.columns l.columns;
     }

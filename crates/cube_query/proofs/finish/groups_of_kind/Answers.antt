@@ -4,7 +4,7 @@ use Rattle.cube_query.specs.Columns.{seen_groups, tallies_at}
 use Rattle.cube_query.specs.GroupLines.{HaveLines, lines_by}
 use Rattle.cube_query.specs.Groups.{finest, groups_of}
 use Rattle.cube_query.specs.Slots.{entries_of}
-use Rattle.cube_query.proofs.Ends.{all_groups, plain_groups, start}
+use Rattle.cube_query.proofs.Ends.{plain_groups, start}
 use Rattle.cube_query.proofs.Seen.{seen_are}
 use Rattle.group_plan.specs.Numbers.{key_at}
 use Rattle.cube_query.proofs.finish.groups_of_kind.Goals as goal

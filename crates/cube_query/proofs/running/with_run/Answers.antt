@@ -11,15 +11,17 @@ use Rattle.cube_query.specs.Slots.{entries_of}
 use Rattle.cube_query.proofs.running.with_run.Goals as goal
 
 pub returns-clause-refused : goal.returns-clause-refused
-returns-clause-refused g c = λ bad keeps to bytes span plain there is.
+returns-clause-refused g c = λ bad keeps cells left.
     let dims = c.args.dims.now in
     let query = query_of c.args.plan.now in
     let entries = entries_of c.merge_run.new.slots in
     let modes : List (List ℕ) = modes_of (option_map (λ modes. modes.now) c.args.modes) in
     let aggregates = c.as_slice-aggregates.ensures ∙ ap (λ q. q.aggregates) c.query.ensures in
-    elim (c.merge_run.ensures.refused bad keeps to bytes span plain there is) [
+    elim (c.merge_run.ensures.refused bad keeps cells left) [
       | inl none ↦
-          (let asked = subst (λ (own : AskedOfCells). HaveNoStandIn own plain.cells) c.in_ok-numbers.ensures none in
-          inl (subst (λ (head : RunHead). HaveNoStandIn (asked_of dims query head.view modes) plain.cells) c.head.ensures asked))
-      | inr full ↦ inr (λ room. full (subst (λ (aggs : List Agg). GroupsHaveRoomFor entries aggs plain.cells c.args.columns.now) (sym aggregates) room))
+          (let asked = subst (λ (own : AskedOfCells). HaveNoStandIn own cells) c.in_ok-numbers.ensures none in
+          inl (subst (λ (head : RunHead). HaveNoStandIn (asked_of dims query head.view modes) cells) c.head.ensures
+          asked))
+      | inr full ↦ inr (λ room. full
+          (subst (λ (aggs : List Agg). GroupsHaveRoomFor entries aggs cells c.args.columns.now) (sym aggregates) room))
     ]

@@ -4,20 +4,20 @@ use Rattle.std.specs.Option.{option_map}
 use Rattle.std.specs.declared.alloc.Global.{Global}
 use Rattle.std.specs.declared.vec.Vec.{Vec}
 use Rattle.cuboid_cells.specs.Steps.{cells_of}
-use Rattle.cuboid_cells.proofs.Continuing.{begins, on_ok}
+use Rattle.cuboid_cells.proofs.Continuing.{on_ok}
 use Rattle.cuboid_upkeep.specs.Codes.{modes_of}
 use Rattle.cuboid_upkeep.proofs.Standing.{stands_among}
 use Rattle.group_plan.specs.Plans.{query_of}
-use Rattle.lattice.specs.declared.view.View.{View}
 use Rattle.lattice.specs.Determined.{Serves}
-use Rattle.cube_query.specs.CellSlots.{AreMergedIn, HaveNoStandIn, asked_of}
+use Rattle.cube_query.specs.CellRuns.{AreWantedMerged}
+use Rattle.cube_query.specs.CellSlots.{asked_of}
 use Rattle.cube_query.specs.CellTallies.{GroupsHaveRoomFor}
 use Rattle.cube_query.specs.Columns.{tallies_at}
 use Rattle.cube_query.specs.FoldInvariant.{IsKept}
 use Rattle.cube_query.specs.Groups.{CanTake, FoldState, IsOver, StandsFor}
 use Rattle.cube_query.specs.Slots.{entries_of}
 use Rattle.cube_query.specs.declared.tally.Tally.{Tally}
-use Rattle.cube_query.proofs.CellFolds.{kept_after, room_for_cells, stands_merged}
+use Rattle.cube_query.proofs.CellFolds.{kept_after, represents_wanted, room_for_cells}
 use Rattle.cube_query.proofs.Columnwise.{tallies-length}
 use Rattle.cube_query.proofs.Folds.{shown}
 use Rattle.cube_query.proofs.Known.{known_behind}
@@ -52,41 +52,42 @@ returns-clause-ok g c =
     let view = c.args.run.now.head.view in
     let modes : List (List ℕ) = modes_of (option_map (λ modes. modes.now) c.args.modes) in
     let new = c.with_run.new.slots in
-    on_ok c.with_run.result (λ merged keeps to.
+    on_ok c.with_run.result (λ merged keeps cells left rows stand.
     let over = subst (λ (state : FoldState). IsOver dims state) (sym c.self.view_is) c.requires.over in
     let serves = subst (λ (state : FoldState). Serves view state.query) (sym c.self.view_is) c.requires.serves in
-    let m = merged keeps to in
-    let are = subst (λ (columns : List (Vec Tally Global)). AreMergedIn (asked_of dims (query_of inside.plan) view modes) (query_of inside.plan).aggregates (entries_of new) m.cells columns c.with_run.new.columns)
-    c.as_mut_slice-columns.ensures.value m.merged in
+    let are = subst (λ (columns : List (Vec Tally Global)). AreWantedMerged
+    (asked_of dims (query_of inside.plan) view modes) (query_of inside.plan).aggregates (entries_of new) cells
+    columns c.with_run.new.columns)
+    c.as_mut_slice-columns.ensures.value (merged keeps cells left) in
     let many : length c.with_run.new.columns ≡ inside.columns.len = omega (arith, c.with_run.auto.columns, ap length c.as_mut_slice-columns.ensures.value, inside.columns.ok.0) in
     record {
-      cells = m.cells;
-      is = m.is;
-      takes = λ rows stand. record {
-        query = ap (λ (state : FoldState). state.query) c.self.view_is;
-        stands = λ so_far stands.
-            subst (λ (columns : List (Vec Tally Global)). StandsFor dims (shown inside.plan new columns) (so_far ++ rows)) (sym (written inside.columns.len c.with_run.new.columns inside.columns.items many))
-            (stands_merged dims inside.plan over inside.slots inside.columns.items c.self.invariant new c.with_run.ensures.cover c.with_run.ensures.grow modes (cells_of view m.cells) c.with_run.new.columns are
-            c.one_key_one_group.ensures serves rows stand so_far (subst (λ (state : FoldState). StandsFor dims state so_far) (sym c.self.view_is) stands));
-      };
+      query = ap (λ (state : FoldState). state.query) c.self.view_is;
+      stands = λ so_far stands.
+          subst (λ (columns : List (Vec Tally Global)). StandsFor dims (shown inside.plan new columns) (so_far ++ rows))
+          (sym (written inside.columns.len c.with_run.new.columns inside.columns.items many))
+          (represents_wanted dims inside.plan over inside.slots inside.columns.items c.self.invariant new
+          c.with_run.ensures.cover c.with_run.ensures.grow modes (cells_of view cells) c.with_run.new.columns are
+          c.one_key_one_group.ensures serves rows stand so_far
+          (subst (λ (state : FoldState). StandsFor dims state so_far) (sym c.self.view_is) stands));
     }) c.with_run.ensures.merged
 
 pub returns-clause-refused : goal.returns-clause-refused
-returns-clause-refused g c = λ bad keeps to bytes span plain there is rows stand can.
+returns-clause-refused g c = λ bad keeps cells left rows stand can.
     let inside = c.self.inside in
     let dims = c.args.dims.now in
     let query = query_of inside.plan in
+    let plain = cells_of c.args.run.now.head.view cells in
     let modes : List (List ℕ) = modes_of (option_map (λ modes. modes.now) c.args.modes) in
     let entries = entries_of c.with_run.new.slots in
     let over = subst (λ (state : FoldState). IsOver dims state) (sym c.self.view_is) c.requires.over in
     let given = subst (λ (state : FoldState). CanTake dims state rows) (sym c.self.view_is) can in
-    let same = (begins _ c.args.run.now [] to bytes span plain there is).view in
-    elim (c.with_run.ensures.refused bad keeps to bytes span plain there is) [
+    elim (c.with_run.ensures.refused bad keeps cells left) [
       | inl none ↦
-          (let own : HaveNoStandIn (asked_of dims query plain.view modes) plain.cells = subst (λ (view : View). HaveNoStandIn (asked_of dims query view modes) plain.cells) (sym same) none in
-          let row = stands_among dims modes plain rows stand (known_behind dims 1 given.0 rows given.1.1.known) own.cell own.among in
-          own.none row.0 row.1)
+          (let row = stands_among dims modes plain rows stand (known_behind dims 1 given.0 rows given.1.1.known)
+          none.cell none.among in
+          none.none row.0 row.1)
       | inr full ↦
-          full (subst (λ (columns : List (Vec Tally Global)). GroupsHaveRoomFor entries query.aggregates plain.cells columns) (sym c.as_mut_slice-columns.ensures.value)
+          full (subst (λ (columns : List (Vec Tally Global)). GroupsHaveRoomFor entries query.aggregates cells columns)
+          (sym c.as_mut_slice-columns.ensures.value)
           (room_for_cells dims inside.plan over inside.slots inside.columns.items c.self.invariant c.with_run.new.slots c.with_run.ensures.cover c.with_run.ensures.grow modes plain rows stand given.0 given.1.0 given.1.1))
     ]
