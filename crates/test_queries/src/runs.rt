@@ -1,5 +1,7 @@
 //! Runs of many cells, counted into folds as they are read. The answers were worked out by hand: each row is the first
 //! sample row but for its customer and part.
+ghost use Rattle.std.specs.Prelude.{◌≡◌};
+ghost use Rattle.cube_query.specs.Groups.{IsOver};
 
 use super::printing::has_lines;
 use cube_model::{Agg, Answer, Attr, Fault, LineOrder, Measure, Query};
@@ -11,7 +13,7 @@ use group_plan::RowSlice;
 use lattice::View;
 use sample_star::{Asked, Condition, EVERY_ROW, pairs, query, rows_of_pairs};
 use std::alloc::Global;
-use wire::SliceSource;
+use wire::{SliceSource, Source};
 
 /// The rows: 40 cities with 513 brands each. The cells of a city are more than a piece.
 const PAIRS: u32 = 20_520;
@@ -71,15 +73,30 @@ fn run_of(alloc: Global, dims: &Dims, rows: &[LineOrder]) -> Result<Vec<u8>, Fau
     cells.encode(alloc, Span { from: 0, to: 1 })
 }
 
+/// Counts the cells of a run in.
+fn count_run<S: Source>(
+    alloc: Global,
+    dims: &Dims,
+    query: &Query,
+    fold: &mut Fold,
+    source: &mut S,
+) -> Result<(), Fault>
+    requires over { IsOver dims.now fold.old }
+    requires query { fold.old.query ≡ query.now }
+    ensures { IsOver dims.now fold.new }
+{
+    let mut run = RunReader::open(alloc, source, 9)?;
+    if !run.head().view.serves(query) {
+        return Err(Fault::BadQuery);
+    }
+    fold.add_run(dims, source, &mut run, None)
+}
+
 /// The answer by the cells of a run.
 fn answer_of_run(alloc: Global, dims: &Dims, query: &Query, bytes: &[u8]) -> Result<Answer, Fault> {
     let mut fold = Fold::new(alloc, dims, query)?;
     let mut source = SliceSource::new(bytes);
-    let mut run = RunReader::open(alloc, &mut source, 9)?;
-    if !run.head().view.serves(query) {
-        return Err(Fault::BadQuery);
-    }
-    fold.add_run(dims, &mut source, &mut run, None)?;
+    count_run(alloc, dims, query, &mut fold, &mut source)?;
     fold.finish(dims)
 }
 
