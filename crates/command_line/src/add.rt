@@ -112,7 +112,12 @@ where
         Fault::Gap => Ok(Some(gap_hint(rt.alloc(), number, next)?)),
         Fault::Repeated => Ok(Some(repeated_hint(rt.alloc(), number, next)?)),
         Fault::TooManyAdditions => Ok(Some(crowd_hint(rt.alloc())?)),
-        _ => addition_hint(rt.alloc(), &GivenFiles { rt, given }, session.dims(), fault),
+        _ => addition_hint(
+            rt.alloc(),
+            &GivenFiles::new(rt, given)?,
+            session.dims(),
+            fault,
+        ),
     }
 }
 

@@ -1,23 +1,28 @@
 //! The command `create`.
 use crate::device;
 use crate::exit::{DONE, NO_COMMAND};
-use crate::files::{DimensionFiles, open_dimensions};
+use crate::files::{DimensionFiles, first_error, open_again, open_dimensions};
 use crate::output::unwritten;
 use crate::refusal::{Met, Refusal, explained};
 use crate::sizes::sectors_in;
+use crate::space::{rows_of, sectors_for};
 use clap::ArgMatches;
 use cube_model::Fault;
 use dimensions::Dims;
 use file_device::{Existing, LockFile};
 use ssb_eval::read_dimensions;
-use std::alloc::Global;
+use std::alloc::{AllocError, Global};
+use std::fs::OpenFile;
 use std::io::{ErrorKind, Read};
 use std::os::unix::fs::FileExt;
 use std::rt::Files;
 
-/// The sectors that a command asks for, if it does.
-pub fn sectors_of(given: &ArgMatches<'_>) -> Option<u32> {
-    sectors_in(given.get_str("sectors")?)
+/// How large a warehouse is to be.
+#[derive(Clone, Copy)]
+enum Size {
+    Sectors(u32),
+    /// As many sectors as so many fact rows take, about, and some more.
+    Rows(u64),
 }
 
 /// Reads the dimension tables, makes the warehouse, and says so.
@@ -28,16 +33,57 @@ pub fn create<R: Files + AllocGlobal + Print + Eprint>(
 where
     R::File: FileExt + LockFile,
 {
-    let Some(sectors) = sectors_of(given) else {
+    let Some(size) = size_of(rt, given)? else {
         return unsized_file(rt, given);
     };
-    if let Err(met) = make(rt, given, sectors) {
-        return Err(explained(rt, given, met));
-    }
+    let sectors = make(rt, given, size)?;
     match println!(rt; "created {sectors} sectors") {
         Ok(()) => Ok(DONE),
         Err(error) if error.kind() == ErrorKind::BrokenPipe => Ok(DONE),
         Err(error) => Err(unwritten(rt.alloc(), Some(error))),
+    }
+}
+
+// The size that the command asks for. Nothing where its word for the sectors is none.
+fn size_of<R: Files + AllocGlobal>(
+    rt: &R,
+    given: &ArgMatches<'_>,
+) -> Result<Option<Size>, Refusal> {
+    if let Some(path) = given.get_str("for") {
+        return Ok(Some(Size::Rows(rows_in(rt, path)?)));
+    }
+    match given.get_one::<u64>("rows") {
+        Some(rows) => Ok(Some(Size::Rows(rows))),
+        None => {
+            let word = given.get_str("sectors").unwrap_or("");
+            Ok(sectors_in(word).map(Size::Sectors))
+        }
+    }
+}
+
+// How many rows a fact table has, about.
+fn rows_in<R: Files + AllocGlobal>(rt: &R, path: &str) -> Result<u64, Refusal> {
+    let alloc = rt.alloc();
+    let Some(file) = open_again(rt, path) else {
+        return Err(match first_error(rt, path) {
+            Some(error) => unread(format!(in alloc; "--for {path}: {error}")),
+            None => unread(format!(in alloc; "--for {path}: not a regular file; give --rows N")),
+        });
+    };
+    let length = match file.metadata() {
+        Ok(metadata) => metadata.len(),
+        Err(_) => 0,
+    };
+    match rows_of(file, length) {
+        Some(rows) => Ok(rows),
+        None => Err(unread(format!(in alloc; "--for {path}: a read failed"))),
+    }
+}
+
+fn unread(hint: Result<String, AllocError>) -> Refusal {
+    Refusal {
+        fault: Fault::Input,
+        hint: hint.ok(),
     }
 }
 
@@ -53,18 +99,55 @@ fn unsized_file<R: Eprint>(rt: &R, given: &ArgMatches<'_>) -> Result<u8, Refusal
     }
 }
 
-// Makes a warehouse of so many sectors.
-fn make<R: Files + AllocGlobal>(rt: &R, given: &ArgMatches<'_>, sectors: u32) -> Result<(), Met>
+// Makes a warehouse of a size, and gives how many sectors it has.
+fn make<R: Files + AllocGlobal>(rt: &R, given: &ArgMatches<'_>, size: Size) -> Result<u32, Refusal>
 where
     R::File: FileExt + LockFile,
 {
-    let dims = dimensions(rt.alloc(), open_dimensions(rt, given)?)?;
-    let existing = if given.get_flag("overwrite") {
+    let dims = match read(rt, given) {
+        Ok(dims) => dims,
+        Err(fault) => return Err(explained(rt, given, Met::from(fault))),
+    };
+    let sectors = sectors_of(rt.alloc(), size, &dims)?;
+    match device::create(rt, device::path_of(given), sectors, existing(given), dims) {
+        Ok(()) => Ok(sectors),
+        Err(met) => {
+            let sectors = Some(sectors);
+            Err(explained(rt, given, Met { sectors, ..met }))
+        }
+    }
+}
+
+// The sectors of a warehouse of a size.
+fn sectors_of(alloc: Global, size: Size, dims: &Dims) -> Result<u32, Refusal> {
+    let rows = match size {
+        Size::Sectors(sectors) => return Ok(sectors),
+        Size::Rows(rows) => rows,
+    };
+    let sectors = sectors_for(dims, rows);
+    match u32::try_from(sectors) {
+        Ok(sectors) => Ok(sectors),
+        Err(_) => Err(Refusal {
+            fault: Fault::DeviceSize,
+            hint: format!(in alloc;
+                "{rows} fact rows take about {sectors} sectors, and a warehouse has at most 4294967295"
+            ).ok(),
+        }),
+    }
+}
+
+// What the file may hold before.
+fn existing(given: &ArgMatches<'_>) -> Existing {
+    if given.get_flag("overwrite") {
         Existing::Any
     } else {
         Existing::Blank
-    };
-    device::create(rt, device::path_of(given), sectors, existing, dims)
+    }
+}
+
+// Reads the dimension tables.
+fn read<R: Files + AllocGlobal>(rt: &R, given: &ArgMatches<'_>) -> Result<Dims, Fault> {
+    dimensions(rt.alloc(), open_dimensions(rt, given)?)
 }
 
 fn dimensions<F: Read + Drop>(alloc: Global, files: DimensionFiles<F>) -> Result<Dims, Fault> {

@@ -1,6 +1,5 @@
 //! What is wrong with the file of a warehouse.
 use crate::contents::{Contents, contents_of};
-use crate::create::sectors_of;
 use crate::device::path_of;
 use clap::ArgMatches;
 use cube_model::Fault;
@@ -11,11 +10,13 @@ use std::{fs, io};
 /// The bytes of a sector.
 const SECTOR: u64 = 512;
 
-/// What is known of a refusal of the file of a warehouse, as one line without its end.
+/// What is known of a refusal of the file of a warehouse, as one line without its end. The file may have been to be made with so many
+/// sectors.
 pub fn device_hint<R: Files + AllocGlobal>(
     rt: &R,
     given: &ArgMatches<'_>,
     fault: Fault,
+    sectors: Option<u32>,
 ) -> Result<Option<String>, Fault> {
     if let Some(file) = swapped_file(rt, given, fault) {
         let path = path_of(given);
@@ -25,8 +26,8 @@ pub fn device_hint<R: Files + AllocGlobal>(
         return Ok(Some(said));
     }
     match fault {
-        Fault::DeviceSize => size_hint(rt, given),
-        Fault::Full => dimensions_hint(rt.alloc(), given),
+        Fault::DeviceSize => size_hint(rt, given, sectors),
+        Fault::Full => dimensions_hint(rt.alloc(), given, sectors),
         Fault::NotFormatted => said(rt.alloc(), given, missing(rt, given)),
         Fault::AlreadyFormatted => present_hint(rt, given),
         Fault::BadLayout => said(
@@ -103,13 +104,14 @@ pub fn failure_hint<R: AllocGlobal>(
 fn size_hint<R: Files + AllocGlobal>(
     rt: &R,
     given: &ArgMatches<'_>,
+    sectors: Option<u32>,
 ) -> Result<Option<String>, Fault> {
     let path = path_of(given);
     let bytes = match fs::metadata(rt, path) {
         Ok(metadata) => metadata.len(),
         Err(_) => 0,
     };
-    match sectors_of(given) {
+    match sectors {
         Some(sectors) => wanted_hint(rt.alloc(), path, bytes, sectors),
         None => found_hint(rt.alloc(), path, bytes),
     }
@@ -144,8 +146,12 @@ fn found_hint(alloc: Global, path: &str, bytes: u64) -> Result<Option<String>, F
 }
 
 // What is said of a file that is too small for the dimension tables.
-fn dimensions_hint(alloc: Global, given: &ArgMatches<'_>) -> Result<Option<String>, Fault> {
-    let Some(sectors) = sectors_of(given) else {
+fn dimensions_hint(
+    alloc: Global,
+    given: &ArgMatches<'_>,
+    sectors: Option<u32>,
+) -> Result<Option<String>, Fault> {
+    let Some(sectors) = sectors else {
         return Ok(None);
     };
     let path = path_of(given);

@@ -4,18 +4,22 @@ use crate::files::{DimensionFiles, open, open_dimensions};
 use crate::layout::asked_of;
 use crate::notes::note_conditions;
 use crate::output::{cut_short, output};
-use crate::progress::Progress;
+use crate::progress::{Progress, Tally, Wanted};
 use crate::refusal::{Met, Refusal, explained};
 use crate::saving::{begin, cut_off, finish, part_of, remove};
 use crate::screens::Screens;
+use crate::timing::say_seconds_and_rows;
 use clap::ArgMatches;
 use cube_model::Fault;
 use dimensions::Dims;
 use report_formats::Asked;
 use ssb_eval::eval_formatted;
 use std::alloc::Global;
+use std::cell::Cell;
+use std::fs::OpenFile;
 use std::io::{self, Read};
 use std::rt::{Clock, Files};
+use table_hints::Table;
 
 /// Reads the query's words, opens the files in the order of the command, and writes the report.
 pub fn eval<R: Files + AllocGlobal + Print + Eprint + Clock>(
@@ -25,11 +29,32 @@ pub fn eval<R: Files + AllocGlobal + Print + Eprint + Clock>(
 ) -> Result<u8, Refusal> {
     match opened(rt, given) {
         Ok((asked, dimensions, lineorder)) => {
-            let lineorder = Progress::new(rt, lineorder, screens.errors);
-            answer(rt, given, &asked, dimensions, lineorder)
+            let tally = Cell::new(tally_of(rt, given, &lineorder, screens));
+            let lineorder = Progress::new(rt, lineorder, &tally);
+            let status = answer(rt, given, &asked, dimensions, lineorder)?;
+            say_seconds_and_rows(rt, given, &tally.get());
+            Ok(status)
         }
         Err(fault) => Err(explained(rt, given, Met::from(fault))),
     }
+}
+
+// What counts the rows of a file of which nothing was read yet.
+fn tally_of<R: Clock, F: OpenFile>(
+    rt: &R,
+    given: &ArgMatches<'_>,
+    lineorder: &F,
+    screens: Screens,
+) -> Tally {
+    let length = match lineorder.metadata() {
+        Ok(metadata) => metadata.len(),
+        Err(_) => 0,
+    };
+    let wanted = Wanted {
+        progress: screens.errors && !given.get_flag("quiet"),
+        rows: given.get_flag("timing"),
+    };
+    Tally::new(rt, length, wanted)
 }
 
 // Writes a report over the files of its tables to where the words have it go, and the notes on its conditions. It gives the status of
@@ -126,7 +151,7 @@ fn opened<R: Files + AllocGlobal>(
 ) -> Result<(Asked, DimensionFiles<R::File>, R::File), Fault> {
     let asked = asked_of(rt.alloc(), given)?;
     let dimensions = open_dimensions(rt, given)?;
-    let lineorder = open(rt, given, "lineorder")?;
+    let lineorder = open(rt, given, Table::Lineorder)?;
     Ok((asked, dimensions, lineorder))
 }
 

@@ -2,59 +2,19 @@
 use crate::exit::{DONE, NO_COMMAND};
 use crate::output::{is_closed, unwritten};
 use crate::refusal::Refusal;
+use crate::table_paths::path_in;
 use clap::ArgMatches;
 use cube_model::Fault;
-use std::alloc::Global;
 use std::fs;
 use std::io::{self, BufWriter, Write};
 use std::rt::Files;
 use table_generator::{
     Random, Scale, write_customers, write_dates, write_lineorders, write_parts, write_suppliers,
 };
+use table_hints::Table;
 
 /// The seed of the random numbers, if the command does not say.
 const SEED: u64 = 1;
-
-/// The tables, in the order in which they are written.
-static TABLES: [Table; 5] = [
-    Table::Customer,
-    Table::Supplier,
-    Table::Part,
-    Table::Date,
-    Table::Lineorder,
-];
-
-// A table of the benchmark.
-#[derive(Clone, Copy)]
-enum Table {
-    Customer,
-    Supplier,
-    Part,
-    Date,
-    Lineorder,
-}
-
-impl Table {
-    fn name(self) -> &'static str {
-        match self {
-            Table::Customer => "customer",
-            Table::Supplier => "supplier",
-            Table::Part => "part",
-            Table::Date => "date",
-            Table::Lineorder => "lineorder",
-        }
-    }
-
-    fn write<W: Write>(self, out: &mut W, random: &mut Random, scale: Scale) -> io::Result<()> {
-        match self {
-            Table::Customer => write_customers(out, random, scale),
-            Table::Supplier => write_suppliers(out, random, scale),
-            Table::Part => write_parts(out, random, scale),
-            Table::Date => write_dates(out),
-            Table::Lineorder => write_lineorders(out, random, scale),
-        }
-    }
-}
 
 /// Writes the five tables of a scale into a folder, and says so of each.
 pub fn generate<R: Files + AllocGlobal + Print + Eprint>(
@@ -70,8 +30,8 @@ pub fn generate<R: Files + AllocGlobal + Print + Eprint>(
         keep_files(rt, folder)?;
     }
     let mut random = Random::new(given.get_one::<u64>("seed").unwrap_or(SEED));
-    for table in &TABLES {
-        write_table(rt, folder, *table, &mut random, scale)?;
+    for table in Table::ALL {
+        write_table(rt, folder, table, &mut random, scale)?;
     }
     Ok(DONE)
 }
@@ -87,15 +47,10 @@ fn no_scale<R: Eprint>(rt: &R, word: &str) -> Result<u8, Refusal> {
     }
 }
 
-// The file of a table in a folder.
-fn path_in(alloc: Global, folder: &str, table: Table) -> Result<String, Refusal> {
-    Ok(format!(in alloc; "{folder}/{}.tbl", table.name())?)
-}
-
 // Refuses to replace a file.
 fn keep_files<R: Files + AllocGlobal>(rt: &R, folder: &str) -> Result<(), Refusal> {
-    for table in &TABLES {
-        let path = path_in(rt.alloc(), folder, *table)?;
+    for table in Table::ALL {
+        let path = path_in(rt.alloc(), folder, table)?;
         if fs::metadata(rt, path.as_str()).is_ok() {
             return Err(Refusal {
                 fault: Fault::Output,
@@ -145,8 +100,24 @@ fn write_file<R: Files + AllocGlobal>(
     let Ok(mut out) = BufWriter::new(rt.alloc(), file) else {
         return Err(Fault::Memory);
     };
-    if let Err(error) = table.write(&mut out, random, scale) {
+    if let Err(error) = write_rows(&mut out, table, random, scale) {
         return Ok(Err(error));
     }
     Ok(out.flush())
+}
+
+// Writes the lines of a table.
+fn write_rows<W: Write>(
+    out: &mut W,
+    table: Table,
+    random: &mut Random,
+    scale: Scale,
+) -> io::Result<()> {
+    match table {
+        Table::Customer => write_customers(out, random, scale),
+        Table::Supplier => write_suppliers(out, random, scale),
+        Table::Part => write_parts(out, random, scale),
+        Table::Date => write_dates(out),
+        Table::Lineorder => write_lineorders(out, random, scale),
+    }
 }

@@ -1,91 +1,119 @@
 //! A job that a command has done to its warehouse.
 use crate::device::{self, Access, Device};
-use crate::exit::{DONE, UNFINISHED};
-use crate::layout::asked_of;
+use crate::exit::{DONE, NO_COMMAND, UNFINISHED};
 use crate::load::cut_of;
 use crate::notes::note_conditions;
 use crate::output::{Output, cut_short, is_closed, output, unwritten};
 use crate::refusal::{Met, Refusal, explained};
 use crate::repeated::StoredBatch;
 use crate::report::swapped;
+use crate::reports::{Reports, odd_format, reports_of, write_reports};
 use crate::saving::{begin, cut_off, finish, part_of, remove};
 use crate::space::{Room, note_room};
+use crate::timing::{begin as begin_time, say_seconds};
 use crate::unfinished::note_unfinished;
 use clap::ArgMatches;
 use cube_model::Fault;
 use file_device::LockFile;
-use report_formats::Asked;
 use ssb_eval::exit_of;
 use std::alloc::Global;
 use std::fs::OpenFile;
 use std::io::{self, Read};
 use std::os::unix::fs::FileExt;
-use std::rt::Files;
+use std::rt::{Clock, Files};
 use warehouse::Session;
-use warehouse_jobs::{Job, perform, report_formatted};
+use warehouse_jobs::{Job, perform};
 
-/// Asks the query of a command, over the batches that it names, and writes the notes on its conditions.
-pub fn ask<R: Files + AllocGlobal + Print + Eprint>(
+/// Asks the query of a command, over the batches that it names, and writes the notes on its conditions and how long it took.
+pub fn ask<R: Files + AllocGlobal + Print + Eprint + Clock>(
     rt: &R,
     given: &ArgMatches<'_>,
 ) -> Result<u8, Refusal>
 where
     R::File: FileExt + LockFile,
 {
-    let asked = match asked_of(rt.alloc(), given) {
-        Ok(asked) => asked,
+    if let Some(name) = odd_format(given) {
+        return unformatted(rt, name);
+    }
+    let tally = begin_time(rt);
+    let status = match reports_of(rt.alloc(), given) {
+        Ok(reports) => answer(rt, given, &reports)?,
         Err(fault) => return Err(unasked(rt, given, fault)),
     };
+    say_seconds(rt, given, &tally);
+    Ok(status)
+}
+
+// Says that all queries of the benchmark are not reported in a format.
+fn unformatted<R: Eprint>(rt: &R, name: &str) -> Result<u8, Refusal> {
+    let said = eprintln!(rt;
+        "error: invalid value '{name}' for '--format <FORMAT>': the reports of all queries are written with bars; ask for one query\n\nFor more information, try '--help'."
+    );
+    match said {
+        Ok(()) => Ok(NO_COMMAND),
+        Err(_) => Err(Refusal::from(Fault::Output)),
+    }
+}
+
+// Opens the warehouse of a command, and reports the answers to where the words have them go.
+fn answer<R: Files + AllocGlobal + Print + Eprint>(
+    rt: &R,
+    given: &ArgMatches<'_>,
+    reports: &Reports,
+) -> Result<u8, Refusal>
+where
+    R::File: FileExt + LockFile,
+{
     match device::open(rt, given, Access::Read) {
-        Ok(mut session) => answer_in(rt, given, &mut session, &asked),
+        Ok(mut session) => answer_in(rt, given, &mut session, reports),
         Err(met) => Err(explained(rt, given, met)),
     }
 }
 
-// Reports the answer of an open warehouse to where the words have it go, and writes the notes on the conditions.
+// Reports the answers of an open warehouse to where the words have them go, and writes the notes on the conditions.
 fn answer_in<R: Files + AllocGlobal + Print + Eprint>(
     rt: &R,
     given: &ArgMatches<'_>,
     session: &mut Session<Device<R::File>>,
-    asked: &Asked,
+    reports: &Reports,
 ) -> Result<u8, Refusal>
 where
     R::File: FileExt + LockFile,
 {
     let status = match given.get_str("output") {
-        None => print_report(rt, given, session, asked)?,
-        Some(path) => save_report(rt, given, session, asked, path)?,
+        None => print_reports(rt, given, session, reports)?,
+        Some(path) => save_reports(rt, given, session, reports, path)?,
     };
     note_unfinished(rt, given, session);
     note_conditions(rt, given, session.dims());
     Ok(status)
 }
 
-// Prints a report of an open warehouse.
-fn print_report<R: Files + AllocGlobal + Print>(
+// Prints reports of an open warehouse.
+fn print_reports<R: Files + AllocGlobal + Print>(
     rt: &R,
     given: &ArgMatches<'_>,
     session: &mut Session<Device<R::File>>,
-    asked: &Asked,
+    reports: &Reports,
 ) -> Result<u8, Refusal>
 where
     R::File: FileExt + LockFile,
 {
     let mut out = output(rt)?;
     let as_of = given.get_one::<u32>("as-of");
-    match report_formatted(rt.alloc(), session, as_of, asked, &mut out) {
+    match write_reports(rt.alloc(), session, as_of, reports, &mut out) {
         Ok(()) => Ok(DONE),
         Err(Fault::Output) => cut_short(rt.alloc(), out.failure()),
         Err(fault) => Err(explained(rt, given, met_in(rt.alloc(), fault, session))),
     }
 }
 
-// Saves a report of an open warehouse in a file.
-fn save_report<R: Files + AllocGlobal>(
+// Saves reports of an open warehouse in a file.
+fn save_reports<R: Files + AllocGlobal>(
     rt: &R,
     given: &ArgMatches<'_>,
     session: &mut Session<Device<R::File>>,
-    asked: &Asked,
+    reports: &Reports,
     path: &str,
 ) -> Result<u8, Refusal>
 where
@@ -94,7 +122,7 @@ where
     let part = part_of(rt.alloc(), path)?;
     let mut out = begin(rt, given, path, part.as_str())?;
     let as_of = given.get_one::<u32>("as-of");
-    let done = report_formatted(rt.alloc(), session, as_of, asked, &mut out);
+    let done = write_reports(rt.alloc(), session, as_of, reports, &mut out);
     let failure = out.failure();
     drop(out);
     match done {
@@ -169,8 +197,8 @@ where
     Ok(status)
 }
 
-// Does a job to an open warehouse, and gives the status of the program.
-fn done_in<R: Files + AllocGlobal + Print, L: Read + Drop>(
+/// Does a job to an open warehouse, and gives the status of the program.
+pub fn done_in<R: Files + AllocGlobal + Print, L: Read + Drop>(
     rt: &R,
     given: &ArgMatches<'_>,
     session: &mut Session<Device<R::File>>,

@@ -15,8 +15,8 @@ pub fn asked_of(alloc: Global, given: &ArgMatches<'_>) -> Result<Asked, Fault> {
     Asked::new(alloc, layout_of(given), query)
 }
 
-// With bars, where the words do not say how it is written.
-fn layout_of(given: &ArgMatches<'_>) -> Layout {
+/// How the words of a command have a report written: with bars, where they do not say.
+pub fn layout_of(given: &ArgMatches<'_>) -> Layout {
     let format = match given.get_str("format") {
         Some(name) => Format::named(name),
         None => None,

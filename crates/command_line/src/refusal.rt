@@ -3,6 +3,7 @@ use crate::device_hints::{device_hint, failure_hint};
 use crate::files::GivenFiles;
 use crate::layout::asked_hint;
 use crate::load::cut_of;
+use crate::locating::located_hint;
 use crate::repeated::{StoredBatch, repeated_hint};
 use crate::space::{Room, room_hint};
 use clap::ArgMatches;
@@ -10,7 +11,7 @@ use cube_model::Fault;
 use std::alloc::{AllocError, Global};
 use std::io;
 use std::rt::Files;
-use table_hints::{load_hint, table_hint};
+use table_hints::table_hint;
 
 /// A fault, and a line in plain words after it where the program knows more.
 #[derive(Drop)]
@@ -43,6 +44,8 @@ pub struct Met {
     pub stored: Option<StoredBatch>,
     /// What the system said of the warehouse's file.
     pub failure: Option<io::Error>,
+    /// How many sectors the warehouse was to be made with.
+    pub sectors: Option<u32>,
 }
 
 impl From<Fault> for Met {
@@ -53,6 +56,7 @@ impl From<Fault> for Met {
             room: None,
             stored: None,
             failure: None,
+            sectors: None,
         }
     }
 }
@@ -74,10 +78,10 @@ fn hint_of<R: Files + AllocGlobal>(
     given: &ArgMatches<'_>,
     met: Met,
 ) -> Result<Option<String>, Fault> {
-    let files = GivenFiles { rt, given };
+    let files = GivenFiles::new(rt, given)?;
     match met.fault {
         Fault::BadQuery => asked_hint(rt.alloc(), given),
-        Fault::Input => files.unreadable(rt.alloc()),
+        Fault::Input => files.unreadable(),
         Fault::Repeated => repeated_hint(rt.alloc(), &files, met.stored),
         Fault::NoSuchPrefix => prefix_hint(rt.alloc(), given, met.batches),
         Fault::Device => failure_hint(rt, given, met.failure),
@@ -86,7 +90,7 @@ fn hint_of<R: Files + AllocGlobal>(
         | Fault::NotFormatted
         | Fault::AlreadyFormatted
         | Fault::BadLayout
-        | Fault::DeviceSize => device_hint(rt, given, met.fault),
+        | Fault::DeviceSize => device_hint(rt, given, met.fault, met.sectors),
         _ => row_hint(rt.alloc(), &files, met),
     }
 }
@@ -103,13 +107,13 @@ fn prefix_hint(
     Ok(Some(said))
 }
 
-fn row_hint<R: Files>(
+fn row_hint<R: Files + AllocGlobal>(
     alloc: Global,
     files: &GivenFiles<'_, '_, '_, R>,
     met: Met,
 ) -> Result<Option<String>, Fault> {
     match (cut_of(files.given), met.batches) {
-        (Some(cut), Some(batches)) => load_hint(alloc, files, met.fault, cut, batches),
+        (Some(cut), Some(batches)) => located_hint(alloc, files, met.fault, cut, batches),
         _ => table_hint(alloc, files, met.fault),
     }
 }

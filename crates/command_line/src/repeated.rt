@@ -17,7 +17,7 @@ pub struct StoredBatch {
 
 /// What is said of a batch of a load that is not the stored one of its number, as one line without its end. The file is read once
 /// more to count the rows of the batch.
-pub fn repeated_hint<R: Files>(
+pub fn repeated_hint<R: Files + AllocGlobal>(
     alloc: Global,
     files: &GivenFiles<'_, '_, '_, R>,
     stored: Option<StoredBatch>,
@@ -47,7 +47,7 @@ fn counted(alloc: Global, rows: u64) -> Result<String, AllocError> {
 }
 
 // How many rows the file of a load has for the batch of a number, if it can be read again.
-fn rows_given<R: Files>(
+fn rows_given<R: Files + AllocGlobal>(
     alloc: Global,
     files: &GivenFiles<'_, '_, '_, R>,
     cut: Cut,
@@ -62,8 +62,8 @@ fn rows_given<R: Files>(
     Ok(Some(count_lines(&mut lines, u64::from(cut.rows))?))
 }
 
-// Passes over the next lines of a file, so many, and fewer only at its end. Gives how many there were.
-fn count_lines<F: Read>(lines: &mut Lines<F>, most: u64) -> Result<u64, Fault> {
+/// Passes over the next lines of a file, so many, and fewer only at its end. Gives how many there were.
+pub fn count_lines<F: Read>(lines: &mut Lines<F>, most: u64) -> Result<u64, Fault> {
     for count in 0..most {
         if lines.next()?.is_none() {
             return Ok(count);

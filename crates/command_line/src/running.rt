@@ -4,7 +4,9 @@ use crate::exit::{DONE, NO_COMMAND};
 use crate::refusal::Refusal;
 use crate::screens::Screens;
 use crate::streams::hold_streams;
-use crate::{add, check, crashes, create, cuboids, demo, eval, generate, job, load, plans, views};
+use crate::{
+    add, check, crashes, create, cuboids, demo, eval, generate, job, load, plans, status, views,
+};
 use clap::ArgMatches;
 use clap::error::{Error, ErrorKind};
 use command_words::command;
@@ -83,7 +85,7 @@ where
 }
 
 // The status of a command that asks a warehouse.
-fn consult<R: Files + AllocGlobal + Print + Eprint + Input>(
+fn consult<R: Files + AllocGlobal + Print + Eprint + Clock + Input>(
     rt: &R,
     name: &str,
     given: &ArgMatches<'_>,
@@ -95,7 +97,7 @@ where
         "report" => job::ask(rt, given),
         "cube" => job::ask(rt, given),
         "explain" => plans::explain(rt, given),
-        "status" => job::perform_job(rt, given, Access::Read, Job::Status, io::empty()),
+        "status" => status::status(rt, given),
         "choose" => cuboids::choose(rt, given),
         "upkeep" => job::perform_job(rt, given, Access::Commit, Job::Upkeep, io::empty()),
         "views" => views::views(rt, given),

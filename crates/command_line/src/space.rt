@@ -1,9 +1,12 @@
 //! Whether a warehouse has room for what is to be stored.
 use crate::device::{Device, path_of};
 use crate::files::GivenFiles;
-use crate::load::cut_of;
+use crate::load::{byte_count, cut_of};
+use crate::table_paths::{loaded_paths, table_name};
 use clap::ArgMatches;
-use cube_model::Fault;
+use cube_model::limits::{MOST_BATCH_ROWS, MOST_BATCHES};
+use cube_model::{Attr, Axis, Fault};
+use dimensions::Dims;
 use file_device::LockFile;
 use sector_device::Sectors;
 use std::alloc::Global;
@@ -11,11 +14,49 @@ use std::fs::OpenFile;
 use std::io::Read;
 use std::os::unix::fs::FileExt;
 use std::rt::Files;
-use table_hints::{Needs, Table, TableFiles, row_count};
+use table_hints::{Cut, Needs, Table, TableFiles, row_count};
 use warehouse::Session;
+use warehouse_root::limits::MOST_CELLS;
 
 /// The bytes at the beginning of a file by which its rows are estimated.
 const BEGINNING: usize = 4096;
+
+/// The bytes of a row of a dimension table, about: its key, and the code of its finest text.
+const DIMENSION_ROW_BYTES: u64 = 8;
+
+/// The bytes of a text of a dimension table, about, and the code of its upper member.
+const TEXT_BYTES: u64 = 32;
+
+/// The bytes of a sector.
+const SECTOR_BYTES: u64 = 512;
+
+/// The bytes of a cell of a cuboid, about.
+const CELL_BYTES: u64 = 160;
+
+/// How many cuboids a new warehouse has room for: eight, and one more while it is written anew.
+const CUBOIDS: u64 = 9;
+
+/// The fewest sectors of a warehouse.
+const FEWEST_SECTORS: u64 = 64;
+
+static AXES: [Axis; 4] = [Axis::Customer, Axis::Supplier, Axis::Part, Axis::Date];
+
+/// The attributes whose texts a warehouse stores.
+static TEXTS: [Attr; 13] = [
+    Attr::CustomerCity,
+    Attr::CustomerNation,
+    Attr::CustomerRegion,
+    Attr::SupplierCity,
+    Attr::SupplierNation,
+    Attr::SupplierRegion,
+    Attr::PartBrand1,
+    Attr::PartCategory,
+    Attr::PartMfgr,
+    Attr::DateYearmonthnum,
+    Attr::DateYear,
+    Attr::DateYearmonth,
+    Attr::DateWeeknuminyear,
+];
 
 /// The sectors of a warehouse.
 #[derive(Clone, Copy)]
@@ -41,6 +82,24 @@ impl Room {
     /// How many are free.
     pub fn free(self) -> u64 {
         self.sectors.saturating_sub(self.taken)
+    }
+
+    /// How many more batches of so many rows a warehouse of so many batches may get, about. Where that is no row, of the most rows.
+    pub fn batches_more(self, batches: u32, rows: u32) -> u64 {
+        let rows = if rows == 0 {
+            MOST_BATCH_ROWS as u32
+        } else {
+            rows
+        };
+        let cut = Cut {
+            first: batches.saturating_add(1),
+            rows,
+        };
+        let needs = Needs::of(cut, u64::from(rows), batches);
+        // What a commit writes apart from the batch.
+        let commit = needs.whole.saturating_sub(needs.batch);
+        let room = self.free().saturating_sub(commit) / needs.batch.max(1);
+        room.min((MOST_BATCHES as u64).saturating_sub(u64::from(batches)))
     }
 
     /// The sectors of a warehouse that also has room for so many, and for some more, since they are estimated.
@@ -70,25 +129,42 @@ where
         return;
     };
     if needs.whole > room.free() {
-        let file = given.get_str("lineorder").unwrap_or("");
-        let _said = eprintln!(rt;
-            "note: {file} needs about {} sectors; free sectors in {}: {}; all of it would fit with --sectors {}",
-            needs.whole,
-            path_of(given),
-            room.free(),
-            room.with(needs.whole)
-        );
+        say_lack(rt, given, needs, room);
     }
 }
 
-// What the load of a command needs, if it is one of a file that can be read twice.
-fn needs_of<R: Files>(rt: &R, given: &ArgMatches<'_>, batches: u32) -> Option<Needs> {
+// Says that a load needs more sectors than are free.
+fn say_lack<R: AllocGlobal + Eprint>(rt: &R, given: &ArgMatches<'_>, needs: Needs, room: Room) {
+    let Ok(files) = table_name(rt.alloc(), given, Table::Lineorder) else {
+        return;
+    };
+    let need = match loaded_paths(given).unwrap_or(&[]) {
+        [_] => "needs",
+        _ => "need",
+    };
+    let _said = eprintln!(rt;
+        "note: {files} {need} about {} sectors; free sectors in {}: {}; all of it would fit with --sectors {}",
+        needs.whole,
+        path_of(given),
+        room.free(),
+        room.with(needs.whole)
+    );
+}
+
+// What the load of a command needs, if it is one of files that can be read twice.
+fn needs_of<R: Files + AllocGlobal>(rt: &R, given: &ArgMatches<'_>, batches: u32) -> Option<Needs> {
     let cut = cut_of(given)?;
-    let mut file = GivenFiles { rt, given }.open(Table::Lineorder)?;
-    let length = file.metadata().ok()?.len();
+    let text = GivenFiles::new(rt, given).ok()?.open(Table::Lineorder)?;
+    let rows = rows_of(text, byte_count(rt, loaded_paths(given).unwrap_or(&[])))?;
+    Some(Needs::of(cut, rows, batches))
+}
+
+/// How many rows a text of so many bytes has, about, by its beginning. Nothing where it cannot be read.
+pub fn rows_of<F: Read + Drop>(text: F, length: u64) -> Option<u64> {
+    let mut text = text;
     let mut beginning = [0; BEGINNING];
-    let count = file.read(&mut beginning).ok()?;
-    Some(Needs::of(cut, row_count(length, &beginning[..count]), batches))
+    let count = text.read(&mut beginning).ok()?;
+    Some(row_count(length, &beginning[..count]))
 }
 
 /// What is known where no run of free sectors was long enough.
@@ -114,4 +190,38 @@ pub fn room_hint<R: Files + AllocGlobal>(
         )?,
     };
     Ok(Some(said))
+}
+
+/// The sectors of a warehouse with these dimensions that has room for so many fact rows in batches of the most rows, about, for eight
+/// cuboids, and for the dimensions twice, since rows that are added to one write it anew.
+pub fn sectors_for(dims: &Dims, rows: u64) -> u64 {
+    let cut = Cut {
+        first: 1,
+        rows: MOST_BATCH_ROWS as u32,
+    };
+    let facts = Needs::of(cut, rows, 0).whole;
+    let cells = rows.min(u64::from(MOST_CELLS));
+    let cuboids = cells
+        .saturating_mul(CUBOIDS * CELL_BYTES)
+        .div_ceil(SECTOR_BYTES);
+    let room = Room {
+        sectors: 0,
+        taken: dimension_sectors(dims).saturating_mul(2),
+    };
+    room.with(facts.saturating_add(cuboids)).max(FEWEST_SECTORS)
+}
+
+// The sectors of the dimensions, about.
+fn dimension_sectors(dims: &Dims) -> u64 {
+    let mut bytes = 0u64;
+    for axis in AXES {
+        let rows = dims.row_count(axis) as u64;
+        bytes = bytes.saturating_add(rows.saturating_mul(DIMENSION_ROW_BYTES));
+    }
+    for attr in TEXTS {
+        let texts = dims.members(attr) as u64;
+        bytes = bytes.saturating_add(texts.saturating_mul(TEXT_BYTES));
+    }
+    // A part of a sector for each dimension.
+    bytes.div_ceil(SECTOR_BYTES).saturating_add(4)
 }

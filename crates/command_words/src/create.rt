@@ -8,7 +8,10 @@ pub(crate) static CREATE: Described = Described {
     name: "create",
     about: "Makes a warehouse in a file, with the four dimension tables.",
     usage: "ssbcube create DEV --sectors N --customer FILE --supplier FILE
-                      --part FILE --date FILE [--overwrite]",
+                      --part FILE --date FILE [--overwrite]
+       ssbcube create DEV --sectors N --tables FOLDER ...
+       ssbcube create DEV --rows N ...
+       ssbcube create DEV --for LINEORDER ...",
     help: "DEV is a file of N sectors of 512 bytes. It is made where it is absent; an
 empty file is taken too, and one of just that length whose first two sectors
 are all zero, as a create that was cut off leaves it. With --overwrite it may
@@ -21,9 +24,16 @@ How many sectors: a batch of 65,536 rows takes some 9,100. Scale 1 of the
 benchmark, 6 million rows, takes some 850,000, so --sectors 1000000, a file of
 512 MB, has room for it. A warehouse cannot grow afterwards.
 
-Example:
+With --rows N, or --for FILE and the rows that the file has, about, it works the
+sectors out: for batches of 65,536 rows, eight cuboids, and some more.
+
+With --tables the tables are customer.tbl, supplier.tbl, part.tbl and date.tbl of
+FOLDER. A table that has its own option too is the file of that option.
+
+Examples:
   ssbcube create star.dev --sectors 1000000 --customer customer.tbl \\
       --supplier supplier.tbl --part part.tbl --date date.tbl
+  ssbcube create star.dev --for tables/lineorder.tbl --tables tables
 
 It prints 'created 1000000 sectors' once the warehouse is durable. After a
 refusal a file that it made is removed again.",
@@ -33,14 +43,31 @@ refusal a file that it made is removed again.",
             name: "sectors",
             value: "N",
             help: "The sectors of the file, 64 to 4294967295, or its size, as 4G",
-            kind: Kind::Option(Value::Text),
+            kind: Kind::OptionOr(Value::Text, &["rows", "for"]),
         }]),
         Words::Tables,
     ],
-    optional: &[Words::Own(&[Word {
-        name: "overwrite",
-        value: "",
-        help: "Replaces what the file holds, if that is no warehouse",
-        kind: Kind::Flag,
-    }])],
+    optional: &[
+        Words::Folder,
+        Words::Own(&[
+            Word {
+                name: "rows",
+                value: "N",
+                help: "As many sectors as N fact rows take, and some more",
+                kind: Kind::OptionNot(Value::Number(0, u64::MAX), &["sectors", "for"]),
+            },
+            Word {
+                name: "for",
+                value: "LINEORDER",
+                help: "As many as the rows of a fact table take, and some more",
+                kind: Kind::OptionNot(Value::Text, &["sectors"]),
+            },
+            Word {
+                name: "overwrite",
+                value: "",
+                help: "Replaces what the file holds, if that is no warehouse",
+                kind: Kind::Flag,
+            },
+        ]),
+    ],
 };

@@ -8,8 +8,14 @@ pub(crate) static CUBE: Described = Described {
     about: "Answers an ad-hoc query over a warehouse.",
     usage: "ssbcube cube DEV [--as-of N] [--set SET] [--by A,A] --agg G,G
                     [--format FORMAT] [--decimals N]
-                    [--output FILE [--overwrite]] [CONDITION]...",
+                    [--output FILE [--overwrite]] [--timing] [CONDITION]...",
     help: CUBE_HELP,
     required: &[Words::Device],
-    optional: &[Words::AsOf, Words::Layout, Words::Cube, Words::Conditions],
+    optional: &[
+        Words::AsOf,
+        Words::Layout,
+        Words::Cube,
+        Words::Conditions,
+        Words::Timing,
+    ],
 };

@@ -9,9 +9,10 @@ pub(crate) static EVAL: Described = Described {
     about: "Answers one query over five table files, and keeps nothing.",
     usage: "ssbcube eval --customer FILE --supplier FILE --part FILE
                     --date FILE --lineorder FILE --query Q
+       ssbcube eval --tables FOLDER --query Q
        ssbcube eval ... [--set SET] [--by A,A] --agg G,G [CONDITION]...
        ssbcube eval ... [--format FORMAT] [--decimals N]
-                    [--output FILE [--overwrite]] ...",
+                    [--output FILE [--overwrite]] [--timing] [--quiet] ...",
     help: CUBE_HELP,
     required: &[
         Words::Tables,
@@ -19,10 +20,11 @@ pub(crate) static EVAL: Described = Described {
             name: "lineorder",
             value: "FILE",
             help: "The fact table, such as lineorder.tbl",
-            kind: Kind::Option(Value::Text),
+            kind: Kind::OptionOr(Value::Text, &["tables"]),
         }]),
     ],
     optional: &[
+        Words::Folder,
         Words::Own(&[Word {
             name: "query",
             value: "Q",
@@ -32,5 +34,7 @@ pub(crate) static EVAL: Described = Described {
         Words::Layout,
         Words::Cube,
         Words::Conditions,
+        Words::Timing,
+        Words::Quiet,
     ],
 };

@@ -8,9 +8,11 @@ use cube_model::limits::MOST_BATCH_ROWS;
 pub(crate) static LOAD: Described = Described {
     name: "load",
     about: "Loads the rows of a fact table into a warehouse, batch by batch.",
-    usage: "ssbcube load DEV --first N [--rows N] FILE",
+    usage: "ssbcube load DEV --first N [--rows N] [--quiet] FILE...",
     help: "The file is cut into batches of --rows rows, numbered from --first on. A FILE
-of - is standard input.
+of - is standard input. Several files are cut as one, in their order: a batch may
+begin in one and end in the next, and a last line without its end stays a line.
+Give all of them again, and in the same order, to resume such a load.
 
 'batch 1 rows 65536' is printed once the batch is durable: it survives a crash
 at any point. A batch is stored whole or not at all. A batch whose number is
@@ -30,7 +32,8 @@ load all files into it.
 
 Examples:
   ssbcube load star.dev --first 1 lineorder.tbl
-  ssbcube load star.dev --first 93 more.tbl",
+  ssbcube load star.dev --first 93 more.tbl
+  ssbcube load star.dev --first 1 part1.tbl part2.tbl part3.tbl",
     required: &[
         Words::Device,
         Words::Own(&[
@@ -38,7 +41,7 @@ Examples:
                 name: "lineorder",
                 value: "FILE",
                 help: "The fact table, such as lineorder.tbl; - is standard input",
-                kind: Kind::Plain(Value::Text),
+                kind: Kind::Several,
             },
             Word {
                 name: "first",
@@ -48,10 +51,13 @@ Examples:
             },
         ]),
     ],
-    optional: &[Words::Own(&[Word {
-        name: "rows",
-        value: "N",
-        help: "The rows of a batch, 1 to 65536; 65536 if left out",
-        kind: Kind::Option(Value::Number(1, MOST_BATCH_ROWS as u64)),
-    }])],
+    optional: &[
+        Words::Own(&[Word {
+            name: "rows",
+            value: "N",
+            help: "The rows of a batch, 1 to 65536; 65536 if left out",
+            kind: Kind::Option(Value::Number(1, MOST_BATCH_ROWS as u64)),
+        }]),
+        Words::Quiet,
+    ],
 };

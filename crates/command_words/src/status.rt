@@ -1,20 +1,30 @@
 //! The command `status`.
 use crate::described::Described;
+use crate::word::{Kind, Word};
 use crate::words::Words;
 
 /// The command `status`.
 pub(crate) static STATUS: Described = Described {
     name: "status",
     about: "Prints the numbers of a warehouse.",
-    usage: "ssbcube status DEV",
+    usage: "ssbcube status DEV [--all]",
     help: "It prints 'batches N' and 'rows N', how many of each there are, and between them
 'additions N', where rows were added to the dimension tables; 'target N', up to
 which batch the last upkeep set out to bring the stored cuboids; 'generation N',
 the number of commits; and 'cuboid V mark N runs N cells N' for each stored
 cuboid: its view, and how many of the first batches it holds.
 
+With --all it prints 'sectors N', how many the file has, 'taken N' and 'free N' of
+them, and 'room N batches': for how many more batches of the size of the last one
+there is room, about, or of 65536 rows where there is none.
+
 Example:
   ssbcube status star.dev",
     required: &[Words::Device],
-    optional: &[],
+    optional: &[Words::Own(&[Word {
+        name: "all",
+        value: "",
+        help: "Prints the sectors too, and the room that is left",
+        kind: Kind::Flag,
+    }])],
 };

@@ -17,10 +17,16 @@ pub(crate) struct Word {
 pub(crate) enum Kind {
     /// A word without dashes, and what it has to be.
     Plain(Value),
+    /// One word without dashes or more, after the others.
+    Several,
     /// Any number of words without dashes, after the others.
     Rest,
     /// An option with a value.
     Option(Value),
+    /// The same. Where it has to be there, one of some other options may be given in its place.
+    OptionOr(Value, &'static [&'static str]),
+    /// An option with a value that is not given together with some others.
+    OptionNot(Value, &'static [&'static str]),
     /// An option without a value.
     Flag,
     /// The same, where another option has to be given too.
@@ -45,12 +51,15 @@ impl Word {
             .required(required);
         match self.kind {
             Kind::Plain(value) => Ok(self.single(arg, value)),
-            Kind::Rest => Ok(
-                arg.value_name(self.value)
-                    .num_args(0..)
-                    .action(ArgAction::Append),
-            ),
+            Kind::Several => Ok(self.list(arg).num_args(1..)),
+            Kind::Rest => Ok(self.list(arg).num_args(0..)),
             Kind::Option(value) => Ok(self.single(arg, value).long(self.name)),
+            Kind::OptionOr(value, others) => self.replaceable(arg, value, others, required),
+            Kind::OptionNot(value, others) => {
+                self.single(arg, value)
+                    .long(self.name)
+                    .conflicts_with_all(others)
+            }
             Kind::Flag => Ok(self.flag(arg)),
             Kind::FlagWith(other) => self.flag(arg).requires_arg(other),
         }
@@ -61,6 +70,27 @@ impl Word {
         arg.value_name(self.value)
             .action(ArgAction::Set)
             .value_parser(value.parser())
+    }
+
+    // With several values.
+    fn list<'a>(self, arg: Arg<'a>) -> Arg<'a> {
+        arg.value_name(self.value).action(ArgAction::Append)
+    }
+
+    // With one value. Where it is required, one of some other options is enough.
+    fn replaceable<'a>(
+        self,
+        arg: Arg<'a>,
+        value: Value,
+        others: &[&'static str],
+        required: bool,
+    ) -> Result<Arg<'a>, AllocError> {
+        let arg = self.single(arg, value).long(self.name).required(false);
+        if required {
+            arg.required_unless_present_any(others)
+        } else {
+            Ok(arg)
+        }
     }
 
     // Without a value.

@@ -13,6 +13,8 @@ pub(crate) enum Words {
     AsOf,
     /// The four dimension tables.
     Tables,
+    /// A folder of the tables.
+    Folder,
     /// An ad-hoc query but its conditions.
     Cube,
     /// The conditions of an ad-hoc query.
@@ -21,6 +23,10 @@ pub(crate) enum Words {
     Asked,
     /// How a report is written, and where.
     Layout,
+    /// How long the command took.
+    Timing,
+    /// No progress and no summary.
+    Quiet,
 }
 
 impl Words {
@@ -32,10 +38,13 @@ impl Words {
             Words::Query => &QUERY,
             Words::AsOf => &AS_OF,
             Words::Tables => &DIMENSION_TABLES,
+            Words::Folder => &FOLDER,
             Words::Cube => &CUBE_WORDS,
             Words::Conditions => &CONDITIONS,
             Words::Asked => &ASKED,
             Words::Layout => &LAYOUT_WORDS,
+            Words::Timing => &TIMING,
+            Words::Quiet => &QUIET,
         }
     }
 }
@@ -112,27 +121,34 @@ static DIMENSION_TABLES: [Word; 4] = [
         name: "customer",
         value: "FILE",
         help: "The customer table, such as customer.tbl",
-        kind: Kind::Option(Value::Text),
+        kind: Kind::OptionOr(Value::Text, &["tables"]),
     },
     Word {
         name: "supplier",
         value: "FILE",
         help: "The supplier table, such as supplier.tbl",
-        kind: Kind::Option(Value::Text),
+        kind: Kind::OptionOr(Value::Text, &["tables"]),
     },
     Word {
         name: "part",
         value: "FILE",
         help: "The part table, such as part.tbl",
-        kind: Kind::Option(Value::Text),
+        kind: Kind::OptionOr(Value::Text, &["tables"]),
     },
     Word {
         name: "date",
         value: "FILE",
         help: "The date table, such as date.tbl",
-        kind: Kind::Option(Value::Text),
+        kind: Kind::OptionOr(Value::Text, &["tables"]),
     },
 ];
+
+static FOLDER: [Word; 1] = [Word {
+    name: "tables",
+    value: "FOLDER",
+    help: "The folder of the tables that have no option",
+    kind: Kind::Option(Value::Text),
+}];
 
 static CUBE_WORDS: [Word; 3] = [
     Word {
@@ -195,3 +211,17 @@ static LAYOUT_WORDS: [Word; 4] = [
         kind: Kind::FlagWith("output"),
     },
 ];
+
+static TIMING: [Word; 1] = [Word {
+    name: "timing",
+    value: "",
+    help: "Says at the end how long it took",
+    kind: Kind::Flag,
+}];
+
+static QUIET: [Word; 1] = [Word {
+    name: "quiet",
+    value: "",
+    help: "Says nothing of how far it is, and nothing at the end",
+    kind: Kind::Flag,
+}];
