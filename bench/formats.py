@@ -83,7 +83,7 @@ def same_value(bars, value, digits):
     if isinstance(value, dict):
         return Fraction(value["sum"], value["count"]) == Fraction(bars.decode())
     if digits is not None and isinstance(value, Decimal):
-        return str(value) == bars.decode()
+        return format(value, "f") == bars.decode()
     return type(value) is int and b"%d" % value == bars
 
 
@@ -96,7 +96,7 @@ def rounded(fraction, digits):
         exact = fraction * 10**digits
         half_up = (abs(exact) * 2 + 1) // 2
         value = Decimal(int(half_up)) * scale
-        return str((-value if exact < 0 and half_up else value).quantize(scale))
+        return format((-value if exact < 0 and half_up else value).quantize(scale), "f")
 
 
 def check(words, digits):
