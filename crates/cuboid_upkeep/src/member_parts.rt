@@ -97,16 +97,22 @@ impl MemberParts {
     }
 
     // The least number, from one on, of a key whose code on the axis is that of a member with which rows may be
-    // selected. The codes on the axes before it make a number, and that of those after it is below a unit.
+    // selected, or the number itself where no code is passed over. The codes on the axes before it make a number, and
+    // that of those after it is below a unit.
     pub(crate) fn next_number(&self, before: u128, unit: u128, from: u128) -> Option<u128>
         requires unit { 1 ≤ unit }
         requires before { before + 65536 < 2 ^ 128 }
         requires fits { (before + 65536) * unit < 2 ^ 128 }
         ensures { AreUnselected self.now before unit from result }
     {
-        let Some(code) = self.next_code((from / unit).saturating_sub(before)) else {
+        let first = (from / unit).saturating_sub(before);
+        let Some(code) = self.next_code(first) else {
             return None;
         };
+        if u128::from(code) <= first {
+            // No code is passed over, and so no key.
+            return Some(from);
+        }
         Some((before + u128::from(code)) * unit)
     }
 }
