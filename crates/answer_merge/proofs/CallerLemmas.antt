@@ -2,9 +2,8 @@
 use Rattle.std.proofs.Common.{◌≡◌, ◌∙◌, sym, ap, refl, subst, ℕ, ◌+◌, ◌≤◌, ℤ, pos, negsuc, ◌+ℤ◌, Bool, true, false, cond, Option, Some, None, List, [], ◌∷◌, ◌++◌, map, arith}
 use Rattle.std.specs.Prelude.{◌||◌, nat_abs, int_lt}
 use Rattle.std.specs.Int.{int_max, int_min}
-use Rattle.std.specs.List.{AllByRecursion, filter_map, list_any}
+use Rattle.std.specs.List.{AllByRecursion, list_any}
 use Rattle.std.specs.Ordering.{is_eq, ordering_reverse}
-use Rattle.std.specs.declared.cmp.Ordering.{Ordering}
 use Rattle.std.specs.declared.cmp.Ordering.TheVariants.{Less, Equal, Greater}
 use Rattle.std.proofs.lemmas.Int.{ints}
 use Rattle.std.proofs.lemmas.List.Folds.{list_any-append}
@@ -16,7 +15,7 @@ use Rattle.cube_model.specs.Ascending.{ascending, by_order, insert_once, IsAscen
 use Rattle.cube_model.specs.Keys.{key_cmp}
 use Rattle.cube_model.specs.Order.{key_cmp_total, key_cmp-IsAntisymmetric}
 use Rattle.cube_model.specs.Orders.{answer_cmp}
-use Rattle.answer_merge.proofs.MergeLaws.{line_of_key-map, map_some, same_key, same_key-is, same_key-refl}
+use Rattle.answer_merge.proofs.MergeLaws.{line_of_key-map, map_some, same_key, same_key-is}
 use Rattle.answer_merge.proofs.TheOne.{has, has_line, has_merged, merge_is_the_one}
 use Rattle.answer_merge.specs.Merges.{keys_in, line_of_key, merged_line, merged_line_if_any, merged_lines}
 

@@ -7,3 +7,4 @@ mod Ranges
 mod ReadBack
 mod Readable
 mod TheOne
+pub mod Steps

@@ -87,8 +87,8 @@ fn unread(hint: Result<String, AllocError>) -> Refusal {
     }
 }
 
-// Says that the word for the sectors is none.
-fn unsized_file<R: Eprint>(rt: &R, given: &ArgMatches<'_>) -> Result<u8, Refusal> {
+/// Says that the word for the sectors is none.
+pub fn unsized_file<R: Eprint>(rt: &R, given: &ArgMatches<'_>) -> Result<u8, Refusal> {
     let word = given.get_str("sectors").unwrap_or("");
     let said = eprintln!(rt;
         "error: invalid value '{word}' for '--sectors <N>': 64 to 4294967295, or a size such as 512M or 4G\n\nFor more information, try '--help'."

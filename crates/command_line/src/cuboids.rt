@@ -1,18 +1,27 @@
 //! The command `choose`.
 use crate::demand::demanded;
-use crate::device::Access;
+use crate::device::{self, Access, Device};
 use crate::exit::NO_COMMAND;
-use crate::job::perform_job;
-use crate::refusal::Refusal;
+use crate::job::{met_in, perform_job};
+use crate::records::{format_of, view_cells};
+use crate::refusal::{Refusal, explained};
+use crate::texts::print_text;
+use crate::unfinished::note_unfinished;
 use clap::ArgMatches;
 use cube_model::Fault;
 use file_device::LockFile;
-use std::alloc::Global;
+use lattice::View;
+use record_formats::{Cell, Records};
+use report_formats::Format;
+use std::alloc::{AllocError, Global};
 use std::io;
 use std::os::unix::fs::FileExt;
 use std::rt::Files;
-use warehouse::MOST_CUBOIDS;
+use warehouse::{Chosen, MOST_CUBOIDS, Session};
 use warehouse_jobs::Job;
+
+/// The fields of a record of a choice.
+const FIELDS: [&str; 6] = ["view", "customer", "supplier", "part", "date", "benefit"];
 
 /// Chooses the cuboids of a warehouse, for the queries of a file if one is named, and prints them.
 pub fn choose<R: Files + AllocGlobal + Print + Eprint + Input>(
@@ -25,17 +34,87 @@ where
     let Some(views) = given.get_one::<u8>("views") else {
         return Ok(NO_COMMAND);
     };
-    let job = match given.get_str("for") {
-        None => Job::Choose(views),
-        Some(path) => Job::ChooseFor {
-            k: views,
-            demanded: demanded(rt, path)?,
-        },
+    let demanded = match given.get_str("for") {
+        None => None,
+        Some(path) => Some(demanded(rt, path)?),
     };
-    match perform_job(rt, given, Access::Commit, job, io::empty()) {
+    let done = match format_of(given) {
+        None => perform_job(
+            rt,
+            given,
+            Access::Commit,
+            job_of(views, demanded),
+            io::empty(),
+        ),
+        Some(format) => choose_as(rt, given, format, views, demanded),
+    };
+    match done {
         Ok(status) => Ok(status),
         Err(refusal) => Err(with_limit(rt.alloc(), refusal, views)),
     }
+}
+
+// A choice of so many views, for some that are asked for or for all.
+fn job_of(k: u8, demanded: Option<Vec<View>>) -> Job {
+    match demanded {
+        None => Job::Choose(k),
+        Some(demanded) => Job::ChooseFor { k, demanded },
+    }
+}
+
+// Chooses the cuboids of the warehouse of a command, and prints them as records.
+fn choose_as<R: Files + AllocGlobal + Print + Eprint>(
+    rt: &R,
+    given: &ArgMatches<'_>,
+    format: Format,
+    k: u8,
+    demanded: Option<Vec<View>>,
+) -> Result<u8, Refusal>
+where
+    R::File: FileExt + LockFile,
+{
+    match device::open(rt, given, Access::Commit) {
+        Ok(mut session) => choose_in(rt, given, &mut session, format, k, demanded),
+        Err(met) => Err(explained(rt, given, met)),
+    }
+}
+
+// Chooses the cuboids of an open warehouse, and prints them as records. The room for these is taken after the choice, which stays.
+fn choose_in<R: Files + AllocGlobal + Print + Eprint>(
+    rt: &R,
+    given: &ArgMatches<'_>,
+    session: &mut Session<Device<R::File>>,
+    format: Format,
+    k: u8,
+    demanded: Option<Vec<View>>,
+) -> Result<u8, Refusal>
+where
+    R::File: FileExt + LockFile,
+{
+    let chosen = match demanded {
+        None => session.choose(rt.alloc(), k),
+        Some(demanded) => session.choose_for(rt.alloc(), k, demanded.as_slice()),
+    };
+    match chosen {
+        Ok(chosen) => {
+            let records = choice_records(rt.alloc(), format, chosen.as_slice())?;
+            let status = print_text(rt, records.text())?;
+            note_unfinished(rt, given, session);
+            Ok(status)
+        }
+        Err(fault) => Err(explained(rt, given, met_in(rt.alloc(), fault, session))),
+    }
+}
+
+// The views of a choice, in its order.
+fn choice_records(alloc: Global, format: Format, chosen: &[Chosen]) -> Result<Records, AllocError> {
+    let mut records = Records::new(alloc, format, &FIELDS)?;
+    for one in chosen {
+        let [view, customer, supplier, part, date] = view_cells(one.view);
+        let benefit = Cell::Number(one.benefit);
+        records.push(alloc, &[view, customer, supplier, part, date, benefit])?;
+    }
+    Ok(records)
 }
 
 // A refusal of a choice of so many views. Where they are too many, it says how many there can be.

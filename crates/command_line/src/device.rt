@@ -41,14 +41,7 @@ pub fn create<R: Files + AllocGlobal>(
 where
     R::File: FileExt + LockFile,
 {
-    let Made { disk, is_new } = FileDisk::make(rt, path, sectors, existing)?;
-    let device = match Cached::new(rt.alloc(), disk, CACHED_SECTORS) {
-        Ok(device) => device,
-        Err((fault, _locked)) => {
-            take_back(rt, path, is_new);
-            return Err(Met::from(fault));
-        }
-    };
+    let (device, is_new) = made(rt, path, sectors, existing)?;
     match warehouse::create(rt.alloc(), device, dims) {
         Ok(_session) => {
             keep_name(rt, path);
@@ -57,6 +50,52 @@ where
         Err((fault, device)) => {
             take_back(rt, path, is_new);
             Err(met_by(fault, &device))
+        }
+    }
+}
+
+/// Makes a copy of a warehouse in a file, which is made where it is absent, and gives how many batches it has. At a refusal a file that
+/// was made is removed again.
+pub fn copy<R: Files + AllocGlobal>(
+    rt: &R,
+    from: &mut Session<Device<R::File>>,
+    path: &str,
+    sectors: u32,
+) -> Result<u32, Met>
+where
+    R::File: FileExt + LockFile,
+{
+    let (device, is_new) = made(rt, path, sectors, Existing::Blank)?;
+    match warehouse_copy::copy(rt.alloc(), from, device) {
+        Ok(copy) => {
+            keep_name(rt, path);
+            Ok(copy.status()?.batches)
+        }
+        Err((fault, device)) => {
+            if is_new {
+                let _removed = fs::remove_file(rt, path);
+            }
+            Err(met_by(fault, &device))
+        }
+    }
+}
+
+// The device of a file that is made where it is absent, and whether it was. Where there is no memory for it the file is removed again.
+fn made<R: Files + AllocGlobal>(
+    rt: &R,
+    path: &str,
+    sectors: u32,
+    existing: Existing,
+) -> Result<(Device<R::File>, bool), Met>
+where
+    R::File: FileExt + LockFile,
+{
+    let Made { disk, is_new } = FileDisk::make(rt, path, sectors, existing)?;
+    match Cached::new(rt.alloc(), disk, CACHED_SECTORS) {
+        Ok(device) => Ok((device, is_new)),
+        Err((fault, _locked)) => {
+            take_back(rt, path, is_new);
+            Err(Met::from(fault))
         }
     }
 }

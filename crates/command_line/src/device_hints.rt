@@ -107,22 +107,27 @@ fn size_hint<R: Files + AllocGlobal>(
     sectors: Option<u32>,
 ) -> Result<Option<String>, Fault> {
     let path = path_of(given);
-    let bytes = match fs::metadata(rt, path) {
-        Ok(metadata) => metadata.len(),
-        Err(_) => 0,
-    };
     match sectors {
-        Some(sectors) => wanted_hint(rt.alloc(), path, bytes, sectors),
-        None => found_hint(rt.alloc(), path, bytes),
+        Some(sectors) => wanted_hint(rt, path, sectors),
+        None => found_hint(rt.alloc(), path, length_of(rt, path)),
     }
 }
 
-fn wanted_hint(
-    alloc: Global,
+fn length_of<R: Files>(rt: &R, path: &str) -> u64 {
+    match fs::metadata(rt, path) {
+        Ok(metadata) => metadata.len(),
+        Err(_) => 0,
+    }
+}
+
+/// Why a file cannot be a warehouse of so many sectors.
+pub fn wanted_hint<R: Files + AllocGlobal>(
+    rt: &R,
     path: &str,
-    bytes: u64,
     sectors: u32,
 ) -> Result<Option<String>, Fault> {
+    let alloc = rt.alloc();
+    let bytes = length_of(rt, path);
     let wanted = u64::from(sectors) * SECTOR;
     let said = if file_device::sectors_of(wanted).is_err() {
         format!(in alloc; "--sectors {sectors}: a warehouse has 64 to 4294967295 sectors")?

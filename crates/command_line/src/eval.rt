@@ -1,28 +1,28 @@
 //! The command `eval`.
 use crate::exit::DONE;
 use crate::files::{DimensionFiles, open, open_dimensions};
-use crate::layout::asked_of;
 use crate::notes::note_conditions;
 use crate::output::{cut_short, output};
 use crate::progress::{Progress, Tally, Wanted};
 use crate::refusal::{Met, Refusal, explained};
+use crate::reports::{Reports, report_of};
 use crate::saving::{begin, cut_off, finish, part_of, remove};
 use crate::screens::Screens;
-use crate::timing::say_seconds_and_rows;
+use crate::timing::{say_read, say_seconds};
 use clap::ArgMatches;
 use cube_model::Fault;
 use dimensions::Dims;
-use report_formats::Asked;
-use ssb_eval::eval_formatted;
+use ssb_eval::{eval_formatted, eval_partial};
 use std::alloc::Global;
 use std::cell::Cell;
 use std::fs::OpenFile;
 use std::io::{self, Read};
 use std::rt::{Clock, Files};
+use std::time::CpuClock;
 use table_hints::Table;
 
 /// Reads the query's words, opens the files in the order of the command, and writes the report.
-pub fn eval<R: Files + AllocGlobal + Print + Eprint + Clock>(
+pub fn eval<R: Files + AllocGlobal + Print + Eprint + Clock + CpuClock>(
     rt: &R,
     given: &ArgMatches<'_>,
     screens: Screens,
@@ -32,7 +32,9 @@ pub fn eval<R: Files + AllocGlobal + Print + Eprint + Clock>(
             let tally = Cell::new(tally_of(rt, given, &lineorder, screens));
             let lineorder = Progress::new(rt, lineorder, &tally);
             let status = answer(rt, given, &asked, dimensions, lineorder)?;
-            say_seconds_and_rows(rt, given, &tally.get());
+            let tally = tally.get();
+            say_seconds(rt, given, &tally);
+            say_read(rt, given, tally.rows(), tally.bytes());
             Ok(status)
         }
         Err(fault) => Err(explained(rt, given, Met::from(fault))),
@@ -62,7 +64,7 @@ fn tally_of<R: Clock, F: OpenFile>(
 fn answer<R: Files + AllocGlobal + Print + Eprint, F: Read + Drop, L: Read + Drop>(
     rt: &R,
     given: &ArgMatches<'_>,
-    asked: &Asked,
+    asked: &Reports,
     dimensions: DimensionFiles<F>,
     lineorder: L,
 ) -> Result<u8, Refusal> {
@@ -76,7 +78,7 @@ fn answer<R: Files + AllocGlobal + Print + Eprint, F: Read + Drop, L: Read + Dro
 fn print_report<R: Files + AllocGlobal + Print + Eprint, F: Read + Drop, L: Read + Drop>(
     rt: &R,
     given: &ArgMatches<'_>,
-    asked: &Asked,
+    asked: &Reports,
     dimensions: DimensionFiles<F>,
     lineorder: L,
 ) -> Result<u8, Refusal> {
@@ -94,7 +96,7 @@ fn print_report<R: Files + AllocGlobal + Print + Eprint, F: Read + Drop, L: Read
 fn save_report<R: Files + AllocGlobal + Eprint, F: Read + Drop, L: Read + Drop>(
     rt: &R,
     given: &ArgMatches<'_>,
-    asked: &Asked,
+    asked: &Reports,
     dimensions: DimensionFiles<F>,
     lineorder: L,
     path: &str,
@@ -148,8 +150,8 @@ fn unsaved<R: Files + AllocGlobal>(
 fn opened<R: Files + AllocGlobal>(
     rt: &R,
     given: &ArgMatches<'_>,
-) -> Result<(Asked, DimensionFiles<R::File>, R::File), Fault> {
-    let asked = asked_of(rt.alloc(), given)?;
+) -> Result<(Reports, DimensionFiles<R::File>, R::File), Fault> {
+    let asked = report_of(rt.alloc(), given)?;
     let dimensions = open_dimensions(rt, given)?;
     let lineorder = open(rt, given, Table::Lineorder)?;
     Ok((asked, dimensions, lineorder))
@@ -158,7 +160,7 @@ fn opened<R: Files + AllocGlobal>(
 // Writes the report, and gives the dimensions.
 fn report<F: Read + Drop, L: Read + Drop, W: io::Write>(
     alloc: Global,
-    asked: &Asked,
+    asked: &Reports,
     dimensions: DimensionFiles<F>,
     lineorder: L,
     out: &mut W,
@@ -169,5 +171,13 @@ fn report<F: Read + Drop, L: Read + Drop, W: io::Write>(
         part,
         date,
     } = dimensions;
-    eval_formatted(alloc, customer, supplier, part, date, lineorder, asked, out)
+    match asked {
+        Reports::One(asked) => eval_formatted(
+            alloc, customer, supplier, part, date, lineorder, asked, out,
+        ),
+        Reports::Part(asked) => eval_partial(
+            alloc, customer, supplier, part, date, lineorder, asked, out,
+        ),
+        Reports::Several(_) => Err(Fault::BadQuery),
+    }
 }

@@ -4,6 +4,7 @@ use crate::exit::{DONE, NO_COMMAND, UNFINISHED};
 use crate::load::cut_of;
 use crate::notes::note_conditions;
 use crate::output::{Output, cut_short, is_closed, output, unwritten};
+use crate::plans::say_reads;
 use crate::refusal::{Met, Refusal, explained};
 use crate::repeated::StoredBatch;
 use crate::report::swapped;
@@ -21,11 +22,12 @@ use std::fs::OpenFile;
 use std::io::{self, Read};
 use std::os::unix::fs::FileExt;
 use std::rt::{Clock, Files};
+use std::time::CpuClock;
 use warehouse::Session;
 use warehouse_jobs::{Job, perform};
 
 /// Asks the query of a command, over the batches that it names, and writes the notes on its conditions and how long it took.
-pub fn ask<R: Files + AllocGlobal + Print + Eprint + Clock>(
+pub fn ask<R: Files + AllocGlobal + Print + Eprint + Clock + CpuClock + Input>(
     rt: &R,
     given: &ArgMatches<'_>,
 ) -> Result<u8, Refusal>
@@ -36,18 +38,16 @@ where
         return unformatted(rt, name);
     }
     let tally = begin_time(rt);
-    let status = match reports_of(rt.alloc(), given) {
-        Ok(reports) => answer(rt, given, &reports)?,
-        Err(fault) => return Err(unasked(rt, given, fault)),
-    };
+    let reports = reports_of(rt, given)?;
+    let status = answer(rt, given, &reports)?;
     say_seconds(rt, given, &tally);
     Ok(status)
 }
 
-// Says that all queries of the benchmark are not reported in a format.
+// Says that several queries are not reported in a format.
 fn unformatted<R: Eprint>(rt: &R, name: &str) -> Result<u8, Refusal> {
     let said = eprintln!(rt;
-        "error: invalid value '{name}' for '--format <FORMAT>': the reports of all queries are written with bars; ask for one query\n\nFor more information, try '--help'."
+        "error: invalid value '{name}' for '--format <FORMAT>': the reports of several queries are written with bars; ask for one query\n\nFor more information, try '--help'."
     );
     match said {
         Ok(()) => Ok(NO_COMMAND),
@@ -86,6 +86,11 @@ where
     };
     note_unfinished(rt, given, session);
     note_conditions(rt, given, session.dims());
+    match reports {
+        Reports::One(asked) => say_reads(rt, given, &asked.query, session),
+        Reports::Part(asked) => say_reads(rt, given, &asked.query, session),
+        Reports::Several(_) => {}
+    }
     Ok(status)
 }
 

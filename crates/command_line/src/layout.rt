@@ -1,18 +1,17 @@
 //! How the report of a command is written.
 use crate::query::{query_hint, query_of};
+use crate::reports::part_in;
 use clap::ArgMatches;
-use cube_model::Fault;
+use cube_model::{Fault, Query};
+use line_order::{Arrangement, Sorting, sort_key};
 use report_formats::{Asked, Format, Layout};
 use std::alloc::Global;
-
-/// What is said where the counts of averages are one aggregate too many.
-const ONE_TOO_MANY: &str =
-    "--format json: an average is written as its sum and its count, and the count is an aggregate more, of at most 8: leave one out, or give --decimals N";
 
 /// The report that the words of a command ask for.
 pub fn asked_of(alloc: Global, given: &ArgMatches<'_>) -> Result<Asked, Fault> {
     let query = query_of(alloc, given)?;
-    Asked::new(alloc, layout_of(given), query)
+    let arrangement = arrangement_of(&query, given)?;
+    Ok(Asked::new(alloc, layout_of(given), query)?.with_arrangement(arrangement))
 }
 
 /// How the words of a command have a report written: with bars, where they do not say.
@@ -27,21 +26,62 @@ pub fn layout_of(given: &ArgMatches<'_>) -> Layout {
     }
 }
 
-/// What is wrong with words that ask for no report.
-pub fn asked_hint(alloc: Global, given: &ArgMatches<'_>) -> Result<Option<String>, Fault> {
-    let hint = query_hint(alloc, given)?;
-    if hint.is_none() && asks_one_too_many(alloc, given) {
-        return Ok(Some(String::from_str(alloc, ONE_TOO_MANY)?));
-    }
-    Ok(hint)
+// The order and the number of the lines that the words of a command ask for. `BadQuery` where the query has no such column or aggregate.
+fn arrangement_of(query: &Query, given: &ArgMatches<'_>) -> Result<Arrangement, Fault> {
+    let sorting = match given.get_str("order") {
+        Some(word) => Some(sorting_of(query, word)?),
+        None => None,
+    };
+    let limit = given.get_one::<u32>("limit").map(|limit| limit as usize);
+    Ok(Arrangement { sorting, limit })
 }
 
-// Whether the query has more aggregates than may be asked for with the count of its averages.
-fn asks_one_too_many(alloc: Global, given: &ArgMatches<'_>) -> bool {
-    match asked_of(alloc, given) {
-        Ok(asked) => {
-            asked.aggregates.len() < asked.query.aggregates.len() && asked.query.check().is_err()
-        }
-        Err(_) => false,
+// The order by a word such as `sum(revenue):desc`.
+fn sorting_of(query: &Query, word: &str) -> Result<Sorting, Fault> {
+    let (name, descending) = match word.strip_suffix(":desc") {
+        Some(name) => (name, true),
+        None => (word, false),
+    };
+    match sort_key(query, name) {
+        Some(key) => Ok(Sorting { key, descending }),
+        None => Err(Fault::BadQuery),
     }
+}
+
+/// What is wrong with words that ask for no report.
+pub fn asked_hint(alloc: Global, given: &ArgMatches<'_>) -> Result<Option<String>, Fault> {
+    match query_hint(alloc, given)? {
+        Some(hint) => Ok(Some(hint)),
+        None if given.get_str("partial").is_some() => part_hint(alloc, given),
+        None => order_hint(alloc, given),
+    }
+}
+
+// What is wrong with the words of a partial report.
+fn part_hint(alloc: Global, given: &ArgMatches<'_>) -> Result<Option<String>, Fault> {
+    let word = given.get_str("partial").unwrap_or("");
+    let hint = match part_in(word) {
+        None => format!(in alloc;
+            "--partial {word}: K/N is wanted, part K of N, with N at most 1024"
+        )?,
+        Some(_) => format!(in alloc;
+            "--partial: a word of the query has a line feed or more than 8000 bytes"
+        )?,
+    };
+    Ok(Some(hint))
+}
+
+// What is wrong with the order of a query.
+fn order_hint(alloc: Global, given: &ArgMatches<'_>) -> Result<Option<String>, Fault> {
+    let Some(word) = given.get_str("order") else {
+        return Ok(None);
+    };
+    let query = query_of(alloc, given)?;
+    if sorting_of(&query, word).is_ok() {
+        return Ok(None);
+    }
+    let hint = format!(in alloc;
+        "--order {word}: the query has no such column or aggregate; :desc may be after its name"
+    )?;
+    Ok(Some(hint))
 }

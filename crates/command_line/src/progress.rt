@@ -101,6 +101,11 @@ impl Tally {
         self.lines.saturating_add(u64::from(self.is_open))
     }
 
+    /// The bytes that were read.
+    pub fn bytes(&self) -> u64 {
+        self.read
+    }
+
     /// The time since the reading began, where there is a clock.
     pub fn passed<R: Clock>(&self, rt: &R) -> Duration {
         match rt.monotonic() {

@@ -46,7 +46,8 @@ pub fn benchmark_word<'a>(given: &'a ArgMatches<'_>) -> Option<&'a str> {
     words_of(given).q
 }
 
-fn words_of<'a>(given: &'a ArgMatches<'_>) -> QueryWords<'a> {
+/// The words of the query of a command.
+pub fn words_of<'a>(given: &'a ArgMatches<'_>) -> QueryWords<'a> {
     let words = QueryWords {
         q: given.get_str("query"),
         set: given.get_str("set"),

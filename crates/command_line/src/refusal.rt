@@ -100,10 +100,15 @@ fn prefix_hint(
     given: &ArgMatches<'_>,
     batches: Option<u32>,
 ) -> Result<Option<String>, Fault> {
-    let (Some(as_of), Some(batches)) = (given.get_str("as-of"), batches) else {
+    let Some(batches) = batches else {
         return Ok(None);
     };
-    let said = format!(in alloc; "--as-of {as_of}: batches in the warehouse: {batches}")?;
+    let (option, number) = match (given.get_str("as-of"), given.get_str("batch")) {
+        (Some(as_of), _) => ("as-of", as_of),
+        (None, Some(batch)) => ("batch", batch),
+        (None, None) => return Ok(None),
+    };
+    let said = format!(in alloc; "--{option} {number}: batches in the warehouse: {batches}")?;
     Ok(Some(said))
 }
 

@@ -5,7 +5,8 @@ use crate::refusal::Refusal;
 use crate::screens::Screens;
 use crate::streams::hold_streams;
 use crate::{
-    add, check, crashes, create, cuboids, demo, eval, generate, job, load, plans, status, views,
+    add, check, copy, crashes, create, cuboids, demo, dump, eval, generate, job, load, members,
+    plans, status, texts, views,
 };
 use clap::ArgMatches;
 use clap::error::{Error, ErrorKind};
@@ -16,13 +17,14 @@ use ssb_eval::exit_of;
 use std::io;
 use std::os::unix::fs::FileExt;
 use std::rt::{Clock, Files};
+use std::time::CpuClock;
 use warehouse_jobs::Job;
 
 /// Does what words say, of which the first is the program's name, and gives the status to end with: 0 done, 1 refused, 2 no
 /// command. The report goes to standard output, and a refusal to standard error: its fault, and after it what is known of it.
 ///
 /// It fails where standard error cannot be written.
-pub fn run<R: Files + AllocGlobal + Print + Eprint + Clock + Input>(
+pub fn run<R: Files + AllocGlobal + Print + Eprint + Clock + CpuClock + Input>(
     rt: &R,
     words: &[String],
     screens: Screens,
@@ -47,7 +49,7 @@ pub fn refuse<R: Eprint>(rt: &R, refusal: Refusal) -> io::Result<u8> {
     Ok(exit_of(&Err(fault)))
 }
 
-fn matched<R: Files + AllocGlobal + Print + Eprint + Clock + Input>(
+fn matched<R: Files + AllocGlobal + Print + Eprint + Clock + CpuClock + Input>(
     rt: &R,
     words: &[String],
     screens: Screens,
@@ -63,7 +65,7 @@ where
 }
 
 // The status of the command that the words name.
-fn perform<R: Files + AllocGlobal + Print + Eprint + Clock + Input>(
+fn perform<R: Files + AllocGlobal + Print + Eprint + Clock + CpuClock + Input>(
     rt: &R,
     matches: &ArgMatches<'_>,
     screens: Screens,
@@ -79,13 +81,15 @@ where
         Some(("demo", _)) => demo::demo(rt),
         Some(("self-test", given)) => crashes::self_test(rt, given),
         Some(("generate", given)) => generate::generate(rt, given),
+        Some(("manual", _)) => texts::manual(rt),
+        Some(("completions", given)) => texts::completions(rt, given),
         Some((name, given)) => consult(rt, name, given),
         None => Ok(NO_COMMAND),
     }
 }
 
 // The status of a command that asks a warehouse.
-fn consult<R: Files + AllocGlobal + Print + Eprint + Clock + Input>(
+fn consult<R: Files + AllocGlobal + Print + Eprint + Clock + CpuClock + Input>(
     rt: &R,
     name: &str,
     given: &ArgMatches<'_>,
@@ -101,6 +105,9 @@ where
         "choose" => cuboids::choose(rt, given),
         "upkeep" => job::perform_job(rt, given, Access::Commit, Job::Upkeep, io::empty()),
         "views" => views::views(rt, given),
+        "members" => members::members(rt, given),
+        "dump" => dump::dump(rt, given),
+        "copy" => copy::copy(rt, given),
         "check" => check::check(rt, given),
         "audit" => job::perform_job(rt, given, Access::Read, Job::Audit, io::empty()),
         _ => Ok(NO_COMMAND),

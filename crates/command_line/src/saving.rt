@@ -99,7 +99,8 @@ pub fn cut_off(alloc: Global, part: &str, failure: Option<io::Error>) -> Refusal
     }
 }
 
-fn unsaved(hint: Result<String, AllocError>) -> Refusal {
+/// The refusal of a file that is not written, with why.
+pub fn unsaved(hint: Result<String, AllocError>) -> Refusal {
     Refusal {
         fault: Fault::Output,
         hint: hint.ok(),

@@ -3,18 +3,26 @@ use crate::device::{self, Access, Device};
 use crate::exit::DONE;
 use crate::job::{done_in, perform_job};
 use crate::output::cut_short;
+use crate::records::format_of;
 use crate::refusal::{Refusal, explained};
 use crate::space::Room;
+use crate::texts::print_text;
 use crate::unfinished::note_unfinished;
 use clap::ArgMatches;
 use cube_model::Fault;
 use file_device::LockFile;
+use record_formats::{Cell, Records};
+use report_formats::Format;
+use std::alloc::{AllocError, Global};
 use std::fs::OpenFile;
 use std::io;
 use std::os::unix::fs::FileExt;
 use std::rt::Files;
-use warehouse::Session;
+use warehouse::{Session, Status};
 use warehouse_jobs::Job;
+
+/// The fields of a record.
+const FIELDS: [&str; 6] = ["name", "value", "view", "mark", "runs", "cells"];
 
 /// Prints the numbers of the warehouse of a command, with `--all` those of its sectors too.
 pub fn status<R: Files + AllocGlobal + Print + Eprint>(
@@ -24,11 +32,15 @@ pub fn status<R: Files + AllocGlobal + Print + Eprint>(
 where
     R::File: FileExt + LockFile,
 {
-    if !given.get_flag("all") {
+    let format = format_of(given);
+    if format.is_none() && !given.get_flag("all") {
         return perform_job(rt, given, Access::Read, Job::Status, io::empty());
     }
     match device::open(rt, given, Access::Read) {
-        Ok(mut session) => print_all(rt, given, &mut session),
+        Ok(mut session) => match format {
+            None => print_all(rt, given, &mut session),
+            Some(format) => print_records(rt, given, &session, format),
+        },
         Err(met) => Err(explained(rt, given, met)),
     }
 }
@@ -42,28 +54,40 @@ fn print_all<R: Files + AllocGlobal + Print + Eprint>(
 where
     R::File: FileExt + LockFile,
 {
-    let room = Room::of(rt.alloc(), session)?;
-    let batches = batches_more(session, room)?;
+    let space = Space::of(rt.alloc(), session)?;
     let status = done_in(rt, given, session, Job::Status, io::empty())?;
     if status == DONE {
-        print_room(rt, room, batches)?;
+        print_space(rt, space)?;
     }
     note_unfinished(rt, given, session);
     Ok(status)
 }
 
-// For how many more batches of the size of the last one there is room, about.
-fn batches_more<F: FileExt + OpenFile + Drop>(
-    session: &Session<Device<F>>,
+// The sectors of a warehouse, and for how many more batches of the size of the last one they have room, about.
+#[derive(Clone, Copy)]
+struct Space {
     room: Room,
-) -> Result<u64, Fault> {
-    let batches = session.status()?.batches;
-    let rows = session.batch_rows(batches).unwrap_or(0);
-    Ok(room.batches_more(batches, rows))
+    batches: u64,
+}
+
+impl Space {
+    fn of<F: FileExt + OpenFile + Drop>(
+        alloc: Global,
+        session: &Session<Device<F>>,
+    ) -> Result<Space, Fault> {
+        let room = Room::of(alloc, session)?;
+        let batches = session.status()?.batches;
+        let rows = session.batch_rows(batches).unwrap_or(0);
+        Ok(Space {
+            room,
+            batches: room.batches_more(batches, rows),
+        })
+    }
 }
 
 // Prints the numbers of the sectors. A reader that closes early has read what it wants.
-fn print_room<R: AllocGlobal + Print>(rt: &R, room: Room, batches: u64) -> Result<u8, Refusal> {
+fn print_space<R: AllocGlobal + Print>(rt: &R, space: Space) -> Result<u8, Refusal> {
+    let Space { room, batches } = space;
     let printed = println!(rt;
         "sectors {}\ntaken {}\nfree {}\nroom {batches} batches",
         room.sectors,
@@ -74,4 +98,78 @@ fn print_room<R: AllocGlobal + Print>(rt: &R, room: Room, batches: u64) -> Resul
         Ok(()) => Ok(DONE),
         Err(error) => cut_short(rt.alloc(), Some(error)),
     }
+}
+
+// Prints the numbers of an open warehouse as records.
+fn print_records<R: Files + AllocGlobal + Print + Eprint>(
+    rt: &R,
+    given: &ArgMatches<'_>,
+    session: &Session<Device<R::File>>,
+    format: Format,
+) -> Result<u8, Refusal>
+where
+    R::File: FileExt + LockFile,
+{
+    let mut records = status_records(rt.alloc(), format, &session.status()?)?;
+    if given.get_flag("all") {
+        push_space(rt.alloc(), &mut records, Space::of(rt.alloc(), session)?)?;
+    }
+    let status = print_text(rt, records.text())?;
+    note_unfinished(rt, given, session);
+    Ok(status)
+}
+
+// The numbers of a warehouse, and its stored cuboids.
+fn status_records(alloc: Global, format: Format, status: &Status) -> Result<Records, AllocError> {
+    let mut records = Records::new(alloc, format, &FIELDS)?;
+    let numbers = [
+        number("batches", u64::from(status.batches)),
+        number("additions", u64::from(status.additions)),
+        number("rows", status.rows),
+        number("target", u64::from(status.target)),
+        number("generation", status.generation),
+    ];
+    push_all(alloc, &mut records, &numbers)?;
+    for cuboid in status.cuboids.iter().flatten() {
+        let cells = [
+            Cell::Word("cuboid"),
+            Cell::Empty,
+            Cell::Number(u64::from(cuboid.view)),
+            Cell::Number(u64::from(cuboid.mark)),
+            Cell::Number(u64::from(cuboid.runs)),
+            Cell::Number(u64::from(cuboid.cells)),
+        ];
+        records.push(alloc, &cells)?;
+    }
+    Ok(records)
+}
+
+fn push_space(alloc: Global, records: &mut Records, space: Space) -> Result<(), AllocError> {
+    let Space { room, batches } = space;
+    let numbers = [
+        number("sectors", room.sectors),
+        number("taken", room.taken),
+        number("free", room.free()),
+        number("room", batches),
+    ];
+    push_all(alloc, records, &numbers)
+}
+
+fn push_all(alloc: Global, records: &mut Records, numbers: &[[Cell; 6]]) -> Result<(), AllocError> {
+    for cells in numbers {
+        records.push(alloc, cells)?;
+    }
+    Ok(())
+}
+
+// A number and its name.
+fn number(name: &'static str, value: u64) -> [Cell; 6] {
+    [
+        Cell::Word(name),
+        Cell::Number(value),
+        Cell::Empty,
+        Cell::Empty,
+        Cell::Empty,
+        Cell::Empty,
+    ]
 }

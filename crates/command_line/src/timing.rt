@@ -3,7 +3,7 @@ use crate::progress::{Tally, Wanted, rate};
 use clap::ArgMatches;
 use std::fmt;
 use std::rt::Clock;
-use std::time::Duration;
+use std::time::{CpuClock, Duration};
 
 /// The clock of a command that reads no file of fact rows.
 pub fn begin<R: Clock>(rt: &R) -> Tally {
@@ -14,18 +14,21 @@ pub fn begin<R: Clock>(rt: &R) -> Tally {
     Tally::new(rt, 0, nothing)
 }
 
-/// Says on standard error how many seconds a command has taken, where it is asked to. What standard error does with it is of no account.
-pub fn say_seconds<R: Clock + Eprint>(rt: &R, given: &ArgMatches<'_>, tally: &Tally) {
-    if given.get_flag("timing") {
-        let _said = eprintln!(rt; "seconds {}", Seconds(tally.passed(rt)));
+/// Says on standard error how many seconds a command has taken, and how many of CPU time, where it is asked to. What standard error does
+/// with it is of no account.
+pub fn say_seconds<R: Clock + CpuClock + Eprint>(rt: &R, given: &ArgMatches<'_>, tally: &Tally) {
+    if !given.get_flag("timing") {
+        return;
     }
+    let seconds = Seconds(tally.passed(rt));
+    let cpu_seconds = Seconds(rt.process_cpu_time().unwrap_or(Duration::ZERO));
+    let _said = eprintln!(rt; "seconds {seconds}\nCPU seconds {cpu_seconds}");
 }
 
-/// Says the same, and how many fact rows it has read.
-pub fn say_seconds_and_rows<R: Clock + Eprint>(rt: &R, given: &ArgMatches<'_>, tally: &Tally) {
+/// Says on standard error how many rows and bytes a command reads, where it is asked to.
+pub fn say_read<R: Eprint>(rt: &R, given: &ArgMatches<'_>, rows: u64, bytes: u64) {
     if given.get_flag("timing") {
-        let seconds = Seconds(tally.passed(rt));
-        let _said = eprintln!(rt; "seconds {seconds}\nrows read {}", tally.rows());
+        let _said = eprintln!(rt; "rows read {rows}\nbytes read {bytes}");
     }
 }
 

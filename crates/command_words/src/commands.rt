@@ -1,27 +1,36 @@
 //! The commands of the program.
 use crate::add::ADD;
 use crate::check::CHECK;
+use crate::copy::COPY;
 use crate::create::CREATE;
 use crate::cube::CUBE;
 use crate::cuboids::{AUDIT, CHOOSE, UPKEEP};
 use crate::demo::DEMO;
-use crate::described::with_words;
+use crate::described::{Described, with_words};
+use crate::dump::{DUMP, MEMBERS};
 use crate::eval::EVAL;
 use crate::explain::EXPLAIN;
 use crate::generate::GENERATE;
 use crate::load::LOAD;
 use crate::report::REPORT;
 use crate::self_test::SELF_TEST;
+use crate::shells::{COMPLETIONS, MANUAL};
 use crate::status::STATUS;
 use crate::views::VIEWS;
 use crate::words::Words;
 use clap::Command;
 use std::alloc::{AllocError, Global};
 
-const ABOUT: &str = "A crash-safe warehouse for the Star Schema Benchmark in one file, and answers
+/// The version of the program.
+pub(crate) const VERSION: &str = "0.1.0";
+
+/// What the program is.
+pub(crate) const ABOUT: &str =
+    "A crash-safe warehouse for the Star Schema Benchmark in one file, and answers
 from the text tables of the benchmark's generator.";
 
-const HELP: &str = "From tables to a report:
+/// What the help says after the commands.
+pub(crate) const HELP: &str = "From tables to a report:
   ssbcube create star.dev --sectors 1000000 --customer customer.tbl \\
       --supplier supplier.tbl --part part.tbl --date date.tbl
   ssbcube load star.dev --first 1 lineorder.tbl
@@ -32,23 +41,46 @@ A refusal goes to standard error with status 1: a line such as
 Status 2 means that the command line was not understood. 'ssbcube COMMAND
 --help' has the options of a command and examples.";
 
+/// The commands, in the order of the help.
+pub(crate) fn commands() -> [&'static Described; 21] {
+    [
+        &EVAL,
+        &CREATE,
+        &LOAD,
+        &ADD,
+        &REPORT,
+        &CUBE,
+        &EXPLAIN,
+        &STATUS,
+        &MEMBERS,
+        &CHOOSE,
+        &UPKEEP,
+        &AUDIT,
+        &CHECK,
+        &VIEWS,
+        &COPY,
+        &DUMP,
+        &DEMO,
+        &SELF_TEST,
+        &GENERATE,
+        &MANUAL,
+        &COMPLETIONS,
+    ]
+}
+
 /// The commands of the program, and their words. It can only fail when out of memory.
 pub fn command<'a>(alloc: Global) -> Result<Command<'a>, AllocError> {
-    let described = [
-        &EVAL, &CREATE, &LOAD, &ADD, &REPORT, &CUBE, &EXPLAIN, &STATUS, &CHOOSE, &UPKEEP, &AUDIT,
-        &CHECK, &VIEWS, &DEMO, &SELF_TEST, &GENERATE,
-    ];
-    let mut commands = Vec::new(alloc);
-    for described in described {
-        commands.push(described.command(alloc)?)?;
+    let mut parsed = Vec::new(alloc);
+    for described in commands() {
+        parsed.push(described.command(alloc)?)?;
     }
-    program(alloc).subcommands(commands)
+    program(alloc).subcommands(parsed)
 }
 
 // The program without its commands, and what its help says of it.
 fn program<'a>(alloc: Global) -> Command<'a> {
     Command::new(alloc, "ssbcube")
-        .version("0.1.0")
+        .version(VERSION)
         .about(ABOUT)
         .after_help(HELP)
         .subcommand_required(true)

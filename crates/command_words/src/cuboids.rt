@@ -7,7 +7,7 @@ use crate::words::Words;
 pub(crate) static CHOOSE: Described = Described {
     name: "choose",
     about: "Chooses the cuboids that a warehouse stores.",
-    usage: "ssbcube choose DEV K [--for FILE]",
+    usage: "ssbcube choose DEV K [--for FILE] [--format FORMAT]",
     help: "A cuboid holds the fact rows grouped by one level of each dimension, ALL where
 it does not group by one: a count, and the sum, minimum and maximum of each
 measure. K views are chosen one by one, 0 to 16, each time the one that spares
@@ -27,6 +27,9 @@ serves it, and only these views count in a benefit. A query with a condition on
 quantity or discount needs none: a note names it, and it does not count. At a
 tie the view of the greatest number is taken. FILE of - is standard input.
 
+With --format csv, tsv or json the records have the fields view, customer,
+supplier, part, date and benefit; ALL is an empty field, and null in json.
+
 Examples:
   ssbcube choose star.dev 8
   ssbcube choose star.dev 4 --for queries.txt
@@ -40,12 +43,15 @@ Examples:
             kind: Kind::Plain(Value::Number(0, u8::MAX as u64)),
         }]),
     ],
-    optional: &[Words::Own(&[Word {
-        name: "for",
-        value: "FILE",
-        help: "A file of queries, one a line, to choose for; - is standard input",
-        kind: Kind::Option(Value::Text),
-    }])],
+    optional: &[
+        Words::Own(&[Word {
+            name: "for",
+            value: "FILE",
+            help: "A file of queries, one a line, to choose for; - is standard input",
+            kind: Kind::Option(Value::Text),
+        }]),
+        Words::Format,
+    ],
 };
 
 /// The command `upkeep`.

@@ -11,7 +11,8 @@ pub(crate) static EVAL: Described = Described {
                     --date FILE --lineorder FILE --query Q
        ssbcube eval --tables FOLDER --query Q
        ssbcube eval ... [--set SET] [--by A,A] --agg G,G [CONDITION]...
-       ssbcube eval ... [--format FORMAT] [--decimals N]
+       ssbcube eval ... [--order COLUMN[:desc]] [--limit N]
+                    [--partial K/N] [--format FORMAT] [--decimals N]
                     [--output FILE [--overwrite]] [--timing] [--quiet] ...",
     help: CUBE_HELP,
     required: &[
@@ -32,6 +33,8 @@ pub(crate) static EVAL: Described = Described {
             kind: Kind::Option(Value::Text),
         }]),
         Words::Layout,
+        Words::Order,
+        Words::Partial,
         Words::Cube,
         Words::Conditions,
         Words::Timing,

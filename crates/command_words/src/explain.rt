@@ -1,14 +1,15 @@
 //! The command `explain`.
 use crate::described::Described;
+use crate::word::{Kind, Word};
 use crate::words::Words;
 
 /// The command `explain`.
 pub(crate) static EXPLAIN: Described = Described {
     name: "explain",
     about: "Says how a query of a warehouse is answered, and what that reads.",
-    usage: "ssbcube explain DEV Q [--as-of N]
-       ssbcube explain DEV [--as-of N] [--set SET] [--by A,A] --agg G,G
-                       [CONDITION]...",
+    usage: "ssbcube explain DEV Q [--as-of N] [--all] [--format FORMAT]
+       ssbcube explain DEV [--as-of N] [--all] [--format FORMAT]
+                       [--set SET] [--by A,A] --agg G,G [CONDITION]...",
     help: "Q is a query of the benchmark, 1.1 to 4.3. An ad-hoc query has the words of
 'ssbcube cube': 'ssbcube cube --help' lists them.
 
@@ -22,10 +23,30 @@ fact rows: those after the mark. The cost is how many cells and fact rows are
 read together, and the plan with the lowest cost is taken. The query itself is
 not asked.
 
+With --all it prints, of the plan that is taken, 'batches N' that are read as
+fact rows, 'columns' and the columns that are read of them, 'bytes N' of these
+columns and of the cells at most, and 'groups N', how many groups the report
+has at most.
+
+With --format csv, tsv or json the records of plans have the fields plan, which
+is 'taken' or 'other', view, customer, supplier, part, date, mark, tail and cost;
+those of a view are empty for a scan. --all has no such record.
+
 Examples:
   ssbcube explain star.dev 3.1
   ssbcube explain star.dev --by d_year --agg sum:revenue
   ssbcube explain star.dev --by d_year --agg sum:revenue c_region=ASIA",
     required: &[Words::Device],
-    optional: &[Words::AsOf, Words::Cube, Words::Asked],
+    optional: &[
+        Words::Own(&[Word {
+            name: "all",
+            value: "",
+            help: "Prints what is read too, and how many groups there are at most",
+            kind: Kind::Flag,
+        }]),
+        Words::AsOf,
+        Words::Format,
+        Words::Cube,
+        Words::Asked,
+    ],
 };

@@ -4,20 +4,28 @@
 mod add;
 mod check;
 mod commands;
+mod completions;
+mod copy;
 mod create;
 mod cube;
 mod cuboids;
 mod demo;
 mod described;
+mod dump;
 mod eval;
 mod explain;
 mod generate;
 mod load;
+mod manual;
+mod pieces;
 mod report;
 mod self_test;
+mod shells;
 mod status;
 mod views;
 mod word;
 mod words;
 
 pub use commands::{command, listed_query};
+pub use completions::{Completions, Shell};
+pub use manual::Manual;

@@ -17,6 +17,8 @@ pub(crate) struct Word {
 pub(crate) enum Kind {
     /// A word without dashes, and what it has to be.
     Plain(Value),
+    /// The same. Where it has to be there, one of some options may be given in its place.
+    PlainOr(Value, &'static [&'static str]),
     /// One word without dashes or more, after the others.
     Several,
     /// Any number of words without dashes, after the others.
@@ -44,6 +46,34 @@ pub(crate) enum Value {
 }
 
 impl Word {
+    /// Whether the word has dashes.
+    pub(crate) fn is_option(&self) -> bool {
+        !matches!(
+            self.kind,
+            Kind::Plain(_) | Kind::PlainOr(_, _) | Kind::Several | Kind::Rest
+        )
+    }
+
+    /// What the value of an option has to be, if it has one.
+    pub(crate) fn value(&self) -> Option<Value> {
+        match self.kind {
+            Kind::Option(value) | Kind::OptionOr(value, _) | Kind::OptionNot(value, _) => {
+                Some(value)
+            }
+            Kind::Plain(_)
+            | Kind::PlainOr(_, _)
+            | Kind::Several
+            | Kind::Rest
+            | Kind::Flag
+            | Kind::FlagWith(_) => None,
+        }
+    }
+
+    /// Whether a value of the word is a file or a folder.
+    pub(crate) fn is_path(&self) -> bool {
+        matches!(self.value, "DEV" | "FILE" | "FOLDER")
+    }
+
     /// The word as the parser takes it, which may be left out or not. It can only fail when out of memory.
     pub(crate) fn arg<'a>(self, alloc: Global, required: bool) -> Result<Arg<'a>, AllocError> {
         let arg = Arg::new(alloc, self.name)
@@ -51,10 +81,15 @@ impl Word {
             .required(required);
         match self.kind {
             Kind::Plain(value) => Ok(self.single(arg, value)),
+            Kind::PlainOr(value, others) => {
+                replaceable(self.single(arg, value), others, required)
+            }
             Kind::Several => Ok(self.list(arg).num_args(1..)),
             Kind::Rest => Ok(self.list(arg).num_args(0..)),
             Kind::Option(value) => Ok(self.single(arg, value).long(self.name)),
-            Kind::OptionOr(value, others) => self.replaceable(arg, value, others, required),
+            Kind::OptionOr(value, others) => {
+                replaceable(self.single(arg, value).long(self.name), others, required)
+            }
             Kind::OptionNot(value, others) => {
                 self.single(arg, value)
                     .long(self.name)
@@ -77,25 +112,23 @@ impl Word {
         arg.value_name(self.value).action(ArgAction::Append)
     }
 
-    // With one value. Where it is required, one of some other options is enough.
-    fn replaceable<'a>(
-        self,
-        arg: Arg<'a>,
-        value: Value,
-        others: &[&'static str],
-        required: bool,
-    ) -> Result<Arg<'a>, AllocError> {
-        let arg = self.single(arg, value).long(self.name).required(false);
-        if required {
-            arg.required_unless_present_any(others)
-        } else {
-            Ok(arg)
-        }
-    }
-
     // Without a value.
     fn flag<'a>(self, arg: Arg<'a>) -> Arg<'a> {
         arg.long(self.name).action(ArgAction::SetTrue)
+    }
+}
+
+// Where it is required, one of some options is enough.
+fn replaceable<'a>(
+    arg: Arg<'a>,
+    others: &[&'static str],
+    required: bool,
+) -> Result<Arg<'a>, AllocError> {
+    let arg = arg.required(false);
+    if required {
+        arg.required_unless_present_any(others)
+    } else {
+        Ok(arg)
     }
 }
 

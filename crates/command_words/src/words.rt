@@ -23,6 +23,12 @@ pub(crate) enum Words {
     Asked,
     /// How a report is written, and where.
     Layout,
+    /// The order of a report's lines, and how many of them there are.
+    Order,
+    /// The part of a partial report.
+    Partial,
+    /// How the numbers of a command are written.
+    Format,
     /// How long the command took.
     Timing,
     /// No progress and no summary.
@@ -43,6 +49,9 @@ impl Words {
             Words::Conditions => &CONDITIONS,
             Words::Asked => &ASKED,
             Words::Layout => &LAYOUT_WORDS,
+            Words::Order => &ORDER,
+            Words::Partial => &PARTIAL,
+            Words::Format => &FORMAT,
             Words::Timing => &TIMING,
             Words::Quiet => &QUIET,
         }
@@ -90,6 +99,17 @@ Formats, for --format:
   {\"sum\":1475,\"count\":2}. With --decimals N it is a decimal with N digits
   after the point, rounded half up: 737.5 is 738 with none, and -737.5 -738.
 
+Orders, for --order: a column or an aggregate as the header names it, such as
+d_year or 'sum(revenue)', or as the words have it, such as sum:revenue; with
+:desc after it the greatest come first, else the least. ALL comes after each
+member. Lines that are equal there are in the order of their columns. --limit
+takes the first N lines of the report, in the order of --order, if it is given.
+
+A partial report, of --partial K/N, is of the rows of one of N warehouses with
+the same dimension rows: a head that names the part, the query and a digest of
+the dimension rows, and after it the counts and sums of which the report over
+all rows is made; python/ssbcube.py merges them.
+
 The report goes to standard output, or to a file with --output: that is there
 once it is whole, and one that was there is replaced with --overwrite only. A
 refusal goes to standard error with status 1: a line such as 'fault 24 BadQuery',
@@ -106,7 +126,14 @@ static QUERY: [Word; 1] = [Word {
     name: "query",
     value: "Q",
     help: "A query of the benchmark, 1.1 to 4.3",
-    kind: Kind::Plain(Value::Text),
+    kind: Kind::PlainOr(Value::Text, &["queries"]),
+}];
+
+static FORMAT: [Word; 1] = [Word {
+    name: "format",
+    value: "FORMAT",
+    help: "How it is written; bars if left out",
+    kind: Kind::Option(Value::Name(&["bars", "csv", "tsv", "json"])),
 }];
 
 static AS_OF: [Word; 1] = [Word {
@@ -211,6 +238,28 @@ static LAYOUT_WORDS: [Word; 4] = [
         kind: Kind::FlagWith("output"),
     },
 ];
+
+static ORDER: [Word; 2] = [
+    Word {
+        name: "order",
+        value: "COLUMN",
+        help: "Sorts the lines by a column or an aggregate, with :desc descending",
+        kind: Kind::OptionNot(Value::Text, &["partial"]),
+    },
+    Word {
+        name: "limit",
+        value: "N",
+        help: "The first N lines alone",
+        kind: Kind::OptionNot(Value::Number(0, u32::MAX as u64), &["partial"]),
+    },
+];
+
+static PARTIAL: [Word; 1] = [Word {
+    name: "partial",
+    value: "K/N",
+    help: "Writes a partial report, of part K of N of the rows",
+    kind: Kind::OptionNot(Value::Text, &["format", "decimals"]),
+}];
 
 static TIMING: [Word; 1] = [Word {
     name: "timing",

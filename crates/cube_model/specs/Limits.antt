@@ -34,9 +34,13 @@ most_members = 65535
 abbrev pub most_columns : ℕ
 most_columns = 6
 
--- aggregates of a query
+-- aggregates that are asked for in words
+abbrev pub most_asked_aggregates : ℕ
+most_asked_aggregates = 8
+
+-- aggregates of a query: those that are asked for, and the count that a partial answer has before them
 abbrev pub most_aggregates : ℕ
-most_aggregates = 8
+most_aggregates = 9
 
 -- conditions of a query
 abbrev pub most_conditions : ℕ

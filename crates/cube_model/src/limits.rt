@@ -24,8 +24,12 @@ pub const MOST_MEMBERS: usize = 65_535;
 /// The most columns of a query.
 pub const MOST_COLUMNS: usize = 6;
 
-/// The most aggregates of a query, of which it has at least one.
-pub const MOST_AGGREGATES: usize = 8;
+/// The most aggregates that are asked for in words.
+pub const MOST_ASKED_AGGREGATES: usize = 8;
+
+/// The most aggregates of a query, of which it has at least one: those that are asked for, and the count that a partial
+/// answer has before them.
+pub const MOST_AGGREGATES: usize = 9;
 
 /// The most conditions of a query.
 pub const MOST_CONDITIONS: usize = 16;

@@ -4,3 +4,4 @@ pub mod Listed
 pub mod Once
 pub mod Signs
 pub mod Ends
+pub mod Few

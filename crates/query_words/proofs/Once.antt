@@ -120,7 +120,7 @@ columns_once (Some text) one other spells spelled = map_once attr_name attr_once
 
 aggregates_once : (agg : Option (List ℕ)) (one other : List Agg) → SpellsAggregates agg one → SpellsAggregates agg other → one ≡ other
 aggregates_once None one other spells spelled = absurd spells
-aggregates_once (Some text) one other spells spelled = zip_once SpellsAggregate agg_once (parts_by 44 text) one other spells spelled
+aggregates_once (Some text) one other spells spelled = zip_once SpellsAggregate agg_once (parts_by 44 text) one other spells.1 spelled.1
 
 cube_once : (words : Words) (one other : Query) → SpellsCube words one → SpellsCube words other → one ≡ other
 cube_once words one other spells spelled =

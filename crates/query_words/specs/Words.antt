@@ -1,5 +1,5 @@
 -- The words of a query, and the query that they spell. The grammar is our own; the names are those of the attributes and measures.
-use Rattle.std.specs.Prelude.{◌≡◌, ◌≤◌, ◌⊎◌, ℕ, ◌==◌, List, [], ◌∷◌, ◌++◌, map, Option, None, Some, codes}
+use Rattle.std.specs.Prelude.{◌≡◌, ◌≤◌, ◌⊎◌, ℕ, ◌==◌, List, [], ◌∷◌, ◌++◌, length, map, Option, None, Some, codes}
 use Rattle.std.specs.List.{AllZip, slice_split}
 use Rattle.std.specs.Str.Parse.{IsNumeral, digits_value}
 use Rattle.cube_model.specs.declared.attr.Attr.{Attr}
@@ -10,6 +10,7 @@ use Rattle.cube_model.specs.declared.query.Cond.TheVariants.{OneOf, Between, Qua
 use Rattle.cube_model.specs.declared.query.Kind.{Kind}
 use Rattle.cube_model.specs.declared.query.Kind.TheVariants.{Plain, Rollup, Cube}
 use Rattle.cube_model.specs.declared.query.Query.{Query}
+use Rattle.cube_model.specs.Limits.{most_asked_aggregates}
 use Rattle.cube_model.specs.Names.{attr_name, measure_name, agg_name}
 use Rattle.ssb_reports.specs.declared.number.QNumber.{QNumber}
 use Rattle.ssb_reports.specs.Benchmark.{benchmark_query, number_text}
@@ -53,10 +54,11 @@ agg_word (Avg measure) = codes "avg:" ++ measure_name measure
 abbrev pub SpellsAggregate : List ℕ → Agg → Type 0
 SpellsAggregate word agg = (word ≡ agg_word agg) ⊎ (word ≡ agg_name agg)
 
--- aggregates: separated by commas
+-- aggregates: separated by commas, and not too many
 abbrev pub SpellsAggregates : Option (List ℕ) → List Agg → Type 0
 SpellsAggregates None aggregates = ⊥
-SpellsAggregates (Some text) aggregates = AllZip SpellsAggregate (parts_by 44 text) aggregates
+SpellsAggregates (Some text) aggregates =
+    (length (parts_by 44 text) ≤ most_asked_aggregates) × AllZip SpellsAggregate (parts_by 44 text) aggregates
 
 -- a condition: the name of what it is on, a sign, and its texts or its two ends, separated by bars (124). No name has a sign in
 -- it, so the first one ends the name

@@ -8,6 +8,7 @@ ghost use Rattle.query_words.specs.Words.{SpellsColumns, SpellsAggregate, Spells
 
 use crate::names::{attribute, measure};
 use crate::parts::parts;
+use cube_model::limits::MOST_ASKED_AGGREGATES;
 use cube_model::{Agg, Attr, Fault, Items};
 use std::alloc::Global;
 
@@ -47,6 +48,9 @@ pub fn read_aggregates(alloc: Global, text: &str) -> Result<Items<Agg>, Fault>
     ensures { Reads (SpellsAggregates (Some text.now)) result }
 {
     let words = parts(alloc, text, ',')?;
+    if words.len() > MOST_ASKED_AGGREGATES {
+        return Err(Fault::BadQuery);
+    }
     aggregates_of(alloc, words.as_slice())
 }
 

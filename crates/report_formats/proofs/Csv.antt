@@ -1,5 +1,5 @@
 -- A field of csv is read back.
-use Rattle.std.proofs.Common.{◌≡◌, ℕ, ◌==◌, true, false, List, [], ◌∷◌, ◌++◌, ap, refl, sym, ◌∙◌, inl, inr, append_assoc}
+use Rattle.std.proofs.Common.{◌≡◌, ℕ, ◌==◌, false, List, [], ◌∷◌, ◌++◌, ap, refl, ◌∙◌, inl, inr, append_assoc}
 use Rattle.std.proofs.Math.Bool.{or-false}
 use Rattle.std.proofs.lemmas.Bool.{cases_Bool}
 use Rattle.std.specs.List.{flat_map, list_any}
@@ -7,7 +7,7 @@ use Rattle.csv.proofs.RoundTrip.{after-quote-same, field-run, quoted-run}
 use Rattle.csv.specs.Machine.{next_record}
 use Rattle.csv.specs.Reading.{default_config}
 use Rattle.csv.specs.Writing.{default_writer, escaped, needs_byte}
-use Rattle.csv.specs.declared.parser.State.TheVariants.{InField, InQuoted, StartField}
+use Rattle.csv.specs.declared.parser.State.TheVariants.{InField, StartField}
 use Rattle.report_formats.specs.Escapes.{csv_text, is_mark, needs_marks, quoted_byte}
 
 -- the bytes between quotation marks are those that the reader's own writer has there

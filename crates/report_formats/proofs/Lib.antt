@@ -1,3 +1,4 @@
+mod Arranging
 mod Csv
 mod Members
 mod Pairs

@@ -1,10 +1,11 @@
 -- The report that is asked for, and the query whose answer it has. Our own.
-use Rattle.std.specs.Prelude.{◌&&◌, if◌then◌else◌, Bool, false, true, List, [], ◌∷◌, ◌++◌, map, Option, None, Some}
+use Rattle.std.specs.Prelude.{◌&&◌, if◌then◌else◌, List, [], ◌∷◌, ◌++◌, map}
 use Rattle.std.specs.List.{list_any}
 use Rattle.cube_model.specs.declared.measure.Agg.{Agg}
 use Rattle.cube_model.specs.declared.measure.Agg.TheVariants.{Count, Sum, Min, Max, Avg}
 use Rattle.cube_model.specs.declared.query.Query.{Query}
 use Rattle.cube_model.specs.Proper.{is_average}
+use Rattle.line_order.specs.Arranging.{no_arrangement}
 use Rattle.report_formats.specs.declared.asked.Asked.{Asked}
 use Rattle.report_formats.specs.declared.layout.Layout.{Layout}
 use Rattle.report_formats.specs.Rows.{counts_averages}
@@ -26,6 +27,11 @@ abbrev pub query_for : Layout → Query → Query
 query_for layout query =
     if counts_averages layout && list_any is_average query.aggregates then record query { aggregates = with_count query.aggregates } else query
 
--- the report of a query in a layout: its columns and aggregates are those of the query
+-- the report of a query in a layout: its columns and aggregates are those of the query, and its lines those of the answer as they are
 abbrev pub asked_for : Layout → Query → Asked
-asked_for layout query = record { layout = layout; query = query_for layout query; aggregates = query.aggregates }
+asked_for layout query = record {
+  layout = layout;
+  query = query_for layout query;
+  aggregates = query.aggregates;
+  arrangement = no_arrangement;
+}

@@ -1,5 +1,5 @@
 -- The fields of a report's lines, and the whole report. Our own.
-use Rattle.std.specs.Prelude.{ℕ, pos, Bool, false, true, ◌&&◌, if◌then◌else◌, List, [], ◌∷◌, ◌++◌, length, map, slice_index_or, min, codes, Option, None, Some}
+use Rattle.std.specs.Prelude.{ℕ, pos, ◌&&◌, if◌then◌else◌, List, [], ◌++◌, length, map, slice_index_or, min, codes, Option, None, Some}
 use Rattle.std.specs.List.{flat_map, zip}
 use Rattle.cube_model.specs.declared.answer.Answer.{Answer}
 use Rattle.cube_model.specs.declared.answer.Line.{Line}
@@ -12,10 +12,12 @@ use Rattle.cube_model.specs.declared.measure.Agg.{Agg}
 use Rattle.cube_model.specs.Names.{attr_name, agg_name}
 use Rattle.cube_model.specs.Proper.{is_average}
 use Rattle.ssb_reports.specs.Report.{count_text, report_of, value_text}
+use Rattle.line_order.specs.Arranging.{arranged}
 use Rattle.report_formats.specs.declared.asked.Asked.{Asked}
 use Rattle.report_formats.specs.declared.layout.Format.{Format}
 use Rattle.report_formats.specs.declared.layout.Format.TheVariants.{Bars, Csv, Tsv, Json}
 use Rattle.report_formats.specs.declared.layout.Layout.{Layout}
+use Rattle.report_formats.specs.Arrangements.{arrangement_in}
 use Rattle.report_formats.specs.Decimals.{decimal_text}
 use Rattle.report_formats.specs.Escapes.{csv_text, tsv_text, json_text}
 use Rattle.report_formats.specs.Rows.{counts_averages, is_plain, row_text}
@@ -104,6 +106,10 @@ abbrev pub laid_out : Asked → Answer → List ℕ
 laid_out asked answer =
     header_text asked ++ (flat_map (line_text asked) answer.lines ++ footer_text asked.layout.format (length answer.lines))
 
--- the report of the answer to the query that is asked. With bars, and averages as fractions, it is that of each report
+-- a report of the lines of an answer as they come. With bars, and averages as fractions, it is that of each report
+abbrev pub unarranged : Asked → Answer → List ℕ
+unarranged asked answer = if is_plain asked.layout then report_of asked.query answer else laid_out asked answer
+
+-- the report of the answer to the query that is asked: its lines arranged
 abbrev pub formatted : Asked → Answer → List ℕ
-formatted asked answer = if is_plain asked.layout then report_of asked.query answer else laid_out asked answer
+formatted asked answer = unarranged asked (record { lines = arranged (arrangement_in asked) answer.lines })

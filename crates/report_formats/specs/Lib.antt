@@ -1,3 +1,5 @@
+pub mod Arranged
+pub mod Arrangements
 pub mod Asked
 pub mod Decimals
 pub mod Escapes

@@ -1,11 +1,16 @@
 //! The report that is asked for.
-ghost use Rattle.std.specs.Prelude.{◌≡◌, map, IfErr, IfOk};
+ghost use Rattle.std.specs.Prelude.{◌≡◌, slice_index_or, map, None, IfErr, IfOk, IsOk};
 ghost use Rattle.std.specs.List.{list_any};
 ghost use Rattle.cube_model.specs.Proper.{is_average};
+ghost use Rattle.cube_model.specs.declared.measure.Agg.TheVariants.{Count};
+ghost use Rattle.line_order.specs.Arranging.{arranged};
+ghost use Rattle.report_formats.specs.Arrangements.{arrangement_in, sort_key_in};
 ghost use Rattle.report_formats.specs.Asked.{asked_for, query_for, summed, with_count};
 
 use crate::layout::Layout;
 use cube_model::{Agg, Fault, Items, Query};
+use line_order::{Arranged, Arrangement, SortKey, Sorting};
+use ssb_reports::Lines;
 use std::alloc::Global;
 
 /// A report in a layout, and the query whose answer it has.
@@ -16,9 +21,13 @@ pub struct Asked {
     pub query: Query,
     /// The aggregates of the report.
     pub aggregates: Items<Agg>,
+    /// The order and the number of its lines. An aggregate is one of the report's.
+    pub arrangement: Arrangement,
 }
 
 impl Asked {
+    ghost use Rattle.line_order.specs.Shown.{shown};
+
     /// The report of a query in a layout. Where averages are written as their sum and their count, the query to be answered has
     /// sums in place of averages, and the count of rows after all aggregates: one of 8 aggregates is then not proper, since it
     /// has 9.
@@ -34,7 +43,82 @@ impl Asked {
             layout,
             query,
             aggregates: Items::from_vec(aggregates),
+            arrangement: Arrangement::none(),
         })
+    }
+
+    /// The same report with its lines in an arrangement. An aggregate is one of the report's.
+    pub fn with_arrangement(self, arrangement: Arrangement) -> Asked
+        ensures { result ≡ record self { arrangement = arrangement } }
+    {
+        let Asked {
+            layout,
+            query,
+            aggregates,
+            arrangement: _,
+        } = self;
+        Asked {
+            layout,
+            query,
+            aggregates,
+            arrangement,
+        }
+    }
+
+    /// The lines of the answer to the query, arranged as the report has them. Without an order no memory is taken.
+    ///
+    /// It can only fail when out of memory.
+    pub fn arranged<'a, L: Lines>(
+        &self,
+        alloc: Global,
+        lines: &'a L,
+    ) -> Result<Arranged<'a, L>, Fault>
+        ensures ok { IfOk result (λ found. shown L.Lines found ≡ arranged (arrangement_in self.now) (L.lines lines.now)) }
+        ensures only { IfErr result (λ fault. fault ≡ Fault.Memory) }
+        ensures free { self.now.arrangement.sorting ≡ None → IsOk result }
+    {
+        Arranged::new(alloc, lines, self.arrangement_in())
+    }
+
+    // The arrangement of the answer's lines.
+    fn arrangement_in(&self) -> Arrangement
+        ensures { result ≡ arrangement_in self.now }
+    {
+        let sorting = match self.arrangement.sorting {
+            None => None,
+            Some(sorting) => Some(Sorting {
+                key: self.sort_key_in(sorting.key),
+                descending: sorting.descending,
+            }),
+        };
+        Arrangement {
+            sorting,
+            limit: self.arrangement.limit,
+        }
+    }
+
+    // What the answer's lines are sorted by.
+    fn sort_key_in(&self, key: SortKey) -> SortKey
+        ensures { result ≡ sort_key_in self.now key }
+    {
+        match key {
+            SortKey::Column(column) => SortKey::Column(column),
+            SortKey::Average(sum, count) => SortKey::Average(sum, count),
+            SortKey::Aggregate(aggregate) => {
+                if self.layout.counts_averages() && self.is_average_at(aggregate) {
+                    SortKey::Average(aggregate, self.aggregates.len())
+                } else {
+                    SortKey::Aggregate(aggregate)
+                }
+            }
+        }
+    }
+
+    fn is_average_at(&self, aggregate: usize) -> bool
+        ensures { result ≡ is_average (slice_index_or self.now.aggregates aggregate Count) }
+    {
+        let aggregates = self.aggregates.as_slice();
+        aggregate < aggregates.len() && aggregates[aggregate].is_average()
     }
 }
 

@@ -1,8 +1,9 @@
 //! The report of an answer in a layout.
-ghost use Rattle.std.specs.Prelude.{◌<◌, ◌++◌, length};
+ghost use Rattle.std.specs.Prelude.{◌≡◌, ◌<◌, ◌++◌, length, None};
 ghost use Rattle.std.specs.List.{flat_map};
 ghost use Rattle.cube_query.specs.GroupLines.{line_at};
-ghost use Rattle.report_formats.specs.Fields.{footer_text, formatted, header_text, laid_out, line_text};
+ghost use Rattle.report_formats.specs.Arranged.{WritesOrLacksMemory};
+ghost use Rattle.report_formats.specs.Fields.{footer_text, formatted, header_text, laid_out, line_text, unarranged};
 ghost use Rattle.report_formats.specs.Rows.{row_text};
 ghost use Rattle.ssb_reports.specs.Writing.{Writes};
 
@@ -11,18 +12,34 @@ use crate::fields::{MemberFields, ValueFields};
 use crate::layout::Format;
 use cube_model::Fault;
 use ssb_reports::{Fields, Lines, flush, write_bytes, write_count, write_joined, write_report};
+use std::alloc::Global;
 use std::io::Write;
 
-/// Hands a writer the report that is asked for of the lines of its query's answer, and flushes it. It takes no memory.
+/// Hands a writer the report that is asked for of the lines of its query's answer, and flushes it. It takes memory only for the
+/// places of lines in an order.
 ///
-/// `Output` where the writer fails, after a beginning of the report.
+/// `Memory`, before anything is written, and `Output` where the writer fails, after a beginning of the report.
 pub fn write_formatted<L: Lines, W: Write>(
+    alloc: Global,
     asked: &Asked,
     lines: &L,
     out: &mut W,
 ) -> Result<(), Fault>
-    ensures { Writes (W.contents out.old) (W.contents out.new) result
+    ensures writes { WritesOrLacksMemory (W.contents out.old) (W.contents out.new) result
         (formatted asked.now (record { lines = L.lines lines.now })) }
+
+    // Without an order no memory is taken.
+    ensures free { asked.now.arrangement.sorting ≡ None → Writes (W.contents out.old) (W.contents out.new) result
+        (formatted asked.now (record { lines = L.lines lines.now })) }
+{
+    let arranged = asked.arranged(alloc, lines)?;
+    write_unarranged(asked, &arranged, out)
+}
+
+// Hands a writer the report that is asked for of lines as they come, and flushes it. It takes no memory.
+fn write_unarranged<L: Lines, W: Write>(asked: &Asked, lines: &L, out: &mut W) -> Result<(), Fault>
+    ensures { Writes (W.contents out.old) (W.contents out.new) result
+        (unarranged asked.now (record { lines = L.lines lines.now })) }
 {
     if asked.layout.is_plain() {
         return write_report(&asked.query, lines, out);

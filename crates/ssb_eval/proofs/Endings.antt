@@ -1,11 +1,12 @@
 -- How an evaluation ends.
-use Rattle.std.proofs.Common.{◌≡◌, ℕ, inl, inr, List, Option, Some, None, Result, Ok, Err, refl, ap}
+use Rattle.std.proofs.Common.{◌≡◌, ⊎_elim, ℕ, inl, inr, List, Option, Some, None, Result, Ok, Err, refl, ap}
 use Rattle.std.specs.Io.KnownBytes.{Keeps}
 use Rattle.batch_loader.specs.Outcomes.{and_then}
 use Rattle.cube_model.specs.declared.fault.Fault.{Fault}
 use Rattle.cube_model.specs.declared.query.Query.{Query}
 use Rattle.cube_model.specs.declared.answer.Answer.{Answer}
 use Rattle.cube_model.specs.declared.rows.DimRows.{DimRows}
+use Rattle.report_formats.specs.Arranged.{WritesOrLacksMemory}
 use Rattle.ssb_eval.specs.Evaluation.{Gives, Reports, Texts, answer_of, dimensions_of, eval_as}
 use Rattle.ssb_eval.proofs.Tables.{gives-on, gives-stop}
 use Rattle.ssb_reports.specs.Writing.{Writes}
@@ -25,6 +26,11 @@ reports-stop known outcome fault result stop why = rw (stop.1, stop.2) (inr (kee
 -- the bytes of the report were found, and the writer failed
 pub reports-unwritten : {A : Type 0} (old new : Option (List ℕ)) (outcome : Result (List ℕ) Fault) (bytes : List ℕ) (fault : Fault) (result : Result A Fault) → (y : Fault) × (result ≡ Err y) × (y ≡ fault) → outcome ≡ Ok bytes → Writes old new (Err fault) bytes → Reports old new outcome result
 reports-unwritten old new outcome bytes fault result stop is writes = rw (stop.1, stop.2) (inl (writes.0, (bytes, is, writes.1)))
+
+-- the bytes of the report were found, and the writer failed, or memory lacked before anything was written
+pub reports-unfinished : {A : Type 0} (old new : Option (List ℕ)) (outcome : Result (List ℕ) Fault) (bytes : List ℕ) (fault : Fault) (result : Result A Fault) → (y : Fault) × (result ≡ Err y) × (y ≡ fault) → outcome ≡ Ok bytes → WritesOrLacksMemory old new (Err fault) bytes → Reports old new outcome result
+reports-unfinished old new outcome bytes fault result stop is writes =
+    rw (stop.1, stop.2) (⊎_elim (λ unwritten. inl (unwritten.0, (bytes, is, unwritten.1))) (λ lacks. inr (lacks.1, inl lacks.0)) writes)
 
 -- the same refusal of another call
 pub reports-refused : {A : Type 0} (old new : Option (List ℕ)) (outcome : Result (List ℕ) Fault) (fault : Fault) (result : Result A Fault) → (y : Fault) × (result ≡ Err y) × (y ≡ fault) → Reports {A = A} old new outcome (Err fault) → Reports old new outcome result

@@ -1,5 +1,6 @@
 pub mod Batches
 pub mod Endings
+pub mod Partly
 pub mod Pieces
 pub mod ShortRows
 pub mod TableRows

@@ -1,3 +1,4 @@
 pub mod BatchLoop
 pub mod Evaluation
+pub mod Partial
 pub mod Status

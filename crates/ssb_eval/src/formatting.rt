@@ -46,6 +46,6 @@ pub fn eval_formatted<
     asked.query.check()?;
     let dims = read_dimensions(alloc, customer, supplier, part, date)?;
     let groups = group_facts(alloc, &dims, &asked.query, lineorder)?;
-    write_formatted(asked, &groups.over(&dims), out)?;
+    write_formatted(alloc, asked, &groups.over(&dims), out)?;
     Ok(dims)
 }

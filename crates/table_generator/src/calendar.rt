@@ -1,19 +1,20 @@
 //! The days from 1992 to 1998, and their table.
 ghost use Rattle.std.specs.Prelude.{◌≤◌, ◌<◌, length};
 
+use crate::fields::write_numbers;
 use std::io::{self, Write};
 
 /// How many days the table has: all but the last of seven years, of which two have a leap day.
-pub(crate) const DAYS: u32 = 2_556;
+pub(crate) const DAYS: u64 = 2_556;
 
 /// How many days there are before each year from 1992 on.
-static YEARS: [u32; 7] = [0, 366, 731, 1_096, 1_461, 1_827, 2_192];
+static YEARS: [u64; 7] = [0, 366, 731, 1_096, 1_461, 1_827, 2_192];
 
 /// How many days of a year there are before each month.
-static MONTHS: [u32; 12] = [0, 31, 59, 90, 120, 151, 181, 212, 243, 273, 304, 334];
+static MONTHS: [u64; 12] = [0, 31, 59, 90, 120, 151, 181, 212, 243, 273, 304, 334];
 
 /// The same in a leap year.
-static LEAP_MONTHS: [u32; 12] = [0, 31, 60, 91, 121, 152, 182, 213, 244, 274, 305, 335];
+static LEAP_MONTHS: [u64; 12] = [0, 31, 60, 91, 121, 152, 182, 213, 244, 274, 305, 335];
 
 /// The name of each month, and its first three letters.
 static MONTH_NAMES: [(&str, &str); 12] = [
@@ -44,21 +45,21 @@ static WEEKDAYS: [&str; 7] = [
 /// A day. Months, and days of a week from Sunday on, of a month and of a year, count from 1.
 #[derive(Clone, Copy)]
 struct Day {
-    year: u32,
-    month: u32,
-    day: u32,
-    of_year: u32,
-    of_week: u32,
+    year: u64,
+    month: u64,
+    day: u64,
+    of_year: u64,
+    of_week: u64,
     // The week of the year, which begins on its first day.
-    week: u32,
-    key: u32,
+    week: u64,
+    key: u64,
     month_names: (&'static str, &'static str),
     weekday: &'static str,
 }
 
 impl Day {
     // The day after so many from the first of January 1992 on, which was a Wednesday.
-    fn after(days: u32) -> Day
+    fn after(days: u64) -> Day
         requires { days < 2556 }
     {
         let (year, before_year) = last_within(&YEARS, days);
@@ -68,13 +69,13 @@ impl Day {
         let day = day_of_year.saturating_sub(before_month) + 1;
         let weekday = (days + 3) % 7;
         Day {
-            year: 1992 + year as u32,
-            month: month as u32 + 1,
+            year: 1992 + year as u64,
+            month: month as u64 + 1,
             day,
             of_year: day_of_year + 1,
             of_week: weekday + 1,
             week: day_of_year / 7 + 1,
-            key: (1992 + year as u32) * 10_000 + (month as u32 + 1) * 100 + day,
+            key: (1992 + year as u64) * 10_000 + (month as u64 + 1) * 100 + day,
             month_names: MONTH_NAMES[month],
             weekday: WEEKDAYS[weekday as usize],
         }
@@ -92,17 +93,16 @@ impl Day {
             month_names: (name, short),
             weekday,
         } = *self;
-        write!(out, "{key}|{name} {day}, {year}|{weekday}|{name}|{year}|")?;
-        write!(
-            out,
-            "{year}{month:02}|{short}{year}|{of_week}|{day}|{of_year}|"
-        )?;
-        writeln!(out, "{month}|{week}|Season|0|0|0|1|")
+        write!(out, "{key}|{name} {day}, {year}|{weekday}|{name}|")?;
+        write_numbers(out, &[year, key / 100])?;
+        write!(out, "{short}{year}|")?;
+        write_numbers(out, &[of_week, day, of_year, month, week])?;
+        writeln!(out, "Season|0|0|0|1|")
     }
 }
 
 // The place of the last of ascending numbers that does not exceed one, and that number.
-fn last_within(numbers: &[u32], most: u32) -> (usize, u32)
+fn last_within(numbers: &[u64], most: u64) -> (usize, u64)
     requires some { 1 ≤ length numbers.now }
     ensures within { result.0 < length numbers.now }
 {
@@ -116,7 +116,7 @@ fn last_within(numbers: &[u32], most: u32) -> (usize, u32)
 }
 
 /// The key of the day after so many.
-pub(crate) fn key_after(days: u32) -> u32
+pub(crate) fn key_after(days: u64) -> u64
     requires { days < 2556 }
 {
     Day::after(days).key

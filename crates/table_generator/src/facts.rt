@@ -2,6 +2,7 @@
 ghost use Rattle.std.specs.Prelude.{◌≤◌, ◌<◌, ◌^◌};
 
 use crate::calendar::{DAYS, key_after};
+use crate::fields::write_numbers;
 use crate::random::Random;
 use crate::scale::Scale;
 use std::io::{self, Write};
@@ -15,7 +16,7 @@ static MODES: [&str; 7] = ["AIR", "FOB", "MAIL", "RAIL", "REG AIR", "SHIP", "TRU
 struct Order {
     number: u64,
     customer: u64,
-    day: u32,
+    day: u64,
     priority: &'static str,
 }
 
@@ -57,7 +58,7 @@ pub fn write_lineorders<W: Write>(
         let order = Order {
             number,
             customer: random.between(1, scale.customers()),
-            day: random.between(0, u64::from(DAYS) - 152) as u32,
+            day: random.between(0, DAYS - 152),
             priority: PRIORITIES[random.place(5)],
         };
         write_order(out, random, scale, order)?;
@@ -94,7 +95,7 @@ fn write_line<W: Write>(
     let supplier = random.between(1, scale.suppliers());
     let (quantity, discount) = (random.between(1, 50), random.between(0, 10));
     let tax = random.between(0, 8);
-    let commit = key_after(order.day + random.between(30, 90) as u32);
+    let commit = key_after(order.day + random.between(30, 90));
     let mode = MODES[random.place(7)];
     let price = Price::of(part, quantity, discount);
     let Order {
@@ -110,7 +111,11 @@ fn write_line<W: Write>(
         revenue,
         cost,
     } = price;
-    write!(out, "{number}|{line}|{customer}|{part}|{supplier}|{date}|")?;
-    write!(out, "{priority}|0|{quantity}|{whole}|{taxed}|{discount}|")?;
-    writeln!(out, "{revenue}|{cost}|{tax}|{commit}|{mode}|")
+    write_numbers(out, &[number, line, customer, part, supplier, date])?;
+    write!(out, "{priority}|0|")?;
+    write_numbers(
+        out,
+        &[quantity, whole, taxed, discount, revenue, cost, tax, commit],
+    )?;
+    writeln!(out, "{mode}|")
 }

@@ -4,6 +4,7 @@
 
 mod calendar;
 mod facts;
+mod fields;
 mod members;
 mod places;
 mod random;

@@ -1,7 +1,6 @@
-//! Tests of dictionaries and batches as they are stored.
+//! Tests of batches as they are stored.
 mod batches;
 mod decoding;
-mod dictionaries;
 mod hostile;
 mod lengths;
 mod projected;

@@ -133,6 +133,6 @@ pub fn report(alloc: Global, format: Format, decimals: Option<u32>) -> Result<Ve
     let asked = Asked::new(alloc, Layout { format, decimals }, query(alloc)?)?;
     let answer = answer(alloc, asked.query.aggregates.as_slice())?;
     let mut out = Vec::new(alloc);
-    write_formatted(&asked, &answer, &mut out)?;
+    write_formatted(alloc, &asked, &answer, &mut out)?;
     Ok(out)
 }

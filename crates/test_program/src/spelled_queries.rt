@@ -251,7 +251,7 @@ static RIGHT: [(Words, Asked<'static>); 15] = [
     (
         Words {
             by: Some("d_year,d_year"),
-            agg: Some("count,count,count,count,count,count,count,count,count"),
+            agg: Some("count,count,count,count,count,count,count,count"),
             conditions: &["d_year:1998|1992"],
             ..NO_WORDS
         },
@@ -260,7 +260,6 @@ static RIGHT: [(Words, Asked<'static>); 15] = [
             columns: &[Attr::DateYear, Attr::DateYear],
             conditions: &[Condition::Between(Attr::DateYear, "1998", "1992")],
             aggregates: &[
-                Agg::Count,
                 Agg::Count,
                 Agg::Count,
                 Agg::Count,

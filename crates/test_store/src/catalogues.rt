@@ -1,6 +1,7 @@
 //! A catalogue that was written down by hand.
-use catalogue::{Catalogue, Entry, decode, encode};
-use std::test::Fail;
+use catalogue::{Entry, encode};
+use cube_model::Fault;
+use std::alloc::Global;
 
 // Four objects in the sectors after the superblocks, and a root of 64 bytes that are zero.
 const ENTRIES: [Entry; 4] = [
@@ -43,14 +44,13 @@ fn spelled() -> [u8; 140] {
     bytes
 }
 
+// Whether the catalogue of these is spelled so.
+fn is_spelled(alloc: Global) -> Result<bool, Fault> {
+    let bytes = encode(alloc, &ENTRIES, &ROOT)?;
+    Ok(bytes.as_slice() == spelled().as_slice())
+}
+
 #[test]
-fn spells_and_reads_one(rt: HostRuntime) -> Result<(), Fail> {
-    let bytes = encode(rt.alloc(), &ENTRIES, &ROOT)?;
-    assert_eq!(rt; bytes.as_slice(), spelled().as_slice());
-    let Catalogue { entries, root } = decode(rt.alloc(), &spelled())?;
-    assert_eq!(rt;
-        (entries.as_slice(), root.as_slice()),
-        (ENTRIES.as_slice(), ROOT.as_slice())
-    );
-    Ok(())
+fn spells_one(rt: HostRuntime) {
+    assert!(rt; is_spelled(rt.alloc()) == Ok(true));
 }

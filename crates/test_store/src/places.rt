@@ -4,7 +4,6 @@ use cube_model::Fault;
 use object_store::Store;
 use sector_device::{DeviceError, MemDisk, Sectors};
 use std::alloc::Global;
-use std::test::Fail;
 use superblock::Super;
 
 // A store whose object 1 was replaced so many times.
@@ -69,9 +68,9 @@ fn sectors(
 fn takes_the_first_fits(rt: HostRuntime) {
     for (times, generation, slot, catalogue, object, bytes) in &PLACES {
         let written = superblock::encode(&superblock(*generation, *catalogue));
-        assert_eq!(rt;
-            sectors(rt.alloc(), *times, u32::from(*slot), *object),
-            Ok([Ok(written), Ok(padded(*bytes))]),
+        let found = sectors(rt.alloc(), *times, u32::from(*slot), *object);
+        assert!(rt;
+            found == Ok([Ok(written), Ok(padded(*bytes))]),
             "after {times}"
         );
     }
@@ -83,11 +82,9 @@ const CATALOGUE: [u8; 28] = [
 ];
 
 #[test]
-fn spells_the_catalogue(rt: HostRuntime) -> Result<(), Fail> {
-    let mut disk = replaced(rt.alloc(), 0)?.close();
-    assert_eq!(rt; sector(&mut disk, 3), Ok(padded(&CATALOGUE)));
-    assert_eq!(rt; sector(&mut disk, 0), Ok([0; 512]));
-    Ok(())
+fn spells_the_catalogue(rt: HostRuntime) {
+    let found = sectors(rt.alloc(), 0, 3, 0);
+    assert!(rt; found == Ok([Ok(padded(&CATALOGUE)), Ok([0; 512])]));
 }
 
 // A place, a number of bytes, and whether an object of 1,025 bytes has them, with the sectors that are read.
@@ -130,5 +127,5 @@ fn first_other_range(alloc: Global) -> Result<Option<(u64, usize)>, Fault> {
 
 #[test]
 fn reads_the_sectors_of_a_range(rt: HostRuntime) {
-    assert_eq!(rt; first_other_range(rt.alloc()), Ok(None));
+    assert!(rt; first_other_range(rt.alloc()) == Ok(None));
 }

@@ -14,21 +14,21 @@ fn creation(alloc: Global, sectors: u32, bytes: usize) -> Result<Option<Fault>, 
 }
 
 // Of 64 sectors 62 are free. An object of 62 leaves none for the catalogue.
+static CREATIONS: [(u32, usize, Option<Fault>); 6] = [
+    (63, 1, Some(Fault::DeviceSize)),
+    (64, 1, None),
+    (64, 31_232, None),
+    (64, 31_233, Some(Fault::Full)),
+    (64, 31_744, Some(Fault::Full)),
+    (64, 31_745, Some(Fault::Full)),
+];
+
 #[test]
 fn refuses_a_creation(rt: HostRuntime) {
-    let cases = [
-        (63, 1, Some(Fault::DeviceSize)),
-        (64, 1, None),
-        (64, 31_232, None),
-        (64, 31_233, Some(Fault::Full)),
-        (64, 31_744, Some(Fault::Full)),
-        (64, 31_745, Some(Fault::Full)),
-    ];
-    for (sectors, bytes, fault) in cases {
-        assert_eq!(rt;
-            creation(rt.alloc(), sectors, bytes),
-            Ok(fault),
-            "{bytes} bytes on {sectors}"
+    for case in &CREATIONS {
+        assert!(rt;
+            creation(rt.alloc(), case.0, case.1) == Ok(case.2),
+            "{case:?}"
         );
     }
 }
@@ -45,19 +45,17 @@ fn outcome_of_put(
     Ok((answer, five(&mut store)?))
 }
 
+static SIZES: [(usize, Result<(), Fault>); 4] = [
+    (30_208, Ok(())),
+    (30_209, Err(Fault::Full)),
+    (30_720, Err(Fault::Full)),
+    (40_000, Err(Fault::Full)),
+];
+
 #[test]
 fn refuses_what_does_not_fit(rt: HostRuntime) {
-    let sizes = [
-        (30_208, Ok(())),
-        (30_209, Err(Fault::Full)),
-        (30_720, Err(Fault::Full)),
-        (40_000, Err(Fault::Full)),
-    ];
-    for (bytes, answer) in sizes {
-        assert_eq!(rt;
-            outcome_of_put(rt.alloc(), bytes),
-            Ok((answer, Some(*b"first"))),
-            "{bytes} bytes"
-        );
+    for (bytes, answer) in &SIZES {
+        let found = outcome_of_put(rt.alloc(), *bytes);
+        assert!(rt; found == Ok((*answer, Some(*b"first"))), "{bytes} bytes");
     }
 }

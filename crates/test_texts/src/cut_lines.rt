@@ -8,11 +8,10 @@ use batch_loader::{Lines, read_batch, read_customers, read_dates, read_parts, re
 use cube_model::{Fault, Items};
 use sample_star::in_pieces;
 use std::alloc::Global;
-use std::test::Fail;
 
 /// How many texts and cuts were read, and the first cut that was not read as the rules say: the place of its edit, its
 /// byte, and how many bytes it has.
-#[derive(Clone, Copy, Debug, PartialEq, Eq)]
+#[derive(Clone, Copy, PartialEq, Eq)]
 struct Tally {
     texts: u32,
     cuts: usize,
@@ -110,12 +109,9 @@ fn cut_patterns(
 fn cut_line(alloc: Global, line: &GoodLine) -> Result<Tally, Fault> {
     let mut tally = NOTHING;
     for (place, column) in line.columns.iter().enumerate() {
-        for patterns in [
-            fields_of(*column),
-            fields_of_each_byte(*column, place),
-            BARS,
-        ] {
-            cut_patterns(alloc, line, place, patterns, (0, 0), &mut tally)?;
+        let each_byte = fields_of_each_byte(*column, place);
+        for patterns in &[fields_of(*column), each_byte, BARS] {
+            cut_patterns(alloc, line, place, *patterns, (0, 0), &mut tally)?;
         }
     }
     Ok(tally)
@@ -179,9 +175,8 @@ fn wanted_of(place: usize) -> Tally {
 #[test]
 fn places_and_parts_are_read_wherever_they_end(rt: HostRuntime) {
     for place in 0..3 {
-        assert_eq!(rt;
-            lines_of(rt.alloc(), place),
-            Ok(wanted_of(place)),
+        assert!(rt;
+            lines_of(rt.alloc(), place) == Ok(wanted_of(place)),
             "table {place}"
         );
     }
@@ -189,12 +184,12 @@ fn places_and_parts_are_read_wherever_they_end(rt: HostRuntime) {
 
 #[test]
 fn days_are_read_wherever_they_end(rt: HostRuntime) {
-    assert_eq!(rt; lines_of(rt.alloc(), 3), Ok(wanted_of(3)));
+    assert!(rt; lines_of(rt.alloc(), 3) == Ok(wanted_of(3)));
 }
 
 #[test]
 fn fact_rows_are_read_wherever_they_end(rt: HostRuntime) {
-    assert_eq!(rt; lines_of(rt.alloc(), 4), Ok(wanted_of(4)));
+    assert!(rt; lines_of(rt.alloc(), 4) == Ok(wanted_of(4)));
 }
 
 #[test]
@@ -205,6 +200,6 @@ fn long_lines_are_read_wherever_they_end(rt: HostRuntime) {
             cuts: *cuts,
             wrong: None,
         };
-        assert_eq!(rt; cut_about_the_limit(rt.alloc(), line), Ok(wanted));
+        assert!(rt; cut_about_the_limit(rt.alloc(), line) == Ok(wanted));
     }
 }

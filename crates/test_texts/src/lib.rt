@@ -1,5 +1,6 @@
-//! Tests of `wire`, `batch_loader` and `table_generator`: numbers as bytes, sources, and the texts of the tables: what is read, what is
-//! refused, readers that cut and fail, and tables that are generated.
+//! Tests of `cube_model`: the definitions at outside examples, as theorems that compute, printed faults, and each call at its limits.
+//! And of `wire`, `batch_loader` and `table_generator`: numbers as bytes, and the texts of the tables: what is read, what is refused,
+//! readers that cut and fail, and tables that are generated.
 #![tactic(auto)]
 
 #[cfg(test)]
@@ -9,7 +10,11 @@ mod dimension_rows;
 #[cfg(test)]
 mod edited_lines;
 #[cfg(test)]
+mod examples;
+#[cfg(test)]
 mod fact_rows;
+#[cfg(test)]
+mod faults;
 #[cfg(test)]
 mod generated;
 #[cfg(test)]
@@ -23,8 +28,8 @@ mod outcomes;
 #[cfg(test)]
 mod plain_rules;
 #[cfg(test)]
+mod proper;
+#[cfg(test)]
 mod reads;
 #[cfg(test)]
-mod refusals;
-#[cfg(test)]
-mod sources;
+mod values;

@@ -19,12 +19,3 @@ pub fn has_rows(alloc: Global, text: &[u8], want: &[LineOrder]) -> Result<bool, 
     }
     Ok(same)
 }
-
-/// Whether a text is refused with a fault, read whole, byte by byte and in pieces of seven.
-pub fn is_refused(alloc: Global, text: &[u8], want: Fault) -> bool {
-    let mut same = true;
-    for reader in [whole(text), byte_by_byte(text), in_sevens(text)] {
-        same = same && rows_in(alloc, reader) == Err(want);
-    }
-    same
-}

@@ -15,11 +15,8 @@ fn facts_failing_at(alloc: Global, read: u32) -> Result<[Option<Fault>; 2], Faul
 #[test]
 fn each_read_of_fact_rows_fails_in_turn(rt: HostRuntime) {
     for read in 1..=TABLES.lineorder.len() as u32 / 14 + 2 {
-        assert_eq!(rt;
-            facts_failing_at(rt.alloc(), read),
-            Ok([Some(Fault::Input); 2]),
-            "at {read}"
-        );
+        let refused = facts_failing_at(rt.alloc(), read);
+        assert!(rt; refused == Ok([Some(Fault::Input); 2]), "at {read}");
     }
 }
 
@@ -33,11 +30,8 @@ fn customers_failing_at(alloc: Global, read: u32) -> Result<[Option<Fault>; 2], 
 #[test]
 fn each_read_of_customers_fails_in_turn(rt: HostRuntime) {
     for read in 1..=TABLES.customer.len() as u32 + 1 {
-        assert_eq!(rt;
-            customers_failing_at(rt.alloc(), read),
-            Ok([Some(Fault::Input); 2]),
-            "at {read}"
-        );
+        let refused = customers_failing_at(rt.alloc(), read);
+        assert!(rt; refused == Ok([Some(Fault::Input); 2]), "at {read}");
     }
 }
 
@@ -51,8 +45,5 @@ fn taken_before_a_failure(alloc: Global) -> Result<(Result<usize, Fault>, Option
 
 #[test]
 fn rows_of_earlier_reads_are_taken(rt: HostRuntime) {
-    assert_eq!(rt;
-        taken_before_a_failure(rt.alloc()),
-        Ok((Ok(1), Some(Fault::Input)))
-    );
+    assert!(rt; taken_before_a_failure(rt.alloc()) == Ok((Ok(1), Some(Fault::Input))));
 }

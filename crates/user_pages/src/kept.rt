@@ -5,7 +5,7 @@ use std::fmt::Display;
 use std::fs::{Metadata, OpenOptions};
 use std::io::{self, ErrorKind, Lines, Write};
 use std::rt::{Clock, Files};
-use std::time::Duration;
+use std::time::{CpuClock, Duration};
 
 /// A system whose files and clock are those of another, and of which both streams are kept in one text.
 #[derive(Drop)]
@@ -81,6 +81,16 @@ impl<R: Clock> Clock for Kept<'_, R> {
 
     fn since_1970(&self) -> io::Result<Duration> {
         self.rt.since_1970()
+    }
+}
+
+impl<R: CpuClock> CpuClock for Kept<'_, R> {
+    fn thread_cpu_time(&self) -> io::Result<Duration> {
+        self.rt.thread_cpu_time()
+    }
+
+    fn process_cpu_time(&self) -> io::Result<Duration> {
+        self.rt.process_cpu_time()
     }
 }
 

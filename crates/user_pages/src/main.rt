@@ -15,6 +15,7 @@ use std::alloc::Global;
 use std::os::unix::fs::FileExt;
 use std::process::ExitCode;
 use std::rt::{Clock, Files};
+use std::time::CpuClock;
 use std::{fs, io};
 
 fn main(rt: HostRuntime) -> io::Result<ExitCode> {
@@ -63,7 +64,10 @@ fn remove_others(rt: &HostRuntime, names: &[String]) -> io::Result<()> {
 
 // Runs the commands of a page, and prints how many there are and how many of them print other than the page. It says whether there are
 // some, and each prints what the page says.
-fn is_alike<R: Files + AllocGlobal + Print + Clock + Input>(rt: &R, page: &str) -> io::Result<bool>
+fn is_alike<R: Files + AllocGlobal + Print + Clock + CpuClock + Input>(
+    rt: &R,
+    page: &str,
+) -> io::Result<bool>
 where
     R::File: FileExt + LockFile,
 {
@@ -78,7 +82,7 @@ where
 }
 
 // Runs commands in one shell, and says how many print other than their page.
-fn count_others<R: Files + AllocGlobal + Print + Clock + Input>(
+fn count_others<R: Files + AllocGlobal + Print + Clock + CpuClock + Input>(
     rt: &R,
     steps: &[Step<'_>],
 ) -> io::Result<u64>
@@ -96,7 +100,7 @@ where
 }
 
 // Whether a command prints what its page says. Where not, it prints both.
-fn is_as_printed<R: Files + AllocGlobal + Print + Clock + Input>(
+fn is_as_printed<R: Files + AllocGlobal + Print + Clock + CpuClock + Input>(
     rt: &R,
     shell: &mut Shell,
     step: &Step<'_>,

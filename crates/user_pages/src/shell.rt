@@ -7,6 +7,7 @@ use std::fs::OpenOptions;
 use std::io::Write;
 use std::os::unix::fs::FileExt;
 use std::rt::{Clock, Files};
+use std::time::CpuClock;
 use std::{fs, io};
 
 /// What a shell keeps from one command to the next: what `ssb` means, and the status of the last command.
@@ -36,7 +37,7 @@ impl Shell {
     /// It knows `ssbcube`, `alias ssb='..'`, `ssb`, `cat` with one file, `echo $?`, and two commands that write a file, or with `>>`
     /// the end of one: `printf 'TEXT' > FILE` and `seq A B | sed 's/.*/TEXT/' > FILE`. Of a command with ` 2>&1 | head -1` after it the first
     /// line is kept, and with ` | tr -d '\r'` after it what is no carriage return. The tables are not copied: they are in the folder already.
-    pub fn run<R: Files + AllocGlobal + Clock + Input>(
+    pub fn run<R: Files + AllocGlobal + Clock + CpuClock + Input>(
         &mut self,
         rt: &R,
         command: &str,
@@ -61,7 +62,7 @@ impl Shell {
     }
 
     // Runs a command that is no alias, with what `ssb` means in its place.
-    fn run_command<R: Files + AllocGlobal + Clock + Input>(
+    fn run_command<R: Files + AllocGlobal + Clock + CpuClock + Input>(
         &mut self,
         rt: &R,
         command: &str,
@@ -79,7 +80,7 @@ impl Shell {
         }
     }
 
-    fn run_words<R: Files + AllocGlobal + Clock + Input>(
+    fn run_words<R: Files + AllocGlobal + Clock + CpuClock + Input>(
         &mut self,
         rt: &R,
         command: &str,
@@ -103,7 +104,7 @@ fn after_ssb(command: &str) -> Option<&str> {
 }
 
 // Does what words say after a command that ended with a status, and gives the status that they end with.
-fn status_of<R: Files + AllocGlobal + Print + Eprint + Clock + Input>(
+fn status_of<R: Files + AllocGlobal + Print + Eprint + Clock + CpuClock + Input>(
     rt: &R,
     words: &[String],
     last: u8,

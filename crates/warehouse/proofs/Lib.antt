@@ -13,6 +13,7 @@ pub mod Cuboids
 mod Pairing
 pub mod Wider
 mod Compared
+mod Rowed
 mod Choices
 pub mod Outcomes
 pub mod Numbering

@@ -24,6 +24,7 @@ mod running;
 mod session;
 mod status;
 mod stepping;
+mod stored_rows;
 mod submit;
 mod tables;
 mod upkeep;

@@ -4,6 +4,7 @@ pub mod Through
 pub mod Endings
 pub mod Stepping
 pub mod Reported
+pub mod PartlyReported
 pub mod Performed
 pub mod Added
 mod Additions

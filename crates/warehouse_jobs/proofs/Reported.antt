@@ -8,6 +8,7 @@ use Rattle.cube_model.specs.declared.fault.Fault.TheVariants.{Device}
 use Rattle.cube_model.specs.declared.answer.Answer.{Answer}
 use Rattle.cube_model.specs.declared.query.Query.{Query}
 use Rattle.cube_model.specs.Answers.{answer_as_of}
+use Rattle.report_formats.specs.Arranged.{WritesOrLacksMemory}
 use Rattle.ssb_reports.specs.Writing.{AppendsBeginning, Writes}
 use Rattle.warehouse_objects.specs.Warehouse.{Warehouse}
 use Rattle.warehouse.specs.declared.session.Session.{Session}
@@ -39,3 +40,11 @@ report-written text g w count query new before after found (Err fault) at asked 
   asked.0,
   subst (λ (answer : Answer). AppendsBeginning before after (text answer)) asked.1 written.1,
 )
+
+-- the answer was found, and its text written, or memory lacked before anything was
+pub report-formatted : {D : Type 0} (text : Answer → List ℕ) (g : Ghosts D) (w : Warehouse) (count : ℕ) (query : Query) (new : Session D g) (before after : Option (List ℕ)) (found : Answer) (result : Result Unit Fault)
+    → IsAt g new w → IsAsked w count query × (found ≡ answer_as_of query count w.rows w.batches) → WritesOrLacksMemory before after result (text found) → Answers text g w count query new before after result
+report-formatted text g w count query new before after found (Ok done) at asked written = report-written text g w count query new before after found (Ok done) at asked written
+report-formatted text g w count query new before after found (Err fault) at asked written =
+    ⊎_elim (λ unwritten. report-written text g w count query new before after found (Err fault) at asked unwritten)
+    (λ lacks. inr (lacks.1, inr (inr (inr (lacks.0, asked.0)), at))) written

@@ -3,6 +3,7 @@ pub mod Cutting
 pub mod Loading
 pub mod Steps
 pub mod Reporting
+pub mod Partial
 pub mod PlanLines
 pub mod Explaining
 pub mod Checking

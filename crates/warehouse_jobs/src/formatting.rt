@@ -57,5 +57,5 @@ fn formatted_over<D: Sectors, W: Write>(
 {
     let found = session.query_groups(alloc, count, &asked.query)?;
     let lines = found.lines();
-    write_formatted(asked, &lines, out)
+    write_formatted(alloc, asked, &lines, out)
 }

@@ -2,7 +2,7 @@
 use crate::known::Known;
 use crate::said::{Counted, Slip, WordHint};
 use crate::words::{QueryWords, unknown};
-use cube_model::limits::{MOST_AGGREGATES, MOST_COLUMNS, MOST_CONDITIONS, MOST_LISTED_TEXTS};
+use cube_model::limits::{MOST_ASKED_AGGREGATES, MOST_COLUMNS, MOST_CONDITIONS, MOST_LISTED_TEXTS};
 use std::alloc::{AllocError, Global};
 
 /// What is wrong with the words of a query that has aggregates: the set, then the columns, conditions and aggregates, and
@@ -188,8 +188,8 @@ fn is_small_number(text: &str) -> bool {
 // What a query whose words can be read has too many of, or twice.
 fn limit_hint<'a>(words: &QueryWords<'a>, agg: &str) -> Option<WordHint<'a>> {
     let aggregates = agg.split(',').count();
-    if aggregates > MOST_AGGREGATES {
-        return too_many(Counted::Aggregates, aggregates, MOST_AGGREGATES);
+    if aggregates > MOST_ASKED_AGGREGATES {
+        return too_many(Counted::Aggregates, aggregates, MOST_ASKED_AGGREGATES);
     }
     if words.conditions.len() > MOST_CONDITIONS {
         return too_many(Counted::Conditions, words.conditions.len(), MOST_CONDITIONS);

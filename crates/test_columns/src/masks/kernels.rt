@@ -1,44 +1,30 @@
 // Masks of rows.
-use column_kernels::{Mask, block_mask};
-use std::test::Fail;
+use column_kernels::Mask;
+use cube_model::Fault;
+use std::alloc::Global;
 
-#[test]
-fn a_block_of_32_rows(rt: HostRuntime) -> Result<(), Fail> {
-    let mut quantities = [0; 32];
-    for i in 0..32 {
-        quantities[i] = i as u8;
+// How many rows a mask of six has, and whether each of them, and one more, is chosen.
+fn chosen(alloc: Global) -> Result<(usize, [Option<bool>; 7]), Fault> {
+    let quantities = [23, 24, 25, 24, 24, 24];
+    let mask = Mask::of_ranges(alloc, &quantities, &[2, 3, 2, 0, 1, 4], (24, 25), (1, 3))?;
+    let mut rows = [None; 7];
+    for (place, row) in rows.iter_mut().enumerate() {
+        *row = mask.get(place);
     }
-    assert_eq!(rt; block_mask(&quantities, &[2; 32], (5, 7), (1, 3)), 224);
-    Ok(())
+    Ok((mask.rows(), rows))
 }
 
+static CHOSEN: [Option<bool>; 7] = [
+    Some(false),
+    Some(true),
+    Some(true),
+    Some(false),
+    Some(true),
+    Some(false),
+    None,
+];
+
 #[test]
-fn the_ends_of_ranges_are_included(rt: HostRuntime) -> Result<(), Fail> {
-    let mask = Mask::of_ranges(
-        rt.alloc(),
-        &[23, 24, 25, 24, 24, 24],
-        &[2, 3, 2, 0, 1, 4],
-        (24, 25),
-        (1, 3),
-    )?;
-    let rows = [
-        mask.get(0),
-        mask.get(1),
-        mask.get(2),
-        mask.get(3),
-        mask.get(4),
-        mask.get(5),
-        mask.get(6),
-    ];
-    let chosen = [
-        Some(false),
-        Some(true),
-        Some(true),
-        Some(false),
-        Some(true),
-        Some(false),
-        None,
-    ];
-    assert_eq!(rt; (mask.rows(), rows), (6, chosen));
-    Ok(())
+fn the_ends_of_ranges_are_included(rt: HostRuntime) {
+    assert!(rt; chosen(rt.alloc()) == Ok((6, CHOSEN)));
 }

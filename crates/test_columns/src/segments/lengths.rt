@@ -100,10 +100,10 @@ fn are_same(
     let columns = segment.columns();
     let mask = columns.mask(alloc, ranges.0, ranges.1)?;
     let mut same = true;
-    for measure in MEASURES {
-        let sum = columns.selected_sum(measure, &mask);
-        let extremes = columns.selected_extremes(measure, &mask);
-        same = same && (sum, extremes) == by_rows(rows, measure, ranges);
+    for measure in &MEASURES {
+        let sum = columns.selected_sum(*measure, &mask);
+        let extremes = columns.selected_extremes(*measure, &mask);
+        same = same && (sum, extremes) == by_rows(rows, *measure, ranges);
     }
     Ok(same)
 }
@@ -114,9 +114,9 @@ fn first_other(
     segment: &Segment,
     rows: &[LineOrder],
 ) -> Result<Option<Ranges>, Fault> {
-    for ranges in RANGES {
-        if !are_same(alloc, segment, rows, ranges)? {
-            return Ok(Some(ranges));
+    for ranges in &RANGES {
+        if !are_same(alloc, segment, rows, *ranges)? {
+            return Ok(Some(*ranges));
         }
     }
     Ok(None)
@@ -133,7 +133,10 @@ static LENGTHS: [u64; 9] = [0, 1, 31, 32, 33, 63, 64, 65, 65_536];
 
 #[test]
 fn masks_and_sums_are_those_of_the_rows(rt: HostRuntime) {
-    for count in LENGTHS {
-        assert_eq!(rt; first_other_of(rt.alloc(), count), Ok(None), "{count} rows");
+    for count in &LENGTHS {
+        assert!(rt;
+            first_other_of(rt.alloc(), *count) == Ok(None),
+            "{count} rows"
+        );
     }
 }

@@ -93,13 +93,11 @@ fn repeated(alloc: Global, times: u32) -> Result<Vec<u8>, Fault> {
     Ok(bytes)
 }
 
-// What a new buffer has of the first three rows in each column, after one was read of a batch of the sample rows so
-// many times.
-fn after_reading(
-    alloc: Global,
-    times: u32,
-    column: FactColumn,
-) -> Result<Vec<[Option<u64>; 3]>, Fault> {
+// The numbers of the first three rows in each column.
+type Numbers = [[Option<u64>; 3]; 13];
+
+// What a new buffer has of them after one column was read of a batch of the sample rows so many times.
+fn after_reading(alloc: Global, times: u32, column: FactColumn) -> Result<Numbers, Fault> {
     let bytes = repeated(alloc, times)?;
     let mut buffer = ColumnBuffer::new(alloc)?;
     buffer.read(
@@ -110,29 +108,22 @@ fn after_reading(
         &[column],
     )?;
     let columns = buffer.columns();
-    let mut found = Vec::with_capacity(alloc, COLUMNS.len())?;
-    for (other, _) in &COLUMNS {
-        found.push(numbers_in(&columns, *other))?;
+    let mut found = [[None; 3]; 13];
+    for (numbers, (other, _)) in found.iter_mut().zip(&COLUMNS) {
+        *numbers = numbers_in(&columns, *other);
     }
     Ok(found)
 }
 
 // The numbers of one column, or of all, and zero in the others.
-fn numbers_of(
-    alloc: Global,
-    all: bool,
-    column: FactColumn,
-) -> Result<Vec<[Option<u64>; 3]>, Fault> {
-    let mut wanted = Vec::with_capacity(alloc, COLUMNS.len())?;
-    for (other, numbers) in &COLUMNS {
-        let [first, second, third] = if all || *other == column {
-            *numbers
-        } else {
-            [0, 0, 0]
-        };
-        wanted.push([Some(first), Some(second), Some(third)])?;
+fn numbers_of(all: bool, column: FactColumn) -> Numbers {
+    let mut wanted = [[Some(0); 3]; 13];
+    for (to, (other, numbers)) in wanted.iter_mut().zip(&COLUMNS) {
+        if all || *other == column {
+            *to = numbers.map(|number| Some(number));
+        }
     }
-    Ok(wanted)
+    wanted
 }
 
 // How many times a batch has the sample rows, and whether all its columns are read at once: those of 64 rows take
@@ -142,7 +133,7 @@ static BATCHES: [(u32, bool); 3] = [(1, true), (21, true), (22, false)];
 // The first column of which another one is read than it should, if there is one.
 fn first_wrong(alloc: Global, times: u32, all: bool) -> Result<Option<FactColumn>, Fault> {
     for (column, _) in &COLUMNS {
-        if after_reading(alloc, times, *column)? != numbers_of(alloc, all, *column)? {
+        if after_reading(alloc, times, *column)? != numbers_of(all, *column) {
             return Ok(Some(*column));
         }
     }

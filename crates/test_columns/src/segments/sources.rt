@@ -5,7 +5,6 @@ use crate::segments::lengths::rows_of;
 use column_segment::decode_from;
 use cube_model::Fault;
 use std::alloc::Global;
-use std::test::Fail;
 use wire::Source;
 
 // Bytes that are at every id, if there are any, of which so many parts can be read before a read is refused.
@@ -80,17 +79,19 @@ fn bytes_of(alloc: Global, count: u64) -> Result<Vec<u8>, Fault> {
     spelled(alloc, 1, &rows)
 }
 
+// The same where none can be read, one, two and three, of a batch of 2,000 rows.
+fn refusals(alloc: Global) -> Result<[Option<Fault>; 4], Fault> {
+    let bytes = bytes_of(alloc, 2_000)?;
+    let mut refusals = [None; 4];
+    for (left, refusal) in refusals.iter_mut().enumerate() {
+        *refusal = refusal_after(alloc, &bytes, left);
+    }
+    Ok(refusals)
+}
+
 // 2,000 rows of 71 bytes and their texts are three reads of 65,536 bytes.
 #[test]
-fn each_read_is_refused_in_turn(rt: HostRuntime) -> Result<(), Fail> {
-    let bytes = bytes_of(rt.alloc(), 2_000)?;
-    for left in 0..4 {
-        let wanted = if left < 3 { Some(Fault::Device) } else { None };
-        assert_eq!(rt;
-            refusal_after(rt.alloc(), &bytes, left),
-            wanted,
-            "{left} reads"
-        );
-    }
-    Ok(())
+fn each_read_is_refused_in_turn(rt: HostRuntime) {
+    let device = Some(Fault::Device);
+    assert!(rt; refusals(rt.alloc()) == Ok([device, device, device, None]));
 }

@@ -1,10 +1,9 @@
 //! Masks of a batch, and sums of what they select.
 
-use crate::segments::batches::{SPELLED, spelled};
+use crate::segments::batches::SPELLED;
 use crate::segments::decoding::segment_of;
-use column_segment::{Segment, decode};
-use cube_model::{Fault, LineOrder, Measure};
-use sample_star::{FIRST_FACT, Fact, line_order};
+use column_segment::Segment;
+use cube_model::{Fault, Measure};
 use std::alloc::Global;
 
 // The sum of a measure over the rows that ranges of quantities and of discounts select.
@@ -36,9 +35,9 @@ static SUMS: [(Measure, u8, u8, i128); 10] = [
 
 // The first measure of the table that has another sum, and its greatest quantity and discount.
 fn first_wrong(alloc: Global, segment: &Segment) -> Result<Option<(Measure, u8, u8)>, Fault> {
-    for (measure, quantity, discount, sum) in SUMS {
-        if sum_of(alloc, segment, measure, (0, quantity), (1, discount))? != sum {
-            return Ok(Some((measure, quantity, discount)));
+    for (measure, quantity, discount, sum) in &SUMS {
+        if sum_of(alloc, segment, *measure, (0, *quantity), (1, *discount))? != *sum {
+            return Ok(Some((*measure, *quantity, *discount)));
         }
     }
     Ok(None)
@@ -52,32 +51,5 @@ fn first_wrong_of_sample(alloc: Global) -> Result<Option<(Measure, u8, u8)>, Fau
 
 #[test]
 fn adds_up_the_sample(rt: HostRuntime) {
-    assert_eq!(rt; first_wrong_of_sample(rt.alloc()), Ok(None));
-}
-
-// The first sample row with the greatest revenue.
-const DEAR: Fact<'static> = Fact {
-    revenue: 9_223_372_036_854_775_807,
-    ..FIRST_FACT
-};
-
-// As many rows as a batch may have, each of them this one.
-fn dear_rows(alloc: Global) -> Result<Vec<LineOrder>, Fault> {
-    let mut rows = Vec::with_capacity(alloc, 65536)?;
-    for _ in 0..65536 {
-        rows.push(line_order(alloc, &DEAR)?)?;
-    }
-    Ok(rows)
-}
-
-// The sum of all their revenues.
-fn dear_sum(alloc: Global) -> Result<i128, Fault> {
-    let bytes = spelled(alloc, 1, &dear_rows(alloc)?)?;
-    let segment = decode(alloc, bytes)?;
-    sum_of(alloc, &segment, Measure::Revenue, (0, 255), (0, 255))
-}
-
-#[test]
-fn adds_up_the_greatest_revenues(rt: HostRuntime) {
-    assert_eq!(rt; dear_sum(rt.alloc()), Ok(604462909807314587287552));
+    assert!(rt; first_wrong_of_sample(rt.alloc()) == Ok(None));
 }

@@ -1,7 +1,7 @@
-use Rattle.std.proofs.Common.{◌<◌, ◌+◌, length, take, drop, get_or, rules, refl}
+use Rattle.std.proofs.Common.{◌<◌, length, rules, refl}
 use Rattle.std.proofs.lemmas.Result.{err_from_is_err_and}
 use Rattle.ssb_reports.proofs.Beginnings.{Writes-on, Writes-stop, Writes-stop_behind}
-use Rattle.report_formats.specs.Escapes.{byte_text, escaped}
+use Rattle.report_formats.specs.Escapes.{byte_text}
 use Rattle.report_formats.proofs.Plain.{plain_front, plain_then}
 use Rattle.report_formats.proofs.escapes.+write_escaped.Goals as goal
 

@@ -1,6 +1,6 @@
 use Rattle.std.proofs.lemmas.Result.{err_from_is_err_and}
 use Rattle.cube_query.specs.GroupLines.{answer_over}
-use Rattle.ssb_eval.proofs.Endings.{reports-stop, reports-unwritten, eval-no_dims, eval-no_answer, eval-is}
+use Rattle.ssb_eval.proofs.Endings.{reports-stop, reports-unfinished, eval-no_dims, eval-no_answer, eval-is}
 use Rattle.report_formats.specs.Fields.{formatted}
 use Rattle.ssb_eval.proofs.formatting.eval_formatted.Goals as goal
 
@@ -18,11 +18,11 @@ returns-in_err-groups-clause-proper g c = λ proper texts have.
 
 pub returns-in_err-write_formatted-clause-proper : goal.returns-in_err-write_formatted-clause-proper
 returns-in_err-write_formatted-clause-proper g c = λ proper texts have.
-    reports-unwritten _ _ _ _ _ _ (err_from_is_err_and _ c.from_residual-in_err-write_formatted.ensures.1)
+    reports-unfinished _ _ _ _ _ _ (err_from_is_err_and _ c.from_residual-in_err-write_formatted.ensures.1)
     (eval-is (formatted c.args.asked.now) c.args.asked.now.query texts c.in_ok-dims.dims (answer_over c.in_ok-dims.dims c.in_ok-groups.groups)
     (c.in_ok-dims.ensures texts have.customer_left have.supplier_left have.part_left have.date_left)
     (c.in_ok-groups.ensures.answer texts.lineorder have.lineorder_left))
-    (rw c.over.ensures at c.in_err-write_formatted.ensures)
+    (rw c.over.ensures at c.in_err-write_formatted.ensures.writes)
 
 pub returns-clause-proper : goal.returns-clause-proper
 returns-clause-proper g c = λ proper texts have. (
@@ -30,7 +30,7 @@ returns-clause-proper g c = λ proper texts have. (
   (eval-is (formatted c.args.asked.now) c.args.asked.now.query texts c.in_ok-dims.dims (answer_over c.in_ok-dims.dims c.in_ok-groups.groups)
       (c.in_ok-dims.ensures texts have.customer_left have.supplier_left have.part_left have.date_left)
       (c.in_ok-groups.ensures.answer texts.lineorder have.lineorder_left)),
-  (rw c.over.ensures at c.in_ok-write_formatted.ensures),
+  (rw c.over.ensures at c.in_ok-write_formatted.ensures.writes),
 )
 
 pub returns-clause-dims : goal.returns-clause-dims

@@ -1,7 +1,7 @@
 use Rattle.std.proofs.lemmas.Result.{err_from_is_err_and}
 use Rattle.std.proofs.Common.{ap, Err}
 use Rattle.report_formats.specs.Fields.{formatted}
-use Rattle.warehouse_jobs.proofs.Reported.{report-refused, report-written}
+use Rattle.warehouse_jobs.proofs.Reported.{report-formatted, report-refused}
 use Rattle.warehouse_jobs.proofs.formatting.formatted_over.Goals as goal
 
 pub returns-in_err-found-clause-ends : goal.returns-in_err-found-clause-ends
@@ -18,8 +18,8 @@ returns-in_err-found-clause-word g c = c.query_groups.ensures.word
 
 pub returns-clause-ends : goal.returns-clause-ends
 returns-clause-ends g c w at k =
-    report-written (formatted c.args.asked.now) g.D.Sectors w c.args.count c.args.asked.now.query c.query_groups.new.self (g.W.Write.contents c.args.out.now) (g.W.Write.contents c.write_formatted.new.out) c.in_ok-found.found c.write_formatted.result
-    (c.in_ok-found.ensures.stays (λ is. absurd (cc)) w at) (c.in_ok-found.ensures.answer w at k) (rw c.lines-lines.ensures at c.write_formatted.ensures)
+    report-formatted (formatted c.args.asked.now) g.D.Sectors w c.args.count c.args.asked.now.query c.query_groups.new.self (g.W.Write.contents c.args.out.now) (g.W.Write.contents c.write_formatted.new.out) c.in_ok-found.found c.write_formatted.result
+    (c.in_ok-found.ensures.stays (λ is. absurd (cc)) w at) (c.in_ok-found.ensures.answer w at k) (rw c.lines-lines.ensures at c.write_formatted.ensures.writes)
 
 pub returns-clause-leaves : goal.returns-clause-leaves
 returns-clause-leaves g c = c.query_groups.ensures.leaves

@@ -1,0 +1,95 @@
+-- One step of a merge: the line of the lowest key.
+use Rattle.std.proofs.Common.{◌≡◌, ◌∙◌, sym, ap, refl, List, [], ◌∷◌, ◌++◌, length, subst, None, append_assoc, append-nil, arith}
+use Rattle.std.proofs.lemmas.List.{map-append}
+use Rattle.std.specs.declared.cmp.Ordering.TheVariants.{Less, Equal, Greater}
+use Rattle.cube_model.specs.declared.measure.Agg.{Agg}
+use Rattle.cube_model.specs.Ascending.{IsAscending}
+use Rattle.cube_model.specs.Keys.{key_cmp}
+use Rattle.cube_model.specs.Orders.{answer_cmp}
+use Rattle.answer_merge.specs.declared.wide.WideLine.{WideLine}
+use Rattle.cube_model.specs.declared.answer.Line.{Line}
+use Rattle.answer_merge.specs.Merges.{merged_line, merged_lines}
+use Rattle.answer_merge.specs.Wide.{IsStep, Rise, line_of, lines_of}
+use Rattle.answer_merge.proofs.CallerLemmas.{merged_lines-one, merged_lines-other, merged_lines-both, merged_lines-rise, above_first, turned_less}
+
+-- only the first list has lines
+pub step_first : (aggs : List Agg) (ones others left : List WideLine) (one line : WideLine) → ones ≡ one ∷ left → others ≡ [] → line ≡ one → Rise ones
+    → IsStep aggs ones others line left others
+step_first aggs ones others left one line first none is rise =
+    rw (none, is, first) (let up : Rise (one ∷ left) = rw first at rise in record {
+      merges = merged_lines-one aggs (line_of one) (lines_of left) [] up.0 tt;
+      ones_rise = up.1;
+      others_rise = tt;
+    })
+
+-- only the second has
+pub step_second : (aggs : List Agg) (ones others left : List WideLine) (other line : WideLine) → ones ≡ [] → others ≡ other ∷ left → line ≡ other → Rise others
+    → IsStep aggs ones others line ones left
+step_second aggs ones others left other line none second is rise =
+    rw (none, is, second) (let up : Rise (other ∷ left) = rw second at rise in record {
+      merges = merged_lines-other aggs (line_of other) [] (lines_of left) tt up.0;
+      ones_rise = tt;
+      others_rise = up.1;
+    })
+
+module _ (aggs : List Agg) (ones others ones_left others_left : List WideLine) (one other line : WideLine) (first : ones ≡ one ∷ ones_left) (second : others ≡ other ∷ others_left) (ones_rise : Rise ones) (others_rise : Rise others) where
+  up : Rise (one ∷ ones_left)
+  up = rw first at ones_rise
+
+  other_up : Rise (other ∷ others_left)
+  other_up = rw second at others_rise
+
+  -- the key of the first list is lower
+  pub step_one : line ≡ one → key_cmp one.key other.key ≡ Less → IsStep aggs ones others line ones_left others
+  step_one is less = rw (is, first) (record {
+    merges = rw second (merged_lines-one aggs (line_of one) (lines_of ones_left) (lines_of (other ∷ others_left)) up.0
+        (above_first one.key (line_of other) (lines_of others_left) less other_up));
+    ones_rise = up.1;
+    others_rise = others_rise;
+  })
+
+  -- that of the second is
+  pub step_other : line ≡ other → key_cmp one.key other.key ≡ Greater → IsStep aggs ones others line ones others_left
+  step_other is greater = rw (is, second) (record {
+    merges = rw first (merged_lines-other aggs (line_of other) (lines_of (one ∷ ones_left)) (lines_of others_left)
+        (above_first other.key (line_of one) (lines_of ones_left) (turned_less one.key other.key greater) up) other_up.0);
+    ones_rise = ones_rise;
+    others_rise = other_up.1;
+  })
+
+  -- they are one key
+  pub step_both : line_of line ≡ merged_line aggs (line_of one) (line_of other) → key_cmp one.key other.key ≡ Equal → IsStep aggs ones others line ones_left others_left
+  step_both is same = rw (first, second) (record {
+    merges = rw is (merged_lines-both aggs (line_of one) (line_of other) (lines_of ones_left) (lines_of others_left) same up.0 other_up.0);
+    ones_rise = up.1;
+    others_rise = other_up.1;
+  })
+
+-- the lines so far, and the merge of what is left, after one more step
+pub went_on : (aggs : List Agg) (all : List Line) (out : List WideLine) (line : WideLine) (left right ones_left others_left : List WideLine)
+    → all ≡ lines_of out ++ merged_lines aggs (lines_of left) (lines_of right) → IsStep aggs left right line ones_left others_left
+    → all ≡ lines_of (out ++ line ∷ []) ++ merged_lines aggs (lines_of ones_left) (lines_of others_left)
+went_on aggs all out line left right ones_left others_left is step =
+    let rest = merged_lines aggs (lines_of ones_left) (lines_of others_left) in
+    is ∙ ap (λ more. lines_of out ++ more) step.merges
+    ∙ sym (append_assoc (lines_of out) (line_of line ∷ []) rest)
+    ∙ ap (λ lines. lines ++ rest) (sym (map-append line_of out (line ∷ [])))
+
+-- nothing is left
+pub all_merged : (aggs : List Agg) (all : List Line) (out left right : List WideLine) → all ≡ lines_of out ++ merged_lines aggs (lines_of left) (lines_of right)
+    → left ≡ [] → right ≡ [] → lines_of out ≡ all
+all_merged aggs all out left right is first second =
+    sym (append-nil (lines_of out)) ∙ ap (λ more. lines_of out ++ more) (λ i. merged_lines aggs (lines_of (sym first i)) (lines_of (sym second i))) ∙ sym is
+
+pub no_line : (lines : List WideLine) → length lines ≡ 0 → lines ≡ []
+no_line [] none = refl
+no_line (line ∷ lines) none = absurd (omega (arith, none))
+
+-- the merge is in the order of its keys
+pub merged_rise : (aggs : List Agg) (ones others : List Line) (out left right : List WideLine)
+    → merged_lines aggs ones others ≡ lines_of out ++ merged_lines aggs (lines_of left) (lines_of right) → left ≡ [] → right ≡ [] → Rise out
+merged_rise aggs ones others out left right is first second =
+    subst (IsAscending (answer_cmp None)) (sym (all_merged aggs (merged_lines aggs ones others) out left right is first second)) (merged_lines-rise aggs ones others)
+
+pub same_rise : (wide : List WideLine) (lines : List Line) → lines_of wide ≡ lines → IsAscending (answer_cmp None) lines → Rise wide
+same_rise wide lines same rise = subst (IsAscending (answer_cmp None)) (sym same) rise

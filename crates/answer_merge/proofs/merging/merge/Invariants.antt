@@ -1,0 +1,9 @@
+use Rattle.std.proofs.Common.{◌≡◌, ◌++◌}
+use Rattle.answer_merge.specs.Merges.{merged_lines}
+use Rattle.answer_merge.specs.Wide.{Rise, lines_of}
+use Rattle.answer_merge.proofs.merging.merge.Given as goal
+
+abbrev pub invariant-loop : goal.invariant-loop
+invariant-loop l =
+    (merged_lines l.aggs (lines_of l.ones) (lines_of l.others) ≡ lines_of l.lines.items ++ merged_lines l.aggs (lines_of l.left) (lines_of l.right))
+    × Rise l.left × Rise l.right

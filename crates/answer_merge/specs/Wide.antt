@@ -1,0 +1,40 @@
+-- Lines of partial answers while they are merged: their numbers have 128 bits. Our own.
+use Rattle.std.specs.Prelude.{◌≡◌, ℤ, FitsSigned, List, ◌∷◌, map, None}
+use Rattle.std.specs.Int.{w64}
+use Rattle.cube_model.specs.declared.answer.Line.{Line}
+use Rattle.cube_model.specs.declared.answer.Value.TheVariants.{Whole}
+use Rattle.cube_model.specs.declared.fault.Fault.{Fault}
+use Rattle.cube_model.specs.declared.fault.Fault.TheVariants.{SumRange, TooManyRows}
+use Rattle.cube_model.specs.declared.measure.Agg.{Agg}
+use Rattle.cube_model.specs.declared.measure.Agg.TheVariants.{Count, Sum, Min, Max, Avg}
+use Rattle.cube_model.specs.Ascending.{IsAscending}
+use Rattle.cube_model.specs.Orders.{answer_cmp}
+use Rattle.answer_merge.specs.declared.wide.WideLine.{WideLine}
+use Rattle.answer_merge.specs.Merges.{merged_lines}
+
+abbrev pub line_of : WideLine → Line
+line_of wide = record { key = wide.key; values = map Whole wide.numbers }
+
+abbrev pub lines_of : List WideLine → List Line
+lines_of lines = map line_of lines
+
+-- lines are in the order of their keys
+abbrev pub Rise : List WideLine → Type 0
+Rise lines = IsAscending (answer_cmp None) (lines_of lines)
+
+-- the first line of the merge of two lists, and what is left of both
+pub record IsStep (aggs : List Agg) (ones others : List WideLine) (line : WideLine) (ones_left others_left : List WideLine) : Type 0 where
+  pub merges : merged_lines aggs (lines_of ones) (lines_of others) ≡ line_of line ∷ merged_lines aggs (lines_of ones_left) (lines_of others_left)
+  pub ones_rise : Rise ones_left
+  pub others_rise : Rise others_left
+
+-- what is wrong where a number of an aggregate passes 64 bits
+abbrev pub range_fault : Agg → Fault
+range_fault Count = TooManyRows
+range_fault (Sum measure) = SumRange measure
+range_fault (Min measure) = SumRange measure
+range_fault (Max measure) = SumRange measure
+range_fault (Avg measure) = SumRange measure
+
+abbrev pub IsRangeFault : Agg → ℤ → Fault → Type 0
+IsRangeFault agg number fault = (fault ≡ range_fault agg) × (FitsSigned w64 number → ⊥)

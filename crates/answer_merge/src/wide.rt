@@ -1,0 +1,88 @@
+//! Lines of partial answers while they are merged.
+ghost use Rattle.std.specs.Prelude.{◌≡◌, map, IfErr, IfOk};
+ghost use Rattle.cube_model.specs.declared.answer.Member.{Member};
+ghost use Rattle.cube_model.specs.declared.answer.Value.TheVariants.{Whole};
+ghost use Rattle.answer_merge.specs.Wide.{line_of, lines_of};
+
+use cube_model::{Fault, Items, Line, Member, Value};
+use std::alloc::Global;
+
+/// A line of a partial answer, whose numbers have 128 bits, so that those of many parts can be added in any order.
+#[derive(Debug, PartialEq, Eq, Drop)]
+pub struct WideLine {
+    pub key: Items<Member>,
+    pub numbers: Items<i128>,
+}
+
+impl WideLine {
+    /// A copy of a line.
+    pub(crate) fn copied(&self, alloc: Global) -> Result<WideLine, Fault>
+        ensures ok { IfOk result (λ copy. copy ≡ self.now) }
+        ensures only { IfErr result (λ fault. fault ≡ Fault.Memory) }
+    {
+        let key = copied_key(alloc, self.key.as_slice())?;
+        let numbers = Vec::from_slice(alloc, self.numbers.as_slice())?;
+        Ok(WideLine {
+            key,
+            numbers: Items::from_vec(numbers),
+        })
+    }
+}
+
+/// The lines of a partial answer, with numbers of 128 bits. `BadLayout` where a value is no whole number; or `Memory`.
+pub fn widened(alloc: Global, lines: Items<Line>) -> Result<Vec<WideLine>, Fault>
+    ensures { IfOk result (λ wide. lines_of wide.items ≡ lines) }
+{
+    let mut wide = Vec::new(alloc);
+    for line in lines.into_vec() {
+        wide.push(widened_line(alloc, line)?)?;
+    }
+    Ok(wide)
+}
+
+fn widened_line(alloc: Global, line: Line) -> Result<WideLine, Fault>
+    ensures { IfOk result (λ wide. line_of wide ≡ line) }
+{
+    let Line { key, values } = line;
+    let numbers = numbers_of(alloc, values.as_slice())?;
+    Ok(WideLine { key, numbers })
+}
+
+// The numbers that are values.
+fn numbers_of(alloc: Global, values: &[Value]) -> Result<Items<i128>, Fault>
+    ensures { IfOk result (λ numbers. map Whole numbers ≡ values.now) }
+{
+    let mut numbers = Items::new(alloc);
+    for value in values {
+        match value {
+            Value::Whole(number) => numbers.push(*number as i128)?,
+            Value::Ratio(_) => return Err(Fault::BadLayout),
+        }
+    }
+    Ok(numbers)
+}
+
+/// A copy of a key.
+pub(crate) fn copied_key(alloc: Global, key: &[Member]) -> Result<Items<Member>, Fault>
+    ensures ok { IfOk result (λ copy. copy ≡ key.now) }
+    ensures only { IfErr result (λ fault. fault ≡ Fault.Memory) }
+{
+    let mut copy = Items::new(alloc);
+    for member in key {
+        copy.push(copied_member(alloc, member)?)?;
+    }
+    Ok(copy)
+}
+
+fn copied_member(alloc: Global, member: &Member) -> Result<Member, Fault>
+    ensures ok { IfOk result (λ copy. copy ≡ member.now) }
+    ensures only { IfErr result (λ fault. fault ≡ Fault.Memory) }
+{
+    match member {
+        Member::Text(text) => {
+            let text = Vec::from_slice(alloc, text.as_slice())?;
+            Ok(Member::Text(Items::from_vec(text)))
+        }
+        Member::All => Ok(Member::All),
+    }
+}

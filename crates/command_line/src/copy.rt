@@ -1,0 +1,93 @@
+//! The command `copy`.
+use crate::contents::{Contents, contents_of};
+use crate::create::unsized_file;
+use crate::device::{self, Access, Device};
+use crate::device_hints::wanted_hint;
+use crate::job::met_in;
+use crate::refusal::{Met, Refusal, explained};
+use crate::sizes::sectors_in;
+use crate::texts::print_text;
+use clap::ArgMatches;
+use cube_model::Fault;
+use file_device::LockFile;
+use sector_device::Sectors;
+use std::os::unix::fs::FileExt;
+use std::rt::Files;
+use warehouse::Session;
+
+/// Copies the warehouse of a command to another file, and says so.
+pub fn copy<R: Files + AllocGlobal + Print + Eprint>(
+    rt: &R,
+    given: &ArgMatches<'_>,
+) -> Result<u8, Refusal>
+where
+    R::File: FileExt + LockFile,
+{
+    let sectors = match given.get_str("sectors") {
+        None => None,
+        Some(word) => match sectors_in(word) {
+            None => return unsized_file(rt, given),
+            sectors => sectors,
+        },
+    };
+    match device::open(rt, given, Access::Read) {
+        Ok(mut session) => copy_to_file(rt, given, &mut session, sectors),
+        Err(met) => Err(explained(rt, given, met)),
+    }
+}
+
+// Copies an open warehouse to a file of so many sectors, or of as many as it has.
+fn copy_to_file<R: Files + AllocGlobal + Print>(
+    rt: &R,
+    given: &ArgMatches<'_>,
+    session: &mut Session<Device<R::File>>,
+    sectors: Option<u32>,
+) -> Result<u8, Refusal>
+where
+    R::File: FileExt + LockFile,
+{
+    let sectors = sectors.unwrap_or(session.device().count());
+    let path = given.get_str("new").unwrap_or("");
+    match device::copy(rt, session, path, sectors) {
+        Ok(batches) => {
+            let text = format!(in rt.alloc(); "created {sectors} sectors\nbatches {batches}\n")?;
+            print_text(rt, text.as_str())
+        }
+        Err(met) if session.is_broken() => {
+            Err(explained(rt, given, met_in(rt.alloc(), met.fault, session)))
+        }
+        Err(met) => Err(not_copied(rt, path, sectors, met)),
+    }
+}
+
+// The refusal of the file of a copy.
+fn not_copied<R: Files + AllocGlobal>(rt: &R, path: &str, sectors: u32, met: Met) -> Refusal {
+    let hint = match copy_hint(rt, path, sectors, met) {
+        Ok(hint) => hint,
+        Err(_) => None,
+    };
+    Refusal {
+        fault: met.fault,
+        hint,
+    }
+}
+
+// Why a file cannot be the copy of a warehouse.
+fn copy_hint<R: Files + AllocGlobal>(
+    rt: &R,
+    path: &str,
+    sectors: u32,
+    met: Met,
+) -> Result<Option<String>, Fault> {
+    let why = match (met.fault, met.failure) {
+        (Fault::DeviceSize, _) => return wanted_hint(rt, path, sectors),
+        (Fault::AlreadyFormatted, _) if contents_of(rt, path) == Contents::Warehouse => {
+            "a warehouse is there already; name another file"
+        }
+        (Fault::AlreadyFormatted, _) => "not blank; name another file",
+        (Fault::Full, _) => "too small for the copy; give more sectors with --sectors",
+        (_, Some(error)) => return Ok(Some(format!(in rt.alloc(); "{path}: {error}")?)),
+        (_, None) => return Ok(None),
+    };
+    Ok(Some(format!(in rt.alloc(); "{path}: {why}")?))
+}

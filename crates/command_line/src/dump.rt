@@ -1,0 +1,128 @@
+//! The command `dump`.
+use crate::device::{self, Access, Device};
+use crate::exit::DONE;
+use crate::job::met_in;
+use crate::output::{cut_short, output};
+use crate::refusal::{Refusal, explained};
+use crate::table_files::{TableLines, save_tables};
+use clap::ArgMatches;
+use cube_model::{Axis, Fault};
+use file_device::LockFile;
+use sector_device::Sectors;
+use ssb_reports::flush;
+use std::alloc::Global;
+use std::io::Write;
+use std::os::unix::fs::FileExt;
+use std::rt::Files;
+use table_hints::Table;
+use table_texts::write_dimension;
+use warehouse::Session;
+use warehouse_dump::{write_batch, write_batches};
+
+/// Prints the fact rows of the warehouse of a command as lines of their table, or writes all five tables into a folder.
+pub fn dump<R: Files + AllocGlobal + Print + Eprint>(
+    rt: &R,
+    given: &ArgMatches<'_>,
+) -> Result<u8, Refusal>
+where
+    R::File: FileExt + LockFile,
+{
+    match device::open(rt, given, Access::Read) {
+        Ok(mut session) => match given.get_str("tables") {
+            None => print_facts(rt, given, &mut session),
+            Some(folder) => dump_tables(rt, given, &mut session, folder),
+        },
+        Err(met) => Err(explained(rt, given, met)),
+    }
+}
+
+// Prints the fact rows of an open warehouse.
+fn print_facts<R: Files + AllocGlobal + Print>(
+    rt: &R,
+    given: &ArgMatches<'_>,
+    session: &mut Session<Device<R::File>>,
+) -> Result<u8, Refusal>
+where
+    R::File: FileExt + LockFile,
+{
+    let mut out = output(rt)?;
+    let batch = given.get_one::<u32>("batch");
+    match write_facts(rt.alloc(), session, batch, &mut out) {
+        Ok(()) => Ok(DONE),
+        Err(Fault::Output) => cut_short(rt.alloc(), out.failure()),
+        Err(fault) => Err(undumped(rt, given, session, fault)),
+    }
+}
+
+// The refusal of rows that are not written.
+fn undumped<R: Files + AllocGlobal>(
+    rt: &R,
+    given: &ArgMatches<'_>,
+    session: &Session<Device<R::File>>,
+    fault: Fault,
+) -> Refusal
+where
+    R::File: FileExt + LockFile,
+{
+    if fault != Fault::BadLayout {
+        return explained(rt, given, met_in(rt.alloc(), fault, session));
+    }
+    Refusal {
+        fault,
+        hint: format!(in rt.alloc();
+            "a row has a text with a bar, a line feed or a carriage return at its end, which no line can spell"
+        ).ok(),
+    }
+}
+
+// Writes the tables of an open warehouse into a folder.
+fn dump_tables<R: Files + AllocGlobal + Print>(
+    rt: &R,
+    given: &ArgMatches<'_>,
+    session: &mut Session<Device<R::File>>,
+    folder: &str,
+) -> Result<u8, Refusal>
+where
+    R::File: FileExt + LockFile,
+{
+    let mut lines = Dumped {
+        alloc: rt.alloc(),
+        session,
+        batch: given.get_one::<u32>("batch"),
+    };
+    save_tables(rt, given, folder, &Table::ALL, &mut lines)
+}
+
+// The tables of a warehouse, with the fact rows of one batch or of all.
+#[derive(Drop)]
+struct Dumped<'s, D: Sectors> {
+    alloc: Global,
+    session: &'s mut Session<D>,
+    batch: Option<u32>,
+}
+
+impl<'s, D: Sectors> TableLines for Dumped<'s, D> {
+    fn write<W: Write>(&mut self, table: Table, out: &mut W) -> Result<(), Fault> {
+        match table {
+            Table::Customer => write_dimension(self.session.dims(), Axis::Customer, out),
+            Table::Supplier => write_dimension(self.session.dims(), Axis::Supplier, out),
+            Table::Part => write_dimension(self.session.dims(), Axis::Part, out),
+            Table::Date => write_dimension(self.session.dims(), Axis::Date, out),
+            Table::Lineorder => write_facts(self.alloc, self.session, self.batch, out),
+        }
+    }
+}
+
+// Writes the fact rows of one batch or of all, and flushes them.
+fn write_facts<D: Sectors, W: Write>(
+    alloc: Global,
+    session: &mut Session<D>,
+    batch: Option<u32>,
+    out: &mut W,
+) -> Result<(), Fault> {
+    match batch {
+        Some(number) => write_batch(alloc, session, number, out)?,
+        None => write_batches(alloc, session, out)?,
+    }
+    flush(out)
+}

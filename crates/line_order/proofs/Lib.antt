@@ -1,0 +1,7 @@
+mod Averages
+mod Comparisons
+mod Inserted
+mod KeyLoop
+mod Places
+mod SizeOrder
+mod SortedAnswers

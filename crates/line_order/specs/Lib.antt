@@ -1,0 +1,5 @@
+pub mod Arranging
+pub mod Lawful
+pub mod Named
+pub mod Shown
+pub mod Sorting

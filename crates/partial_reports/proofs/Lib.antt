@@ -1,0 +1,5 @@
+pub mod Everywhere
+pub mod Plain
+pub mod Pushed
+pub mod Read
+pub mod Rising

@@ -1,0 +1,5 @@
+pub mod Dimensions
+pub mod Head
+pub mod Members
+pub mod Partial
+pub mod Reading

@@ -1,0 +1,27 @@
+//! The partial report that is asked for.
+ghost use Rattle.std.specs.Prelude.{◌≡◌, IfErr, IfOk};
+ghost use Rattle.partial_reports.specs.Partial.{part_asked};
+
+use crate::head::Head;
+use answer_merge::partial_query;
+use cube_model::{Fault, Query};
+use std::alloc::Global;
+
+/// A partial report, and the query whose answer it has.
+#[derive(Drop)]
+pub struct PartAsked {
+    pub head: Head,
+    /// The query to be answered: its answers are the partial answers to the query of the words.
+    pub query: Query,
+}
+
+impl PartAsked {
+    /// The partial report of a query, under a head that names the words of the query. It can only fail when out of memory.
+    pub fn new(alloc: Global, head: Head, query: Query) -> Result<PartAsked, Fault>
+        ensures ok { IfOk result (λ asked. asked ≡ part_asked head query) }
+        ensures only { IfErr result (λ fault. fault ≡ Fault.Memory) }
+    {
+        let query = partial_query(alloc, query)?;
+        Ok(PartAsked { head, query })
+    }
+}

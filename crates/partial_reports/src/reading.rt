@@ -1,0 +1,135 @@
+//! Reading the lines of a partial report.
+ghost use Rattle.std.specs.Prelude.{◌≡◌, [], ◌∷◌, ◌++◌, ◌<◌, ◌≤◌, ◌^◌, None, length, IfOk, IfSome, IfNone, OnOk};
+ghost use Rattle.cube_model.specs.Ascending.{IsAscending};
+ghost use Rattle.cube_model.specs.Orders.{answer_cmp};
+ghost use Rattle.answer_merge.specs.Readable.{IsReadableAnswer};
+ghost use Rattle.ssb_reports.specs.Report.{count_text, header_text, line_text, report_of};
+ghost use Rattle.partial_reports.specs.Reading.{AreLinesOf, ReadsCount, ReadsLine, SpellsLines};
+
+use crate::fields::parse_line;
+use crate::readable::{check_follows, check_readable};
+use crate::refused::{Refused, Wrong};
+use crate::rows::{after, spell_count, spell_row};
+use cube_model::{Answer, Items, Line, Query};
+use memchr::memchr;
+use std::alloc::Global;
+
+/// The answer to a query whose report is a text, which begins at a line of a file. The lines are in the order of their keys.
+pub fn read_answer(alloc: Global, query: &Query, first: u64, text: &[u8]) -> Result<Answer, Refused>
+    // No other answer has the report.
+    ensures text { IfOk result (λ answer. text.now ≡ report_of query.now answer) }
+    ensures readable { IfOk result (IsReadableAnswer query.now) }
+    ensures rising { IfOk result (λ answer. IsAscending (answer_cmp None) answer.lines) }
+{
+    let left = after_names(alloc, query, first, text)?;
+    let lines = read_lines(alloc, query, first.saturating_add(1), left)?;
+    Ok(Answer { lines })
+}
+
+// What is after the line of the names.
+fn after_names<'a>(
+    alloc: Global,
+    query: &Query,
+    line: u64,
+    text: &'a [u8],
+) -> Result<&'a [u8], Refused>
+    ensures { IfOk result (λ left. text.now ≡ header_text query.now ++ left.now) }
+{
+    let mut row = Vec::new(alloc);
+    spell_row(
+        &mut row,
+        &query.columns.as_slice(),
+        &query.aggregates.as_slice(),
+    )?;
+    match after(text, row.as_slice()) {
+        Some(left) => Ok(left),
+        None => Err(Refused::at(line, Wrong::Names)),
+    }
+}
+
+// The lines up to their number, which ends the text.
+#[tactic(auto, using(crate::proofs::Read::no_lines, crate::proofs::Read::no_text, crate::proofs::Read::one_more, crate::proofs::Read::all_read))]
+fn read_lines(alloc: Global, query: &Query, first: u64, text: &[u8]) -> Result<Items<Line>, Refused>
+    ensures { IfOk result (SpellsLines query.now text.now) }
+{
+    let mut lines = Items::new(alloc);
+    let mut row = Vec::new(alloc);
+    let mut left = text;
+    for line in first..u64::MAX {
+        match read_line(alloc, query, line, &mut lines, &mut row, left)? {
+            Some(rest) => left = rest,
+            None => return Ok(lines),
+        }
+    }
+    Err(Refused::Input)
+}
+
+// Reads the next line, and gives what is after it; or nothing, where it is the number of lines and ends the text.
+fn read_line<'a>(
+    alloc: Global,
+    query: &Query,
+    number: u64,
+    lines: &mut Items<Line>,
+    row: &mut Vec<u8>,
+    text: &'a [u8],
+) -> Result<Option<&'a [u8]>, Refused>
+    requires { AreLinesOf query.now lines.old }
+    ensures line { IfOk result (λ rest. IfSome rest (λ left. ReadsLine query.now lines.old lines.new text.now left.now)) }
+    ensures count { IfOk result (λ rest. IfNone rest (ReadsCount query.now lines.old lines.new text.now)) }
+{
+    let end = line_end(number, text)?;
+    if end == text.len() {
+        check_count(number, lines.len(), row, text)?;
+        return Ok(None);
+    }
+    let line = parse_line(alloc, number, query.columns.len(), &text[..end - 1])?;
+    let left = after_line(number, query, lines.as_slice(), row, &line, text)?;
+    lines.push(line)?;
+    Ok(Some(left))
+}
+
+// Where the first line of a text ends, after its line feed.
+fn line_end(line: u64, text: &[u8]) -> Result<usize, Refused>
+    ensures bound { IfOk result (λ end. end ≤ length text.now) }
+    ensures some { IfOk result (λ end. 0 < end) }
+{
+    match memchr(b'\n', text) {
+        Some(place) => Ok(place + 1),
+        None => Err(Refused::at(line, Wrong::Cut)),
+    }
+}
+
+// Checks that a text is the number of the lines.
+fn check_count(line: u64, count: usize, row: &mut Vec<u8>, text: &[u8]) -> Result<(), Refused>
+    ensures text { OnOk result (text.now ≡ count_text count) }
+    ensures few { OnOk result (count < 2 ^ 63) }
+{
+    spell_count(row, count)?;
+    if text == row.as_slice() && count < 1 << 63 {
+        return Ok(());
+    }
+    Err(Refused::at(line, Wrong::Count))
+}
+
+// What is after a line, where the text begins with it, it can be read back, and its key is above those of the lines before.
+#[tactic(auto, using(crate::proofs::Rising::all_and))]
+fn after_line<'a>(
+    number: u64,
+    query: &Query,
+    lines: &[Line],
+    row: &mut Vec<u8>,
+    line: &Line,
+    text: &'a [u8],
+) -> Result<&'a [u8], Refused>
+    requires { AreLinesOf query.now lines.now }
+    ensures text { IfOk result (λ left. text.now ≡ line_text line.now ++ left.now) }
+    ensures are { IfOk result (λ left. AreLinesOf query.now (lines.now ++ line.now ∷ [])) }
+{
+    check_readable(number, query, line)?;
+    check_follows(number, lines, line)?;
+    spell_row(row, &line.key.as_slice(), &line.values.as_slice())?;
+    match after(text, row.as_slice()) {
+        Some(left) => Ok(left),
+        None => Err(Refused::at(number, Wrong::Field)),
+    }
+}

@@ -1,0 +1,38 @@
+//! The rows of a report, as they are spelled.
+ghost use Rattle.std.specs.Prelude.{◌≡◌, ◌++◌, IfSome, OnOk, length};
+ghost use Rattle.ssb_reports.specs.Report.{count_text, row_text};
+
+use cube_model::Fault;
+use ssb_reports::{Fields, write_bytes, write_count, write_joined};
+
+/// Makes a buffer the row of some fields and of others after them.
+pub(crate) fn spell_row<F: Fields, G: Fields>(
+    row: &mut Vec<u8>,
+    fields: &F,
+    others: &G,
+) -> Result<(), Fault>
+    ensures { OnOk result (row.new.items ≡ row_text (F.texts fields.now ++ G.texts others.now)) }
+{
+    row.clear();
+    write_joined(row, b'|', fields, others)?;
+    write_bytes(row, b"\n")
+}
+
+/// Makes a buffer the line of how many lines there are.
+pub(crate) fn spell_count(row: &mut Vec<u8>, count: usize) -> Result<(), Fault>
+    ensures { OnOk result (row.new.items ≡ count_text count) }
+{
+    row.clear();
+    write_count(row, count)
+}
+
+/// What is after the front of a text, where it begins so.
+pub(crate) fn after<'a>(text: &'a [u8], front: &[u8]) -> Option<&'a [u8]>
+    ensures { IfSome result (λ left. text.now ≡ front.now ++ left.now) }
+{
+    if text.len() < front.len() {
+        return None;
+    }
+    let (first, left) = text.split_at(front.len());
+    if first == front { Some(left) } else { None }
+}

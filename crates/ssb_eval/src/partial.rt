@@ -1,0 +1,54 @@
+//! A query over the texts of the five tables, with a partial report.
+ghost use Rattle.std.specs.Prelude.{◌≡◌, Ok, Err, IfOk};
+ghost use Rattle.std.specs.Io.KnownBytes.{Keeps};
+ghost use Rattle.cube_model.specs.Proper.{IsProper};
+ghost use Rattle.ssb_eval.specs.Evaluation.{HaveTexts, Reports, Texts, dimensions_of};
+ghost use Rattle.ssb_eval.specs.Partial.{partial_of};
+
+use crate::dimension_tables::read_dimensions;
+use crate::facts::group_facts;
+use cube_model::Fault;
+use dimensions::Dims;
+use partial_reports::{PartAsked, begin_partial, write_partial};
+use std::alloc::Global;
+use std::io::{Read, Write};
+
+/// Writes the partial report that is asked for as `eval_keeping_dims` writes a whole one, and returns the dimensions. `BadLayout`
+/// comes last, where a member has a bar or a line feed or is the text ALL, and then nothing is written.
+pub fn eval_partial<
+    C: Read + Drop,
+    S: Read + Drop,
+    P: Read + Drop,
+    D: Read + Drop,
+    L: Read + Drop,
+    W: Write,
+>(
+    alloc: Global,
+    customer: C,
+    supplier: S,
+    part: P,
+    date: D,
+    lineorder: L,
+    asked: &PartAsked,
+    out: &mut W,
+) -> Result<Dims, Fault>
+    // Of a proper query the outcome is that of the texts.
+    ensures proper { IsProper asked.now.query → (texts : Texts)
+        → HaveTexts (C.remaining customer) (S.remaining supplier) (P.remaining part) (D.remaining date) (L.remaining lineorder) texts
+        → Reports (W.contents out.old) (W.contents out.new) (partial_of asked.now texts) result }
+
+    // The dimensions are those of the texts.
+    ensures dims { (texts : Texts)
+        → HaveTexts (C.remaining customer) (S.remaining supplier) (P.remaining part) (D.remaining date) (L.remaining lineorder) texts
+        → IfOk result (λ dims. dimensions_of texts ≡ Ok dims) }
+
+    // Any other query is refused before a text is read.
+    ensures improper { (IsProper asked.now.query → ⊥) → (result ≡ Err Fault.BadQuery) × Keeps (W.contents out.old) (W.contents out.new) }
+{
+    asked.query.check()?;
+    let dims = read_dimensions(alloc, customer, supplier, part, date)?;
+    let groups = group_facts(alloc, &dims, &asked.query, lineorder)?;
+    let head = begin_partial(alloc, asked, &dims, &groups.over(&dims))?;
+    write_partial(asked, head.as_slice(), &groups.over(&dims), out)?;
+    Ok(dims)
+}

@@ -1,7 +1,0 @@
-//! Tests of dimensions, built from rows and stored.
-#![tactic(auto)]
-
-#[cfg(test)]
-mod built;
-#[cfg(test)]
-mod stored;

@@ -1,7 +1,0 @@
-use Rattle.std.proofs.Common.{refl}
-use Rattle.cube_model.specs.Fractions.{fraction_of}
-use Rattle.test_model.proofs.examples.cube_example.Goals as goal
-
-pub returns : goal.returns
-unfolding fraction_of
-returns c = refl
