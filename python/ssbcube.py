@@ -98,61 +98,8 @@ class Warehouse:
 
 
 def merge(*paths):
-    """The report of the whole, of the files of all its partial reports, in any order. ValueError where they are not those."""
-    parts = [Part(path) for path in paths]
-    first = parts[0]
-    for part in parts:
-        if part.same != first.same:
-            raise ValueError(f"{part.path}: another query, number of parts or dimension rows than {first.path}")
-    if sorted(part.number for part in parts) != list(range(1, first.parts + 1)):
-        raise ValueError(f"not each of {first.parts} parts once")
-    words = [word.partition(" ")[::2] for word in first.words]
-    if words[0][0] == "q":
-        raise ValueError("the queries of the benchmark are merged by their words of cube")
-    aggregates = [text for kind, texts in words if kind == "agg" for text in texts.replace("(", ":").replace(")", "").split(",")]
-    groups = {}
-    for part in parts:
-        for key, numbers in part.lines:
-            groups[key] = merged(aggregates, groups[key], numbers) if key in groups else numbers
-    columns = first.header.split("|")[: -1 - len(aggregates)]
-    names = [text.replace(":", "(") + ")" if ":" in text else text for text in aggregates]
-    lines = ["|".join(columns + names)]
-    for key in sorted(groups, key=lambda key: [(text == "ALL", text.encode(errors="surrogateescape")) for text in key]):
-        lines.append("|".join(key + tuple(finished(aggregates, groups[key]))))
-    return "\n".join(lines + [f"rows {len(groups)}", ""])
-
-
-class Part:
-    """A partial report in a file."""
-
-    def __init__(self, path):
-        import builtins
-        with builtins.open(path, encoding="utf-8", errors="surrogateescape", newline="\n") as file:
-            head, separator, report = file.read().partition("\n\n")
-        version, part, dimensions, *self.words = head.split("\n")
-        self.header, *lines, last, end = report.split("\n")
-        if version != "ssbcube partial report 1" or not separator or end or last != f"rows {len(lines)}":
-            raise ValueError(f"{path}: no whole partial report")
-        number, parts = part.removeprefix("part ").split("/")
-        self.path, self.number, self.parts = path, int(number), int(parts)
-        self.same = self.parts, dimensions, self.words
-        columns = self.header.split("|").index("count")
-        fields = [line.split("|") for line in lines]
-        self.lines = [(tuple(field[:columns]), list(map(int, field[columns:]))) for field in fields]
-
-
-def merged(aggregates, ones, others):
-    """The numbers of a group, of those of two parts: the count of rows, and what is kept of each aggregate."""
-    how = [sum] + [{"min": min, "max": max}.get(text.partition(":")[0], sum) for text in aggregates]
-    return [take(pair) for take, pair in zip(how, zip(ones, others))]
-
-
-def finished(aggregates, numbers):
-    """The fields of a group's line: an average is the fraction of its sum and the count, in lowest terms."""
-    count, *kept = numbers
-    for text, number in zip(aggregates, kept):
-        average = Fraction(number, count)
-        yield f"{average.numerator}/{average.denominator}" if text.startswith("avg:") else str(number)
+    """The report over all rows as text, of the files of all its partial reports, in any order."""
+    return run("merge", *paths).decode(errors="surrogateescape")
 
 
 def value_of(value):

@@ -11,49 +11,6 @@ import ssbcube
 TABLES = "crates/user_pages/data"
 
 
-HEAD = "ssbcube partial report 1\npart %d/2\ndimensions 00\nset cube\nby c_region,d_year\nagg count,avg:revenue\n\n"
-NAMES = "c_region|d_year|count|count|sum(revenue)\n"
-EUROPE = """EUROPE|1993|1|1|980
-EUROPE|1997|1|1|495
-EUROPE|ALL|2|2|1475
-ALL|1993|1|1|980
-ALL|1997|1|1|495
-ALL|ALL|2|2|1475
-rows 6
-"""
-AMERICA = """AMERICA|1997|1|1|1940
-AMERICA|ALL|1|1|1940
-ALL|1997|1|1|1940
-ALL|ALL|1|1|1940
-rows 4
-"""
-WHOLE = """c_region|d_year|count|avg(revenue)
-AMERICA|1997|1|1940/1
-AMERICA|ALL|1|1940/1
-EUROPE|1993|1|980/1
-EUROPE|1997|1|495/1
-EUROPE|ALL|2|1475/2
-ALL|1993|1|980/1
-ALL|1997|2|2435/2
-ALL|ALL|3|3415/3
-rows 8
-"""
-
-
-def merges_by_hand(folder):
-    """Partial reports that were written by hand, merged into a report that was worked out by hand."""
-    for name, text in (("1", HEAD % 1 + NAMES + EUROPE), ("2", HEAD % 2 + NAMES + AMERICA), ("cut", (HEAD % 2 + NAMES + AMERICA)[:-3])):
-        with open(f"{folder}/{name}", "w") as file:
-            file.write(text)
-    assert ssbcube.merge(f"{folder}/2", f"{folder}/1") == WHOLE
-    for wrong in (["1"], ["1", "1"], ["1", "cut"]):
-        try:
-            ssbcube.merge(*(f"{folder}/{name}" for name in wrong))
-        except ValueError:
-            continue
-        assert False, wrong
-
-
 def merges_what_is_asked(folder, star):
     """The partial reports of two warehouses, merged into the report of one with all rows."""
     words = ["--set", "cube", "--by", "c_region,d_year", "--agg", "count,avg:revenue,min:profit"]
@@ -65,12 +22,12 @@ def merges_what_is_asked(folder, star):
         files.append(f"{folder}/{number}.part")
         with open(files[-1], "wb") as file:
             file.write(ssbcube.run("cube", part.path, "--partial", f"{number}/2", *words))
-    assert ssbcube.merge(*files) == ssbcube.run("cube", star.path, *words).decode()
+    assert ssbcube.merge(*files) == ssbcube.merge(*reversed(files)) == ssbcube.run("cube", star.path, *words).decode()
+    assert refusal(lambda: ssbcube.merge(files[0], files[0])) == (24, "BadQuery")
 
 
 def main():
     with tempfile.TemporaryDirectory() as folder:
-        merges_by_hand(folder)
         merges_what_is_asked(folder, ssbcube.create(f"{folder}/all.dev", TABLES, sectors=64))
     with tempfile.TemporaryDirectory() as folder, ssbcube.create(f"{folder}/star.dev", TABLES, sectors=64) as star:
         assert star.load(f"{TABLES}/lineorder.tbl") == 1

@@ -15,13 +15,13 @@ use file_device::LockFile;
 use ssb_eval::read_rows;
 use std::alloc::Global;
 use std::os::unix::fs::FileExt;
-use std::rt::Files;
+use std::rt::{Clock, Files};
 use table_hints::addition_hint;
 use warehouse::Session;
 use warehouse_root::limits::MOST_ADDITIONS;
 
 /// Adds the rows of the files of the command to the dimensions of its warehouse, and says so.
-pub fn add<R: Files + AllocGlobal + Print + Eprint>(
+pub fn add<R: Files + AllocGlobal + Print + Eprint + Clock>(
     rt: &R,
     given: &ArgMatches<'_>,
 ) -> Result<u8, Refusal>
@@ -55,10 +55,10 @@ fn rows_of<R: Files + AllocGlobal>(rt: &R, given: &ArgMatches<'_>) -> Result<Dim
 }
 
 // Adds rows to the dimensions of an open warehouse, and prints that it is done.
-fn print_addition<R: Files + AllocGlobal + Print + Eprint>(
+fn print_addition<R: Files + AllocGlobal + Print + Eprint + Clock>(
     rt: &R,
     given: &ArgMatches<'_>,
-    session: &mut Session<Device<R::File>>,
+    session: &mut Session<Device<'_, R, R::File>>,
     number: u32,
     rows: &DimRows,
 ) -> Result<u8, Refusal>
@@ -78,10 +78,10 @@ where
 }
 
 // The refusal of an addition with a number, and its cause where that can be found out.
-fn refused<R: Files + AllocGlobal>(
+fn refused<R: Files + AllocGlobal + Eprint + Clock>(
     rt: &R,
     given: &ArgMatches<'_>,
-    session: &Session<Device<R::File>>,
+    session: &Session<Device<'_, R, R::File>>,
     number: u32,
     fault: Fault,
 ) -> Refusal
@@ -97,10 +97,10 @@ where
     }
 }
 
-fn hint_of<R: Files + AllocGlobal>(
+fn hint_of<R: Files + AllocGlobal + Eprint + Clock>(
     rt: &R,
     given: &ArgMatches<'_>,
-    session: &Session<Device<R::File>>,
+    session: &Session<Device<'_, R, R::File>>,
     number: u32,
     fault: Fault,
 ) -> Result<Option<String>, Fault>

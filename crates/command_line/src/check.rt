@@ -1,43 +1,52 @@
 //! The command `check`.
+use crate::course::{Cleared, Errand, Watch, begin_errand, course_of, take_back};
 use crate::device::{self, Access, Device};
 use crate::job::met_in;
 use crate::output::{cut_short, output};
 use crate::refusal::{Refusal, explained};
+use crate::screens::Screens;
 use crate::unfinished::note_unfinished;
 use clap::ArgMatches;
 use cube_model::Fault;
 use file_device::LockFile;
 use ssb_eval::exit_of;
 use std::os::unix::fs::FileExt;
-use std::rt::Files;
+use std::rt::{Clock, Files};
 use warehouse::Session;
 
-/// Checks all that is stored of the warehouse of a command, and gives the status of the program: 0 where nothing is wrong, else 1.
-pub fn check<R: Files + AllocGlobal + Print + Eprint>(
+/// Checks all that is stored of the warehouse of a command, and gives the status of the program: 0 where nothing is wrong, else 1. It says
+/// on a terminal how far it is.
+pub fn check<R: Files + AllocGlobal + Print + Eprint + Clock>(
     rt: &R,
     given: &ArgMatches<'_>,
+    screens: Screens,
 ) -> Result<u8, Refusal>
 where
     R::File: FileExt + LockFile,
 {
-    match device::open(rt, given, Access::Read) {
-        Ok(mut session) => print_check(rt, given, &mut session),
+    let course = course_of(rt, given, screens);
+    match device::open_watched(rt, given, Access::Read, course.as_ref()) {
+        Ok(mut session) => print_check(rt, given, &mut session, course.as_ref()),
         Err(met) => Err(explained(rt, given, met)),
     }
 }
 
 // Prints whether all that is stored of an open warehouse is right, or what is not.
-fn print_check<R: Files + AllocGlobal + Print + Eprint>(
+fn print_check<R: Files + AllocGlobal + Print + Eprint + Clock>(
     rt: &R,
     given: &ArgMatches<'_>,
-    session: &mut Session<Device<R::File>>,
+    session: &mut Session<Device<'_, R, R::File>>,
+    watch: Watch<'_>,
 ) -> Result<u8, Refusal>
 where
     R::File: FileExt + LockFile,
 {
-    let mut out = output(rt)?;
-    match warehouse_jobs::check(rt.alloc(), session, &mut out) {
-        Err(Fault::Output) => cut_short(rt.alloc(), out.failure()),
+    let mut out = Cleared::new(rt, watch, output(rt)?);
+    begin_errand(rt, watch, session, Errand::Check);
+    let checked = warehouse_jobs::check(rt.alloc(), session, &mut out);
+    take_back(rt, watch);
+    match checked {
+        Err(Fault::Output) => cut_short(rt.alloc(), out.writer().failure()),
         Err(fault) => Err(explained(rt, given, met_in(rt.alloc(), fault, session))),
         checked => {
             note_unfinished(rt, given, session);

@@ -1,10 +1,12 @@
 //! The command `copy`.
 use crate::contents::{Contents, contents_of};
+use crate::course::{Errand, Watch, begin_errand, course_of, take_back};
 use crate::create::unsized_file;
 use crate::device::{self, Access, Device};
 use crate::device_hints::wanted_hint;
 use crate::job::met_in;
 use crate::refusal::{Met, Refusal, explained};
+use crate::screens::Screens;
 use crate::sizes::sectors_in;
 use crate::texts::print_text;
 use clap::ArgMatches;
@@ -12,13 +14,14 @@ use cube_model::Fault;
 use file_device::LockFile;
 use sector_device::Sectors;
 use std::os::unix::fs::FileExt;
-use std::rt::Files;
+use std::rt::{Clock, Files};
 use warehouse::Session;
 
-/// Copies the warehouse of a command to another file, and says so.
-pub fn copy<R: Files + AllocGlobal + Print + Eprint>(
+/// Copies the warehouse of a command to another file, and says so. It says on a terminal how far it is.
+pub fn copy<R: Files + AllocGlobal + Print + Eprint + Clock>(
     rt: &R,
     given: &ArgMatches<'_>,
+    screens: Screens,
 ) -> Result<u8, Refusal>
 where
     R::File: FileExt + LockFile,
@@ -30,25 +33,30 @@ where
             sectors => sectors,
         },
     };
-    match device::open(rt, given, Access::Read) {
-        Ok(mut session) => copy_to_file(rt, given, &mut session, sectors),
+    let course = course_of(rt, given, screens);
+    match device::open_watched(rt, given, Access::Read, course.as_ref()) {
+        Ok(mut session) => copy_to_file(rt, given, &mut session, sectors, course.as_ref()),
         Err(met) => Err(explained(rt, given, met)),
     }
 }
 
 // Copies an open warehouse to a file of so many sectors, or of as many as it has.
-fn copy_to_file<R: Files + AllocGlobal + Print>(
+fn copy_to_file<R: Files + AllocGlobal + Print + Eprint + Clock>(
     rt: &R,
     given: &ArgMatches<'_>,
-    session: &mut Session<Device<R::File>>,
+    session: &mut Session<Device<'_, R, R::File>>,
     sectors: Option<u32>,
+    watch: Watch<'_>,
 ) -> Result<u8, Refusal>
 where
     R::File: FileExt + LockFile,
 {
     let sectors = sectors.unwrap_or(session.device().count());
     let path = given.get_str("new").unwrap_or("");
-    match device::copy(rt, session, path, sectors) {
+    begin_errand(rt, watch, session, Errand::Copy);
+    let copied = device::copy(rt, session, path, sectors, watch);
+    take_back(rt, watch);
+    match copied {
         Ok(batches) => {
             let text = format!(in rt.alloc(); "created {sectors} sectors\nbatches {batches}\n")?;
             print_text(rt, text.as_str())

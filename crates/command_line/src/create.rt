@@ -15,7 +15,7 @@ use std::alloc::{AllocError, Global};
 use std::fs::OpenFile;
 use std::io::{ErrorKind, Read};
 use std::os::unix::fs::FileExt;
-use std::rt::Files;
+use std::rt::{Clock, Files};
 
 /// How large a warehouse is to be.
 #[derive(Clone, Copy)]
@@ -26,7 +26,7 @@ enum Size {
 }
 
 /// Reads the dimension tables, makes the warehouse, and says so.
-pub fn create<R: Files + AllocGlobal + Print + Eprint>(
+pub fn create<R: Files + AllocGlobal + Print + Eprint + Clock>(
     rt: &R,
     given: &ArgMatches<'_>,
 ) -> Result<u8, Refusal>
@@ -100,7 +100,11 @@ pub fn unsized_file<R: Eprint>(rt: &R, given: &ArgMatches<'_>) -> Result<u8, Ref
 }
 
 // Makes a warehouse of a size, and gives how many sectors it has.
-fn make<R: Files + AllocGlobal>(rt: &R, given: &ArgMatches<'_>, size: Size) -> Result<u32, Refusal>
+fn make<R: Files + AllocGlobal + Eprint + Clock>(
+    rt: &R,
+    given: &ArgMatches<'_>,
+    size: Size,
+) -> Result<u32, Refusal>
 where
     R::File: FileExt + LockFile,
 {

@@ -1,10 +1,13 @@
-//! The command `choose`.
+//! The commands `choose` and `upkeep`.
+use crate::course::{Cleared, Errand, Watch, begin_errand, course_of, take_back};
 use crate::demand::demanded;
 use crate::device::{self, Access, Device};
 use crate::exit::NO_COMMAND;
-use crate::job::{met_in, perform_job};
+use crate::job::{ended, met_in, perform_job};
+use crate::output::output;
 use crate::records::{format_of, view_cells};
 use crate::refusal::{Refusal, explained};
+use crate::screens::Screens;
 use crate::texts::print_text;
 use crate::unfinished::note_unfinished;
 use clap::ArgMatches;
@@ -16,15 +19,15 @@ use report_formats::Format;
 use std::alloc::{AllocError, Global};
 use std::io;
 use std::os::unix::fs::FileExt;
-use std::rt::Files;
+use std::rt::{Clock, Files};
 use warehouse::{Chosen, MOST_CUBOIDS, Session};
-use warehouse_jobs::Job;
+use warehouse_jobs::{Job, perform};
 
 /// The fields of a record of a choice.
 const FIELDS: [&str; 6] = ["view", "customer", "supplier", "part", "date", "benefit"];
 
 /// Chooses the cuboids of a warehouse, for the queries of a file if one is named, and prints them.
-pub fn choose<R: Files + AllocGlobal + Print + Eprint + Input>(
+pub fn choose<R: Files + AllocGlobal + Print + Eprint + Clock + Input>(
     rt: &R,
     given: &ArgMatches<'_>,
 ) -> Result<u8, Refusal>
@@ -63,7 +66,7 @@ fn job_of(k: u8, demanded: Option<Vec<View>>) -> Job {
 }
 
 // Chooses the cuboids of the warehouse of a command, and prints them as records.
-fn choose_as<R: Files + AllocGlobal + Print + Eprint>(
+fn choose_as<R: Files + AllocGlobal + Print + Eprint + Clock>(
     rt: &R,
     given: &ArgMatches<'_>,
     format: Format,
@@ -80,10 +83,10 @@ where
 }
 
 // Chooses the cuboids of an open warehouse, and prints them as records. The room for these is taken after the choice, which stays.
-fn choose_in<R: Files + AllocGlobal + Print + Eprint>(
+fn choose_in<R: Files + AllocGlobal + Print + Eprint + Clock>(
     rt: &R,
     given: &ArgMatches<'_>,
-    session: &mut Session<Device<R::File>>,
+    session: &mut Session<Device<'_, R, R::File>>,
     format: Format,
     k: u8,
     demanded: Option<Vec<View>>,
@@ -126,4 +129,39 @@ fn with_limit(alloc: Global, refusal: Refusal, views: u8) -> Refusal {
         fault: Fault::BadQuery,
         hint: format!(in alloc; "{views}: at most {MOST_CUBOIDS} views are stored").ok(),
     }
+}
+
+/// Brings the stored cuboids of the warehouse of a command to all batches. It says on a terminal how far it is.
+pub fn upkeep<R: Files + AllocGlobal + Print + Eprint + Clock>(
+    rt: &R,
+    given: &ArgMatches<'_>,
+    screens: Screens,
+) -> Result<u8, Refusal>
+where
+    R::File: FileExt + LockFile,
+{
+    let course = course_of(rt, given, screens);
+    match device::open_watched(rt, given, Access::Commit, course.as_ref()) {
+        Ok(mut session) => keep_up(rt, given, &mut session, course.as_ref()),
+        Err(met) => Err(explained(rt, given, met)),
+    }
+}
+
+// Brings the stored cuboids of an open warehouse to all batches, with a note where an upkeep is not finished.
+fn keep_up<R: Files + AllocGlobal + Print + Eprint + Clock>(
+    rt: &R,
+    given: &ArgMatches<'_>,
+    session: &mut Session<Device<'_, R, R::File>>,
+    watch: Watch<'_>,
+) -> Result<u8, Refusal>
+where
+    R::File: FileExt + LockFile,
+{
+    let mut out = Cleared::new(rt, watch, output(rt)?);
+    begin_errand(rt, watch, session, Errand::Upkeep);
+    let done = perform(rt.alloc(), session, Job::Upkeep, io::empty(), &mut out);
+    take_back(rt, watch);
+    let status = ended(rt, given, session, done, out.writer())?;
+    note_unfinished(rt, given, session);
+    Ok(status)
 }

@@ -1,5 +1,6 @@
 //! The file of a warehouse.
 use crate::contents::{Contents, contents_of};
+use crate::course::{Meter, Watch, take_back};
 use crate::refusal::Met;
 use crate::unfinished::is_unfinished;
 use clap::ArgMatches;
@@ -7,15 +8,15 @@ use cube_model::Fault;
 use dimensions::Dims;
 use file_device::{Existing, FileDisk, Host, LockFile, Made, OpenError, Unread};
 use sector_cache::Cached;
-use std::alloc::Global;
 use std::fs::{self, OpenFile};
 use std::io::{self, ErrorKind};
 use std::os::unix::fs::FileExt;
-use std::rt::Files;
+use std::rt::{Clock, Files};
 use warehouse::Session;
+use watched_device::Watched;
 
-/// The device of a warehouse: a file with a cache.
-pub type Device<F> = Cached<FileDisk<Host<F>, Unread>>;
+/// The device of a warehouse: a file of which a meter sees the calls, with a cache.
+pub type Device<'r, R, F> = Cached<Watched<FileDisk<Host<F>, Unread>, Meter<'r, R>>>;
 
 /// The sectors that the cache has room for, 512 KiB.
 const CACHED_SECTORS: u32 = 1024;
@@ -31,7 +32,7 @@ pub enum Access {
 
 /// Makes a warehouse without batches in a file, which is made where it is absent. At a refusal such a file is removed again, if
 /// nothing was committed in it.
-pub fn create<R: Files + AllocGlobal>(
+pub fn create<R: Files + AllocGlobal + Eprint + Clock>(
     rt: &R,
     path: &str,
     sectors: u32,
@@ -41,31 +42,32 @@ pub fn create<R: Files + AllocGlobal>(
 where
     R::File: FileExt + LockFile,
 {
-    let (device, is_new) = made(rt, path, sectors, existing)?;
+    let (device, is_new) = made(rt, path, sectors, existing, None)?;
     match warehouse::create(rt.alloc(), device, dims) {
         Ok(_session) => {
             keep_name(rt, path);
             Ok(())
         }
         Err((fault, device)) => {
-            take_back(rt, path, is_new);
+            remove_new(rt, path, is_new);
             Err(met_by(fault, &device))
         }
     }
 }
 
 /// Makes a copy of a warehouse in a file, which is made where it is absent, and gives how many batches it has. At a refusal a file that
-/// was made is removed again.
-pub fn copy<R: Files + AllocGlobal>(
+/// was made is removed again. Where the command is watched, so is what is read of the copy.
+pub fn copy<R: Files + AllocGlobal + Eprint + Clock>(
     rt: &R,
-    from: &mut Session<Device<R::File>>,
+    from: &mut Session<Device<'_, R, R::File>>,
     path: &str,
     sectors: u32,
+    watch: Watch<'_>,
 ) -> Result<u32, Met>
 where
     R::File: FileExt + LockFile,
 {
-    let (device, is_new) = made(rt, path, sectors, Existing::Blank)?;
+    let (device, is_new) = made(rt, path, sectors, Existing::Blank, watch)?;
     match warehouse_copy::copy(rt.alloc(), from, device) {
         Ok(copy) => {
             keep_name(rt, path);
@@ -81,27 +83,29 @@ where
 }
 
 // The device of a file that is made where it is absent, and whether it was. Where there is no memory for it the file is removed again.
-fn made<R: Files + AllocGlobal>(
-    rt: &R,
+fn made<'r, R: Files + AllocGlobal + Eprint + Clock>(
+    rt: &'r R,
     path: &str,
     sectors: u32,
     existing: Existing,
-) -> Result<(Device<R::File>, bool), Met>
+    watch: Watch<'r>,
+) -> Result<(Device<'r, R, R::File>, bool), Met>
 where
     R::File: FileExt + LockFile,
 {
     let Made { disk, is_new } = FileDisk::make(rt, path, sectors, existing)?;
+    let disk = Watched::new(disk, Meter::new(rt, watch));
     match Cached::new(rt.alloc(), disk, CACHED_SECTORS) {
         Ok(device) => Ok((device, is_new)),
         Err((fault, _locked)) => {
-            take_back(rt, path, is_new);
+            remove_new(rt, path, is_new);
             Err(Met::from(fault))
         }
     }
 }
 
 // Removes a file that is new and in which nothing was committed. Its lock is still held.
-fn take_back<R: Files>(rt: &R, path: &str, is_new: bool) {
+fn remove_new<R: Files>(rt: &R, path: &str, is_new: bool) {
     if is_new && contents_of(rt, path) == Contents::Nothing {
         let _removed = fs::remove_file(rt, path);
     }
@@ -120,78 +124,98 @@ fn keep_name<R: Files>(rt: &R, path: &str) {
 }
 
 /// Opens the warehouse in the file of a command.
-pub fn open<R: Files + AllocGlobal>(
-    rt: &R,
+pub fn open<'r, R: Files + AllocGlobal + Eprint + Clock>(
+    rt: &'r R,
     given: &ArgMatches<'_>,
     access: Access,
-) -> Result<Session<Device<R::File>>, Met>
+) -> Result<Session<Device<'r, R, R::File>>, Met>
 where
     R::File: FileExt + LockFile,
 {
-    match access {
-        Access::Commit => open_to_commit(rt, path_of(given)),
-        Access::Read => open_finished(rt, path_of(given)),
-    }
+    open_watched(rt, given, access, None)
+}
+
+/// Opens the warehouse in the file of a command that may be watched.
+pub fn open_watched<'r, R: Files + AllocGlobal + Eprint + Clock>(
+    rt: &'r R,
+    given: &ArgMatches<'_>,
+    access: Access,
+    watch: Watch<'r>,
+) -> Result<Session<Device<'r, R, R::File>>, Met>
+where
+    R::File: FileExt + LockFile,
+{
+    let opened = match access {
+        Access::Commit => open_to_commit(rt, path_of(given), watch),
+        Access::Read => open_finished(rt, path_of(given), watch),
+    };
+    take_back(rt, watch);
+    opened
 }
 
 // Opens the warehouse in a file for reading. Where an upkeep was cut off, it is finished first, if the file can be written and no other
 // program has it open. Otherwise the warehouse is opened as it is.
-fn open_finished<R: Files + AllocGlobal>(
-    rt: &R,
+fn open_finished<'r, R: Files + AllocGlobal + Eprint + Clock>(
+    rt: &'r R,
     path: &str,
-) -> Result<Session<Device<R::File>>, Met>
+    watch: Watch<'r>,
+) -> Result<Session<Device<'r, R, R::File>>, Met>
 where
     R::File: FileExt + LockFile,
 {
-    let session = open_to_read(rt, path)?;
+    let session = open_to_read(rt, path, watch)?;
     if !is_unfinished(&session) {
         return Ok(session);
     }
     // Its lock keeps the file from being opened for writing.
     drop(session);
-    match open_to_commit(rt, path) {
+    match open_to_commit(rt, path, watch) {
         Ok(finished) => Ok(finished),
-        Err(_) => open_to_read(rt, path),
+        Err(_) => open_to_read(rt, path, watch),
     }
 }
 
-/// Opens the warehouse in a file for reading and writing. No other program may have it open.
-pub fn open_to_commit<R: Files + AllocGlobal>(
-    rt: &R,
+// Opens the warehouse in a file for reading and writing. No other program may have it open.
+fn open_to_commit<'r, R: Files + AllocGlobal + Eprint + Clock>(
+    rt: &'r R,
     path: &str,
-) -> Result<Session<Device<R::File>>, Met>
+    watch: Watch<'r>,
+) -> Result<Session<Device<'r, R, R::File>>, Met>
 where
     R::File: FileExt + LockFile,
 {
     let disk = FileDisk::open(rt, path)?;
-    session_on(rt.alloc(), disk, Access::Commit)
+    session_on(rt, disk, Access::Commit, watch)
 }
 
-/// Opens the warehouse in a file for reading alone. No other program may have it open for writing.
-pub fn open_to_read<R: Files + AllocGlobal>(
-    rt: &R,
+// Opens the warehouse in a file for reading alone. No other program may have it open for writing.
+fn open_to_read<'r, R: Files + AllocGlobal + Eprint + Clock>(
+    rt: &'r R,
     path: &str,
-) -> Result<Session<Device<R::File>>, Met>
+    watch: Watch<'r>,
+) -> Result<Session<Device<'r, R, R::File>>, Met>
 where
     R::File: FileExt + LockFile,
 {
     let disk = FileDisk::open_to_read(rt, path)?;
-    session_on(rt.alloc(), disk, Access::Read)
+    session_on(rt, disk, Access::Read, watch)
 }
 
 // Opens the warehouse on a disk, with a cache. Where it is only read, an upkeep that was cut off stays so.
-fn session_on<F: FileExt + OpenFile + Drop>(
-    alloc: Global,
+fn session_on<'r, R: AllocGlobal + Eprint + Clock, F: FileExt + OpenFile + Drop>(
+    rt: &'r R,
     disk: FileDisk<Host<F>, Unread>,
     access: Access,
-) -> Result<Session<Device<F>>, Met> {
-    let device = match Cached::new(alloc, disk, CACHED_SECTORS) {
+    watch: Watch<'r>,
+) -> Result<Session<Device<'r, R, F>>, Met> {
+    let disk = Watched::new(disk, Meter::new(rt, watch));
+    let device = match Cached::new(rt.alloc(), disk, CACHED_SECTORS) {
         Ok(device) => device,
         Err((fault, _)) => return Err(Met::from(fault)),
     };
     let opened = match access {
-        Access::Commit => warehouse::open(alloc, device),
-        Access::Read => warehouse::open_as_is(alloc, device),
+        Access::Commit => warehouse::open(rt.alloc(), device),
+        Access::Read => warehouse::open_as_is(rt.alloc(), device),
     };
     match opened {
         Ok(session) => Ok(session),
@@ -200,9 +224,12 @@ fn session_on<F: FileExt + OpenFile + Drop>(
 }
 
 /// A fault, with what the system said of the file last.
-pub fn met_by<F: FileExt + OpenFile + Drop>(fault: Fault, device: &Device<F>) -> Met {
+pub fn met_by<R: Eprint + Clock, F: FileExt + OpenFile + Drop>(
+    fault: Fault,
+    device: &Device<'_, R, F>,
+) -> Met {
     Met {
-        failure: device.device().file().failure(),
+        failure: device.device().device().file().failure(),
         ..Met::from(fault)
     }
 }

@@ -13,14 +13,14 @@ use ssb_reports::flush;
 use std::alloc::Global;
 use std::io::Write;
 use std::os::unix::fs::FileExt;
-use std::rt::Files;
+use std::rt::{Clock, Files};
 use table_hints::Table;
 use table_texts::write_dimension;
 use warehouse::Session;
 use warehouse_dump::{write_batch, write_batches};
 
 /// Prints the fact rows of the warehouse of a command as lines of their table, or writes all five tables into a folder.
-pub fn dump<R: Files + AllocGlobal + Print + Eprint>(
+pub fn dump<R: Files + AllocGlobal + Print + Eprint + Clock>(
     rt: &R,
     given: &ArgMatches<'_>,
 ) -> Result<u8, Refusal>
@@ -37,10 +37,10 @@ where
 }
 
 // Prints the fact rows of an open warehouse.
-fn print_facts<R: Files + AllocGlobal + Print>(
+fn print_facts<R: Files + AllocGlobal + Print + Eprint + Clock>(
     rt: &R,
     given: &ArgMatches<'_>,
-    session: &mut Session<Device<R::File>>,
+    session: &mut Session<Device<'_, R, R::File>>,
 ) -> Result<u8, Refusal>
 where
     R::File: FileExt + LockFile,
@@ -55,10 +55,10 @@ where
 }
 
 // The refusal of rows that are not written.
-fn undumped<R: Files + AllocGlobal>(
+fn undumped<R: Files + AllocGlobal + Eprint + Clock>(
     rt: &R,
     given: &ArgMatches<'_>,
-    session: &Session<Device<R::File>>,
+    session: &Session<Device<'_, R, R::File>>,
     fault: Fault,
 ) -> Refusal
 where
@@ -76,15 +76,12 @@ where
 }
 
 // Writes the tables of an open warehouse into a folder.
-fn dump_tables<R: Files + AllocGlobal + Print>(
+fn dump_tables<R: Files + AllocGlobal + Print, D: Sectors>(
     rt: &R,
     given: &ArgMatches<'_>,
-    session: &mut Session<Device<R::File>>,
+    session: &mut Session<D>,
     folder: &str,
-) -> Result<u8, Refusal>
-where
-    R::File: FileExt + LockFile,
-{
+) -> Result<u8, Refusal> {
     let mut lines = Dumped {
         alloc: rt.alloc(),
         session,

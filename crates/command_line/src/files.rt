@@ -212,8 +212,11 @@ impl<R: Files + AllocGlobal> GivenFiles<'_, '_, '_, R> {
     }
 }
 
-// Why a file cannot be opened or read, and its name.
-fn unreadable_file<R: Files + AllocGlobal>(rt: &R, path: &str) -> Result<Option<String>, Fault> {
+/// Why a file cannot be opened or read, and its name.
+pub fn unreadable_file<R: Files + AllocGlobal>(
+    rt: &R,
+    path: &str,
+) -> Result<Option<String>, Fault> {
     match first_error(rt, path) {
         Some(error) => Ok(Some(format!(in rt.alloc(); "{path}: {error}")?)),
         None => Ok(None),

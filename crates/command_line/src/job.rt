@@ -16,6 +16,7 @@ use crate::unfinished::note_unfinished;
 use clap::ArgMatches;
 use cube_model::Fault;
 use file_device::LockFile;
+use sector_device::Sectors;
 use ssb_eval::exit_of;
 use std::alloc::Global;
 use std::fs::OpenFile;
@@ -56,7 +57,7 @@ fn unformatted<R: Eprint>(rt: &R, name: &str) -> Result<u8, Refusal> {
 }
 
 // Opens the warehouse of a command, and reports the answers to where the words have them go.
-fn answer<R: Files + AllocGlobal + Print + Eprint>(
+fn answer<R: Files + AllocGlobal + Print + Eprint + Clock>(
     rt: &R,
     given: &ArgMatches<'_>,
     reports: &Reports,
@@ -71,10 +72,10 @@ where
 }
 
 // Reports the answers of an open warehouse to where the words have them go, and writes the notes on the conditions.
-fn answer_in<R: Files + AllocGlobal + Print + Eprint>(
+fn answer_in<R: Files + AllocGlobal + Print + Eprint + Clock>(
     rt: &R,
     given: &ArgMatches<'_>,
-    session: &mut Session<Device<R::File>>,
+    session: &mut Session<Device<'_, R, R::File>>,
     reports: &Reports,
 ) -> Result<u8, Refusal>
 where
@@ -95,10 +96,10 @@ where
 }
 
 // Prints reports of an open warehouse.
-fn print_reports<R: Files + AllocGlobal + Print>(
+fn print_reports<R: Files + AllocGlobal + Print + Eprint + Clock>(
     rt: &R,
     given: &ArgMatches<'_>,
-    session: &mut Session<Device<R::File>>,
+    session: &mut Session<Device<'_, R, R::File>>,
     reports: &Reports,
 ) -> Result<u8, Refusal>
 where
@@ -114,10 +115,10 @@ where
 }
 
 // Saves reports of an open warehouse in a file.
-fn save_reports<R: Files + AllocGlobal>(
+fn save_reports<R: Files + AllocGlobal + Eprint + Clock>(
     rt: &R,
     given: &ArgMatches<'_>,
-    session: &mut Session<Device<R::File>>,
+    session: &mut Session<Device<'_, R, R::File>>,
     reports: &Reports,
     path: &str,
 ) -> Result<u8, Refusal>
@@ -140,10 +141,10 @@ where
 }
 
 // The refusal of a report that was not saved.
-fn unsaved<R: Files + AllocGlobal>(
+fn unsaved<R: Files + AllocGlobal + Eprint + Clock>(
     rt: &R,
     given: &ArgMatches<'_>,
-    session: &Session<Device<R::File>>,
+    session: &Session<Device<'_, R, R::File>>,
     part: &str,
     fault: Fault,
     failure: Option<io::Error>,
@@ -169,7 +170,7 @@ pub fn unasked<R: Files + AllocGlobal>(rt: &R, given: &ArgMatches<'_>, fault: Fa
 }
 
 /// Opens the warehouse of a command, does a job to it, and gives the status of the program. A load for which it has no room is noted.
-pub fn perform_job<R: Files + AllocGlobal + Print + Eprint, L: Read + Drop>(
+pub fn perform_job<R: Files + AllocGlobal + Print + Eprint + Clock, L: Read + Drop>(
     rt: &R,
     given: &ArgMatches<'_>,
     access: Access,
@@ -186,10 +187,10 @@ where
 }
 
 // Does a job to an open warehouse, with a note where a load has no room, and one where an upkeep is not finished.
-fn done_with_notes<R: Files + AllocGlobal + Print + Eprint, L: Read + Drop>(
+fn done_with_notes<R: Files + AllocGlobal + Print + Eprint + Clock, L: Read + Drop>(
     rt: &R,
     given: &ArgMatches<'_>,
-    session: &mut Session<Device<R::File>>,
+    session: &mut Session<Device<'_, R, R::File>>,
     job: Job,
     lineorder: L,
 ) -> Result<u8, Refusal>
@@ -203,10 +204,10 @@ where
 }
 
 /// Does a job to an open warehouse, and gives the status of the program.
-pub fn done_in<R: Files + AllocGlobal + Print, L: Read + Drop>(
+pub fn done_in<R: Files + AllocGlobal + Print + Eprint + Clock, L: Read + Drop>(
     rt: &R,
     given: &ArgMatches<'_>,
-    session: &mut Session<Device<R::File>>,
+    session: &mut Session<Device<'_, R, R::File>>,
     job: Job,
     lineorder: L,
 ) -> Result<u8, Refusal>
@@ -218,10 +219,10 @@ where
 }
 
 // Does a job to an open warehouse, writes what it says, and gives the status of the program.
-fn done_to<R: Files + AllocGlobal + Print, L: Read + Drop>(
+fn done_to<R: Files + AllocGlobal + Print + Eprint + Clock, L: Read + Drop>(
     rt: &R,
     given: &ArgMatches<'_>,
-    session: &mut Session<Device<R::File>>,
+    session: &mut Session<Device<'_, R, R::File>>,
     job: Job,
     lineorder: L,
     out: &mut Output<'_, R>,
@@ -233,11 +234,11 @@ where
     ended(rt, given, session, done, out)
 }
 
-// The status of a job that was done, or its refusal. Standard output may have failed.
-fn ended<R: Files + AllocGlobal + Print>(
+/// The status of a job that was done, or its refusal. Standard output may have failed.
+pub fn ended<R: Files + AllocGlobal + Print + Eprint + Clock>(
     rt: &R,
     given: &ArgMatches<'_>,
-    session: &Session<Device<R::File>>,
+    session: &Session<Device<'_, R, R::File>>,
     done: Result<bool, Fault>,
     out: &Output<'_, R>,
 ) -> Result<u8, Refusal>
@@ -256,9 +257,9 @@ where
 }
 
 // The stored batch that has the number of the next batch of a load, after so many that were done.
-fn stored_batch<F: FileExt + OpenFile + Drop>(
+fn stored_batch<D: Sectors>(
     given: &ArgMatches<'_>,
-    session: &Session<Device<F>>,
+    session: &Session<D>,
     done: u32,
 ) -> Option<StoredBatch> {
     let number = cut_of(given)?.first.checked_add(done)?;
@@ -288,10 +289,10 @@ fn status_of_closed(given: &ArgMatches<'_>) -> u8 {
 }
 
 /// A fault, with how many batches there are, where that is still known, the room where that is lacking, and why the device failed.
-pub fn met_in<F: FileExt + OpenFile + Drop>(
+pub fn met_in<R: Clock + Eprint, F: FileExt + OpenFile + Drop>(
     alloc: Global,
     fault: Fault,
-    session: &Session<Device<F>>,
+    session: &Session<Device<'_, R, F>>,
 ) -> Met {
     let batches = match session.status() {
         Ok(status) => Some(status.batches),

@@ -5,7 +5,7 @@ use clap::ArgMatches;
 use cube_model::{Fault, Query};
 use line_order::{Arrangement, Sorting, sort_key};
 use report_formats::{Asked, Format, Layout};
-use std::alloc::Global;
+use std::alloc::{AllocError, Global};
 
 /// The report that the words of a command ask for.
 pub fn asked_of(alloc: Global, given: &ArgMatches<'_>) -> Result<Asked, Fault> {
@@ -26,8 +26,8 @@ pub fn layout_of(given: &ArgMatches<'_>) -> Layout {
     }
 }
 
-// The order and the number of the lines that the words of a command ask for. `BadQuery` where the query has no such column or aggregate.
-fn arrangement_of(query: &Query, given: &ArgMatches<'_>) -> Result<Arrangement, Fault> {
+/// The order and the number of the lines that the words of a command ask for. `BadQuery` where the query has no such column or aggregate.
+pub fn arrangement_of(query: &Query, given: &ArgMatches<'_>) -> Result<Arrangement, Fault> {
     let sorting = match given.get_str("order") {
         Some(word) => Some(sorting_of(query, word)?),
         None => None,
@@ -80,8 +80,12 @@ fn order_hint(alloc: Global, given: &ArgMatches<'_>) -> Result<Option<String>, F
     if sorting_of(&query, word).is_ok() {
         return Ok(None);
     }
-    let hint = format!(in alloc;
+    Ok(Some(bad_order(alloc, word)?))
+}
+
+/// What is wrong with an order that a query does not have.
+pub fn bad_order(alloc: Global, word: &str) -> Result<String, AllocError> {
+    format!(in alloc;
         "--order {word}: the query has no such column or aggregate; :desc may be after its name"
-    )?;
-    Ok(Some(hint))
+    )
 }

@@ -50,8 +50,9 @@ where
         progress: shows && !screens.output,
         rows: shows,
     };
-    match open_all(rt, paths) {
-        Ok(text) => {
+    match open_each(rt, paths) {
+        Ok(sources) => {
+            let text = Joined::new(sources);
             let tally = Cell::new(Tally::new(rt, byte_count(rt, paths), wanted));
             let text = Progress::new(rt, text, &tally);
             let status = perform_job(rt, given, Access::Commit, job, text)?;
@@ -64,8 +65,8 @@ where
     }
 }
 
-// Says that standard input is given more than once.
-fn several_inputs<R: Eprint>(rt: &R) -> Result<u8, Refusal> {
+/// Says that standard input is given more than once.
+pub fn several_inputs<R: Eprint>(rt: &R) -> Result<u8, Refusal> {
     let said = eprintln!(rt;
         "error: invalid value '-' for '<FILE>...': standard input can be read once, so give - once\n\nFor more information, try '--help'."
     );
@@ -75,11 +76,11 @@ fn several_inputs<R: Eprint>(rt: &R) -> Result<u8, Refusal> {
     }
 }
 
-// Opens files in order, as one text.
-fn open_all<R: Files + AllocGlobal + Input>(
+/// Opens files in order.
+pub fn open_each<R: Files + AllocGlobal + Input>(
     rt: &R,
     paths: &[&str],
-) -> Result<Joined<Source<R::File, R::Reader>>, Fault> {
+) -> Result<Vec<Source<R::File, R::Reader>>, Fault> {
     let mut sources = Vec::new(rt.alloc());
     for path in paths {
         let source = if is_standard_input(path) {
@@ -89,7 +90,7 @@ fn open_all<R: Files + AllocGlobal + Input>(
         };
         sources.push(source)?;
     }
-    Ok(Joined::new(sources))
+    Ok(sources)
 }
 
 /// The bytes of some files together, and 0 where those of one are not known.

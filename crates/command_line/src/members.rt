@@ -12,12 +12,12 @@ use query_words::read_query;
 use std::alloc::Global;
 use std::io::Write;
 use std::os::unix::fs::FileExt;
-use std::rt::Files;
+use std::rt::{Clock, Files};
 use warehouse::Session;
 use word_hints::{QueryWords, hint_of_cube};
 
 /// Lists the members of an attribute of the warehouse of a command.
-pub fn members<R: Files + AllocGlobal + Print + Eprint>(
+pub fn members<R: Files + AllocGlobal + Print + Eprint + Clock>(
     rt: &R,
     given: &ArgMatches<'_>,
 ) -> Result<u8, Refusal>
@@ -67,10 +67,10 @@ fn no_attribute(alloc: Global, name: &str) -> Refusal {
 }
 
 // Prints the members of an attribute of an open warehouse.
-fn print_members<R: Files + AllocGlobal + Print>(
+fn print_members<R: Files + AllocGlobal + Print + Eprint + Clock>(
     rt: &R,
     given: &ArgMatches<'_>,
-    session: &Session<Device<R::File>>,
+    session: &Session<Device<'_, R, R::File>>,
     attr: Attr,
 ) -> Result<u8, Refusal>
 where

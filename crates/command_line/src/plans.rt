@@ -16,10 +16,10 @@ use cube_model::{Fault, Query};
 use file_device::LockFile;
 use record_formats::{Cell, Records};
 use report_formats::Format;
+use sector_device::Sectors;
 use std::alloc::{AllocError, Global};
-use std::fs::OpenFile;
 use std::os::unix::fs::FileExt;
-use std::rt::Files;
+use std::rt::{Clock, Files};
 use warehouse::{Plan, Priced, Session};
 
 /// The fields of a record of a plan.
@@ -28,7 +28,7 @@ const FIELDS: [&str; 9] = [
 ];
 
 /// Prints how the query of a command is answered over the batches that it names, and writes the notes on its conditions.
-pub fn explain<R: Files + AllocGlobal + Print + Eprint>(
+pub fn explain<R: Files + AllocGlobal + Print + Eprint + Clock>(
     rt: &R,
     given: &ArgMatches<'_>,
 ) -> Result<u8, Refusal>
@@ -54,7 +54,7 @@ fn unspelled<R: Files + AllocGlobal>(rt: &R, given: &ArgMatches<'_>, fault: Faul
 }
 
 // Prints how a query of the warehouse of a command is answered.
-fn explain_query<R: Files + AllocGlobal + Print + Eprint>(
+fn explain_query<R: Files + AllocGlobal + Print + Eprint + Clock>(
     rt: &R,
     given: &ArgMatches<'_>,
     query: &Query,
@@ -69,11 +69,11 @@ where
 }
 
 // Prints how a query of an open warehouse is answered, as lines or as records, and writes the notes on its conditions.
-fn explain_in<R: Files + AllocGlobal + Print + Eprint>(
+fn explain_in<R: Files + AllocGlobal + Print + Eprint + Clock>(
     rt: &R,
     given: &ArgMatches<'_>,
     query: &Query,
-    session: &Session<Device<R::File>>,
+    session: &Session<Device<'_, R, R::File>>,
 ) -> Result<u8, Refusal>
 where
     R::File: FileExt + LockFile,
@@ -88,11 +88,11 @@ where
 }
 
 // Prints how a query of an open warehouse is answered.
-fn print_plans<R: Files + AllocGlobal + Print + Eprint>(
+fn print_plans<R: Files + AllocGlobal + Print + Eprint + Clock>(
     rt: &R,
     given: &ArgMatches<'_>,
     query: &Query,
-    session: &Session<Device<R::File>>,
+    session: &Session<Device<'_, R, R::File>>,
 ) -> Result<u8, Refusal>
 where
     R::File: FileExt + LockFile,
@@ -108,11 +108,11 @@ where
 }
 
 // The plans of a query of an open warehouse, the one that is taken first, and how many batches they are over.
-fn plans_in<F: FileExt + OpenFile + Drop>(
+fn plans_in<D: Sectors>(
     alloc: Global,
     given: &ArgMatches<'_>,
     query: &Query,
-    session: &Session<Device<F>>,
+    session: &Session<D>,
 ) -> Result<(Vec<Priced>, u32), Fault> {
     let count = match given.get_one::<u32>("as-of") {
         Some(as_of) => as_of,
@@ -122,11 +122,7 @@ fn plans_in<F: FileExt + OpenFile + Drop>(
 }
 
 // How many fact rows the batches after some have, up to others.
-fn rows_between<F: FileExt + OpenFile + Drop>(
-    session: &Session<Device<F>>,
-    mark: u32,
-    count: u32,
-) -> u64 {
+fn rows_between<D: Sectors>(session: &Session<D>, mark: u32, count: u32) -> u64 {
     let mut rows = 0u64;
     for before in mark..count {
         let batch = session.batch_rows(before.saturating_add(1)).unwrap_or(0);
@@ -136,11 +132,11 @@ fn rows_between<F: FileExt + OpenFile + Drop>(
 }
 
 // Prints what the plan that is taken reads, and how many groups there are at most.
-fn print_reads<R: Files + AllocGlobal + Print>(
+fn print_reads<R: Files + AllocGlobal + Print + Eprint + Clock>(
     rt: &R,
     given: &ArgMatches<'_>,
     query: &Query,
-    session: &Session<Device<R::File>>,
+    session: &Session<Device<'_, R, R::File>>,
 ) -> Result<u8, Refusal>
 where
     R::File: FileExt + LockFile,
@@ -163,11 +159,11 @@ where
 }
 
 /// Says on standard error how many cells and fact rows the query of a report reads, and how many bytes at most, where it is asked to.
-pub fn say_reads<R: Files + AllocGlobal + Eprint>(
+pub fn say_reads<R: Files + AllocGlobal + Eprint + Clock>(
     rt: &R,
     given: &ArgMatches<'_>,
     query: &Query,
-    session: &Session<Device<R::File>>,
+    session: &Session<Device<'_, R, R::File>>,
 )
 where
     R::File: FileExt + LockFile,
@@ -178,11 +174,11 @@ where
 }
 
 // How many cells and fact rows the plan that is taken reads, and how many bytes at most.
-fn read_by<F: FileExt + OpenFile + Drop>(
+fn read_by<D: Sectors>(
     alloc: Global,
     given: &ArgMatches<'_>,
     query: &Query,
-    session: &Session<Device<F>>,
+    session: &Session<D>,
 ) -> Result<(u64, u64), Fault> {
     let reads = Reads::of(alloc, session.dims(), query)?;
     let (plans, count) = plans_in(alloc, given, query, session)?;
@@ -194,11 +190,11 @@ fn read_by<F: FileExt + OpenFile + Drop>(
 }
 
 // Prints the plans of a query of an open warehouse as records.
-fn print_records<R: Files + AllocGlobal + Print>(
+fn print_records<R: Files + AllocGlobal + Print + Eprint + Clock>(
     rt: &R,
     given: &ArgMatches<'_>,
     query: &Query,
-    session: &Session<Device<R::File>>,
+    session: &Session<Device<'_, R, R::File>>,
     format: Format,
 ) -> Result<u8, Refusal>
 where

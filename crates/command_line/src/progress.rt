@@ -5,7 +5,7 @@ use std::rt::Clock;
 use std::time::Duration;
 
 /// The bytes of a megabyte.
-const MEGABYTE: u64 = 1_000_000;
+pub const MEGABYTE: u64 = 1_000_000;
 
 /// How many bytes are read before more is said.
 const STEP: u64 = 8 * MEGABYTE;

@@ -6,7 +6,7 @@ use crate::screens::Screens;
 use crate::streams::hold_streams;
 use crate::{
     add, check, copy, crashes, create, cuboids, demo, dump, eval, generate, job, load, members,
-    plans, status, texts, views,
+    merge, plans, status, texts, views,
 };
 use clap::ArgMatches;
 use clap::error::{Error, ErrorKind};
@@ -78,12 +78,13 @@ where
         Some(("create", given)) => create::create(rt, given),
         Some(("load", given)) => load::load(rt, given, screens),
         Some(("add", given)) => add::add(rt, given),
+        Some(("merge", given)) => merge::merge(rt, given),
         Some(("demo", _)) => demo::demo(rt),
         Some(("self-test", given)) => crashes::self_test(rt, given),
         Some(("generate", given)) => generate::generate(rt, given),
         Some(("manual", _)) => texts::manual(rt),
         Some(("completions", given)) => texts::completions(rt, given),
-        Some((name, given)) => consult(rt, name, given),
+        Some((name, given)) => consult(rt, name, given, screens),
         None => Ok(NO_COMMAND),
     }
 }
@@ -93,6 +94,7 @@ fn consult<R: Files + AllocGlobal + Print + Eprint + Clock + CpuClock + Input>(
     rt: &R,
     name: &str,
     given: &ArgMatches<'_>,
+    screens: Screens,
 ) -> Result<u8, Refusal>
 where
     R::File: FileExt + LockFile,
@@ -103,12 +105,12 @@ where
         "explain" => plans::explain(rt, given),
         "status" => status::status(rt, given),
         "choose" => cuboids::choose(rt, given),
-        "upkeep" => job::perform_job(rt, given, Access::Commit, Job::Upkeep, io::empty()),
+        "upkeep" => cuboids::upkeep(rt, given, screens),
         "views" => views::views(rt, given),
         "members" => members::members(rt, given),
         "dump" => dump::dump(rt, given),
-        "copy" => copy::copy(rt, given),
-        "check" => check::check(rt, given),
+        "copy" => copy::copy(rt, given, screens),
+        "check" => check::check(rt, given, screens),
         "audit" => job::perform_job(rt, given, Access::Read, Job::Audit, io::empty()),
         _ => Ok(NO_COMMAND),
     }

@@ -10,10 +10,9 @@ use dimensions::Dims;
 use file_device::LockFile;
 use sector_device::Sectors;
 use std::alloc::Global;
-use std::fs::OpenFile;
 use std::io::Read;
 use std::os::unix::fs::FileExt;
-use std::rt::Files;
+use std::rt::{Clock, Files};
 use table_hints::{Cut, Needs, Table, TableFiles, row_count};
 use warehouse::Session;
 use warehouse_root::limits::MOST_CELLS;
@@ -69,10 +68,7 @@ pub struct Room {
 
 impl Room {
     /// The room of an open warehouse.
-    pub fn of<F: FileExt + OpenFile + Drop>(
-        alloc: Global,
-        session: &Session<Device<F>>,
-    ) -> Result<Room, Fault> {
+    pub fn of<D: Sectors>(alloc: Global, session: &Session<D>) -> Result<Room, Fault> {
         Ok(Room {
             sectors: u64::from(session.device().count()),
             taken: session.sectors_taken(alloc)?,
@@ -111,10 +107,10 @@ impl Room {
 
 /// Says on standard error where the free sectors are too few for the batches of a load that are not stored yet. The load goes on;
 /// standard output and the status stay as they are, also where standard error takes nothing.
-pub fn note_room<R: Files + AllocGlobal + Eprint>(
+pub fn note_room<R: Files + AllocGlobal + Eprint + Clock>(
     rt: &R,
     given: &ArgMatches<'_>,
-    session: &Session<Device<R::File>>,
+    session: &Session<Device<'_, R, R::File>>,
 )
 where
     R::File: FileExt + LockFile,

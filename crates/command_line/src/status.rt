@@ -13,11 +13,11 @@ use cube_model::Fault;
 use file_device::LockFile;
 use record_formats::{Cell, Records};
 use report_formats::Format;
+use sector_device::Sectors;
 use std::alloc::{AllocError, Global};
-use std::fs::OpenFile;
 use std::io;
 use std::os::unix::fs::FileExt;
-use std::rt::Files;
+use std::rt::{Clock, Files};
 use warehouse::{Session, Status};
 use warehouse_jobs::Job;
 
@@ -25,7 +25,7 @@ use warehouse_jobs::Job;
 const FIELDS: [&str; 6] = ["name", "value", "view", "mark", "runs", "cells"];
 
 /// Prints the numbers of the warehouse of a command, with `--all` those of its sectors too.
-pub fn status<R: Files + AllocGlobal + Print + Eprint>(
+pub fn status<R: Files + AllocGlobal + Print + Eprint + Clock>(
     rt: &R,
     given: &ArgMatches<'_>,
 ) -> Result<u8, Refusal>
@@ -46,10 +46,10 @@ where
 }
 
 // Prints all numbers of an open warehouse.
-fn print_all<R: Files + AllocGlobal + Print + Eprint>(
+fn print_all<R: Files + AllocGlobal + Print + Eprint + Clock>(
     rt: &R,
     given: &ArgMatches<'_>,
-    session: &mut Session<Device<R::File>>,
+    session: &mut Session<Device<'_, R, R::File>>,
 ) -> Result<u8, Refusal>
 where
     R::File: FileExt + LockFile,
@@ -71,10 +71,7 @@ struct Space {
 }
 
 impl Space {
-    fn of<F: FileExt + OpenFile + Drop>(
-        alloc: Global,
-        session: &Session<Device<F>>,
-    ) -> Result<Space, Fault> {
+    fn of<D: Sectors>(alloc: Global, session: &Session<D>) -> Result<Space, Fault> {
         let room = Room::of(alloc, session)?;
         let batches = session.status()?.batches;
         let rows = session.batch_rows(batches).unwrap_or(0);
@@ -101,10 +98,10 @@ fn print_space<R: AllocGlobal + Print>(rt: &R, space: Space) -> Result<u8, Refus
 }
 
 // Prints the numbers of an open warehouse as records.
-fn print_records<R: Files + AllocGlobal + Print + Eprint>(
+fn print_records<R: Files + AllocGlobal + Print + Eprint + Clock>(
     rt: &R,
     given: &ArgMatches<'_>,
-    session: &Session<Device<R::File>>,
+    session: &Session<Device<'_, R, R::File>>,
     format: Format,
 ) -> Result<u8, Refusal>
 where

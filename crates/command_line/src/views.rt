@@ -18,7 +18,7 @@ use sector_device::Sectors;
 use std::alloc::Global;
 use std::io::Write;
 use std::os::unix::fs::FileExt;
-use std::rt::Files;
+use std::rt::{Clock, Files};
 use view_words::{Refused, hint_of_view, read_views};
 use warehouse::{MOST_CUBOIDS, Session, StoredCuboid};
 
@@ -26,7 +26,7 @@ use warehouse::{MOST_CUBOIDS, Session, StoredCuboid};
 static AXES: [Axis; 4] = [Axis::Customer, Axis::Supplier, Axis::Part, Axis::Date];
 
 /// Lists the stored cuboids of a warehouse. Where views are named it stores theirs before, and no others.
-pub fn views<R: Files + AllocGlobal + Print + Eprint>(
+pub fn views<R: Files + AllocGlobal + Print + Eprint + Clock>(
     rt: &R,
     given: &ArgMatches<'_>,
 ) -> Result<u8, Refusal>
@@ -47,7 +47,7 @@ where
 }
 
 // Stores the cuboids of some views, and lists them.
-fn store_views<R: Files + AllocGlobal + Print + Eprint>(
+fn store_views<R: Files + AllocGlobal + Print + Eprint + Clock>(
     rt: &R,
     given: &ArgMatches<'_>,
     views: Vec<View>,
@@ -93,10 +93,10 @@ fn word_at<'w>(words: &[&'w str], place: usize) -> &'w str {
 }
 
 // Prints the stored cuboids of a warehouse.
-fn list<R: Files + AllocGlobal + Print + Eprint>(
+fn list<R: Files + AllocGlobal + Print + Eprint + Clock>(
     rt: &R,
     given: &ArgMatches<'_>,
-    session: &Session<Device<R::File>>,
+    session: &Session<Device<'_, R, R::File>>,
 ) -> Result<u8, Refusal>
 where
     R::File: FileExt + LockFile,

@@ -6,7 +6,7 @@ use crate::words::Words;
 pub(crate) static CHECK: Described = Described {
     name: "check",
     about: "Says whether all that is stored of a warehouse is right.",
-    usage: "ssbcube check DEV",
+    usage: "ssbcube check DEV [--quiet]",
     help: "Each batch is read whole: its bytes have to be those of a batch, its keys have to
 be known in the dimensions, and its rows have to be as many as the root says. The
 totals of the root have to be those of the rows, and each stored cuboid has to be
@@ -19,5 +19,5 @@ into others that break no rule are not found.
 Example:
   ssbcube check star.dev",
     required: &[Words::Device],
-    optional: &[],
+    optional: &[Words::Quiet],
 };

@@ -12,6 +12,7 @@ use crate::eval::EVAL;
 use crate::explain::EXPLAIN;
 use crate::generate::GENERATE;
 use crate::load::LOAD;
+use crate::merge::MERGE;
 use crate::report::REPORT;
 use crate::self_test::SELF_TEST;
 use crate::shells::{COMPLETIONS, MANUAL};
@@ -42,7 +43,7 @@ Status 2 means that the command line was not understood. 'ssbcube COMMAND
 --help' has the options of a command and examples.";
 
 /// The commands, in the order of the help.
-pub(crate) fn commands() -> [&'static Described; 21] {
+pub(crate) fn commands() -> [&'static Described; 22] {
     [
         &EVAL,
         &CREATE,
@@ -50,6 +51,7 @@ pub(crate) fn commands() -> [&'static Described; 21] {
         &ADD,
         &REPORT,
         &CUBE,
+        &MERGE,
         &EXPLAIN,
         &STATUS,
         &MEMBERS,

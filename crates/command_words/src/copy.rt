@@ -7,7 +7,7 @@ use crate::words::Words;
 pub(crate) static COPY: Described = Described {
     name: "copy",
     about: "Makes a warehouse of the same rows in another file.",
-    usage: "ssbcube copy DEV NEW [--sectors N]",
+    usage: "ssbcube copy DEV NEW [--sectors N] [--quiet]",
     help: "NEW gets the dimension rows and the batches of DEV, and cuboids of the same views,
 which hold all batches. It has as many sectors as DEV, or N: this is the way to a
 larger file, to a smaller one, and to a backup. Sizes are those of 'ssbcube
@@ -30,10 +30,13 @@ Examples:
             kind: Kind::Plain(Value::Text),
         }]),
     ],
-    optional: &[Words::Own(&[Word {
-        name: "sectors",
-        value: "N",
-        help: "How many sectors of 512 bytes, or a size such as 400M",
-        kind: Kind::Option(Value::Text),
-    }])],
+    optional: &[
+        Words::Own(&[Word {
+            name: "sectors",
+            value: "N",
+            help: "How many sectors of 512 bytes, or a size such as 400M",
+            kind: Kind::Option(Value::Text),
+        }]),
+        Words::Quiet,
+    ],
 };

@@ -58,7 +58,7 @@ Examples:
 pub(crate) static UPKEEP: Described = Described {
     name: "upkeep",
     about: "Brings each stored cuboid to all batches.",
-    usage: "ssbcube upkeep DEV",
+    usage: "ssbcube upkeep DEV [--quiet]",
     help: "Each stored cuboid gets the cells of the batches that it does not hold yet, in
 a commit of its own, which a crash leaves done or not begun. 'upkeep done' is
 printed once all hold all batches. A cuboid that would have more than
@@ -70,7 +70,7 @@ cheaper than one for each.
 Example:
   ssbcube upkeep star.dev",
     required: &[Words::Device],
-    optional: &[],
+    optional: &[Words::Quiet],
 };
 
 /// The command `audit`.

@@ -17,6 +17,7 @@ mod explain;
 mod generate;
 mod load;
 mod manual;
+mod merge;
 mod pieces;
 mod report;
 mod self_test;

@@ -33,6 +33,8 @@ pub(crate) enum Kind {
     Flag,
     /// The same, where another option has to be given too.
     FlagWith(&'static str),
+    /// An option without a value that is not given together with some others.
+    FlagNot(&'static [&'static str]),
 }
 
 /// What a value has to be.
@@ -65,7 +67,8 @@ impl Word {
             | Kind::Several
             | Kind::Rest
             | Kind::Flag
-            | Kind::FlagWith(_) => None,
+            | Kind::FlagWith(_)
+            | Kind::FlagNot(_) => None,
         }
     }
 
@@ -97,6 +100,7 @@ impl Word {
             }
             Kind::Flag => Ok(self.flag(arg)),
             Kind::FlagWith(other) => self.flag(arg).requires_arg(other),
+            Kind::FlagNot(others) => self.flag(arg).conflicts_with_all(others),
         }
     }
 

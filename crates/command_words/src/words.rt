@@ -107,8 +107,8 @@ takes the first N lines of the report, in the order of --order, if it is given.
 
 A partial report, of --partial K/N, is of the rows of one of N warehouses with
 the same dimension rows: a head that names the part, the query and a digest of
-the dimension rows, and after it the counts and sums of which the report over
-all rows is made; python/ssbcube.py merges them.
+the dimension rows, and after it the counts and sums of which 'ssbcube merge'
+makes the report over all rows.
 
 The report goes to standard output, or to a file with --output: that is there
 once it is whole, and one that was there is replaced with --overwrite only. A

@@ -58,6 +58,10 @@ kind_text By = codes "by "
 kind_text Agg = codes "agg "
 kind_text If = codes "if "
 
+-- the kind whose name begins with a letter (113 is `q`, 115 is `s`, 98 is `b`, 97 is `a`), and conditions at any other
+abbrev pub kind_by : ℕ → WordKind
+kind_by letter = if letter == 113 then Q else if letter == 115 then Set else if letter == 98 then By else if letter == 97 then Agg else If
+
 abbrev pub word_text : Word → List ℕ
 word_text word = kind_text word.kind ++ (word.text ++ codes "\n")
 

@@ -1,4 +1,6 @@
 //! Why a partial report cannot be read.
+ghost use Rattle.std.specs.Prelude.{◌≡◌};
+
 use cube_model::Fault;
 use std::alloc::{AllocError, AllocFailed};
 
@@ -46,18 +48,30 @@ impl Refused {
 }
 
 impl From<AllocError> for Refused {
+    ghost use Rattle.partial_reports.specs.declared.refused.Refused.TheVariants.{Memory};
+
+    ghost from_gives = { λ _ refused. refused ≡ Memory };
+
     fn from(_refused: AllocError) -> Refused {
         Refused::Memory
     }
 }
 
 impl<T: Drop> From<AllocFailed<T>> for Refused {
+    ghost use Rattle.partial_reports.specs.declared.refused.Refused.TheVariants.{Memory};
+
+    ghost from_gives = { λ _ refused. refused ≡ Memory };
+
     fn from(_refused: AllocFailed<T>) -> Refused {
         Refused::Memory
     }
 }
 
 impl From<Fault> for Refused {
+    ghost use Rattle.partial_reports.specs.HeadReading.{IsRefusedFor};
+
+    ghost from_gives = { IsRefusedFor };
+
     fn from(fault: Fault) -> Refused {
         match fault {
             Fault::Input => Refused::Input,

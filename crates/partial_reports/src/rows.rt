@@ -1,5 +1,5 @@
 //! The rows of a report, as they are spelled.
-ghost use Rattle.std.specs.Prelude.{◌≡◌, ◌++◌, IfSome, OnOk, length};
+ghost use Rattle.std.specs.Prelude.{◌≡◌, ◌++◌, ℕ, List, IfSome, IsSomeAnd, OnOk, length};
 ghost use Rattle.ssb_reports.specs.Report.{count_text, row_text};
 
 use cube_model::Fault;
@@ -28,7 +28,8 @@ pub(crate) fn spell_count(row: &mut Vec<u8>, count: usize) -> Result<(), Fault>
 
 /// What is after the front of a text, where it begins so.
 pub(crate) fn after<'a>(text: &'a [u8], front: &[u8]) -> Option<&'a [u8]>
-    ensures { IfSome result (λ left. text.now ≡ front.now ++ left.now) }
+    ensures some { IfSome result (λ left. text.now ≡ front.now ++ left.now) }
+    ensures begins { (left : List ℕ) → text.now ≡ front.now ++ left → IsSomeAnd result (λ rest. rest.now ≡ left) }
 {
     if text.len() < front.len() {
         return None;

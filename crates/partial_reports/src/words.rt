@@ -2,7 +2,7 @@
 ghost use Rattle.std.specs.Prelude.{◌≡◌, [], ◌∷◌, ◌++◌, true, false, if◌then◌else◌, IfErr, OnOk};
 ghost use Rattle.std.specs.List.{list_all};
 ghost use Rattle.std.specs.Option.{option_map};
-ghost use Rattle.partial_reports.specs.Head.{is_line_feed, is_short_word, kind_text, word_if_any, word_text};
+ghost use Rattle.partial_reports.specs.Head.{is_line_feed, is_short_word, kind_by, kind_text, word_if_any, word_text};
 
 use cube_model::{Fault, Items, Text};
 use std::alloc::Global;
@@ -48,14 +48,18 @@ impl Word {
 }
 
 impl WordKind {
-    // All kinds, in the order in which words are named.
-    pub(crate) const ALL: [WordKind; 5] = [
-        WordKind::Q,
-        WordKind::Set,
-        WordKind::By,
-        WordKind::Agg,
-        WordKind::If,
-    ];
+    // The kind whose name begins with a letter, and conditions at any other. Its name is compared by the caller.
+    pub(crate) fn of(letter: u8) -> WordKind
+        ensures { result ≡ kind_by letter }
+    {
+        match letter {
+            b'q' => WordKind::Q,
+            b's' => WordKind::Set,
+            b'b' => WordKind::By,
+            b'a' => WordKind::Agg,
+            _ => WordKind::If,
+        }
+    }
 
     // The name of a kind of words, and a blank.
     pub(crate) fn name(self) -> &'static [u8]

@@ -1,0 +1,166 @@
+//! The command `merge`.
+use crate::exit::DONE;
+use crate::files::unreadable_file;
+use crate::layout::{arrangement_of, bad_order, layout_of};
+use crate::load::{open_each, several_inputs};
+use crate::output::{cut_short, output};
+use crate::refusal::Refusal;
+use crate::saving::{begin, cut_off, finish, part_of, remove};
+use crate::table_paths::{count_inputs, is_standard_input};
+use crate::unmerged::unmerged_hint;
+use clap::ArgMatches;
+use cube_model::{Answer, Fault};
+use report_formats::{Asked, write_formatted};
+use report_merge::{Merge, Unmerged, merge_readers};
+use std::alloc::{AllocError, Global};
+use std::io::{self, Write};
+use std::rt::Files;
+
+/// What is written of partial reports.
+#[derive(Drop)]
+enum Merged {
+    /// The report over all rows.
+    Whole(Asked, Answer),
+    /// A partial report of the parts together.
+    Parts(Merge),
+}
+
+/// Merges the partial reports in the files of a command, and writes what it asks for.
+pub fn merge<R: Files + AllocGlobal + Print + Eprint + Input>(
+    rt: &R,
+    given: &ArgMatches<'_>,
+) -> Result<u8, Refusal> {
+    let paths = given.get_strs("file").unwrap_or(&[]);
+    if count_inputs(paths) > 1 {
+        return several_inputs(rt);
+    }
+    let merged = merged_of(rt, given, paths)?;
+    match given.get_str("output") {
+        None => print_merged(rt, &merged),
+        Some(path) => save_merged(rt, given, &merged, path),
+    }
+}
+
+// What a command asks for of the partial reports in files.
+fn merged_of<R: Files + AllocGlobal + Input>(
+    rt: &R,
+    given: &ArgMatches<'_>,
+    paths: &[&str],
+) -> Result<Merged, Refusal> {
+    let alloc = rt.alloc();
+    let merge = match open_each(rt, paths) {
+        Ok(readers) => match merge_readers(alloc, readers) {
+            Ok(merge) => merge,
+            Err(unmerged) => return Err(refusal_of(rt, paths, unmerged)),
+        },
+        Err(fault) => return Err(unread(rt, paths, fault)),
+    };
+    if given.get_flag("partial") {
+        return Ok(Merged::Parts(merge));
+    }
+    if let Some(number) = merge.first_missing() {
+        return Err(bad_parts(format!(in alloc;
+            "part {number} of {} is missing",
+            merge.head().parts
+        )));
+    }
+    whole_of(alloc, given, merge)
+}
+
+// The report over all rows that a command asks for.
+fn whole_of(alloc: Global, given: &ArgMatches<'_>, merge: Merge) -> Result<Merged, Refusal> {
+    let arrangement = match arrangement_of(merge.query(), given) {
+        Ok(arrangement) => arrangement,
+        Err(_) => {
+            let word = given.get_str("order").unwrap_or("");
+            return Err(bad_parts(bad_order(alloc, word)));
+        }
+    };
+    let (asked, answer) = merge.finish(alloc, layout_of(given))?;
+    Ok(Merged::Whole(asked.with_arrangement(arrangement), answer))
+}
+
+// Hands a writer what is asked for.
+fn write_merged<W: Write>(alloc: Global, merged: &Merged, out: &mut W) -> Result<(), Fault> {
+    match merged {
+        Merged::Whole(asked, answer) => write_formatted(alloc, asked, answer, out),
+        Merged::Parts(merge) => merge.write_partial(alloc, out),
+    }
+}
+
+fn print_merged<R: AllocGlobal + Print>(rt: &R, merged: &Merged) -> Result<u8, Refusal> {
+    let mut out = output(rt)?;
+    match write_merged(rt.alloc(), merged, &mut out) {
+        Ok(()) => Ok(DONE),
+        Err(Fault::Output) => cut_short(rt.alloc(), out.failure()),
+        Err(fault) => Err(Refusal::from(fault)),
+    }
+}
+
+fn save_merged<R: Files + AllocGlobal>(
+    rt: &R,
+    given: &ArgMatches<'_>,
+    merged: &Merged,
+    path: &str,
+) -> Result<u8, Refusal> {
+    let part = part_of(rt.alloc(), path)?;
+    let mut out = begin(rt, given, path, part.as_str())?;
+    let done = write_merged(rt.alloc(), merged, &mut out);
+    let failure = out.failure();
+    drop(out);
+    match done {
+        Ok(()) => finish(rt, path, part.as_str()),
+        Err(fault) => {
+            remove(rt, part.as_str());
+            Err(unsaved(rt.alloc(), part.as_str(), fault, failure))
+        }
+    }
+}
+
+// The refusal of a report that was not saved.
+fn unsaved(alloc: Global, part: &str, fault: Fault, failure: Option<io::Error>) -> Refusal {
+    match fault {
+        Fault::Output => cut_off(alloc, part, failure),
+        fault => Refusal::from(fault),
+    }
+}
+
+// The refusal of a file that was not merged.
+fn refusal_of<R: Files + AllocGlobal>(rt: &R, paths: &[&str], unmerged: Unmerged) -> Refusal {
+    let Unmerged { place, refused } = unmerged;
+    match refused.fault() {
+        Fault::Input => unread(rt, paths, Fault::Input),
+        fault => Refusal {
+            fault,
+            hint: unmerged_hint(rt.alloc(), paths, place, refused),
+        },
+    }
+}
+
+// The refusal of files of which one cannot be read, with what the system says of it.
+fn unread<R: Files + AllocGlobal>(rt: &R, paths: &[&str], fault: Fault) -> Refusal {
+    let hint = match fault {
+        Fault::Input => unreadable_among(rt, paths),
+        _ => None,
+    };
+    Refusal { fault, hint }
+}
+
+fn unreadable_among<R: Files + AllocGlobal>(rt: &R, paths: &[&str]) -> Option<String> {
+    for path in paths {
+        if !is_standard_input(path) {
+            if let Ok(Some(said)) = unreadable_file(rt, path) {
+                return Some(said);
+            }
+        }
+    }
+    None
+}
+
+// The refusal of parts that are not the whole, or have no such order.
+fn bad_parts(hint: Result<String, AllocError>) -> Refusal {
+    Refusal {
+        fault: Fault::BadQuery,
+        hint: hint.ok(),
+    }
+}

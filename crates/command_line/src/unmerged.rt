@@ -1,0 +1,60 @@
+//! Why files are no partial reports of one query.
+use crate::table_paths::shown;
+use partial_reports::Wrong;
+use report_merge::Refused;
+use std::alloc::{AllocError, Global};
+
+/// What is wrong with the file at a place among others, where it is wrong.
+pub fn unmerged_hint(
+    alloc: Global,
+    paths: &[&str],
+    place: usize,
+    refused: Refused,
+) -> Option<String> {
+    let path = shown(paths.get(place)?);
+    let first = shown(paths.first()?);
+    hint_of(alloc, path, first, refused).ok()
+}
+
+fn hint_of(alloc: Global, path: &str, first: &str, refused: Refused) -> Result<String, AllocError> {
+    match refused {
+        Refused::At { line, wrong } => {
+            let said = wrong_text(wrong);
+            format!(in alloc; "{path}, line {line}: {said}")
+        }
+        Refused::Twice { number } => {
+            format!(in alloc; "{path}: part {number} is in a file before it too")
+        }
+        refused => {
+            let other = difference_text(refused);
+            format!(in alloc; "{path}: {other} than {first}")
+        }
+    }
+}
+
+// What is wrong in a line.
+fn wrong_text(wrong: Wrong) -> &'static str {
+    match wrong {
+        Wrong::Version => "no partial report: 'ssbcube partial report 1' is its first line",
+        Wrong::Part => {
+            "'part' and its number, or several in ascending order with commas, of at most 1024, such as 3/8, are wanted"
+        }
+        Wrong::Dimensions => "'dimensions' and 64 hexadecimal digits are wanted",
+        Wrong::Words => "these are not the words of a query",
+        Wrong::Names => "the names are not those of the query's columns and aggregates",
+        Wrong::FieldCount => "too few or too many fields",
+        Wrong::Field => "a number or a member is not as a report spells it",
+        Wrong::KeyOrder => "its members are not after those of the line before it",
+        Wrong::Cut => "the file is cut off here",
+        Wrong::Count => "'rows', the number of lines, and nothing after it are wanted",
+    }
+}
+
+// In what a file differs from the first.
+fn difference_text(refused: Refused) -> &'static str {
+    match refused {
+        Refused::OtherParts => "of another number of parts",
+        Refused::OtherDimensions => "over other dimension rows",
+        _ => "of a query in other words",
+    }
+}

@@ -1,0 +1,6 @@
+use Rattle.std.proofs.Common.{◌≡◌, take}
+use Rattle.answer_merge.specs.Wide.{lines_of}
+use Rattle.report_merge.proofs.lines.narrow_lines.Given as goal
+
+abbrev pub invariant-loop-line : goal.invariant-loop-line
+invariant-loop-line l = l.narrow ≡ lines_of (take l.line-index l.lines)

@@ -1,0 +1,9 @@
+use Rattle.std.proofs.Common.{◌∙◌, ap}
+use Rattle.answer_merge.specs.Parts.{partial_query}
+use Rattle.report_merge.proofs.Given.{one_query}
+use Rattle.report_merge.proofs.words.queries_of.Goals as goal
+
+pub returns-clause-partial : goal.returns-clause-partial
+returns-clause-partial c =
+    c.in_ok-partial.ensures.ok
+    ∙ ap partial_query (one_query c.words_spell_one_query.ensures c.args.words.now c.in_ok-again.again c.in_ok-query.query c.in_ok-again.ensures c.in_ok-query.ensures)

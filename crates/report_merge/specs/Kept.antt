@@ -1,0 +1,32 @@
+-- What is kept of partial reports while they are merged. Our own.
+use Rattle.std.specs.Prelude.{◌≡◌, ℕ, true, List}
+use Rattle.cube_model.specs.declared.query.Query.{Query}
+use Rattle.answer_merge.specs.declared.wide.WideLine.{WideLine}
+use Rattle.answer_merge.specs.Parts.{partial_query}
+use Rattle.answer_merge.specs.Wide.{Rise, lines_of}
+use Rattle.partial_reports.specs.declared.head.Head.{Head}
+use Rattle.partial_reports.specs.Head.{is_proper}
+use Rattle.partial_reports.specs.HeadReading.{IsDigest}
+use Rattle.report_merge.specs.Merging.{Adds, Part, SpellsWords}
+
+-- a proper head, a digest, the query that its words spell with the one for its partial answers, and lines in the order of their keys
+pub record IsKept (head : Head) (digest : List ℕ) (query partial : Query) (lines : List WideLine) : Type 0 where
+  pub proper : is_proper head ≡ true
+  pub digest_is : IsDigest digest
+  pub words : SpellsWords head.words query
+  pub partial_is : partial ≡ partial_query query
+  pub rise : Rise lines
+
+-- a part with other numbers and other lines
+abbrev pub with_lines : Part → List ℕ → List WideLine → Part
+with_lines part numbers lines = record {
+  head = record { numbers = numbers; parts = part.head.parts; words = part.head.words };
+  digest = part.digest;
+  query = part.query;
+  answer = record { lines = lines_of lines };
+}
+
+-- numbers and lines are those of a part with one more partial report
+pub record Grows (start : Part) (text numbers : List ℕ) (lines : List WideLine) : Type 0 where
+  pub adds : Adds start text (with_lines start numbers lines)
+  pub rise : Rise lines

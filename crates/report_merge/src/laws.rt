@@ -1,0 +1,26 @@
+//! Laws of merged partial reports: each function proves the statement that its contract names, and does nothing.
+ghost use Rattle.report_merge.specs.Lawful.{CountsAreAppended, MergedTextsAreTheAnswer};
+
+use answer_merge::{answers_merge, partial_answers_suffice, reports_read_back};
+use partial_reports::heads_read_back;
+use query_words::words_spell_one_query;
+
+/// What is finished for a layout is the answer to what is asked for in it.
+pub fn counts_are_appended()
+    ensures { CountsAreAppended }
+{
+    partial_answers_suffice();
+}
+
+/// Where a text tells the head that it begins with, texts that are written of parts of the rows and merged make the
+/// answer over all rows.
+pub fn merged_texts_are_the_answer()
+    ensures { MergedTextsAreTheAnswer }
+{
+    heads_read_back();
+    words_spell_one_query();
+    reports_read_back();
+    answers_merge();
+    partial_answers_suffice();
+    counts_are_appended();
+}

@@ -1,0 +1,17 @@
+//! Partial reports merged into the answer over all rows, from bytes on.
+#![tactic(auto)]
+
+mod finishing;
+mod laws;
+mod lines;
+mod merge;
+mod numbers;
+mod ordering;
+mod readers;
+mod refused;
+mod words;
+
+pub use laws::{counts_are_appended, merged_texts_are_the_answer};
+pub use merge::Merge;
+pub use readers::merge_readers;
+pub use refused::{Refused, Unmerged};

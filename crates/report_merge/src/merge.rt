@@ -1,0 +1,215 @@
+//! Partial reports merged.
+ghost use Rattle.std.specs.Prelude.{◌≡◌, ◌<◌, ◌++◌, ℕ, length, slice_index, IfNone, IfOk, IfSome, OnErr, OnOk};
+ghost use Rattle.answer_merge.specs.Parts.{partial_query};
+ghost use Rattle.answer_merge.specs.Wide.{lines_of};
+ghost use Rattle.partial_reports.specs.Head.{head_text};
+ghost use Rattle.report_formats.specs.Asked.{asked_for};
+ghost use Rattle.report_merge.specs.Finishing.{finished_for};
+ghost use Rattle.report_merge.specs.Kept.{Grows, IsKept};
+ghost use Rattle.report_merge.specs.Merging.{Adds, IsPartialReport, IsWhole, Part};
+ghost use Rattle.report_merge.specs.Numbers.{IsFirstGap};
+ghost use Rattle.report_merge.specs.Written.{WritesOrKeeps};
+ghost use Rattle.ssb_reports.specs.Report.{report_of};
+ghost use Rattle.ssb_reports.specs.Writing.{Writes};
+
+use crate::finishing::{asks_for_counts, counted_lines, finished};
+use crate::lines::narrow_lines;
+use crate::numbers::{first_missing, merged_numbers};
+use crate::refused::Refused;
+use crate::words::{are_same, queries_of};
+use answer_merge::{WideLine, merge_in, widened};
+use cube_model::{Answer, Fault, Items, Query};
+use partial_reports::{Head, HeadRead, head_text, read_answer, read_head};
+use report_formats::{Asked, Layout};
+use ssb_reports::{write_bytes, write_report};
+use std::alloc::Global;
+use std::io::Write;
+use std::marker::Model;
+
+/// Some partial reports of one query over the same dimension rows, merged.
+#[derive(Drop)]
+pub struct Merge {
+    head: Head,
+    digest: [u8; 32],
+    query: Query,
+    // The query for partial answers.
+    partial: Query,
+    lines: Vec<WideLine>,
+}
+
+impl Model for Merge {
+    ghost Value = { Part };
+
+    ghost view = { λ merge. record {
+      head = merge.head;
+      digest = merge.digest;
+      query = merge.query;
+      answer = record { lines = lines_of merge.lines.items };
+    } };
+
+    ghost invariant = { λ merge. IsKept merge.head merge.digest merge.query merge.partial merge.lines.items };
+}
+
+// The numbers and the lines with those of one more part.
+#[derive(Drop)]
+struct Grown {
+    numbers: Items<u32>,
+    lines: Vec<WideLine>,
+}
+
+impl Merge {
+    /// What a partial report has.
+    ///
+    /// `At` where a line is wrong; or `Memory`.
+    pub fn new(alloc: Global, text: &[u8]) -> Result<Merge, Refused>
+        ensures { IfOk result (IsPartialReport text.now) }
+    {
+        let HeadRead {
+            head,
+            digest,
+            report,
+            line,
+        } = read_head(alloc, text)?;
+        check_digest(&digest);
+        let (query, partial) = queries_of(alloc, head.words.as_slice())?;
+        let answer = read_answer(alloc, &partial, line, report)?;
+        let lines = widened(alloc, answer.lines)?;
+        Ok(Merge {
+            head,
+            digest,
+            query,
+            partial,
+            lines,
+        })
+    }
+
+    /// Merges one more partial report in. After a refusal all is as it was.
+    ///
+    /// `At` where a line is wrong; `OtherWords`, `OtherParts`, `OtherDimensions` and `Twice` where it is not one more
+    /// part of the whole; or `Memory`.
+    pub fn add(&mut self, alloc: Global, text: &[u8]) -> Result<(), Refused>
+        ensures ok { OnOk result (Adds self.old text.now self.new) }
+        ensures leaves { OnErr result (self.new ≡ self.old) }
+    {
+        let Grown { numbers, lines } = self.grown(alloc, text)?;
+        self.head.numbers = numbers;
+        self.lines = lines;
+        Ok(())
+    }
+
+    // The numbers and the lines with those of one more partial report.
+    fn grown(&self, alloc: Global, text: &[u8]) -> Result<Grown, Refused>
+        ensures { IfOk result (λ grown. Grows self.now text.now grown.numbers grown.lines.items) }
+    {
+        let read = read_head(alloc, text)?;
+        check_alike(&self.head, &self.digest, &read)?;
+        let numbers = merged_numbers(
+            alloc,
+            self.head.parts,
+            self.head.numbers.as_slice(),
+            read.head.numbers.as_slice(),
+        )?;
+        let answer = read_answer(alloc, &self.partial, read.line, read.report)?;
+        let lines = merge_in(alloc, &self.partial, self.lines.as_slice(), answer)?;
+        Ok(Grown { numbers, lines })
+    }
+
+    /// The lowest number of a part that is not in. Without one the parts are the whole.
+    pub fn first_missing(&self) -> Option<u32>
+        ensures none { IfNone result (IsWhole self.now.head) }
+        ensures some { IfSome result (IsFirstGap self.now.head.parts self.now.head.numbers) }
+    {
+        first_missing(self.head.parts, self.head.numbers.as_slice())
+    }
+
+    /// The numbers of the parts, and the words of the query.
+    pub fn head(&self) -> &Head
+        ensures { result.now ≡ self.now.head }
+    {
+        &self.head
+    }
+
+    /// The query that the words spell.
+    pub fn query(&self) -> &Query
+        ensures { result.now ≡ self.now.query }
+    {
+        &self.query
+    }
+
+    /// What is asked for in a layout, and the answer to it over the rows of all parts.
+    ///
+    /// `SumRange` and `TooManyRows` where a number passes 64 bits, `BadLayout` where a line counts no row; or `Memory`.
+    pub fn finish(self, alloc: Global, layout: Layout) -> Result<(Asked, Answer), Fault>
+        ensures asked { IfOk result (λ done. done.0 ≡ asked_for layout self.query) }
+        ensures answer { IfOk result (λ done. done.1 ≡ finished_for layout self.query self.answer) }
+    {
+        let Merge {
+            head: _,
+            digest: _,
+            query,
+            partial: _,
+            lines,
+        } = self;
+        let counts = asks_for_counts(layout, &query);
+        let asked = Asked::new(alloc, layout, query)?;
+        let lines = counted_lines(alloc, counts, lines)?;
+        let answer = finished(alloc, &asked.query, lines)?;
+        Ok((asked, answer))
+    }
+
+    /// Hands a writer the merged parts as a partial report, and flushes it.
+    ///
+    /// Before anything is written `SumRange` and `TooManyRows`, where a number passes 64 bits, or `Memory`; and
+    /// `Output` where the writer fails, after a beginning of the report.
+    pub fn write_partial<W: Write>(&self, alloc: Global, out: &mut W) -> Result<(), Fault>
+        ensures { WritesOrKeeps (W.contents out.old) (W.contents out.new) result
+            (head_text self.now.head self.now.digest ++ report_of (partial_query self.now.query) self.now.answer) }
+    {
+        let head = head_text(alloc, &self.head, &self.digest)?;
+        let lines = narrow_lines(
+            alloc,
+            self.partial.aggregates.as_slice(),
+            self.lines.as_slice(),
+        )?;
+        write_text(&self.partial, head.as_slice(), &Answer { lines }, out)
+    }
+}
+
+// A digest is 32 bytes.
+fn check_digest(digest: &[u8; 32])
+    ensures size { length digest.now ≡ 32 }
+    ensures bytes { (place : ℕ) → slice_index digest.now place < 256 }
+{
+    let _bytes = digest.as_slice();
+}
+
+// Checks that a head is of the same words, the same whole and the same dimension rows.
+fn check_alike(head: &Head, digest: &[u8; 32], read: &HeadRead<'_>) -> Result<(), Refused>
+    ensures words { OnOk result (read.now.head.words ≡ head.now.words) }
+    ensures parts { OnOk result (read.now.head.parts ≡ head.now.parts) }
+    ensures dimensions { OnOk result (read.now.digest ≡ digest.now) }
+{
+    if !are_same(head.words.as_slice(), read.head.words.as_slice()) {
+        return Err(Refused::OtherWords);
+    }
+    if read.head.parts != head.parts {
+        return Err(Refused::OtherParts);
+    }
+    if read.digest.as_slice() != digest.as_slice() {
+        return Err(Refused::OtherDimensions);
+    }
+    Ok(())
+}
+
+// Hands a writer the text of a head and a report, and flushes it.
+fn write_text<W: Write>(
+    query: &Query,
+    head: &[u8],
+    answer: &Answer,
+    out: &mut W,
+) -> Result<(), Fault>
+    ensures { Writes (W.contents out.old) (W.contents out.new) result (head.now ++ report_of query.now answer.now) }
+{
+    write_bytes(out, head)?;
+    write_report(query, answer, out)
+}

@@ -1,0 +1,88 @@
+//! Partial reports from readers.
+ghost use Rattle.std.specs.Prelude.{◌≡◌, ℕ, List, Some, map, IfOk, OnOk};
+ghost use Rattle.report_merge.specs.Merging.{Adds, IsMerged, IsPartialReport, Merges};
+
+use crate::merge::Merge;
+use crate::refused::{Refused, Unmerged};
+use std::alloc::Global;
+use std::io::Read;
+
+/// Reads partial reports, one after the other, each to its end, and merges them.
+///
+/// A refusal has the place of the reader that it is of. Of no reader it is `Input`.
+pub fn merge_readers<R: Read + Drop>(alloc: Global, readers: Vec<R>) -> Result<Merge, Unmerged>
+    ensures { IfOk result (λ merge. (texts : List (List ℕ)) → map R.remaining readers.items ≡ map Some texts → IsMerged texts merge) }
+{
+    let mut readers = readers;
+    if readers.is_empty() {
+        return Err(unmerged(0, Refused::Input));
+    }
+    let reader = readers.remove(0);
+    match first_of(alloc, reader) {
+        Ok(merge) => with_others(alloc, merge, readers),
+        Err(refused) => Err(unmerged(0, refused)),
+    }
+}
+
+// Merges the other reports in.
+fn with_others<R: Read + Drop>(
+    alloc: Global,
+    merge: Merge,
+    readers: Vec<R>,
+) -> Result<Merge, Unmerged>
+    ensures { IfOk result (λ whole. (texts : List (List ℕ)) → map R.remaining readers.items ≡ map Some texts → Merges merge texts whole) }
+{
+    let mut merge = merge;
+    add_all(alloc, 1, &mut merge, readers)?;
+    Ok(merge)
+}
+
+// Merges more reports in. The place is that of the first of them.
+fn add_all<R: Read + Drop>(
+    alloc: Global,
+    place: usize,
+    merge: &mut Merge,
+    readers: Vec<R>,
+) -> Result<(), Unmerged>
+    ensures { OnOk result ((texts : List (List ℕ)) → map R.remaining readers.items ≡ map Some texts → Merges merge.old texts merge.new) }
+{
+    let mut readers = readers;
+    if readers.is_empty() {
+        return Ok(());
+    }
+    let reader = readers.remove(0);
+    match add_one(alloc, merge, reader) {
+        Ok(()) => add_all(alloc, place.saturating_add(1), merge, readers),
+        Err(refused) => Err(unmerged(place, refused)),
+    }
+}
+
+fn first_of<R: Read + Drop>(alloc: Global, reader: R) -> Result<Merge, Refused>
+    ensures { IfOk result (λ merge. (text : List ℕ) → R.remaining reader ≡ Some text → IsPartialReport text merge) }
+{
+    let text = text_of(alloc, reader)?;
+    Merge::new(alloc, text.as_slice())
+}
+
+fn add_one<R: Read + Drop>(alloc: Global, merge: &mut Merge, reader: R) -> Result<(), Refused>
+    ensures { OnOk result ((text : List ℕ) → R.remaining reader ≡ Some text → Adds merge.old text merge.new) }
+{
+    let text = text_of(alloc, reader)?;
+    merge.add(alloc, text.as_slice())
+}
+
+// What a reader has left.
+fn text_of<R: Read + Drop>(alloc: Global, reader: R) -> Result<Vec<u8>, Refused>
+    ensures { IfOk result (λ text. (bytes : List ℕ) → R.remaining reader ≡ Some bytes → text.items ≡ bytes) }
+{
+    let mut reader = reader;
+    let mut text = Vec::new(alloc);
+    match reader.read_to_end(&mut text) {
+        Ok(_) => Ok(text),
+        Err(_) => Err(Refused::Input),
+    }
+}
+
+fn unmerged(place: usize, refused: Refused) -> Unmerged {
+    Unmerged { place, refused }
+}
