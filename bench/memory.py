@@ -89,7 +89,7 @@ class Campaign:
         print(f"{' '.join(words)}: {allocations} allocations, {self.refused - refused} refusals were said", flush=True)
 
     def reading(self, *words):
-        """Runs a command that reads the tables alone, for each of its allocations."""
+        """Runs a command that reads files but no warehouse, for each of its allocations."""
         plain = self.refusing(words, COUNT="count")
         if plain.status != 0:
             sys.exit(f"ssbcube {' '.join(words)} ended with status {plain.status}: {plain.notes}")
@@ -105,7 +105,7 @@ class Campaign:
                     self.complain(f"{words[0]}, {which}={number}: status {done.status}, {done.first_note!r}, {done.out[:80]!r} printed")
         if Run(words).out != plain.out:
             self.complain(f"{words[0]}: with memory it prints another report")
-        print(f"{words[0]} of the tables: {allocations} allocations, {self.refused - refused} refusals were said", flush=True)
+        print(f"{words[0]} of files: {allocations} allocations, {self.refused - refused} refusals were said", flush=True)
 
     def complaints_of(self, words, plain, wanted, **which):
         """What is wrong where these allocations of a command are refused."""
@@ -153,6 +153,11 @@ def main():
         campaign.command(words[0], device, *words[1:])
     for query in ("1.1", "4.3"):
         campaign.reading("eval", *DIMENSIONS, "--lineorder", "lineorder.tbl", "--query", query)
+    for part in ("1", "2"):
+        must("cube", device, "--partial", f"{part}/2", "--output", f"{part}.part", "--set", "cube", "--by", "c_region,d_year", "--agg", "avg:revenue")
+        must("report", device, "3.1", "--partial", f"{part}/2", "--output", f"3.1-{part}.part")
+    for words in (["1.part", "2.part"], ["1.part", "2.part", "--format", "json"], ["--partial", "2.part", "1.part"], ["3.1-1.part", "3.1-2.part"]):
+        campaign.reading("merge", *words)
     print(f"{campaign.refusals} refusals, {campaign.refused} of them said, {campaign.complaints} complaints")
     return 1 if campaign.complaints else 0
 
