@@ -1,5 +1,7 @@
 -- One step of a merge: the line of the lowest key.
-use Rattle.std.proofs.Common.{◌≡◌, ◌∙◌, sym, ap, refl, List, [], ◌∷◌, ◌++◌, length, subst, None, append_assoc, append-nil, arith}
+use Rattle.std.proofs.Common.{◌≡◌, ◌∙◌, sym, ap, refl, List, [], ◌∷◌, ◌++◌, length, ◌<◌, subst, None, append_assoc, append-nil, arith}
+use Rattle.std.specs.Prelude.{Option, Some, IfSome}
+use Rattle.std.specs.Option.{option_to_list}
 use Rattle.std.proofs.lemmas.List.{map-append}
 use Rattle.std.specs.declared.cmp.Ordering.TheVariants.{Less, Equal, Greater}
 use Rattle.cube_model.specs.declared.measure.Agg.{Agg}
@@ -9,7 +11,7 @@ use Rattle.cube_model.specs.Orders.{answer_cmp}
 use Rattle.answer_merge.specs.declared.wide.WideLine.{WideLine}
 use Rattle.cube_model.specs.declared.answer.Line.{Line}
 use Rattle.answer_merge.specs.Merges.{merged_line, merged_lines}
-use Rattle.answer_merge.specs.Wide.{IsStep, Rise, line_of, lines_of}
+use Rattle.answer_merge.specs.Wide.{IsMergeOfBoth, IsStep, Rise, front_cmp, line_of, lines_of}
 use Rattle.answer_merge.proofs.CallerLemmas.{merged_lines-one, merged_lines-other, merged_lines-both, merged_lines-rise, above_first, turned_less}
 
 -- only the first list has lines
@@ -93,3 +95,63 @@ merged_rise aggs ones others out left right is first second =
 
 pub same_rise : (wide : List WideLine) (lines : List Line) → lines_of wide ≡ lines → IsAscending (answer_cmp None) lines → Rise wide
 same_rise wide lines same rise = subst (IsAscending (answer_cmp None)) (sym same) rise
+
+-- the first list has the lower key
+pub step_less : (aggs : List Agg) (ones others ones_left : List WideLine) (line : WideLine) → front_cmp ones others ≡ Less → ones ≡ line ∷ ones_left → Rise ones → Rise others
+    → IsStep aggs ones others line ones_left others
+step_less aggs ones [] left line less first rise other_rise = step_first aggs ones [] left line line first refl refl rise
+step_less aggs ones (other ∷ others) left line less first rise other_rise =
+    let lower : key_cmp line.key other.key ≡ Less = rw first at less in
+    step_one aggs ones (other ∷ others) left others line other line first refl rise other_rise refl lower
+
+-- the second has
+pub step_greater : (aggs : List Agg) (ones others others_left : List WideLine) (line : WideLine) → front_cmp ones others ≡ Greater → others ≡ line ∷ others_left → Rise ones → Rise others
+    → IsStep aggs ones others line ones others_left
+step_greater aggs [] others left line greater second rise other_rise = step_second aggs [] others left line line refl second refl other_rise
+step_greater aggs (one ∷ ones) others left line greater second rise other_rise =
+    let higher : key_cmp one.key line.key ≡ Greater = rw second at greater in
+    step_other aggs (one ∷ ones) others ones left one line line refl second rise other_rise refl higher
+
+-- they have one key
+pub step_equal : (aggs : List Agg) (ones others ones_left others_left : List WideLine) (one other line : WideLine) → front_cmp ones others ≡ Equal
+    → ones ≡ one ∷ ones_left → others ≡ other ∷ others_left → line_of line ≡ merged_line aggs (line_of one) (line_of other) → Rise ones → Rise others
+    → IsStep aggs ones others line ones_left others_left
+step_equal aggs ones others ones_left others_left one other line equal first second is rise other_rise =
+    let same : key_cmp one.key other.key ≡ Equal = rw (first, second) at equal in
+    step_both aggs ones others ones_left others_left one other line first second rise other_rise is same
+
+-- a list with the lower key has a line
+pub some_less : (ones others : List WideLine) → front_cmp ones others ≡ Less → length ones ≡ 0 → ⊥
+some_less [] others less none = cc
+some_less (one ∷ ones) others less none = absurd (omega (arith, none))
+
+pub none_greater : (ones others : List WideLine) → front_cmp ones others ≡ Greater → length others ≡ 0 → (ones ≡ []) × (others ≡ [])
+none_greater [] [] greater none = (refl, refl)
+none_greater (one ∷ ones) [] greater none = cc
+none_greater ones (other ∷ others) greater none = absurd (omega (arith, none))
+
+pub some_equal : (ones others : List WideLine) → front_cmp ones others ≡ Equal → (0 < length ones) × (0 < length others)
+some_equal [] others equal = cc
+some_equal (one ∷ ones) [] equal = cc
+some_equal (one ∷ ones) (other ∷ others) equal = (omega arith, omega arith)
+
+-- what was taken from the front of the list with the lower key
+pub taken_less : (aggs : List Agg) (ones others ones_left : List WideLine) (taken : Option WideLine) → front_cmp ones others ≡ Less → ones ≡ option_to_list taken ++ ones_left
+    → Rise ones → Rise others → IfSome taken (λ line. IsStep aggs ones others line ones_left others)
+taken_less aggs ones others left None less first rise other_rise = tt
+taken_less aggs ones others left (Some line) less first rise other_rise = step_less aggs ones others left line less first rise other_rise
+
+pub taken_greater : (aggs : List Agg) (ones others others_left : List WideLine) (taken : Option WideLine) → front_cmp ones others ≡ Greater → others ≡ option_to_list taken ++ others_left
+    → Rise ones → Rise others → IfSome taken (λ line. IsStep aggs ones others line ones others_left)
+taken_greater aggs ones others left None greater second rise other_rise = tt
+taken_greater aggs ones others left (Some line) greater second rise other_rise = step_greater aggs ones others left line greater second rise other_rise
+
+-- the merge of what was taken from both, which have one key
+pub taken_equal : (aggs : List Agg) (ones others ones_left others_left : List WideLine) (one other merged : Option WideLine) → front_cmp ones others ≡ Equal
+    → ones ≡ option_to_list one ++ ones_left → others ≡ option_to_list other ++ others_left → IsMergeOfBoth aggs one other merged → Rise ones → Rise others
+    → IfSome merged (λ line. IsStep aggs ones others line ones_left others_left)
+taken_equal aggs ones others ones_left others_left one other None equal first second is rise other_rise = tt
+taken_equal aggs ones others ones_left others_left (Some one) (Some other) (Some line) equal first second is rise other_rise =
+    step_equal aggs ones others ones_left others_left one other line equal first second is rise other_rise
+taken_equal aggs ones others ones_left others_left (Some one) None (Some line) equal first second is rise other_rise = cc
+taken_equal aggs ones others ones_left others_left None other (Some line) equal first second is rise other_rise = cc

@@ -1,5 +1,7 @@
 -- Lines of partial answers while they are merged: their numbers have 128 bits. Our own.
-use Rattle.std.specs.Prelude.{◌≡◌, ℤ, FitsSigned, List, ◌∷◌, map, None}
+use Rattle.std.specs.Prelude.{◌≡◌, ℤ, FitsSigned, Option, Some, None, List, [], ◌∷◌, map}
+use Rattle.std.specs.declared.cmp.Ordering.{Ordering}
+use Rattle.std.specs.declared.cmp.Ordering.TheVariants.{Less, Greater}
 use Rattle.std.specs.Int.{w64}
 use Rattle.cube_model.specs.declared.answer.Line.{Line}
 use Rattle.cube_model.specs.declared.answer.Value.TheVariants.{Whole}
@@ -10,7 +12,8 @@ use Rattle.cube_model.specs.declared.measure.Agg.TheVariants.{Count, Sum, Min, M
 use Rattle.cube_model.specs.Ascending.{IsAscending}
 use Rattle.cube_model.specs.Orders.{answer_cmp}
 use Rattle.answer_merge.specs.declared.wide.WideLine.{WideLine}
-use Rattle.answer_merge.specs.Merges.{merged_lines}
+use Rattle.cube_model.specs.Keys.{key_cmp}
+use Rattle.answer_merge.specs.Merges.{merged_line, merged_lines}
 
 abbrev pub line_of : WideLine → Line
 line_of wide = record { key = wide.key; values = map Whole wide.numbers }
@@ -27,6 +30,19 @@ pub record IsStep (aggs : List Agg) (ones others : List WideLine) (line : WideLi
   pub merges : merged_lines aggs (lines_of ones) (lines_of others) ≡ line_of line ∷ merged_lines aggs (lines_of ones_left) (lines_of others_left)
   pub ones_rise : Rise ones_left
   pub others_rise : Rise others_left
+
+-- how the first lines of two lists compare, by their keys: what is missing comes last
+abbrev pub front_cmp : List WideLine → List WideLine → Ordering
+front_cmp [] others = Greater
+front_cmp (one ∷ ones) [] = Less
+front_cmp (one ∷ ones) (other ∷ others) = key_cmp one.key other.key
+
+-- a line is the merge of two, where both are there
+abbrev pub IsMergeOfBoth : List Agg → Option WideLine → Option WideLine → Option WideLine → Type 0
+IsMergeOfBoth aggs (Some one) (Some other) (Some line) = line_of line ≡ merged_line aggs (line_of one) (line_of other)
+IsMergeOfBoth aggs (Some one) (Some other) None = ⊥
+IsMergeOfBoth aggs (Some one) None line = line ≡ None
+IsMergeOfBoth aggs None other line = line ≡ None
 
 -- what is wrong where a number of an aggregate passes 64 bits
 abbrev pub range_fault : Agg → Fault

@@ -4,51 +4,38 @@ ghost use Rattle.cube_model.specs.Ascending.{IsAscending};
 ghost use Rattle.cube_model.specs.Orders.{answer_cmp};
 ghost use Rattle.cube_model.specs.declared.answer.Value.TheVariants.{Whole};
 ghost use Rattle.answer_merge.specs.Merges.{merged_answer, merged_line, merged_lines, merged_number, merged_values};
-ghost use Rattle.answer_merge.specs.Wide.{IsStep, Rise, line_of, lines_of};
+ghost use Rattle.answer_merge.specs.Wide.{IsMergeOfBoth, IsStep, Rise, front_cmp, line_of, lines_of};
 
-use crate::wide::{WideLine, copied_key, widened};
+use crate::wide::{WideLine, widened};
 use cube_model::{Agg, Answer, Fault, Items, Query};
 use std::alloc::Global;
 use std::cmp::Ordering;
+use std::collections::VecDeque;
 
-// The line of the lowest key, and what is left after it on both sides.
-#[derive(Drop)]
-struct Step<'a> {
-    line: WideLine,
-    ones: &'a [WideLine],
-    others: &'a [WideLine],
-}
-
-/// The lines of two partial answers as one: the line of a key is the merge of the lines of that key.
+/// The lines of two partial answers as one: the line of a key is the merge of the lines of that key. No line of one key alone is copied.
 ///
 /// `Memory`; and `TooManyRows` where a number would pass 128 bits, which those of 1,024 parts do not.
 #[tactic(auto, using(crate::proofs::Steps::went_on, crate::proofs::Steps::all_merged, crate::proofs::Steps::merged_rise))]
 pub fn merge(
     alloc: Global,
     aggs: &[Agg],
-    ones: &[WideLine],
-    others: &[WideLine],
+    ones: Vec<WideLine>,
+    others: Vec<WideLine>,
 ) -> Result<Vec<WideLine>, Fault>
-    requires ones { Rise ones.now }
-    requires others { Rise others.now }
-    ensures ok { IfOk result (λ lines. lines_of lines.items ≡ merged_lines aggs.now (lines_of ones.now) (lines_of others.now)) }
+    requires ones { Rise ones.items }
+    requires others { Rise others.items }
+    ensures ok { IfOk result (λ lines. lines_of lines.items ≡ merged_lines aggs.now (lines_of ones.items) (lines_of others.items)) }
     ensures rising { IfOk result (λ lines. Rise lines.items) }
     ensures only { IfErr result (λ fault. (fault ≡ Fault.Memory) ⊎ (fault ≡ Fault.TooManyRows)) }
 {
     let mut lines = Vec::new(alloc);
-    let (mut left, mut right) = (ones, others);
+    let mut left = VecDeque::from_vec(ones);
+    let mut right = VecDeque::from_vec(others);
     for _ in 0..u64::MAX {
-        let Some(step) = next_step(alloc, aggs, left, right)? else {
+        let Some(line) = next_line(alloc, aggs, &mut left, &mut right)? else {
             return Ok(lines);
         };
-        let Step {
-            line,
-            ones: ones_left,
-            others: others_left,
-        } = step;
         lines.push(line)?;
-        left = ones_left;
-        right = others_left;
     }
     Err(Fault::Memory)
 }
@@ -60,104 +47,80 @@ pub fn merge(
 pub fn merge_in(
     alloc: Global,
     query: &Query,
-    merged: &[WideLine],
+    merged: Vec<WideLine>,
     answer: Answer,
 ) -> Result<Vec<WideLine>, Fault>
-    requires merged { Rise merged.now }
+    requires merged { Rise merged.items }
     requires answer { IsAscending (answer_cmp None) answer.lines }
-    ensures ok { IfOk result (λ lines. lines_of lines.items ≡ (merged_answer query.now (record { lines = lines_of merged.now }) answer).lines) }
+    ensures ok { IfOk result (λ lines. lines_of lines.items ≡ (merged_answer query.now (record { lines = lines_of merged.items }) answer).lines) }
     ensures rising { IfOk result (λ lines. Rise lines.items) }
 {
     let others = widened(alloc, answer.lines)?;
-    merge(
-        alloc,
-        query.aggregates.as_slice(),
-        merged,
-        others.as_slice(),
-    )
+    merge(alloc, query.aggregates.as_slice(), merged, others)
 }
 
-// The next line of the merge of two lists, if either has one.
-#[tactic(auto, using(crate::proofs::Steps::step_first, crate::proofs::Steps::step_one, crate::proofs::Steps::step_other, crate::proofs::Steps::step_both))]
-fn next_step<'a>(
+// Takes the next line of the merge of two lists, if either has one.
+fn next_line(
     alloc: Global,
     aggs: &[Agg],
-    ones: &'a [WideLine],
-    others: &'a [WideLine],
-) -> Result<Option<Step<'a>>, Fault>
-    requires ones { Rise ones.now }
-    requires others { Rise others.now }
-    ensures some { IfOk result (λ step. IfSome step (λ step. IsStep aggs.now ones.now others.now step.line step.ones.now step.others.now)) }
-    ensures none { IfOk result (λ step. IfNone step ((ones.now ≡ []) × (others.now ≡ []))) }
+    ones: &mut VecDeque<WideLine>,
+    others: &mut VecDeque<WideLine>,
+) -> Result<Option<WideLine>, Fault>
+    requires ones { Rise ones.old.items }
+    requires others { Rise others.old.items }
+    ensures some { IfOk result (λ line. IfSome line (λ line. IsStep aggs.now ones.old.items others.old.items line ones.new.items others.new.items)) }
+    ensures none { IfOk result (λ line. IfNone line ((ones.old.items ≡ []) × (others.old.items ≡ []))) }
     ensures only { IfErr result (λ fault. (fault ≡ Fault.Memory) ⊎ (fault ≡ Fault.TooManyRows)) }
 {
-    let Some((one, ones_left)) = ones.split_first() else {
-        return second_step(alloc, aggs, ones, others);
-    };
-    let Some((other, others_left)) = others.split_first() else {
-        return Ok(Some(Step {
-            line: one.copied(alloc)?,
-            ones: ones_left,
-            others,
-        }));
-    };
-    match one.key.cmp(&other.key) {
-        Ordering::Less => Ok(Some(Step {
-            line: one.copied(alloc)?,
-            ones: ones_left,
-            others,
-        })),
-        Ordering::Greater => Ok(Some(Step {
-            line: other.copied(alloc)?,
-            ones,
-            others: others_left,
-        })),
-        Ordering::Equal => Ok(Some(Step {
-            line: merged_line(alloc, aggs, one, other)?,
-            ones: ones_left,
-            others: others_left,
-        })),
+    match compare_fronts(ones, others) {
+        Ordering::Less => Ok(ones.pop_front()),
+        Ordering::Greater => Ok(others.pop_front()),
+        Ordering::Equal => merged_if_both(alloc, aggs, ones.pop_front(), others.pop_front()),
     }
 }
 
-// The step where the first list is empty.
-fn second_step<'a>(
-    alloc: Global,
-    aggs: &[Agg],
-    ones: &'a [WideLine],
-    others: &'a [WideLine],
-) -> Result<Option<Step<'a>>, Fault>
-    requires ones { ones.now ≡ [] }
-    requires others { Rise others.now }
-    ensures some { IfOk result (λ step. IfSome step (λ step. IsStep aggs.now ones.now others.now step.line step.ones.now step.others.now)) }
-    ensures none { IfOk result (λ step. IfNone step (others.now ≡ [])) }
-    ensures only { IfErr result (λ fault. fault ≡ Fault.Memory) }
+// Compares the first lines of two lists by their keys. What is missing comes last.
+fn compare_fronts(ones: &VecDeque<WideLine>, others: &VecDeque<WideLine>) -> Ordering
+    ensures { result ≡ front_cmp ones.now.items others.now.items }
 {
-    let Some((other, others_left)) = others.split_first() else {
-        return Ok(None);
-    };
-    Ok(Some(Step {
-        line: other.copied(alloc)?,
-        ones,
-        others: others_left,
-    }))
+    match (ones.front(), others.front()) {
+        (Some(one), Some(other)) => one.key.cmp(&other.key),
+        (Some(_), None) => Ordering::Less,
+        (None, _) => Ordering::Greater,
+    }
 }
 
-// Two lines of one key as one.
+// Two lines of one key as one, where both are there.
+fn merged_if_both(
+    alloc: Global,
+    aggs: &[Agg],
+    one: Option<WideLine>,
+    other: Option<WideLine>,
+) -> Result<Option<WideLine>, Fault>
+    ensures ok { IfOk result (λ line. IsMergeOfBoth aggs.now one other line) }
+    ensures only { IfErr result (λ fault. (fault ≡ Fault.Memory) ⊎ (fault ≡ Fault.TooManyRows)) }
+{
+    match (one, other) {
+        (Some(one), Some(other)) => Ok(Some(merged_line(alloc, aggs, one, &other)?)),
+        _ => Ok(None),
+    }
+}
+
+// Two lines of one key as one. The key is that of the first.
 fn merged_line(
     alloc: Global,
     aggs: &[Agg],
-    one: &WideLine,
+    one: WideLine,
     other: &WideLine,
 ) -> Result<WideLine, Fault>
-    ensures ok { IfOk result (λ line. line_of line ≡ merged_line aggs.now (line_of one.now) (line_of other.now)) }
+    ensures ok { IfOk result (λ line. line_of line ≡ merged_line aggs.now (line_of one) (line_of other.now)) }
     ensures only { IfErr result (λ fault. (fault ≡ Fault.Memory) ⊎ (fault ≡ Fault.TooManyRows)) }
 {
-    let key = copied_key(alloc, one.key.as_slice())?;
+    let WideLine { key, numbers: ones } = one;
     let mut numbers = Items::new(alloc);
     push_merged(
         aggs,
-        one.numbers.as_slice(),
+        ones.as_slice(),
         other.numbers.as_slice(),
         &mut numbers,
     )?;

@@ -14,21 +14,6 @@ pub struct WideLine {
     pub numbers: Items<i128>,
 }
 
-impl WideLine {
-    /// A copy of a line.
-    pub(crate) fn copied(&self, alloc: Global) -> Result<WideLine, Fault>
-        ensures ok { IfOk result (λ copy. copy ≡ self.now) }
-        ensures only { IfErr result (λ fault. fault ≡ Fault.Memory) }
-    {
-        let key = copied_key(alloc, self.key.as_slice())?;
-        let numbers = Vec::from_slice(alloc, self.numbers.as_slice())?;
-        Ok(WideLine {
-            key,
-            numbers: Items::from_vec(numbers),
-        })
-    }
-}
-
 /// The lines of a partial answer, with numbers of 128 bits. `BadLayout` where a value is no whole number; or `Memory`.
 pub fn widened(alloc: Global, lines: Items<Line>) -> Result<Vec<WideLine>, Fault>
     ensures { IfOk result (λ wide. lines_of wide.items ≡ lines) }
@@ -60,29 +45,4 @@ fn numbers_of(alloc: Global, values: &[Value]) -> Result<Items<i128>, Fault>
         }
     }
     Ok(numbers)
-}
-
-/// A copy of a key.
-pub(crate) fn copied_key(alloc: Global, key: &[Member]) -> Result<Items<Member>, Fault>
-    ensures ok { IfOk result (λ copy. copy ≡ key.now) }
-    ensures only { IfErr result (λ fault. fault ≡ Fault.Memory) }
-{
-    let mut copy = Items::new(alloc);
-    for member in key {
-        copy.push(copied_member(alloc, member)?)?;
-    }
-    Ok(copy)
-}
-
-fn copied_member(alloc: Global, member: &Member) -> Result<Member, Fault>
-    ensures ok { IfOk result (λ copy. copy ≡ member.now) }
-    ensures only { IfErr result (λ fault. fault ≡ Fault.Memory) }
-{
-    match member {
-        Member::Text(text) => {
-            let text = Vec::from_slice(alloc, text.as_slice())?;
-            Ok(Member::Text(Items::from_vec(text)))
-        }
-        Member::All => Ok(Member::All),
-    }
 }

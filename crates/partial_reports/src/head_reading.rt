@@ -210,7 +210,8 @@ fn parse_words(alloc: Global, lines: &mut TextLines<'_>) -> Result<Items<Word>, 
             None => return Err(lines.wrong(Wrong::Words)),
         }
     }
-    Err(Refused::Input)
+    // Each turn takes a byte, so the text was empty.
+    Err(Refused::at(lines.number.saturating_add(1), Wrong::Cut))
 }
 
 fn word_in(alloc: Global, line: &[u8]) -> Result<Option<Word>, Refused>

@@ -17,9 +17,9 @@ use Rattle.answer_merge.specs.Wide.{Rise, lines_of}
 use Rattle.partial_reports.specs.declared.head.Head.{Head}
 use Rattle.partial_reports.specs.Head.{are_parts, ascend_between, head_text, is_proper, is_short_word, most_parts}
 use Rattle.ssb_reports.specs.Report.{report_of}
-use Rattle.report_merge.specs.Kept.{Grows, IsKept}
+use Rattle.report_merge.specs.Kept.{IsKept, IsMore, with_lines}
 use Rattle.partial_reports.specs.HeadReading.{IsDigest}
-use Rattle.report_merge.specs.Merging.{IsPartialReport, Part, SpellsWords}
+use Rattle.report_merge.specs.Merging.{Adds, IsPartialReport, Part, SpellsWords}
 use Rattle.report_merge.proofs.Gaps.{both, joined}
 
 some : (n : ℕ) → nat_lt 0 n ≡ true → 0 < n
@@ -87,24 +87,47 @@ pub record IsAlike (start : Part) (head : Head) (digest : List ℕ) : Type 0 whe
   pub parts : head.parts ≡ start.head.parts
   pub dimensions : digest ≡ start.digest
 
--- a part with what was read of one more
-pub one_more_part : (start : Part) (text : List ℕ) (head : Head) (digest : List ℕ) (partial : Query) (report numbers : List ℕ) (answer : Answer) (own lines : List WideLine)
-    → start.answer ≡ record { lines = lines_of own } → IsKept start.head start.digest start.query partial own
+-- what was read of one more partial report
+pub one_more : (start : Part) (text : List ℕ) (head : Head) (digest : List ℕ) (partial : Query) (report numbers : List ℕ) (answer : Answer) (own : List WideLine)
+    → IsKept start.head start.digest start.query partial own
     → text ≡ head_text head digest ++ report → is_proper head ≡ true → IsAlike start head digest
     → IsPermutation (start.head.numbers ++ head.numbers) numbers → ascend_between 0 start.head.parts numbers ≡ true → IsRead partial report answer
-    → lines_of lines ≡ (merged_answer partial (record { lines = lines_of own }) answer).lines → Rise lines → Grows start text numbers lines
-one_more_part start text head digest partial report numbers answer own lines start_is kept spelled proper alike moved ascend read merged rise = record {
-  adds = record {
-    other = record { head = head; digest = digest; query = start.query; answer = answer };
-    report = is_report text head digest start.query partial report answer spelled proper (subst IsDigest (sym alike.dimensions) kept.digest_is)
-        (subst (λ words. SpellsWords words start.query) (sym alike.words) kept.words) kept.partial_is read;
-    merged = record {
-      alike = record { words = alike.words; parts = alike.parts; dimensions = alike.dimensions; query = refl };
-      same = record { words = refl; parts = refl; dimensions = refl; query = refl };
-      proper = proper_on start.head head.numbers numbers kept.proper moved ascend;
-      numbers = moved;
-      answer = ap (λ all. record { lines = all }) merged ∙ (λ i. merged_answer (kept.partial_is i) (sym start_is i) answer);
-    };
+    → IsMore start text numbers answer
+one_more start text head digest partial report numbers answer own kept spelled proper alike moved ascend read = record {
+  other = record { head = head; digest = digest; query = start.query; answer = answer };
+  report = is_report text head digest start.query partial report answer spelled proper (subst IsDigest (sym alike.dimensions) kept.digest_is)
+      (subst (λ words. SpellsWords words start.query) (sym alike.words) kept.words) kept.partial_is read;
+  alike = record { words = alike.words; parts = alike.parts; dimensions = alike.dimensions; query = refl };
+  moved = moved;
+  proper = proper_on start.head head.numbers numbers kept.proper moved ascend;
+  answer_is = refl;
+  rising = read.rising;
+}
+
+-- a part with the lines of one more
+pub added : (start : Part) (text : List ℕ) (partial : Query) (numbers : List ℕ) (answer : Answer) (own lines : List WideLine)
+    → start.answer ≡ record { lines = lines_of own } → partial ≡ partial_query start.query → IsMore start text numbers answer
+    → lines_of lines ≡ (merged_answer partial (record { lines = lines_of own }) answer).lines → Adds start text (with_lines start numbers lines)
+added start text partial numbers answer own lines start_is partial_is more merged = record {
+  other = more.other;
+  report = more.report;
+  merged = record {
+    alike = more.alike;
+    same = record { words = refl; parts = refl; dimensions = refl; query = refl };
+    proper = more.proper;
+    numbers = more.moved;
+    answer = ap (λ all. record { lines = all }) merged ∙ (λ i. merged_answer (partial_is i) (sym start_is i) (more.answer_is i));
   };
+}
+
+-- what is kept with it
+pub still_kept : (start : Part) (text : List ℕ) (partial : Query) (numbers : List ℕ) (answer : Answer) (own lines : List WideLine)
+    → IsKept start.head start.digest start.query partial own → IsMore start text numbers answer → Rise lines
+    → IsKept (record { numbers = numbers; parts = start.head.parts; words = start.head.words }) start.digest start.query partial lines
+still_kept start text partial numbers answer own lines kept more rise = record {
+  proper = more.proper;
+  digest_is = kept.digest_is;
+  words = kept.words;
+  partial_is = kept.partial_is;
   rise = rise;
 }

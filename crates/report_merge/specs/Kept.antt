@@ -1,5 +1,9 @@
 -- What is kept of partial reports while they are merged. Our own.
-use Rattle.std.specs.Prelude.{◌≡◌, ℕ, true, List}
+use Rattle.std.specs.Prelude.{◌≡◌, ℕ, true, None, List, ◌++◌}
+use Rattle.std.specs.List.Sorted.{IsPermutation}
+use Rattle.cube_model.specs.declared.answer.Answer.{Answer}
+use Rattle.cube_model.specs.Ascending.{IsAscending}
+use Rattle.cube_model.specs.Orders.{answer_cmp}
 use Rattle.cube_model.specs.declared.query.Query.{Query}
 use Rattle.answer_merge.specs.declared.wide.WideLine.{WideLine}
 use Rattle.answer_merge.specs.Parts.{partial_query}
@@ -7,7 +11,7 @@ use Rattle.answer_merge.specs.Wide.{Rise, lines_of}
 use Rattle.partial_reports.specs.declared.head.Head.{Head}
 use Rattle.partial_reports.specs.Head.{is_proper}
 use Rattle.partial_reports.specs.HeadReading.{IsDigest}
-use Rattle.report_merge.specs.Merging.{Adds, Part, SpellsWords}
+use Rattle.report_merge.specs.Merging.{AreOfOne, IsPartialReport, Part, SpellsWords}
 
 -- a proper head, a digest, the query that its words spell with the one for its partial answers, and lines in the order of their keys
 pub record IsKept (head : Head) (digest : List ℕ) (query partial : Query) (lines : List WideLine) : Type 0 where
@@ -26,7 +30,12 @@ with_lines part numbers lines = record {
   answer = record { lines = lines_of lines };
 }
 
--- numbers and lines are those of a part with one more partial report
-pub record Grows (start : Part) (text numbers : List ℕ) (lines : List WideLine) : Type 0 where
-  pub adds : Adds start text (with_lines start numbers lines)
-  pub rise : Rise lines
+-- What is read of one more partial report: the numbers of a part with its own, and its partial answer.
+pub record IsMore (start : Part) (text numbers : List ℕ) (answer : Answer) : Type 0 where
+  pub other : Part
+  pub report : IsPartialReport text other
+  pub alike : AreOfOne start other
+  pub moved : IsPermutation (start.head.numbers ++ other.head.numbers) numbers
+  pub proper : is_proper (record { numbers = numbers; parts = start.head.parts; words = start.head.words }) ≡ true
+  pub answer_is : answer ≡ other.answer
+  pub rising : IsAscending (answer_cmp None) answer.lines

@@ -5,7 +5,7 @@ ghost use Rattle.answer_merge.specs.Wide.{lines_of};
 ghost use Rattle.partial_reports.specs.Head.{head_text};
 ghost use Rattle.report_formats.specs.Asked.{asked_for};
 ghost use Rattle.report_merge.specs.Finishing.{finished_for};
-ghost use Rattle.report_merge.specs.Kept.{Grows, IsKept};
+ghost use Rattle.report_merge.specs.Kept.{IsKept, IsMore};
 ghost use Rattle.report_merge.specs.Merging.{Adds, IsPartialReport, IsWhole, Part};
 ghost use Rattle.report_merge.specs.Numbers.{IsFirstGap};
 ghost use Rattle.report_merge.specs.Written.{WritesOrKeeps};
@@ -50,11 +50,11 @@ impl Model for Merge {
     ghost invariant = { λ merge. IsKept merge.head merge.digest merge.query merge.partial merge.lines.items };
 }
 
-// The numbers and the lines with those of one more part.
+// What is read of one more part: the numbers of all parts with its own, and its partial answer.
 #[derive(Drop)]
-struct Grown {
+struct More {
     numbers: Items<u32>,
-    lines: Vec<WideLine>,
+    answer: Answer,
 }
 
 impl Merge {
@@ -83,23 +83,34 @@ impl Merge {
         })
     }
 
-    /// Merges one more partial report in. After a refusal all is as it was.
+    /// With one more partial report.
     ///
-    /// `At` where a line is wrong; `OtherWords`, `OtherParts`, `OtherDimensions` and `Twice` where it is not one more
-    /// part of the whole; or `Memory`.
-    pub fn add(&mut self, alloc: Global, text: &[u8]) -> Result<(), Refused>
-        ensures ok { OnOk result (Adds self.old text.now self.new) }
-        ensures leaves { OnErr result (self.new ≡ self.old) }
+    /// `At` where a line is wrong; `OtherWords`, `OtherParts`, `OtherDimensions` and `Twice` where it is not one more part of the whole;
+    /// or `Memory`.
+    pub fn add(self, alloc: Global, text: &[u8]) -> Result<Merge, Refused>
+        ensures { IfOk result (Adds self text.now) }
     {
-        let Grown { numbers, lines } = self.grown(alloc, text)?;
-        self.head.numbers = numbers;
-        self.lines = lines;
-        Ok(())
+        let More { numbers, answer } = self.more(alloc, text)?;
+        let Merge {
+            head,
+            digest,
+            query,
+            partial,
+            lines,
+        } = self;
+        let lines = merge_in(alloc, &partial, lines, answer)?;
+        Ok(Merge {
+            head: with_numbers(head, numbers),
+            digest,
+            query,
+            partial,
+            lines,
+        })
     }
 
-    // The numbers and the lines with those of one more partial report.
-    fn grown(&self, alloc: Global, text: &[u8]) -> Result<Grown, Refused>
-        ensures { IfOk result (λ grown. Grows self.now text.now grown.numbers grown.lines.items) }
+    // What is read of one more partial report.
+    fn more(&self, alloc: Global, text: &[u8]) -> Result<More, Refused>
+        ensures { IfOk result (λ more. IsMore self.now text.now more.numbers more.answer) }
     {
         let read = read_head(alloc, text)?;
         check_alike(&self.head, &self.digest, &read)?;
@@ -110,8 +121,7 @@ impl Merge {
             read.head.numbers.as_slice(),
         )?;
         let answer = read_answer(alloc, &self.partial, read.line, read.report)?;
-        let lines = merge_in(alloc, &self.partial, self.lines.as_slice(), answer)?;
-        Ok(Grown { numbers, lines })
+        Ok(More { numbers, answer })
     }
 
     /// The lowest number of a part that is not in. Without one the parts are the whole.
@@ -172,6 +182,22 @@ impl Merge {
             self.lines.as_slice(),
         )?;
         write_text(&self.partial, head.as_slice(), &Answer { lines }, out)
+    }
+}
+
+// A head with the numbers of more parts.
+fn with_numbers(head: Head, numbers: Items<u32>) -> Head
+    ensures { result ≡ record head { numbers = numbers } }
+{
+    let Head {
+        numbers: _,
+        parts,
+        words,
+    } = head;
+    Head {
+        numbers,
+        parts,
+        words,
     }
 }
 

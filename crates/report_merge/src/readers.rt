@@ -1,5 +1,5 @@
 //! Partial reports from readers.
-ghost use Rattle.std.specs.Prelude.{◌≡◌, ℕ, List, Some, map, IfOk, OnOk};
+ghost use Rattle.std.specs.Prelude.{◌≡◌, ℕ, List, Some, map, IfOk};
 ghost use Rattle.report_merge.specs.Merging.{Adds, IsMerged, IsPartialReport, Merges};
 
 use crate::merge::Merge;
@@ -19,40 +19,27 @@ pub fn merge_readers<R: Read + Drop>(alloc: Global, readers: Vec<R>) -> Result<M
     }
     let reader = readers.remove(0);
     match first_of(alloc, reader) {
-        Ok(merge) => with_others(alloc, merge, readers),
+        Ok(merge) => add_all(alloc, 1, merge, readers),
         Err(refused) => Err(unmerged(0, refused)),
     }
-}
-
-// Merges the other reports in.
-fn with_others<R: Read + Drop>(
-    alloc: Global,
-    merge: Merge,
-    readers: Vec<R>,
-) -> Result<Merge, Unmerged>
-    ensures { IfOk result (λ whole. (texts : List (List ℕ)) → map R.remaining readers.items ≡ map Some texts → Merges merge texts whole) }
-{
-    let mut merge = merge;
-    add_all(alloc, 1, &mut merge, readers)?;
-    Ok(merge)
 }
 
 // Merges more reports in. The place is that of the first of them.
 fn add_all<R: Read + Drop>(
     alloc: Global,
     place: usize,
-    merge: &mut Merge,
+    merge: Merge,
     readers: Vec<R>,
-) -> Result<(), Unmerged>
-    ensures { OnOk result ((texts : List (List ℕ)) → map R.remaining readers.items ≡ map Some texts → Merges merge.old texts merge.new) }
+) -> Result<Merge, Unmerged>
+    ensures { IfOk result (λ whole. (texts : List (List ℕ)) → map R.remaining readers.items ≡ map Some texts → Merges merge texts whole) }
 {
     let mut readers = readers;
     if readers.is_empty() {
-        return Ok(());
+        return Ok(merge);
     }
     let reader = readers.remove(0);
     match add_one(alloc, merge, reader) {
-        Ok(()) => add_all(alloc, place.saturating_add(1), merge, readers),
+        Ok(merge) => add_all(alloc, place.saturating_add(1), merge, readers),
         Err(refused) => Err(unmerged(place, refused)),
     }
 }
@@ -64,8 +51,8 @@ fn first_of<R: Read + Drop>(alloc: Global, reader: R) -> Result<Merge, Refused>
     Merge::new(alloc, text.as_slice())
 }
 
-fn add_one<R: Read + Drop>(alloc: Global, merge: &mut Merge, reader: R) -> Result<(), Refused>
-    ensures { OnOk result ((text : List ℕ) → R.remaining reader ≡ Some text → Adds merge.old text merge.new) }
+fn add_one<R: Read + Drop>(alloc: Global, merge: Merge, reader: R) -> Result<Merge, Refused>
+    ensures { IfOk result (λ next. (text : List ℕ) → R.remaining reader ≡ Some text → Adds merge text next) }
 {
     let text = text_of(alloc, reader)?;
     merge.add(alloc, text.as_slice())

@@ -7,7 +7,7 @@ use Rattle.report_merge.proofs.readers.merge_readers.Goals as goal
 pub returns-in-Ok : goal.returns-in-Ok
 returns-in-Ok g c =
     let some : 0 < length c.args.readers.items = first_of (omega (arith, c.remove-reader.ensures.len), search rules, grind (arith, common_steps)) in
-    IfOk-weaker c.with_others.result _ _
+    IfOk-weaker c.add_all.result _ _
     (λ whole merges texts e. all_merged g.R.Read.remaining c.in-Ok.merge whole c.args.readers.items c.remove-reader.new.self.items c.remove-reader.result texts some
     c.remove-reader.ensures.value c.remove-reader.ensures.items c.in-Ok.ensures merges e)
-    c.with_others.ensures
+    c.add_all.ensures

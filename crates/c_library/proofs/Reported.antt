@@ -1,0 +1,30 @@
+-- What a report over the bytes of a file is, from the parts of what is asked.
+use Rattle.std.proofs.Common.{◌≡◌, ◌⊎◌, inr, ℤ, ℕ, List, Option, Some, None, subst}
+use Rattle.cube_model.specs.declared.fault.Fault.{Fault}
+use Rattle.c_library.specs.Reports.{AsksFor, Refuses, Reports, prefix_of}
+use Rattle.image_jobs.specs.Answers.{AnswerRefuses, Answers, IsNoDevice}
+use Rattle.image_jobs.specs.Images.{Holds}
+use Rattle.query_words.specs.Words.{Words}
+use Rattle.report_formats.specs.Rows.{format_named}
+use Rattle.report_formats.specs.declared.asked.Asked.{Asked}
+use Rattle.report_formats.specs.declared.layout.Layout.{Layout}
+use Rattle.report_words.specs.Words.{IsReportOf}
+use Rattle.warehouse_objects.specs.Facts.{Facts}
+
+module _ (image : List ℕ) (words : Words) (format : List ℕ) (as_of : ℤ) (prefix : Option ℕ) (layout : Layout) (asked : Asked)
+    (over : prefix ≡ prefix_of as_of) (named : (format_named format ≡ Some layout.format) × (layout.decimals ≡ None))
+    (spelled : IsReportOf words layout asked) where
+  asks : AsksFor words format asked
+  asks = record { layout = layout; named = named.0; fractions = named.1; spelled = spelled }
+
+  pub reports : (text : List ℕ) → ((facts : Facts) → Holds image facts → Answers facts prefix asked text) → Reports image words format as_of text
+  reports text answers =
+      record { asked = asked; asks = asks; answers = λ facts holds. subst (λ (p : Option ℕ). Answers facts p asked text) over (answers facts holds) }
+
+  pub refuses : (fault : Fault) → ((facts : Facts) → Holds image facts → IsNoDevice image fault ⊎ AnswerRefuses facts prefix asked fault) → Refuses image words format as_of fault
+  refuses fault why =
+      inr (inr (record {
+        asked = asked;
+        asks = asks;
+        refused = λ facts holds. subst (λ (p : Option ℕ). IsNoDevice image fault ⊎ AnswerRefuses facts p asked fault) over (why facts holds);
+      }))

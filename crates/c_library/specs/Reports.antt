@@ -1,0 +1,42 @@
+-- What the reports of the library are, and why there is none. Our own.
+use Rattle.std.specs.Prelude.{◌≡◌, ◌⊎◌, ◌^◌, ◌≤ℤ◌, ℤ, pos, negsuc, ℕ, List, Option, None, Some}
+use Rattle.cube_model.specs.declared.fault.Fault.{Fault}
+use Rattle.cube_model.specs.declared.fault.Fault.TheVariants.{BadQuery, Memory, NoSuchPrefix}
+use Rattle.image_jobs.specs.Answers.{AnswerRefuses, Answers, IsNoDevice}
+use Rattle.image_jobs.specs.Images.{Holds}
+use Rattle.query_words.specs.Words.{Words}
+use Rattle.report_formats.specs.Rows.{format_named}
+use Rattle.report_formats.specs.declared.asked.Asked.{Asked}
+use Rattle.report_formats.specs.declared.layout.Layout.{Layout}
+use Rattle.report_words.specs.Words.{IsReportOf}
+use Rattle.warehouse_objects.specs.Facts.{Facts}
+
+-- over so many batches, or over all below 0
+abbrev pub prefix_of : ℤ → Option ℕ
+prefix_of (pos n) = Some n
+prefix_of (negsuc n) = None
+
+-- the report that words ask for in a format, with fractions
+pub record AsksFor (words : Words) (format : List ℕ) (asked : Asked) : Type 0 where
+  pub layout : Layout
+  pub named : format_named format ≡ Some layout.format
+  pub fractions : layout.decimals ≡ None
+  pub spelled : IsReportOf words layout asked
+
+-- a text is the report that words ask for, where the bytes of a file hold a warehouse
+pub record Reports (image : List ℕ) (words : Words) (format : List ℕ) (as_of : ℤ) (text : List ℕ) : Type 0 where
+  pub asked : Asked
+  pub asks : AsksFor words format asked
+  pub answers : (facts : Facts) → Holds image facts → Answers facts (prefix_of as_of) asked text
+
+-- the report that words ask for is refused, where the bytes of a file hold a warehouse
+pub record IsRefused (image : List ℕ) (words : Words) (format : List ℕ) (as_of : ℤ) (fault : Fault) : Type 0 where
+  pub asked : Asked
+  pub asks : AsksFor words format asked
+  pub refused : (facts : Facts) → Holds image facts → IsNoDevice image fault ⊎ AnswerRefuses facts (prefix_of as_of) asked fault
+
+-- There is no memory, or the words ask for no report; no warehouse has so many batches; or the report is refused.
+abbrev pub Refuses : List ℕ → Words → List ℕ → ℤ → Fault → Type 0
+Refuses image words format as_of fault =
+    ((fault ≡ Memory) ⊎ (fault ≡ BadQuery))
+    ⊎ (((fault ≡ NoSuchPrefix) × (pos (2 ^ 32) ≤ℤ as_of)) ⊎ IsRefused image words format as_of fault)
