@@ -1,4 +1,5 @@
--- What callers that merge lines one by one need: the merge begins with the line of the lowest key.
+-- What callers need: of lines that are merged one by one, that the merge begins with the line of the lowest key; of lines that can be read
+-- back, that a bar ends a field and a line feed a line.
 use Rattle.std.proofs.Common.{◌≡◌, ◌∙◌, sym, ap, refl, subst, ℕ, ◌+◌, ◌≤◌, ℤ, pos, negsuc, ◌+ℤ◌, Bool, true, false, cond, Option, Some, None, List, [], ◌∷◌, ◌++◌, map, arith}
 use Rattle.std.specs.Prelude.{◌||◌, nat_abs, int_lt}
 use Rattle.std.specs.Int.{int_max, int_min}
@@ -18,6 +19,7 @@ use Rattle.cube_model.specs.Orders.{answer_cmp}
 use Rattle.answer_merge.proofs.MergeLaws.{line_of_key-map, map_some, same_key, same_key-is}
 use Rattle.answer_merge.proofs.TheOne.{has, has_line, has_merged, merge_is_the_one}
 use Rattle.answer_merge.specs.Merges.{keys_in, line_of_key, merged_line, merged_line_if_any, merged_lines}
+pub use Rattle.answer_merge.proofs.ReadBack.{line_bar, line_lf}
 
 -- what is found by a key has this key
 abbrev KeyIs : List Member → Option Line → Type 0

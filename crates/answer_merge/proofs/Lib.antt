@@ -8,3 +8,4 @@ mod ReadBack
 mod Readable
 mod TheOne
 pub mod Steps
+mod Unfinished

@@ -161,10 +161,10 @@ above_57 : (124 < 45) ⊎ (57 < 124)
 above_57 = inr (omega arith)
 
 module _ (query : Query) where
-  line_lf : (line : Line) → IsReadableLine query line → HasNoByte 10 (join_with_byte 124 (fields_of line))
+  pub line_lf : (line : Line) → IsReadableLine query line → HasNoByte 10 (join_with_byte 124 (fields_of line))
   line_lf line is = join_none 10 124 refl (fields_of line) (fields_none 10 below_45 member_lf line.key line.values is.plain is.whole)
 
-  line_bar : (line : Line) → IsReadableLine query line → AllByRecursion (HasNoByte 124) (fields_of line)
+  pub line_bar : (line : Line) → IsReadableLine query line → AllByRecursion (HasNoByte 124) (fields_of line)
   line_bar line is = fields_none 124 above_57 member_bar line.key line.values is.plain is.whole
 
   line_same : (one other : Line) → IsReadableLine query one → IsReadableLine query other

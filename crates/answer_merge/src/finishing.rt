@@ -1,6 +1,8 @@
 //! The lines of a query's answer, of those of its partial answer over all rows.
-ghost use Rattle.std.specs.Prelude.{◌≡◌, ◌≤◌, ◌⊎◌, ◌++◌, pos, map, IfErr, IfOk, OnOk};
+ghost use Rattle.std.specs.Prelude.{◌≡◌, ◌≤◌, ◌≤ℤ◌, ◌⊎◌, ◌++◌, pos, map, IfErr, IfOk, OnOk};
 ghost use Rattle.cube_model.specs.declared.answer.Value.TheVariants.{Whole};
+ghost use Rattle.answer_merge.specs.Finishing.{FinishRefuses, IsPastRange, LineRefuses};
+ghost use Rattle.answer_merge.specs.Readable.{IsWholeNumber};
 ghost use Rattle.answer_merge.specs.Parts.{finished_line, finished_value, finished_values};
 ghost use Rattle.answer_merge.specs.Wide.{IsRangeFault, line_of, lines_of, range_fault};
 
@@ -18,7 +20,8 @@ pub fn finished_lines(
     aggs: &[Agg],
     lines: Vec<WideLine>,
 ) -> Result<Items<Line>, Fault>
-    ensures { IfOk result (λ done. done ≡ map (finished_line aggs.now) (lines_of lines.items)) }
+    ensures ok { IfOk result (λ done. done ≡ map (finished_line aggs.now) (lines_of lines.items)) }
+    ensures refused { IfErr result (FinishRefuses aggs.now (lines_of lines.items)) }
 {
     let mut done = Items::new(alloc);
     for line in lines {
@@ -28,7 +31,8 @@ pub fn finished_lines(
 }
 
 fn finished_line(alloc: Global, aggs: &[Agg], line: WideLine) -> Result<Line, Fault>
-    ensures { IfOk result (λ done. done ≡ finished_line aggs.now (line_of line)) }
+    ensures ok { IfOk result (λ done. done ≡ finished_line aggs.now (line_of line)) }
+    ensures refused { IfErr result (λ fault. (fault ≡ Fault.Memory) ⊎ LineRefuses aggs.now fault (line_of line)) }
 {
     let WideLine { key, numbers } = line;
     let mut values = Items::new(alloc);
@@ -42,7 +46,7 @@ fn finished_line(alloc: Global, aggs: &[Agg], line: WideLine) -> Result<Line, Fa
 fn row_count(count: i128) -> Result<u64, Fault>
     ensures ok { IfOk result (λ rows. count ≡ pos rows) }
     ensures some { IfOk result (λ rows. 1 ≤ rows) }
-    ensures only { IfErr result (λ fault. (fault ≡ Fault.BadLayout) ⊎ (fault ≡ Fault.TooManyRows)) }
+    ensures refused { IfErr result (λ fault. ((fault ≡ Fault.BadLayout) × (count ≤ℤ pos 0)) ⊎ ((fault ≡ Fault.TooManyRows) × (IsWholeNumber (Whole count) → ⊥))) }
 {
     if count < 1 {
         return Err(Fault::BadLayout);
@@ -61,7 +65,8 @@ fn push_values(
     values: &mut Items<Value>,
 ) -> Result<(), Fault>
     requires { 1 ≤ count }
-    ensures { OnOk result (values.new ≡ values.old ++ finished_values aggs.now (Whole (pos count)) (map Whole kept.now)) }
+    ensures ok { OnOk result (values.new ≡ values.old ++ finished_values aggs.now (Whole (pos count)) (map Whole kept.now)) }
+    ensures refused { IfErr result (λ fault. (fault ≡ Fault.Memory) ⊎ IsPastRange fault aggs.now (map Whole kept.now)) }
 {
     let Some((agg, aggs)) = aggs.split_first() else {
         return Ok(());

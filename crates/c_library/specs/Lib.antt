@@ -1,2 +1,3 @@
 pub mod Handing
 pub mod Reports
+pub mod Changes

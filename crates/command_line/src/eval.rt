@@ -37,7 +37,7 @@ pub fn eval<R: Files + AllocGlobal + Print + Eprint + Clock + CpuClock>(
             say_read(rt, given, tally.rows(), tally.bytes());
             Ok(status)
         }
-        Err(fault) => Err(explained(rt, given, Met::from(fault))),
+        Err(refusal) => Err(refusal),
     }
 }
 
@@ -150,11 +150,22 @@ fn unsaved<R: Files + AllocGlobal>(
 fn opened<R: Files + AllocGlobal>(
     rt: &R,
     given: &ArgMatches<'_>,
-) -> Result<(Reports, DimensionFiles<R::File>, R::File), Fault> {
+) -> Result<(Reports, DimensionFiles<R::File>, R::File), Refusal> {
     let asked = report_of(rt.alloc(), given)?;
+    match tables_of(rt, given) {
+        Ok((dimensions, lineorder)) => Ok((asked, dimensions, lineorder)),
+        Err(fault) => Err(explained(rt, given, Met::from(fault))),
+    }
+}
+
+// The files of the tables, in the order of the command.
+fn tables_of<R: Files + AllocGlobal>(
+    rt: &R,
+    given: &ArgMatches<'_>,
+) -> Result<(DimensionFiles<R::File>, R::File), Fault> {
     let dimensions = open_dimensions(rt, given)?;
     let lineorder = open(rt, given, Table::Lineorder)?;
-    Ok((asked, dimensions, lineorder))
+    Ok((dimensions, lineorder))
 }
 
 // Writes the report, and gives the dimensions.

@@ -159,13 +159,13 @@ where
 }
 
 /// The refusal of words that spell no query.
-pub fn unasked<R: Files + AllocGlobal>(rt: &R, given: &ArgMatches<'_>, fault: Fault) -> Refusal {
-    match swapped(rt.alloc(), given) {
+pub fn unasked(alloc: Global, given: &ArgMatches<'_>, refusal: Refusal) -> Refusal {
+    match swapped(alloc, given) {
         Some(hint) => Refusal {
-            fault,
             hint: Some(hint),
+            ..refusal
         },
-        None => explained(rt, given, Met::from(fault)),
+        None => refusal,
     }
 }
 

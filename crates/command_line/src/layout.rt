@@ -1,6 +1,6 @@
 //! How the report of a command is written.
-use crate::query::{query_hint, query_of};
-use crate::reports::part_in;
+use crate::query::query_of;
+use crate::refusal::{Refusal, bad_query};
 use clap::ArgMatches;
 use cube_model::{Fault, Query};
 use line_order::{Arrangement, Sorting, sort_key};
@@ -8,9 +8,12 @@ use report_formats::{Asked, Format, Layout};
 use std::alloc::{AllocError, Global};
 
 /// The report that the words of a command ask for.
-pub fn asked_of(alloc: Global, given: &ArgMatches<'_>) -> Result<Asked, Fault> {
+pub fn asked_of(alloc: Global, given: &ArgMatches<'_>) -> Result<Asked, Refusal> {
     let query = query_of(alloc, given)?;
-    let arrangement = arrangement_of(&query, given)?;
+    let Ok(arrangement) = arrangement_of(&query, given) else {
+        let word = given.get_str("order").unwrap_or("");
+        return Err(bad_query(bad_order(alloc, word)));
+    };
     Ok(Asked::new(alloc, layout_of(given), query)?.with_arrangement(arrangement))
 }
 
@@ -46,41 +49,6 @@ fn sorting_of(query: &Query, word: &str) -> Result<Sorting, Fault> {
         Some(key) => Ok(Sorting { key, descending }),
         None => Err(Fault::BadQuery),
     }
-}
-
-/// What is wrong with words that ask for no report.
-pub fn asked_hint(alloc: Global, given: &ArgMatches<'_>) -> Result<Option<String>, Fault> {
-    match query_hint(alloc, given)? {
-        Some(hint) => Ok(Some(hint)),
-        None if given.get_str("partial").is_some() => part_hint(alloc, given),
-        None => order_hint(alloc, given),
-    }
-}
-
-// What is wrong with the words of a partial report.
-fn part_hint(alloc: Global, given: &ArgMatches<'_>) -> Result<Option<String>, Fault> {
-    let word = given.get_str("partial").unwrap_or("");
-    let hint = match part_in(word) {
-        None => format!(in alloc;
-            "--partial {word}: K/N is wanted, part K of N, with N at most 1024"
-        )?,
-        Some(_) => format!(in alloc;
-            "--partial: a word of the query has a line feed or more than 8000 bytes"
-        )?,
-    };
-    Ok(Some(hint))
-}
-
-// What is wrong with the order of a query.
-fn order_hint(alloc: Global, given: &ArgMatches<'_>) -> Result<Option<String>, Fault> {
-    let Some(word) = given.get_str("order") else {
-        return Ok(None);
-    };
-    let query = query_of(alloc, given)?;
-    if sorting_of(&query, word).is_ok() {
-        return Ok(None);
-    }
-    Ok(Some(bad_order(alloc, word)?))
 }
 
 /// What is wrong with an order that a query does not have.

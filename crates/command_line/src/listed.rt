@@ -1,5 +1,5 @@
 //! Lists of queries, one a line.
-use crate::query::{NOTHING_ASKED, asks_nothing, query_hint, query_of};
+use crate::query::{NOTHING_ASKED, asks_nothing, query_of};
 use crate::refusal::Refusal;
 use crate::split::words_of_line;
 use clap::error::ErrorKind;
@@ -151,21 +151,16 @@ fn query_of_words(alloc: Global, words: &[String]) -> Result<Query, BadLine> {
         Err(error) if error.kind() == ErrorKind::OutOfMemory => return Err(BadLine::Memory),
         Err(error) => return Err(said(first_line(alloc, format!(in alloc; "{error}")?.as_str()))),
     };
-    let spelled = query_of(alloc, &given);
-    match spelled {
-        Ok(query) if query.check().is_ok() => Ok(query),
-        Err(Fault::Memory) => Err(BadLine::Memory),
+    match query_of(alloc, &given) {
+        Ok(query) => Ok(query),
+        Err(Refusal { hint: None, .. }) => Err(BadLine::Memory),
         _ if asks_nothing(&given) => Err(said(format!(in alloc; "{NOTHING_ASKED}"))),
-        _ => Err(wrong_words(alloc, query_hint(alloc, &given))),
-    }
-}
-
-// What is wrong with the words of a line.
-fn wrong_words(alloc: Global, hint: Result<Option<String>, Fault>) -> BadLine {
-    match hint {
-        Ok(Some(hint)) => BadLine::Said(hint),
-        Ok(None) => said(format!(in alloc; "no query")),
-        Err(_) => BadLine::Memory,
+        Err(
+            Refusal {
+                hint: Some(hint),
+                ..
+            },
+        ) => Err(BadLine::Said(hint)),
     }
 }
 

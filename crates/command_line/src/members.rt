@@ -3,18 +3,18 @@ use crate::device::{self, Access, Device};
 use crate::exit::DONE;
 use crate::job::met_in;
 use crate::output::{cut_short, output};
-use crate::refusal::{Refusal, explained};
+use crate::query::refusal_of;
+use crate::refusal::{Refusal, bad_query, explained};
 use clap::ArgMatches;
 use cube_model::{Attr, Fault};
 use file_device::LockFile;
 use member_lists::write_members;
-use query_words::read_query;
+use query_words::{QueryWords, read_query};
 use std::alloc::Global;
 use std::io::Write;
 use std::os::unix::fs::FileExt;
 use std::rt::{Clock, Files};
 use warehouse::Session;
-use word_hints::{QueryWords, hint_of_cube};
 
 /// Lists the members of an attribute of the warehouse of a command.
 pub fn members<R: Files + AllocGlobal + Print + Eprint + Clock>(
@@ -25,9 +25,7 @@ where
     R::File: FileExt + LockFile,
 {
     let name = given.get_str("attribute").unwrap_or("");
-    let Some(attr) = attribute(rt.alloc(), name)? else {
-        return Err(no_attribute(rt.alloc(), name));
-    };
+    let attr = attribute(rt.alloc(), name)?;
     match device::open(rt, given, Access::Read) {
         Ok(session) => print_members(rt, given, &session, attr),
         Err(met) => Err(explained(rt, given, met)),
@@ -35,34 +33,19 @@ where
 }
 
 // The attribute of a name.
-fn attribute(alloc: Global, name: &str) -> Result<Option<Attr>, Fault> {
-    match read_query(alloc, None, None, Some(name), Some("count"), &[]) {
-        Ok(query) => match query.columns.as_slice() {
-            [attr] => Ok(Some(*attr)),
-            _ => Ok(None),
-        },
-        Err(Fault::Memory) => Err(Fault::Memory),
-        Err(_) => Ok(None),
-    }
-}
-
-// The refusal of a name that is that of no attribute.
-fn no_attribute(alloc: Global, name: &str) -> Refusal {
+fn attribute(alloc: Global, name: &str) -> Result<Attr, Refusal> {
     let words = QueryWords {
-        q: None,
-        set: None,
         by: Some(name),
         agg: Some("count"),
-        conditions: &[],
+        ..QueryWords::NONE
     };
-    let hint = match hint_of_cube(alloc, &words) {
-        Ok(Some(hint)) => format!(in alloc; "{hint}").ok(),
-        Ok(None) => format!(in alloc; "{name}: one attribute is listed at a time").ok(),
-        Err(_) => None,
+    let query = match read_query(alloc, &words) {
+        Ok(query) => query,
+        Err(refused) => return Err(refusal_of(alloc, refused)),
     };
-    Refusal {
-        fault: Fault::BadQuery,
-        hint,
+    match query.columns.as_slice() {
+        [attr] => Ok(*attr),
+        _ => Err(bad_query(format!(in alloc; "{name}: one attribute is listed at a time"))),
     }
 }
 

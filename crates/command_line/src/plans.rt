@@ -7,7 +7,7 @@ use crate::output::{cut_short, output};
 use crate::query::{NOTHING_ASKED, asks_nothing, query_of};
 use crate::reads::{Reads, mark_of};
 use crate::records::{format_of, view_cells};
-use crate::refusal::{Refusal, explained};
+use crate::refusal::{Refusal, bad_query, explained};
 use crate::texts::print_text;
 use crate::timing::say_read;
 use crate::unfinished::note_unfinished;
@@ -37,19 +37,16 @@ where
 {
     match query_of(rt.alloc(), given) {
         Ok(query) => explain_query(rt, given, &query),
-        Err(fault) => Err(unspelled(rt, given, fault)),
+        Err(refusal) => Err(unspelled(rt.alloc(), given, refusal)),
     }
 }
 
 // The refusal of words that spell no query. Where nothing is asked it says both ways to ask.
-fn unspelled<R: Files + AllocGlobal>(rt: &R, given: &ArgMatches<'_>, fault: Fault) -> Refusal {
-    if !asks_nothing(given) || fault != Fault::BadQuery {
-        return unasked(rt, given, fault);
-    }
-    let hint = format!(in rt.alloc(); "{NOTHING_ASKED}");
-    Refusal {
-        fault,
-        hint: hint.ok(),
+fn unspelled(alloc: Global, given: &ArgMatches<'_>, refusal: Refusal) -> Refusal {
+    if asks_nothing(given) && refusal.fault == Fault::BadQuery {
+        bad_query(format!(in alloc; "{NOTHING_ASKED}"))
+    } else {
+        unasked(alloc, given, refusal)
     }
 }
 

@@ -1,21 +1,42 @@
 //! The words of a query.
+use crate::refusal::Refusal;
 use clap::ArgMatches;
 use cube_model::{Fault, Query};
-use query_words::read_query;
-use std::alloc::Global;
-use word_hints::{QueryWords, hint_of, hint_of_cube};
+use query_words::{QueryWords, Refused, read_query};
+use std::alloc::{AllocError, Global};
+use word_hints::hint_of;
 
-/// The query that the words of a command spell.
-pub fn query_of(alloc: Global, given: &ArgMatches<'_>) -> Result<Query, Fault> {
-    let words = words_of(given);
-    read_query(
-        alloc,
-        words.q,
-        words.set,
-        words.by,
-        words.agg,
-        words.conditions,
-    )
+/// The query that the words of a command spell, or why they are refused.
+pub fn query_of(alloc: Global, given: &ArgMatches<'_>) -> Result<Query, Refusal> {
+    match read_query(alloc, &words_of(given)) {
+        Ok(query) => Ok(query),
+        Err(refused) => Err(refusal_of(alloc, in_command(given, refused))),
+    }
+}
+
+// The commands that ask queries of a warehouse have no number of one of the benchmark as an option: aggregates alone are wanted there.
+fn in_command<'a>(given: &ArgMatches<'_>, refused: Refused<'a>) -> Refused<'a> {
+    match refused {
+        Refused::NothingAsked if given.get_str("device").is_some() => Refused::NoAggregate,
+        refused => refused,
+    }
+}
+
+/// The refusal of words, with the mistake in them.
+pub fn refusal_of(alloc: Global, refused: Refused<'_>) -> Refusal {
+    let hint = match refused {
+        Refused::Memory => None,
+        refused => said_of(alloc, refused).ok(),
+    };
+    Refusal {
+        fault: Fault::from(refused),
+        hint,
+    }
+}
+
+fn said_of(alloc: Global, refused: Refused<'_>) -> Result<String, AllocError> {
+    let hint = hint_of(alloc, refused)?;
+    format!(in alloc; "{hint}")
 }
 
 /// What is said where neither a query of the benchmark nor one of one's own is given.
@@ -25,20 +46,6 @@ pub const NOTHING_ASKED: &str =
 /// Whether words give neither a query of the benchmark nor aggregates.
 pub fn asks_nothing(given: &ArgMatches<'_>) -> bool {
     given.get_str("agg").is_none() && benchmark_word(given).is_none()
-}
-
-/// What is wrong with words that spell no query.
-pub fn query_hint(alloc: Global, given: &ArgMatches<'_>) -> Result<Option<String>, Fault> {
-    let words = words_of(given);
-    let found = if given.get_str("device").is_some() && words.q.is_none() {
-        hint_of_cube(alloc, &words)?
-    } else {
-        hint_of(alloc, &words)?
-    };
-    match found {
-        None => Ok(None),
-        Some(hint) => Ok(Some(format!(in alloc; "{hint}")?)),
-    }
 }
 
 /// The word for a query of the benchmark, where a command has one.

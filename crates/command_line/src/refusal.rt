@@ -1,7 +1,6 @@
 //! A refusal, and what the program knows of it.
 use crate::device_hints::{device_hint, failure_hint};
 use crate::files::GivenFiles;
-use crate::layout::asked_hint;
 use crate::load::cut_of;
 use crate::locating::located_hint;
 use crate::repeated::{StoredBatch, repeated_hint};
@@ -23,6 +22,14 @@ pub struct Refusal {
 impl From<Fault> for Refusal {
     fn from(fault: Fault) -> Refusal {
         Refusal { fault, hint: None }
+    }
+}
+
+/// The refusal of a query, with what is wrong with it.
+pub fn bad_query(hint: Result<String, AllocError>) -> Refusal {
+    Refusal {
+        fault: Fault::BadQuery,
+        hint: hint.ok(),
     }
 }
 
@@ -80,7 +87,6 @@ fn hint_of<R: Files + AllocGlobal>(
 ) -> Result<Option<String>, Fault> {
     let files = GivenFiles::new(rt, given)?;
     match met.fault {
-        Fault::BadQuery => asked_hint(rt.alloc(), given),
         Fault::Input => files.unreadable(),
         Fault::Repeated => repeated_hint(rt.alloc(), &files, met.stored),
         Fault::NoSuchPrefix => prefix_hint(rt.alloc(), given, met.batches),

@@ -1,15 +1,14 @@
 //! The command `report`.
 use crate::query::benchmark_word;
 use clap::ArgMatches;
-use query_words::read_query;
+use ssb_reports::QNumber;
 use std::alloc::Global;
 
 /// What is said where the file and the query of a report were given in the other order.
 pub fn swapped(alloc: Global, given: &ArgMatches<'_>) -> Option<String> {
     let device = given.get_str("device")?;
     let query = benchmark_word(given)?;
-    let is_query = read_query(alloc, Some(device), None, None, None, &[]).is_ok();
-    if !is_query {
+    if !QNumber::ALL.iter().any(|number| number.name() == device) {
         return None;
     }
     format!(in alloc;

@@ -3,27 +3,22 @@ use crate::job::unasked;
 use crate::layout::{asked_of, layout_of};
 use crate::listed::{ListedQuery, listed_queries};
 use crate::query::{benchmark_word, query_of, words_of};
-use crate::refusal::Refusal;
+use crate::refusal::{Refusal, bad_query};
 use clap::ArgMatches;
-use cube_model::Fault;
+use cube_model::{Fault, Query};
 use partial_reports::{Head, PartAsked};
-use query_words::read_query;
+use query_words::QueryWords;
 use report_formats::{Asked, Format, Layout};
 use sector_device::Sectors;
+use ssb_reports::{QNumber, query_of as benchmark_query};
 use std::alloc::Global;
 use std::io::Write;
 use std::rt::Files;
 use warehouse::Session;
 use warehouse_jobs::{report_formatted, report_partial};
-use word_hints::QueryWords;
 
 /// The word for all queries of the benchmark.
 const ALL: &str = "all";
-
-/// The queries of the benchmark.
-static QUERIES: [&str; 13] = [
-    "1.1", "1.2", "1.3", "2.1", "2.2", "2.3", "3.1", "3.2", "3.3", "3.4", "4.1", "4.2", "4.3",
-];
 
 /// What is reported.
 #[derive(Drop)]
@@ -65,12 +60,12 @@ pub fn reports_of<R: Files + AllocGlobal + Input>(
     }
     match report_of(rt.alloc(), given) {
         Ok(report) => Ok(report),
-        Err(fault) => Err(unasked(rt, given, fault)),
+        Err(refusal) => Err(unasked(rt.alloc(), given, refusal)),
     }
 }
 
 /// The one report that the words of a command ask for, of a part of the rows where they name one.
-pub fn report_of(alloc: Global, given: &ArgMatches<'_>) -> Result<Reports, Fault> {
+pub fn report_of(alloc: Global, given: &ArgMatches<'_>) -> Result<Reports, Refusal> {
     match given.get_str("partial") {
         Some(word) => Ok(Reports::Part(part_of(alloc, given, word)?)),
         None => Ok(Reports::One(asked_of(alloc, given)?)),
@@ -78,24 +73,43 @@ pub fn report_of(alloc: Global, given: &ArgMatches<'_>) -> Result<Reports, Fault
 }
 
 // The partial report that the words of a command ask for, of a part such as 3/8.
-fn part_of(alloc: Global, given: &ArgMatches<'_>, word: &str) -> Result<PartAsked, Fault> {
+fn part_of(alloc: Global, given: &ArgMatches<'_>, word: &str) -> Result<PartAsked, Refusal> {
     let query = query_of(alloc, given)?;
     let Some((number, parts)) = part_in(word) else {
-        return Err(Fault::BadQuery);
+        return Err(bad_query(format!(in alloc;
+            "--partial {word}: K/N is wanted, part K of N, with N at most 1024"
+        )));
     };
+    match part_asked(alloc, number, parts, words_of(given), query) {
+        Ok(asked) => Ok(asked),
+        Err(Fault::BadQuery) => Err(bad_query(format!(in alloc;
+            "--partial: a word of the query has a line feed or more than 8000 bytes"
+        ))),
+        Err(fault) => Err(Refusal::from(fault)),
+    }
+}
+
+// The partial report of a query by its words.
+fn part_asked(
+    alloc: Global,
+    number: u32,
+    parts: u32,
+    words: QueryWords<'_>,
+    query: Query,
+) -> Result<PartAsked, Fault> {
     let QueryWords {
         q,
         set,
         by,
         agg,
         conditions,
-    } = words_of(given);
+    } = words;
     let head = Head::new(alloc, number, parts, q, set, by, agg, conditions)?;
     PartAsked::new(alloc, head, query)
 }
 
-/// The number of a part and how many parts there are, of a word such as 3/8.
-pub fn part_in(word: &str) -> Option<(u32, u32)> {
+// The number of a part and how many parts there are, of a word such as 3/8.
+fn part_in(word: &str) -> Option<(u32, u32)> {
     let (number, parts) = word.split_once('/')?;
     let number = number.parse::<u32>().ok()?;
     let parts = parts.parse::<u32>().ok()?;
@@ -120,10 +134,9 @@ fn of_list(
 // The reports of all queries of the benchmark.
 fn of_benchmark(alloc: Global, layout: Layout) -> Result<Vec<NamedReport>, Fault> {
     let mut reports = Vec::new(alloc);
-    for words in QUERIES {
-        let query = read_query(alloc, Some(words), None, None, None, &[])?;
-        let asked = Asked::new(alloc, layout, query)?;
-        reports.push(NamedReport::new(alloc, words, asked)?)?;
+    for number in QNumber::ALL {
+        let asked = Asked::new(alloc, layout, benchmark_query(alloc, number)?)?;
+        reports.push(NamedReport::new(alloc, number.name(), asked)?)?;
     }
     Ok(reports)
 }

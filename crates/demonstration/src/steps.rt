@@ -1,7 +1,7 @@
 //! The steps of the demonstration on an open warehouse.
 use crate::telling::show;
 use cube_model::{Fault, Query};
-use query_words::read_query;
+use query_words::{QueryWords, read_query};
 use sample_tables::LINEORDER;
 use sector_device::Sectors;
 use std::alloc::Global;
@@ -59,7 +59,11 @@ pub fn report_queries<D: Sectors, W: Write>(
         ("4.2", "report star.dev 4.2"),
     ] {
         show(out, command)?;
-        let query = read_query(alloc, Some(number), None, None, None, &[])?;
+        let words = QueryWords {
+            q: Some(number),
+            ..QueryWords::NONE
+        };
+        let query = read_query(alloc, &words)?;
         report(alloc, session, query, out)?;
     }
     Ok(())
@@ -75,14 +79,14 @@ pub fn report_cube<D: Sectors, W: Write>(
         out,
         "cube star.dev --set cube --by c_region,d_year --agg count,sum:revenue 'd_year=1997|1998'",
     )?;
-    let query = read_query(
-        alloc,
-        None,
-        Some("cube"),
-        Some("c_region,d_year"),
-        Some("count,sum:revenue"),
-        &["d_year=1997|1998"],
-    )?;
+    let words = QueryWords {
+        q: None,
+        set: Some("cube"),
+        by: Some("c_region,d_year"),
+        agg: Some("count,sum:revenue"),
+        conditions: &["d_year=1997|1998"],
+    };
+    let query = read_query(alloc, &words)?;
     report(alloc, session, query, out)
 }
 

@@ -1,6 +1,8 @@
 mod Cuts
 mod Cutting
+mod FieldsLeft
 mod HeadTexts
+mod LinesLeft
 mod NumberTexts
 mod NumbersLeft
 mod PartLines

@@ -18,7 +18,7 @@ digit_is_not : (sign byte : ℕ) → (sign < 48) ⊎ (57 < sign) → is_ascii_di
 digit_is_not sign byte (inl low) e = grind (arith, nat_tests)
 digit_is_not sign byte (inr high) e = grind (arith, nat_tests)
 
-digits_lack : (sign : ℕ) (text : List ℕ) → (sign < 48) ⊎ (57 < sign) → list_all is_ascii_digit text ≡ true → HasNoByte sign text
+pub digits_lack : (sign : ℕ) (text : List ℕ) → (sign < 48) ⊎ (57 < sign) → list_all is_ascii_digit text ≡ true → HasNoByte sign text
 digits_lack sign [] out all = tt
 digits_lack sign (byte ∷ text) out all =
     let parts = and_parts (is_ascii_digit byte) (list_all is_ascii_digit text) all in

@@ -1,7 +1,9 @@
 -- Members that passed the test can be read back.
-use Rattle.std.proofs.Common.{◌≡◌, refl, ap, ℕ, ◌==◌, Bool, true, false, ◌&&◌, ◌||◌, not, List, [], ◌∷◌, codes}
+use Rattle.std.proofs.Common.{◌≡◌, ◌∙◌, sym, refl, ap, ℕ, ◌==◌, Bool, true, false, ◌&&◌, ◌||◌, not, List, [], ◌∷◌, codes}
 use Rattle.std.specs.List.{AllByRecursion, list_all}
 use Rattle.std.specs.Str.{bytes_eq}
+use Rattle.std.proofs.lemmas.Bool.{false_from_ne_true}
+use Rattle.std.proofs.lemmas.Slice.Eq.{bytes_eq-Decides}
 use Rattle.cube_model.specs.declared.answer.Member.{Member}
 use Rattle.cube_model.specs.declared.answer.Member.TheVariants.{All, Text}
 use Rattle.answer_merge.specs.Readable.{HasNoByte, IsPlainMember, IsPlainText}
@@ -59,3 +61,22 @@ plain_members [] e = tt
 plain_members (member ∷ key) e =
     let parts = both (is_plain_member member) (list_all is_plain_member key) e in
     (plain_member member parts.first, plain_members key parts.second)
+
+-- and members that can be read back pass it
+ends_none : (text : List ℕ) → HasNoByte 124 text → HasNoByte 10 text → list_all (λ byte. not (ends_field byte)) text ≡ true
+ends_none [] bar feed = refl
+ends_none (byte ∷ text) bar feed =
+    (λ i. not (bar.0 i || feed.0 i) && list_all (λ b. not (ends_field b)) text) ∙ ends_none text bar.1 feed.1
+
+text_plain : (text : List ℕ) → IsPlainText text → is_plain_text text ≡ true
+text_plain text is =
+    (λ i. ends_none text is.no_bar is.no_lf i && not (bytes_eq (codes "ALL") text))
+    ∙ ap not (false_from_ne_true (bytes_eq (codes "ALL") text) (λ same. is.not_all (sym ((bytes_eq-Decides (codes "ALL") text).0 same))))
+
+member_plain : (member : Member) → IsPlainMember member → is_plain_member member ≡ true
+member_plain (Text text) is = text_plain text is
+member_plain All is = refl
+
+pub members_plain : (key : List Member) → AllByRecursion IsPlainMember key → list_all is_plain_member key ≡ true
+members_plain [] all = refl
+members_plain (member ∷ key) all = (λ i. member_plain member all.0 i && list_all is_plain_member key) ∙ members_plain key all.1

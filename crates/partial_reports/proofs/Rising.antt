@@ -29,3 +29,8 @@ rising_on (first ∷ front) last line rise less = (
 -- lines that can be read back, and one more
 pub all_and : (P : Line → Type 0) (lines : List Line) (line : Line) → AllByRecursion P lines → P line → AllByRecursion P (lines ++ line ∷ [])
 all_and P lines line all here = all_more P lines line all here
+
+-- the key of the last of lines in order is above that of the one before it
+pub last_less : (front : List Line) (last line : Line) → IsAscending (answer_cmp None) ((front ++ last ∷ []) ++ line ∷ []) → key_cmp last.key line.key ≡ Less
+last_less [] last line rise = rise.0.0
+last_less (first ∷ front) last line rise = last_less front last line rise.1

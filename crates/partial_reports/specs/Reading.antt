@@ -1,17 +1,38 @@
 -- What is read of the text of a partial report. Our own.
-use Rattle.std.specs.Prelude.{◌≡◌, ◌<◌, ◌^◌, ℕ, List, [], ◌∷◌, ◌++◌, None, length}
-use Rattle.std.specs.List.{AllByRecursion, flat_map}
+use Rattle.std.specs.Prelude.{◌≡◌, ◌<◌, ◌^◌, ℕ, List, [], ◌∷◌, ◌++◌, Option, None, Some, length, map, IfSome}
+use Rattle.std.specs.List.{AllByRecursion, flat_map, join_with_byte}
 use Rattle.cube_model.specs.declared.answer.Line.{Line}
 use Rattle.cube_model.specs.declared.query.Query.{Query}
 use Rattle.cube_model.specs.Ascending.{IsAscending}
 use Rattle.cube_model.specs.Orders.{answer_cmp}
-use Rattle.answer_merge.specs.Readable.{IsReadableLine}
-use Rattle.ssb_reports.specs.Report.{count_text, line_text}
+use Rattle.answer_merge.specs.Readable.{HasNoByte, IsReadableLine}
+use Rattle.ssb_reports.specs.Report.{count_text, line_text, member_text, value_text}
+
+-- the fields of a line: its members, then its numbers
+abbrev pub fields_of : Line → List (List ℕ)
+fields_of line = map member_text line.key ++ map value_text line.values
+
+-- fields, joined by bars, are what is left of a line's text: nothing, or no byte, where they are none
+abbrev pub AreJoined : Option (List ℕ) → List (List ℕ) → Type 0
+AreJoined left [] = IfSome left (λ text. text ≡ [])
+AreJoined left (field ∷ fields) = left ≡ Some (join_with_byte 124 (field ∷ fields))
+
+-- and none of them has a bar (124)
+pub record AreLeft (left : Option (List ℕ)) (fields : List (List ℕ)) : Type 0 where
+  pub each : AllByRecursion (HasNoByte 124) fields
+  pub joined : AreJoined left fields
 
 -- lines of a query that can be read back, in the order of their keys
 pub record AreLinesOf (query : Query) (lines : List Line) : Type 0 where
   pub each : AllByRecursion (IsReadableLine query) lines
   pub rising : IsAscending (answer_cmp None) lines
+
+-- a text goes on with a line that can be read back and is above those before it, and there is more after it
+pub record IsNextLine (query : Query) (lines : List Line) (line : Line) (text left : List ℕ) : Type 0 where
+  pub readable : IsReadableLine query line
+  pub rising : IsAscending (answer_cmp None) (lines ++ line ∷ [])
+  pub spelled : text ≡ line_text line ++ left
+  pub more : 0 < length left
 
 -- the next line was read
 pub record ReadsLine (query : Query) (old new : List Line) (text left : List ℕ) : Type 0 where

@@ -60,7 +60,7 @@ pub fn read_head(alloc: Global, text: &[u8]) -> Result<HeadRead<'_>, Refused>
 }
 
 // What is before the first byte of some number in a text, and what is after it.
-fn cut(text: &[u8], sign: u8) -> Option<(&[u8], &[u8])>
+pub(crate) fn cut(text: &[u8], sign: u8) -> Option<(&[u8], &[u8])>
     ensures found { (front back : List ℕ) → HasNoByte sign front → text.now ≡ front ++ sign ∷ back
         → IsSomeAnd result (λ halves. (halves.0.now ≡ front) × (halves.1.now ≡ back)) }
     ensures none { HasNoByte sign text.now → result ≡ None }

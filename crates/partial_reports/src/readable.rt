@@ -1,6 +1,6 @@
 //! Lines that can be read back.
-ghost use Rattle.std.specs.Prelude.{◌≡◌, ◌++◌, [], ◌∷◌, None, true, OnOk};
-ghost use Rattle.std.specs.Bool.{OnTrue};
+ghost use Rattle.std.specs.Prelude.{◌≡◌, ◌++◌, [], ◌∷◌, None, true, OnErr, OnOk};
+ghost use Rattle.std.specs.Bool.{OnFalse, OnTrue};
 ghost use Rattle.std.specs.List.{AllByRecursion, list_all};
 ghost use Rattle.cube_model.specs.Ascending.{IsAscending};
 ghost use Rattle.cube_model.specs.Orders.{answer_cmp};
@@ -15,7 +15,8 @@ use std::cmp::Ordering;
 /// Checks that a line has a member for each column and a whole number for each aggregate, and its members can be read back.
 #[tactic(auto, using(crate::proofs::Plain::plain_members))]
 pub(crate) fn check_readable(number: u64, query: &Query, line: &Line) -> Result<(), Refused>
-    ensures { OnOk result (IsReadableLine query.now line.now) }
+    ensures ok { OnOk result (IsReadableLine query.now line.now) }
+    ensures refused { OnErr result (IsReadableLine query.now line.now → ⊥) }
 {
     if line.key.len() != query.columns.len() {
         return Err(Refused::at(number, Wrong::FieldCount));
@@ -48,7 +49,8 @@ fn is_plain(member: &Member) -> bool
 }
 
 fn are_whole(values: &[Value]) -> bool
-    ensures { OnTrue result (AllByRecursion IsWholeNumber values.now) }
+    ensures whole { OnTrue result (AllByRecursion IsWholeNumber values.now) }
+    ensures only { OnFalse result (AllByRecursion IsWholeNumber values.now → ⊥) }
 {
     for value in values {
         if !is_whole(*value) {
@@ -59,7 +61,8 @@ fn are_whole(values: &[Value]) -> bool
 }
 
 fn is_whole(value: Value) -> bool
-    ensures { OnTrue result (IsWholeNumber value) }
+    ensures whole { OnTrue result (IsWholeNumber value) }
+    ensures only { OnFalse result (IsWholeNumber value → ⊥) }
 {
     match value {
         Value::Whole(_) => true,
@@ -71,7 +74,8 @@ fn is_whole(value: Value) -> bool
 #[tactic(auto, using(crate::proofs::Rising::rising_on))]
 pub(crate) fn check_follows(number: u64, lines: &[Line], line: &Line) -> Result<(), Refused>
     requires { IsAscending (answer_cmp None) lines.now }
-    ensures { OnOk result (IsAscending (answer_cmp None) (lines.now ++ line.now ∷ [])) }
+    ensures ok { OnOk result (IsAscending (answer_cmp None) (lines.now ++ line.now ∷ [])) }
+    ensures refused { OnErr result (IsAscending (answer_cmp None) (lines.now ++ line.now ∷ []) → ⊥) }
 {
     let Some((last, _)) = lines.split_last() else {
         return Ok(());

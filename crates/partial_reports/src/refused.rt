@@ -34,8 +34,6 @@ pub enum Wrong {
 pub enum Refused {
     /// A growth of memory was refused.
     Memory,
-    /// A reader failed.
-    Input,
     /// A line is wrong.
     At { line: u64, wrong: Wrong },
 }
@@ -72,10 +70,8 @@ impl From<Fault> for Refused {
 
     ghost from_gives = { IsRefusedFor };
 
-    fn from(fault: Fault) -> Refused {
-        match fault {
-            Fault::Input => Refused::Input,
-            _ => Refused::Memory,
-        }
+    // Texts are spelled in memory, so no other fault than `Memory` comes here.
+    fn from(_fault: Fault) -> Refused {
+        Refused::Memory
     }
 }

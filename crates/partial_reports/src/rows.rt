@@ -1,9 +1,10 @@
 //! The rows of a report, as they are spelled.
-ghost use Rattle.std.specs.Prelude.{◌≡◌, ◌++◌, ℕ, List, IfSome, IsSomeAnd, OnOk, length};
+ghost use Rattle.std.specs.Prelude.{◌≡◌, ◌++◌, ◌↔◌, ℕ, List, IfErr, IfSome, IsOk, IsSomeAnd, OnOk, length};
 ghost use Rattle.ssb_reports.specs.Report.{count_text, row_text};
 
 use cube_model::Fault;
-use ssb_reports::{Fields, write_bytes, write_count, write_joined};
+use ssb_reports::{Fields, write_count, write_joined};
+use wire::push_bytes;
 
 /// Makes a buffer the row of some fields and of others after them.
 pub(crate) fn spell_row<F: Fields, G: Fields>(
@@ -11,19 +12,29 @@ pub(crate) fn spell_row<F: Fields, G: Fields>(
     fields: &F,
     others: &G,
 ) -> Result<(), Fault>
-    ensures { OnOk result (row.new.items ≡ row_text (F.texts fields.now ++ G.texts others.now)) }
+    ensures ok { OnOk result (row.new.items ≡ row_text (F.texts fields.now ++ G.texts others.now)) }
+    ensures only { IfErr result (λ fault. fault ≡ Fault.Memory) }
 {
     row.clear();
-    write_joined(row, b'|', fields, others)?;
-    write_bytes(row, b"\n")
+    in_memory(write_joined(row, b'|', fields, others))?;
+    push_bytes(row, b"\n")
 }
 
 /// Makes a buffer the line of how many lines there are.
 pub(crate) fn spell_count(row: &mut Vec<u8>, count: usize) -> Result<(), Fault>
-    ensures { OnOk result (row.new.items ≡ count_text count) }
+    ensures ok { OnOk result (row.new.items ≡ count_text count) }
+    ensures only { IfErr result (λ fault. fault ≡ Fault.Memory) }
 {
     row.clear();
-    write_count(row, count)
+    in_memory(write_count(row, count))
+}
+
+// What became of bytes that were written to a vector, which takes all of them unless memory runs out.
+fn in_memory(written: Result<(), Fault>) -> Result<(), Fault>
+    ensures ok { IsOk result ↔ IsOk written }
+    ensures only { IfErr result (λ fault. fault ≡ Fault.Memory) }
+{
+    written.map_err(|_| Fault::Memory)
 }
 
 /// What is after the front of a text, where it begins so.

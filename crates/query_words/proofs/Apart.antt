@@ -131,18 +131,74 @@ agg_of text = cond (bytes_eq text (codes "count")) Count (taken_of (take 3 text)
 word_back : (value : Agg) → agg_of (agg_word value) ≡ value
 unfolding agg_of taken_of measure_of
 word_back Count = refl
-word_back (Sum measure) = elim measure as (λ one. agg_of (agg_word (Sum one)) ≡ Sum one) [ Quantity ↦ refl | ExtendedPrice ↦ refl | Revenue ↦ refl | SupplyCost ↦ refl | Discounted ↦ refl | Profit ↦ refl ]
-word_back (Min measure) = elim measure as (λ one. agg_of (agg_word (Min one)) ≡ Min one) [ Quantity ↦ refl | ExtendedPrice ↦ refl | Revenue ↦ refl | SupplyCost ↦ refl | Discounted ↦ refl | Profit ↦ refl ]
-word_back (Max measure) = elim measure as (λ one. agg_of (agg_word (Max one)) ≡ Max one) [ Quantity ↦ refl | ExtendedPrice ↦ refl | Revenue ↦ refl | SupplyCost ↦ refl | Discounted ↦ refl | Profit ↦ refl ]
-word_back (Avg measure) = elim measure as (λ one. agg_of (agg_word (Avg one)) ≡ Avg one) [ Quantity ↦ refl | ExtendedPrice ↦ refl | Revenue ↦ refl | SupplyCost ↦ refl | Discounted ↦ refl | Profit ↦ refl ]
+word_back (Sum measure) = elim measure as (λ one. agg_of (agg_word (Sum one)) ≡ Sum one) [
+  | Quantity ↦ refl
+  | ExtendedPrice ↦ refl
+  | Revenue ↦ refl
+  | SupplyCost ↦ refl
+  | Discounted ↦ refl
+  | Profit ↦ refl
+]
+word_back (Min measure) = elim measure as (λ one. agg_of (agg_word (Min one)) ≡ Min one) [
+  | Quantity ↦ refl
+  | ExtendedPrice ↦ refl
+  | Revenue ↦ refl
+  | SupplyCost ↦ refl
+  | Discounted ↦ refl
+  | Profit ↦ refl
+]
+word_back (Max measure) = elim measure as (λ one. agg_of (agg_word (Max one)) ≡ Max one) [
+  | Quantity ↦ refl
+  | ExtendedPrice ↦ refl
+  | Revenue ↦ refl
+  | SupplyCost ↦ refl
+  | Discounted ↦ refl
+  | Profit ↦ refl
+]
+word_back (Avg measure) = elim measure as (λ one. agg_of (agg_word (Avg one)) ≡ Avg one) [
+  | Quantity ↦ refl
+  | ExtendedPrice ↦ refl
+  | Revenue ↦ refl
+  | SupplyCost ↦ refl
+  | Discounted ↦ refl
+  | Profit ↦ refl
+]
 
 name_back : (value : Agg) → agg_of (agg_name value) ≡ value
 unfolding agg_of taken_of measure_of
 name_back Count = refl
-name_back (Sum measure) = elim measure as (λ one. agg_of (agg_name (Sum one)) ≡ Sum one) [ Quantity ↦ refl | ExtendedPrice ↦ refl | Revenue ↦ refl | SupplyCost ↦ refl | Discounted ↦ refl | Profit ↦ refl ]
-name_back (Min measure) = elim measure as (λ one. agg_of (agg_name (Min one)) ≡ Min one) [ Quantity ↦ refl | ExtendedPrice ↦ refl | Revenue ↦ refl | SupplyCost ↦ refl | Discounted ↦ refl | Profit ↦ refl ]
-name_back (Max measure) = elim measure as (λ one. agg_of (agg_name (Max one)) ≡ Max one) [ Quantity ↦ refl | ExtendedPrice ↦ refl | Revenue ↦ refl | SupplyCost ↦ refl | Discounted ↦ refl | Profit ↦ refl ]
-name_back (Avg measure) = elim measure as (λ one. agg_of (agg_name (Avg one)) ≡ Avg one) [ Quantity ↦ refl | ExtendedPrice ↦ refl | Revenue ↦ refl | SupplyCost ↦ refl | Discounted ↦ refl | Profit ↦ refl ]
+name_back (Sum measure) = elim measure as (λ one. agg_of (agg_name (Sum one)) ≡ Sum one) [
+  | Quantity ↦ refl
+  | ExtendedPrice ↦ refl
+  | Revenue ↦ refl
+  | SupplyCost ↦ refl
+  | Discounted ↦ refl
+  | Profit ↦ refl
+]
+name_back (Min measure) = elim measure as (λ one. agg_of (agg_name (Min one)) ≡ Min one) [
+  | Quantity ↦ refl
+  | ExtendedPrice ↦ refl
+  | Revenue ↦ refl
+  | SupplyCost ↦ refl
+  | Discounted ↦ refl
+  | Profit ↦ refl
+]
+name_back (Max measure) = elim measure as (λ one. agg_of (agg_name (Max one)) ≡ Max one) [
+  | Quantity ↦ refl
+  | ExtendedPrice ↦ refl
+  | Revenue ↦ refl
+  | SupplyCost ↦ refl
+  | Discounted ↦ refl
+  | Profit ↦ refl
+]
+name_back (Avg measure) = elim measure as (λ one. agg_of (agg_name (Avg one)) ≡ Avg one) [
+  | Quantity ↦ refl
+  | ExtendedPrice ↦ refl
+  | Revenue ↦ refl
+  | SupplyCost ↦ refl
+  | Discounted ↦ refl
+  | Profit ↦ refl
+]
 
 spelled_back : (word : List ℕ) (value : Agg) → SpellsAggregate word value → agg_of word ≡ value
 spelled_back word value (inl same) = ap agg_of same ∙ word_back value
@@ -152,7 +208,8 @@ pub agg_once : (word : List ℕ) (one other : Agg) → SpellsAggregate word one 
 agg_once word one other spells spelled = sym (spelled_back word one spells) ∙ spelled_back word other spelled
 
 -- lists whose names are the same
-pub map_once : {A : Type 0} (name : A → List ℕ) → ((one other : A) → name one ≡ name other → one ≡ other) → (values others : List A) → map name values ≡ map name others → values ≡ others
+pub map_once : {A : Type 0} (name : A → List ℕ) → ((one other : A) → name one ≡ name other → one ≡ other) → (values others : List A)
+    → map name values ≡ map name others → values ≡ others
 map_once name once [] [] same = refl
 map_once name once [] (other ∷ others) same = cc
 map_once name once (value ∷ values) [] same = cc
@@ -162,7 +219,9 @@ map_once name once (value ∷ values) (other ∷ others) same =
     cc
 
 -- lists that the same words spell
-pub zip_once : {A : Type 0} (Spells : List ℕ → A → Type 0) → ((word : List ℕ) (one other : A) → Spells word one → Spells word other → one ≡ other) → (words : List (List ℕ)) (values others : List A) → AllZip Spells words values → AllZip Spells words others → values ≡ others
+pub zip_once : {A : Type 0} (Spells : List ℕ → A → Type 0) → ((word : List ℕ) (one other : A) → Spells word one → Spells word other
+    → one ≡ other) → (words : List (List ℕ)) (values others : List A) → AllZip Spells words values → AllZip Spells words others
+    → values ≡ others
 zip_once Spells once [] [] [] spells spelled = refl
 zip_once Spells once [] [] (other ∷ others) spells spelled = absurd spelled
 zip_once Spells once [] (value ∷ values) others spells spelled = absurd spells

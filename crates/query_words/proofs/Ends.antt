@@ -1,19 +1,17 @@
--- A condition after its colon.
-use Rattle.std.proofs.Common.{◌≡◌, ℕ, false, Bor, List, [], ◌∷◌, refl, sym, ap, subst, ◌∙◌, codes, length, map, get_or, arith}
-use Rattle.std.proofs.lemmas.Bool.{false≢true}
-use Rattle.std.proofs.lemmas.Slice.Eq.{bytes_eq-Decides}
-use Rattle.std.specs.Str.{bytes_eq}
+-- What is after the sign of a condition.
+use Rattle.std.proofs.Common.{◌≡◌, ℕ, ◌≤◌, ◌+◌, List, refl, sym, ap, codes, eqb, length, arith}
+use Rattle.std.specs.List.{count_by}
+use Rattle.std.proofs.lemmas.List.Splits.{length-slice_split}
 use Rattle.cube_model.specs.declared.attr.Attr.{Attr}
 use Rattle.cube_model.specs.declared.attr.Attr.TheVariants.{CustomerCity, CustomerNation, CustomerRegion, SupplierCity, SupplierNation, SupplierRegion, PartBrand1, PartCategory, PartMfgr, DateKey, DateYearmonthnum, DateYear, DateYearmonth, DateWeeknuminyear}
 use Rattle.cube_model.specs.declared.query.Cond.{Cond}
 use Rattle.cube_model.specs.declared.query.Cond.TheVariants.{OneOf, Between, Quantity, Discount}
 use Rattle.cube_model.specs.Names.{attr_name}
-use Rattle.query_words.specs.Spelled.{SpellsRange}
-use Rattle.query_words.specs.Words.{AreBounds, IsSmallNumber, parts_by}
-
--- texts that a test tells apart
-pub apart : (left right : List ℕ) → bytes_eq left right ≡ false → left ≡ right → ⊥
-apart left right differ same = false≢true (sym differ ∙ (bytes_eq-Decides left right).1 same)
+use Rattle.query_words.specs.declared.known.Subject.{Subject}
+use Rattle.query_words.specs.declared.known.Subject.TheVariants as subjects
+use Rattle.query_words.specs.Spelled.{SpellsAfter}
+use Rattle.query_words.specs.Words.{AreBounds, parts_by}
+use Rattle.query_words.proofs.Shapes.{apart}
 
 -- no attribute has the name of a number
 pub no_number : (attr : Attr) → (attr_name attr ≡ codes "quantity" → ⊥) × (attr_name attr ≡ codes "discount" → ⊥)
@@ -28,39 +26,45 @@ no_number attr = elim attr as (λ a. (attr_name a ≡ codes "quantity" → ⊥) 
   | PartCategory ↦ (apart (attr_name PartCategory) (codes "quantity") refl, apart (attr_name PartCategory) (codes "discount") refl)
   | PartMfgr ↦ (apart (attr_name PartMfgr) (codes "quantity") refl, apart (attr_name PartMfgr) (codes "discount") refl)
   | DateKey ↦ (apart (attr_name DateKey) (codes "quantity") refl, apart (attr_name DateKey) (codes "discount") refl)
-  | DateYearmonthnum ↦ (apart (attr_name DateYearmonthnum) (codes "quantity") refl, apart (attr_name DateYearmonthnum) (codes "discount") refl)
+  | DateYearmonthnum ↦ (
+    apart (attr_name DateYearmonthnum) (codes "quantity") refl,
+    apart (attr_name DateYearmonthnum)
+        (codes "discount") refl,
+  )
   | DateYear ↦ (apart (attr_name DateYear) (codes "quantity") refl, apart (attr_name DateYear) (codes "discount") refl)
   | DateYearmonth ↦ (apart (attr_name DateYearmonth) (codes "quantity") refl, apart (attr_name DateYearmonth) (codes "discount") refl)
-  | DateWeeknuminyear ↦ (apart (attr_name DateWeeknuminyear) (codes "quantity") refl, apart (attr_name DateWeeknuminyear) (codes "discount") refl)
+  | DateWeeknuminyear ↦ (
+    apart (attr_name DateWeeknuminyear) (codes "quantity") refl,
+    apart (attr_name DateWeeknuminyear)
+        (codes "discount") refl,
+  )
 ]
 
--- two texts that are not both numbers are no bounds
-no_bounds : (range low high : List ℕ) → low ∷ high ∷ [] ≡ parts_by 124 range → ((ends : ℕ × ℕ) → IsSmallNumber low ends.0 × IsSmallNumber high ends.1 → ⊥) → (m n : ℕ) → AreBounds range m n → ⊥
-no_bounds range low high parts none m n bounds =
-    let same : low ∷ high ∷ [] ≡ bounds.low_text ∷ bounds.high_text ∷ [] = parts ∙ bounds.parts in
-    let low_same : bounds.low_text ≡ low = cc in
-    let high_same : bounds.high_text ≡ high = cc in
-    none (m, n) (subst (λ (text : List ℕ). IsSmallNumber text m) low_same bounds.low_is, subst (λ (text : List ℕ). IsSmallNumber text n) high_same bounds.high_is)
+-- a text has at least one part
+pub some_part : (sign : ℕ) (text : List ℕ) → 1 ≤ length (parts_by sign text)
+some_part sign text = let count : length (parts_by sign text) ≡ count_by (λ byte. eqb byte sign) text + 1 = length-slice_split
+    (λ byte. eqb byte sign) text in omega arith
 
--- and so nothing is spelled after the name of a number
-pub no_quantity : (name range low high : List ℕ) → name ≡ codes "quantity" → low ∷ high ∷ [] ≡ parts_by 124 range → ((ends : ℕ × ℕ) → IsSmallNumber low ends.0 × IsSmallNumber high ends.1 → ⊥) → (condition : Cond) → SpellsRange name range condition → ⊥
-no_quantity name range low high is parts none (OneOf attr texts) spelled = (no_number attr).0 (sym spelled.name_is ∙ is)
-no_quantity name range low high is parts none (Between attr from to) spelled = (no_number attr).0 (sym spelled.name_is ∙ is)
-no_quantity name range low high is parts none (Quantity m n) spelled = no_bounds range low high parts none m n spelled.spelled
-no_quantity name range low high is parts none (Discount m n) spelled = apart (codes "discount") (codes "quantity") refl (sym spelled.name_is ∙ is)
+-- a range has two ends
+bounds_two : (range : List ℕ) (m n : ℕ) → AreBounds range m n → length (parts_by 124 range) ≡ 2
+bounds_two range m n bounds = ap length bounds.parts
 
-pub no_discount : (name range low high : List ℕ) → name ≡ codes "discount" → low ∷ high ∷ [] ≡ parts_by 124 range → ((ends : ℕ × ℕ) → IsSmallNumber low ends.0 × IsSmallNumber high ends.1 → ⊥) → (condition : Cond) → SpellsRange name range condition → ⊥
-no_discount name range low high is parts none (OneOf attr texts) spelled = (no_number attr).1 (sym spelled.name_is ∙ is)
-no_discount name range low high is parts none (Between attr from to) spelled = (no_number attr).1 (sym spelled.name_is ∙ is)
-no_discount name range low high is parts none (Quantity m n) spelled = apart (codes "quantity") (codes "discount") refl (sym spelled.name_is ∙ is)
-no_discount name range low high is parts none (Discount m n) spelled = no_bounds range low high parts none m n spelled.spelled
+pub two_ends : (subject : Subject) (range : List ℕ) (condition : Cond) → SpellsAfter subject 58 range condition → length
+    (parts_by 124 range) ≡ 2
+two_ends subject range (OneOf attr texts) after = let no_list : 61 ≡ 58 = after.sign_is in absurd (omega arith)
+two_ends subject range (Between attr low high) after = sym (ap length after.spelled)
+two_ends subject range (Quantity m n) after = bounds_two range m n after.spelled
+two_ends subject range (Discount m n) after = bounds_two range m n after.spelled
 
--- the two parts of a list of two
-pair_of : (parts : List (Bor (List ℕ))) (d e : Bor (List ℕ)) → length parts ≡ 2 → (get_or parts 0 d).now ∷ (get_or parts 1 e).now ∷ [] ≡ map (λ part. part.now) parts
-pair_of [] d e two = absurd (omega arith)
-pair_of (low ∷ []) d e two = absurd (omega arith)
-pair_of (low ∷ high ∷ []) d e two = refl
-pair_of (low ∷ high ∷ more ∷ others) d e two = absurd (omega arith)
-
-pub two_parts : (parts slice : List (Bor (List ℕ))) (d e : Bor (List ℕ)) (texts : List (List ℕ)) → length slice ≡ 2 → slice ≡ parts → map (λ part. part.now) parts ≡ texts → (get_or slice 0 d).now ∷ (get_or slice 1 e).now ∷ [] ≡ texts
-two_parts parts slice d e texts two same are = pair_of slice d e two ∙ ap (map (λ part. part.now)) same ∙ are
+-- texts are of an attribute
+pub no_texts : (subject : Subject) (list : List ℕ) (condition : Cond) → (attr_name_is : (attr : Attr) → subject ≡ subjects.Member attr
+    → ⊥) → SpellsAfter subject 61 list condition → ⊥
+no_texts (subjects.Member attr) list condition none after = none attr refl
+no_texts subjects.Quantity list (OneOf attr texts) none after = (no_number attr).0 after.name_is
+no_texts subjects.Quantity list (Between attr low high) none after = (no_number attr).0 after.name_is
+no_texts subjects.Quantity list (Quantity m n) none after = let sign : 58 ≡ 61 = after.sign_is in absurd (omega arith)
+no_texts subjects.Quantity list (Discount m n) none after = let sign : 58 ≡ 61 = after.sign_is in absurd (omega arith)
+no_texts subjects.Discount list (OneOf attr texts) none after = (no_number attr).1 after.name_is
+no_texts subjects.Discount list (Between attr low high) none after = (no_number attr).1 after.name_is
+no_texts subjects.Discount list (Quantity m n) none after = let sign : 58 ≡ 61 = after.sign_is in absurd (omega arith)
+no_texts subjects.Discount list (Discount m n) none after = let sign : 58 ≡ 61 = after.sign_is in absurd (omega arith)

@@ -1,7 +1,10 @@
 pub mod Apart
-pub mod Benchmark
+pub mod Cutting
+pub mod Ends
+pub mod Limited
 pub mod Listed
 pub mod Once
+pub mod Refusals
+pub mod Shapes
 pub mod Signs
-pub mod Ends
-pub mod Few
+pub mod Whole

@@ -1,9 +1,7 @@
 -- Words spell no two queries.
-use Rattle.std.proofs.Common.{◌≡◌, inl, inr, ℕ, Bool, true, false, cond, eqb, List, [], ◌∷◌, ◌++◌, Option, None, Some, codes, refl, sym, ap, subst, ◌∙◌, arith}
+use Rattle.std.proofs.Common.{◌≡◌, inl, inr, ℕ, List, [], ◌∷◌, Option, None, Some, codes, refl, sym, ap, subst, ◌∙◌, arith}
 use Rattle.std.specs.List.{AllZip}
-use Rattle.std.proofs.lemmas.Bool.{false≢true}
 use Rattle.cube_model.specs.declared.attr.Attr.{Attr}
-use Rattle.cube_model.specs.declared.attr.Attr.TheVariants.{CustomerCity, CustomerNation, CustomerRegion, SupplierCity, SupplierNation, SupplierRegion, PartBrand1, PartCategory, PartMfgr, DateKey, DateYearmonthnum, DateYear, DateYearmonth, DateWeeknuminyear}
 use Rattle.cube_model.specs.declared.measure.Agg.{Agg}
 use Rattle.cube_model.specs.declared.query.Cond.{Cond}
 use Rattle.cube_model.specs.declared.query.Cond.TheVariants.{OneOf, Between, Quantity, Discount}
@@ -13,62 +11,9 @@ use Rattle.cube_model.specs.Names.{attr_name}
 use Rattle.ssb_reports.specs.Benchmark.{benchmark_query, number_text}
 use Rattle.query_words.specs.Words.{AreBounds, SpellsAggregate, SpellsAggregates, SpellsBenchmark, SpellsColumns, SpellsCondition, SpellsCube, SpellsKind, SpellsMembers, SpellsQuery, Words, condition_name, condition_sign, parts_by}
 use Rattle.query_words.proofs.Apart.{agg_once, attr_once, kind_once, map_once, number_once, zip_once}
-use Rattle.query_words.proofs.Ends.{apart, no_number}
-use Rattle.query_words.proofs.Signs.{none_behind}
-
--- the signs of conditions
-abbrev is_sign : ℕ → Bool
-is_sign byte = cond (eqb byte 61) true (eqb byte 58)
-
-abbrev has_no_sign : List ℕ → Bool
-has_no_sign [] = true
-has_no_sign (byte ∷ text) = cond (is_sign byte) false (has_no_sign text)
-
-plain_names : (attr : Attr) → has_no_sign (attr_name attr) ≡ true
-plain_names attr = elim attr as (λ a. has_no_sign (attr_name a) ≡ true) [
-  | CustomerCity ↦ refl
-  | CustomerNation ↦ refl
-  | CustomerRegion ↦ refl
-  | SupplierCity ↦ refl
-  | SupplierNation ↦ refl
-  | SupplierRegion ↦ refl
-  | PartBrand1 ↦ refl
-  | PartCategory ↦ refl
-  | PartMfgr ↦ refl
-  | DateKey ↦ refl
-  | DateYearmonthnum ↦ refl
-  | DateYear ↦ refl
-  | DateYearmonth ↦ refl
-  | DateWeeknuminyear ↦ refl
-]
-
-plain_conditions : (condition : Cond) → (has_no_sign (condition_name condition) ≡ true) × (is_sign (condition_sign condition) ≡ true)
-plain_conditions (OneOf attr texts) = (plain_names attr, refl)
-plain_conditions (Between attr low high) = (plain_names attr, refl)
-plain_conditions (Quantity low high) = (refl, refl)
-plain_conditions (Discount low high) = (refl, refl)
-
-no_sign_first : (sign byte : ℕ) (text : List ℕ) → is_sign sign ≡ true → has_no_sign (byte ∷ text) ≡ true → sign ≡ byte → ⊥
-no_sign_first sign byte text is plain same =
-    let so : is_sign byte ≡ true = ap is_sign (sym same) ∙ is in
-    false≢true (ap (λ (test : Bool). cond test false (has_no_sign text)) (sym so) ∙ plain)
-
--- a text has one first sign
-record SameCut (name other : List ℕ) (sign mark : ℕ) (rest tail : List ℕ) : Type 0 where
-  names : name ≡ other
-  signs : sign ≡ mark
-  rests : rest ≡ tail
-
-cut_once : (name other : List ℕ) (sign mark : ℕ) (rest tail : List ℕ) → has_no_sign name ≡ true → has_no_sign other ≡ true → is_sign sign ≡ true → is_sign mark ≡ true → name ++ sign ∷ rest ≡ other ++ mark ∷ tail → SameCut name other sign mark rest tail
-cut_once [] [] sign mark rest tail plain clear is so same = record { names = refl; signs = cc; rests = cc }
-cut_once [] (byte ∷ other) sign mark rest tail plain clear is so same = let first : sign ≡ byte = cc in absurd (no_sign_first sign byte other is clear first)
-cut_once (byte ∷ name) [] sign mark rest tail plain clear is so same = let first : mark ≡ byte = cc in absurd (no_sign_first mark byte name so plain first)
-cut_once (byte ∷ name) (letter ∷ other) sign mark rest tail plain clear is so same =
-    let first : byte ≡ letter = cc in
-    let behind : name ++ sign ∷ rest ≡ other ++ mark ∷ tail = cc in
-    let cut = cut_once name other sign mark rest tail (none_behind (is_sign byte) (has_no_sign name) plain) (none_behind (is_sign letter) (has_no_sign other) clear) is so behind in
-    let names : name ≡ other = cut.names in
-    record { names = cc; signs = cut.signs; rests = cut.rests }
+use Rattle.query_words.proofs.Cutting.{neither, same_cut}
+use Rattle.query_words.proofs.Ends.{no_number}
+use Rattle.query_words.proofs.Shapes.{apart, condition_mark, plain_condition}
 
 bounds_once : (text : List ℕ) (low high from to : ℕ) → AreBounds text low high → AreBounds text from to → (low ≡ from) × (high ≡ to)
 bounds_once text low high from to one other =
@@ -81,8 +26,10 @@ bounds_once text low high from to one other =
     let to_is = other.high_is.value in
     (cc (lows, low_is, from_is), cc (highs, high_is, to_is))
 
-members_once : (members : List ℕ) (one other : Cond) → condition_name one ≡ condition_name other → condition_sign one ≡ condition_sign other → SpellsMembers members one → SpellsMembers members other → one ≡ other
-members_once members (OneOf attr texts) (OneOf other list) names signs spells spelled = let same : attr ≡ other = attr_once attr other names in let lists : texts ≡ list = spells ∙ sym spelled in cc (same, lists)
+members_once : (members : List ℕ) (one other : Cond) → condition_name one ≡ condition_name other
+    → condition_sign one ≡ condition_sign other → SpellsMembers members one → SpellsMembers members other → one ≡ other
+members_once members (OneOf attr texts) (OneOf other list) names signs spells spelled = let same : attr ≡ other = attr_once attr other
+    names in let lists : texts ≡ list = spells ∙ sym spelled in cc (same, lists)
 members_once members (OneOf attr texts) (Between other low high) names signs spells spelled = absurd (omega (arith, signs))
 members_once members (OneOf attr texts) (Quantity low high) names signs spells spelled = absurd (omega (arith, signs))
 members_once members (OneOf attr texts) (Discount low high) names signs spells spelled = absurd (omega (arith, signs))
@@ -95,26 +42,34 @@ members_once members (Between attr low high) (Quantity from to) names signs spel
 members_once members (Between attr low high) (Discount from to) names signs spells spelled = absurd ((no_number attr).1 names)
 members_once members (Quantity low high) (OneOf other list) names signs spells spelled = absurd (omega (arith, signs))
 members_once members (Quantity low high) (Between other from to) names signs spells spelled = absurd ((no_number other).0 (sym names))
-members_once members (Quantity low high) (Quantity from to) names signs spells spelled = let ends = bounds_once members low high from to spells spelled in let lows : low ≡ from = ends.0 in let highs : high ≡ to = ends.1 in cc (lows, highs)
-members_once members (Quantity low high) (Discount from to) names signs spells spelled = absurd (apart (codes "quantity") (codes "discount") refl names)
+members_once members (Quantity low high) (Quantity from to) names signs spells spelled = let ends = bounds_once members low high from to
+    spells spelled in let lows : low ≡ from = ends.0 in let highs : high ≡ to = ends.1 in cc (lows, highs)
+members_once members (Quantity low high) (Discount from to) names signs spells spelled = absurd (apart (codes "quantity")
+    (codes "discount") refl names)
 members_once members (Discount low high) (OneOf other list) names signs spells spelled = absurd (omega (arith, signs))
 members_once members (Discount low high) (Between other from to) names signs spells spelled = absurd ((no_number other).1 (sym names))
-members_once members (Discount low high) (Quantity from to) names signs spells spelled = absurd (apart (codes "discount") (codes "quantity") refl names)
-members_once members (Discount low high) (Discount from to) names signs spells spelled = let ends = bounds_once members low high from to spells spelled in let lows : low ≡ from = ends.0 in let highs : high ≡ to = ends.1 in cc (lows, highs)
+members_once members (Discount low high) (Quantity from to) names signs spells spelled = absurd (apart (codes "discount")
+    (codes "quantity") refl names)
+members_once members (Discount low high) (Discount from to) names signs spells spelled = let ends = bounds_once members low high from to
+    spells spelled in let lows : low ≡ from = ends.0 in let highs : high ≡ to = ends.1 in cc (lows, highs)
 
 condition_once : (word : List ℕ) (one other : Cond) → SpellsCondition word one → SpellsCondition word other → one ≡ other
 condition_once word one other spells spelled =
-    let cut = cut_once (condition_name one) (condition_name other) (condition_sign one) (condition_sign other) spells.members spelled.members (plain_conditions one).0 (plain_conditions other).0 (plain_conditions one).1 (plain_conditions other).1 (sym spells.whole ∙ spelled.whole) in
-    members_once spelled.members one other cut.names cut.signs (subst (λ (members : List ℕ). SpellsMembers members one) cut.rests spells.spelled) spelled.spelled
+    let cut = same_cut 61 58 (condition_name one) (condition_name other) (condition_sign one)
+    (condition_sign other) spells.members spelled.members (neither 61 58 (condition_name one) (plain_condition one)) (neither 61 58
+    (condition_name other) (plain_condition other)) (condition_mark one) (condition_mark other) (sym spells.whole ∙ spelled.whole) in
+    members_once spelled.members one other cut.names cut.signs (subst (λ (members : List ℕ). SpellsMembers members one) cut.rests
+    spells.spelled) spelled.spelled
 
-conditions_once : (words : List (List ℕ)) (values others : List Cond) → AllZip SpellsCondition words values → AllZip SpellsCondition words others → values ≡ others
+conditions_once : (words : List (List ℕ)) (values others : List Cond) → AllZip SpellsCondition words values
+    → AllZip SpellsCondition words others → values ≡ others
 conditions_once = zip_once SpellsCondition condition_once
 
 kinds_once : (set : Option (List ℕ)) (one other : Kind) → SpellsKind set one → SpellsKind set other → one ≡ other
 kinds_once None one other spells spelled = spells ∙ sym spelled
 kinds_once (Some word) one other spells spelled = kind_once one other (sym spells ∙ spelled)
 
-columns_once : (by : Option (List ℕ)) (one other : List Attr) → SpellsColumns by one → SpellsColumns by other → one ≡ other
+pub columns_once : (by : Option (List ℕ)) (one other : List Attr) → SpellsColumns by one → SpellsColumns by other → one ≡ other
 columns_once None one other spells spelled = spells ∙ sym spelled
 columns_once (Some text) one other spells spelled = map_once attr_name attr_once one other (spells ∙ sym spelled)
 
@@ -138,7 +93,8 @@ benchmark_once words one other spells spelled =
     spells.query_is ∙ ap benchmark_query number ∙ sym spelled.query_is
 
 number_or_parts : (words : Words) (one other : Query) → SpellsBenchmark words one → SpellsCube words other → ⊥
-number_or_parts words one other number parts = let texts : Some (number_text number.number) ≡ None = sym number.named ∙ parts.no_number in cc
+number_or_parts words one other number parts = let texts : Some (number_text number.number) ≡ None = sym number.named ∙ parts.no_number in
+    cc
 
 pub spell_one_query : (words : Words) (one other : Query) → SpellsQuery words one → SpellsQuery words other → one ≡ other
 spell_one_query words one other (inl number) (inl other_number) = benchmark_once words one other number other_number

@@ -1,109 +1,121 @@
--- Where the sign of a condition is.
-use Rattle.std.proofs.Common.{◌≡◌, ◌≢◌, inl, inr, ℕ, zero, suc, ◌<◌, Bool, true, false, cond, eqb, eq-eqb, List, [], ◌∷◌, ◌++◌, length, get_or, None, Some, Result, Ok, Err, refl, sym, ap, ◌∙◌, subst, arith, codes, Bor, lit<}
-use Rattle.std.specs.List.{position_or_len}
-use Rattle.std.proofs.lemmas.Bool.{false≢true}
-use Rattle.std.proofs.lemmas.Str.Pattern.{IsSplitOnceResult, split_after, split_once_first, split_parts}
-use Rattle.cube_model.specs.declared.fault.Fault.{Fault}
+-- What is read after the sign of a condition, and what is refused.
+use Rattle.std.proofs.Common.{◌≡◌, ◌≢◌, ◌⊎◌, inl, inr, ℕ, ◌≤◌, Bor, List, length, map, Result, refl, sym, ap, subst, ◌∙◌, arith}
+use Rattle.std.proofs.lemmas.List.{length-map}
 use Rattle.cube_model.specs.declared.attr.Attr.{Attr}
-use Rattle.cube_model.specs.declared.attr.Attr.TheVariants.{CustomerCity, CustomerNation, CustomerRegion, SupplierCity, SupplierNation, SupplierRegion, PartBrand1, PartCategory, PartMfgr, DateKey, DateYearmonthnum, DateYear, DateYearmonth, DateWeeknuminyear}
 use Rattle.cube_model.specs.declared.query.Cond.{Cond}
-use Rattle.cube_model.specs.declared.query.Cond.TheVariants.{OneOf, Between, Quantity, Discount}
-use Rattle.cube_model.specs.declared.measure.Agg.{Agg}
-use Rattle.cube_model.specs.declared.measure.Agg.TheVariants.{Count, Sum, Min, Max, Avg}
-use Rattle.cube_model.specs.Names.{attr_name, agg_name, measure_name}
+use Rattle.cube_model.specs.declared.query.Cond.TheVariants.{OneOf}
+use Rattle.query_words.specs.declared.known.Known.TheVariants.{Attribute}
+use Rattle.query_words.specs.declared.known.Subject.{Subject}
+use Rattle.query_words.specs.declared.known.Subject.TheVariants as subjects
+use Rattle.query_words.specs.declared.refused.Mistake.TheVariants.{NoSign, NoList, NotTwoEnds}
+use Rattle.query_words.specs.declared.refused.Refused.{Refused}
+use Rattle.query_words.specs.declared.refused.Refused.TheVariants.{Memory, Wrong}
+use Rattle.query_words.specs.Cuts.{HasNeither, IsCut}
+use Rattle.query_words.specs.Known.{IsName, subject_name}
+use Rattle.query_words.specs.Mistakes.{IsConditionMistake, IsCountMistake, IsListMistake, IsRangeMistake}
 use Rattle.query_words.specs.Reading.{Reads}
-use Rattle.query_words.specs.Spelled.{SpellsRange}
-use Rattle.query_words.specs.Words.{SpellsCondition, SpellsMembers, condition_name, condition_sign}
+use Rattle.query_words.specs.Spelled.{SpellsAfter, SpellsFit}
+use Rattle.query_words.specs.Words.{parts_by}
+use Rattle.query_words.proofs.Cutting.{same_cut, uncut}
+use Rattle.query_words.proofs.Ends.{no_number, no_texts, some_part, two_ends}
+use Rattle.query_words.proofs.Refusals.{reads_as}
+use Rattle.query_words.proofs.Shapes.{after_sign, before_sign, no_condition}
 
--- a text has no such byte
-abbrev has_no : ℕ → List ℕ → Bool
-has_no sign [] = true
-has_no sign (byte ∷ text) = cond (eqb byte sign) false (has_no sign text)
+-- no name of what a condition can be on comes before the sign
+pub no_sign : (word : Bor (List ℕ)) (name : List ℕ) (refused : Refused) → ((subject : Subject) → name ≡ subject_name subject → ⊥)
+    → ((sign : ℕ) × (rest : List ℕ) × IsCut 61 58 word.now name sign rest) → refused ≡ Wrong word NoSign
+    → IsConditionMistake word.now refused
+no_sign word name refused none given is = subst (λ (r : Refused). IsConditionMistake word.now r) (sym is) (inl (
+  refl,
+  λ subject sign rest cut. none subject (same_cut 61 58 name (subject_name subject) given.0 sign given.1 rest given.2.first
+      cut.first given.2.is_sign cut.is_sign (sym given.2.whole ∙ cut.whole)).names,
+))
 
-pub none_behind : (here behind : Bool) → cond here false behind ≡ true → behind ≡ true
-none_behind true behind e = absurd (false≢true e)
-none_behind false behind e = e
+-- there is no sign
+pub unsigned : (word : Bor (List ℕ)) (refused : Refused) → HasNeither 61 58 word.now → refused ≡ Wrong word NoSign → (refused ≡ Memory) ⊎
+    (IsConditionMistake word.now refused × ((condition : Cond) → SpellsFit word.now condition → ⊥))
+unsigned word refused plain is = subst (λ (r : Refused). (r ≡ Memory) ⊎ (IsConditionMistake word.now r × ((condition : Cond)
+    → SpellsFit word.now condition → ⊥))) (sym is) (inr (
+      inl (refl, λ subject sign rest cut. uncut 61 58 word.now (subject_name subject) sign rest cut.is_sign cut.whole plain),
+      λ condition spelled. no_condition word.now condition plain spelled,
+    ))
 
-free : (sign : ℕ) (text : List ℕ) → has_no sign text ≡ true → (i : ℕ) → i < length text → get_or text i 0 ≡ sign → ⊥
-free sign [] e i below is = absurd (omega arith)
-free sign (byte ∷ text) e zero below is = let same : eqb byte sign ≡ true = eq-eqb byte sign is in false≢true (rw same at e)
-free sign (byte ∷ text) e (suc i) below is = free sign text (none_behind (eqb byte sign) (has_no sign text) e) i (omega arith) is
+colon : (sign : ℕ) → (sign ≡ 61) ⊎ (sign ≡ 58) → sign ≢ 61 → sign ≡ 58
+colon sign (inl is) unequal = absurd (unequal is)
+colon sign (inr is) unequal = is
 
--- after the first opening bracket (40) of an aggregate's name comes a closing one (41) at the end
-closed_by : (front : List ℕ) → has_no 40 front ≡ true → (word measure : List ℕ) (taken closed : Bor (List ℕ)) → IsSplitOnceResult 40 word (Some (taken, closed)) → ((name : List ℕ) → closed.now ≢ name ++ 41 ∷ []) → word ≡ front ++ 40 ∷ (measure ++ 41 ∷ []) → ⊥
-closed_by front plain word measure taken closed is unclosed e = unclosed measure (split_after 40 word front (measure ++ 41 ∷ []) (Some (taken, closed)) is (lit< tt) e (free 40 front plain)).1
+-- the cut of a word at a sign, after the name of what the condition is on
+cut_at : (word name : List ℕ) (sign mark : ℕ) (members : List ℕ) (subject : Subject) → IsCut 61 58 word name sign members
+    → name ≡ subject_name subject → sign ≡ mark → IsCut 61 58 word (subject_name subject) mark members
+cut_at word name sign mark members subject cut named is = subst (λ (m : ℕ). IsCut 61 58 word (subject_name subject) m members) is (subst
+    (λ (n : List ℕ). IsCut 61 58 word n sign members) named cut)
 
-count_is_plain : (word : List ℕ) (taken closed : Bor (List ℕ)) → IsSplitOnceResult 40 word (Some (taken, closed)) → word ≡ codes "count" → ⊥
-count_is_plain word taken closed is e =
-    let below = (split_once_first 40 word (Some (taken, closed)) is (lit< tt)).0 in
-    let no : 5 < 5 = subst (λ (text : List ℕ). position_or_len (λ byte. eqb byte 40) text < length text) e below in
-    omega (arith, no)
+pub reads_range : (word name : List ℕ) (sign : ℕ) (members : List ℕ) (subject : Subject) (result : Result Cond Refused)
+    → IsCut 61 58 word name sign members → name ≡ subject_name subject → sign ≢ 61 → Reads (SpellsAfter subject 58 members)
+    (IsRangeMistake word members) result → Reads (SpellsFit word) (IsConditionMistake word) result
+reads_range word name sign members subject result cut named unequal read =
+    let at = cut_at word name sign 58 members subject cut named (colon sign cut.is_sign unequal) in
+    reads_as (SpellsAfter subject 58 members) (SpellsFit word) (IsRangeMistake word members) (IsConditionMistake word) result
+    (λ condition after. before_sign word subject 58 members condition at after)
+    (λ condition fit. after_sign word subject 58 members condition at fit)
+    (λ refused means. inr (inr (subject, members, at, means)))
+    read
 
-pub not_closed : (word : List ℕ) (taken closed : Bor (List ℕ)) → IsSplitOnceResult 40 word (Some (taken, closed)) → ((name : List ℕ) → closed.now ≢ name ++ 41 ∷ []) → (agg : Agg) → word ≡ agg_name agg → ⊥
-not_closed word taken closed is unclosed Count e = count_is_plain word taken closed is e
-not_closed word taken closed is unclosed (Sum measure) e = closed_by (codes "sum") refl word (measure_name measure) taken closed is unclosed e
-not_closed word taken closed is unclosed (Min measure) e = closed_by (codes "min") refl word (measure_name measure) taken closed is unclosed e
-not_closed word taken closed is unclosed (Max measure) e = closed_by (codes "max") refl word (measure_name measure) taken closed is unclosed e
-not_closed word taken closed is unclosed (Avg measure) e = closed_by (codes "avg") refl word (measure_name measure) taken closed is unclosed e
+pub reads_list : (word name : List ℕ) (sign : ℕ) (members : List ℕ) (subject : Subject) (result : Result Cond Refused)
+    → IsCut 61 58 word name sign members → name ≡ subject_name subject → sign ≡ 61 → Reads (SpellsAfter subject 61 members)
+    (IsListMistake name members) result → Reads (SpellsFit word) (IsConditionMistake word) result
+reads_list word name sign members subject result cut named is read =
+    let at = cut_at word name sign 61 members subject cut named is in
+    reads_as (SpellsAfter subject 61 members) (SpellsFit word) (IsListMistake name members) (IsConditionMistake word) result
+    (λ condition after. before_sign word subject 61 members condition at after)
+    (λ condition fit. after_sign word subject 61 members condition at fit)
+    (λ refused means. inr (inl (subject, members, at, subst (λ (n : List ℕ). IsListMistake n members refused) named means)))
+    read
 
--- no attribute has a sign in its name
-plain_names : (attr : Attr) → (has_no 61 (attr_name attr) ≡ true) × (has_no 58 (attr_name attr) ≡ true)
-plain_names attr = elim attr as (λ a. (has_no 61 (attr_name a) ≡ true) × (has_no 58 (attr_name a) ≡ true)) [
-  | CustomerCity ↦ (refl, refl)
-  | CustomerNation ↦ (refl, refl)
-  | CustomerRegion ↦ (refl, refl)
-  | SupplierCity ↦ (refl, refl)
-  | SupplierNation ↦ (refl, refl)
-  | SupplierRegion ↦ (refl, refl)
-  | PartBrand1 ↦ (refl, refl)
-  | PartCategory ↦ (refl, refl)
-  | PartMfgr ↦ (refl, refl)
-  | DateKey ↦ (refl, refl)
-  | DateYearmonthnum ↦ (refl, refl)
-  | DateYear ↦ (refl, refl)
-  | DateYearmonth ↦ (refl, refl)
-  | DateWeeknuminyear ↦ (refl, refl)
-]
+-- texts after what is no attribute
+no_attribute : (subject : Subject) (name : List ℕ) → name ≡ subject_name subject → ((attr : Attr) → subject ≡ subjects.Member attr → ⊥)
+    → IsName Attribute name → ⊥
+no_attribute (subjects.Member attr) name named none t = none attr refl
+no_attribute subjects.Quantity name named none t = (no_number t.0).0 (sym t.1 ∙ named)
+no_attribute subjects.Discount name named none t = (no_number t.0).1 (sym t.1 ∙ named)
 
-plain_conditions : (condition : Cond) → has_no 58 (condition_name condition) ≡ true
-plain_conditions (OneOf attr texts) = (plain_names attr).1
-plain_conditions (Between attr low high) = (plain_names attr).1
-plain_conditions (Quantity low high) = refl
-plain_conditions (Discount low high) = refl
+pub no_list : (name : Bor (List ℕ)) (subject : Subject) (list : List ℕ) (refused : Refused) → name.now ≡ subject_name subject
+    → ((attr : Attr) → subject ≡ subjects.Member attr → ⊥) → refused ≡ Wrong name NoList → (refused ≡ Memory) ⊎
+    (IsListMistake name.now list refused × ((condition : Cond) → SpellsAfter subject 61 list condition → ⊥))
+no_list name subject list refused named none is = subst (λ (r : Refused). (r ≡ Memory) ⊎ (IsListMistake name.now list r ×
+    ((condition : Cond) → SpellsAfter subject 61 list condition → ⊥))) (sym is) (inr (
+      (refl, no_attribute subject name.now named none),
+      λ condition after. no_texts subject list condition none after,
+    ))
 
--- where the text before the first equals sign is no attribute, or there is no such sign, no list is spelled
-pub no_list : (word : List ℕ) (name rest : Bor (List ℕ)) → IsSplitOnceResult 61 word (Some (name, rest)) → ((attr : Attr) → name.now ≡ attr_name attr → ⊥) → (attr : Attr) (list : List ℕ) → word ≡ attr_name attr ++ 61 ∷ list → ⊥
-no_list word name rest is none attr list e = none attr (split_after 61 word (attr_name attr) list (Some (name, rest)) is (lit< tt) e (free 61 (attr_name attr) (plain_names attr).0)).0
+are_long : (copies : List (List ℕ)) (slice parts : List (Bor (List ℕ))) → copies ≡ map (λ text. text.now) slice → slice ≡ parts
+    → length copies ≡ length parts
+are_long copies slice parts are same = ap length are ∙ length-map slice (λ (text : Bor (List ℕ)). text.now) ∙ ap length same
 
-pub no_equals : (word : List ℕ) → IsSplitOnceResult 61 word None → (attr : Attr) (list : List ℕ) → word ≡ attr_name attr ++ 61 ∷ list → ⊥
-no_equals word is attr list e = split_after 61 word (attr_name attr) list None is (lit< tt) e (free 61 (attr_name attr) (plain_names attr).0)
-
--- a condition that is spelled after the colon is spelled by the word
-behind : (word : List ℕ) (name range : Bor (List ℕ)) → IsSplitOnceResult 58 word (Some (name, range)) → (condition : Cond) → SpellsRange name.now range.now condition → SpellsCondition word condition
-behind word name range is condition spelled = record {
-  members = range.now;
-  whole = (split_parts 58 word (Some (name, range)) is (lit< tt)).0 ∙ ap (λ (text : List ℕ). text ++ 58 ∷ range.now) spelled.name_is ∙ ap (λ (sign : ℕ). condition_name condition ++ sign ∷ range.now) (sym spelled.colon);
-  spelled = spelled.spelled;
-}
-
-before_colon : (word : List ℕ) (name range : Bor (List ℕ)) → IsSplitOnceResult 58 word (Some (name, range)) → (condition : Cond) → condition_sign condition ≡ 58 → SpellsCondition word condition → SpellsRange name.now range.now condition
-before_colon word name range is condition colon spelled =
-    let whole : word ≡ condition_name condition ++ 58 ∷ spelled.members = spelled.whole ∙ ap (λ (sign : ℕ). condition_name condition ++ sign ∷ spelled.members) colon in
-    let cut = split_after 58 word (condition_name condition) spelled.members (Some (name, range)) is (lit< tt) whole (free 58 (condition_name condition) (plain_conditions condition)) in
+-- texts of an attribute
+pub lists : (subject : Subject) (attr : Attr) (list : List ℕ) (copies : List (List ℕ)) (slice parts : List (Bor (List ℕ)))
+    → subject ≡ subjects.Member attr → copies ≡ map (λ text. text.now) slice → slice ≡ parts → map
+    (λ part. part.now) parts ≡ parts_by 124 list → length parts ≤ 64 → SpellsAfter subject 61 list (OneOf attr copies)
+lists subject attr list copies slice parts is are same texts few =
+    let spelled : copies ≡ parts_by 124 list = are ∙ ap (λ (s : List (Bor (List ℕ))). map (λ text. text.now) s) same ∙ texts in
+    let long : length copies ≡ length parts = are_long copies slice parts are same in
+    let some : 1 ≤ length (parts_by 124 list) = some_part 124 list in
+    let all : length copies ≡ length (parts_by 124 list) = ap length spelled in
     record {
-      name_is = cut.0;
-      colon = colon;
-      spelled = subst (λ (text : List ℕ). SpellsMembers text condition) (sym cut.1) spelled.spelled;
+      name_is = sym (ap subject_name is);
+      sign_is = refl;
+      spelled = spelled;
+      fit = (omega arith, omega arith);
     }
 
-nothing_behind : (word : List ℕ) (name range : Bor (List ℕ)) → IsSplitOnceResult 58 word (Some (name, range)) → ((attr : Attr) (list : List ℕ) → word ≡ attr_name attr ++ 61 ∷ list → ⊥) → ((condition : Cond) → SpellsRange name.now range.now condition → ⊥) → (condition : Cond) → SpellsCondition word condition → ⊥
-nothing_behind word name range is unlisted none (OneOf attr texts) spelled = unlisted attr spelled.members spelled.whole
-nothing_behind word name range is unlisted none (Between attr low high) spelled = none (Between attr low high) (before_colon word name range is (Between attr low high) refl spelled)
-nothing_behind word name range is unlisted none (Quantity low high) spelled = none (Quantity low high) (before_colon word name range is (Quantity low high) refl spelled)
-nothing_behind word name range is unlisted none (Discount low high) spelled = none (Discount low high) (before_colon word name range is (Discount low high) refl spelled)
+-- a range with one end, or more than two
+pub no_range : (word : List ℕ) (subject : Subject) (range : List ℕ) (refused : Refused) → length (parts_by 124 range) ≢ 2
+    → IsCountMistake word range refused → (refused ≡ Memory) ⊎ (IsRangeMistake word range refused × ((condition : Cond)
+    → SpellsAfter subject 58 range condition → ⊥))
+no_range word subject range refused unequal means = inr (inl means, λ condition after. unequal (two_ends subject range condition after))
 
--- what is after the colon is read
-pub reads_range : (word : List ℕ) (name range : Bor (List ℕ)) → IsSplitOnceResult 58 word (Some (name, range)) → ((attr : Attr) (list : List ℕ) → word ≡ attr_name attr ++ 61 ∷ list → ⊥) → (result : Result Cond Fault) → Reads (SpellsRange name.now range.now) result → Reads (SpellsCondition word) result
-reads_range word name range is unlisted (Ok condition) read = behind word name range is condition read
-reads_range word name range is unlisted (Err fault) (inl memory) = inl memory
-reads_range word name range is unlisted (Err fault) (inr refused) = inr (refused.0, nothing_behind word name range is unlisted refused.1)
+pub too_long : (word : Bor (List ℕ)) (range : List ℕ) (ends : ℕ) (refused : Refused) → ends ≡ length (parts_by 124 range) → ends ≢ 2
+    → ends ≢ 1 → refused ≡ Wrong word NotTwoEnds → IsCountMistake word.now range refused
+too_long word range ends refused are not_two not_one is =
+    let some : 1 ≤ length (parts_by 124 range) = some_part 124 range in
+    subst (λ (r : Refused). IsCountMistake word.now range r) (sym is) (refl, omega arith)

@@ -1,4 +1,9 @@
+pub mod Cuts
+pub mod Given
+pub mod Known
 pub mod Laws
+pub mod Limits
+pub mod Mistakes
 pub mod Reading
 pub mod Spelled
 pub mod Words

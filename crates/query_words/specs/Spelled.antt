@@ -1,10 +1,18 @@
--- A condition after its colon. Our own.
+-- A condition that a query may have, and one after its sign. Our own.
 use Rattle.std.specs.Prelude.{◌≡◌, ℕ, List}
 use Rattle.cube_model.specs.declared.query.Cond.{Cond}
-use Rattle.query_words.specs.Words.{condition_name, condition_sign, SpellsMembers}
+use Rattle.cube_model.specs.Proper.{IsFitCondition}
+use Rattle.query_words.specs.declared.known.Subject.{Subject}
+use Rattle.query_words.specs.Known.{subject_name}
+use Rattle.query_words.specs.Words.{condition_name, condition_sign, SpellsCondition, SpellsMembers}
 
--- a name, and what is after the colon, spell a condition
-pub record SpellsRange (name range : List ℕ) (condition : Cond) : Type 0 where
-  pub name_is : name ≡ condition_name condition
-  pub colon : condition_sign condition ≡ 58
-  pub spelled : SpellsMembers range condition
+-- a word spells a condition that a query may have
+abbrev pub SpellsFit : List ℕ → Cond → Type 0
+SpellsFit word condition = SpellsCondition word condition × IsFitCondition condition
+
+-- what is after a sign spells such a condition on something
+pub record SpellsAfter (subject : Subject) (sign : ℕ) (members : List ℕ) (condition : Cond) : Type 0 where
+  pub name_is : condition_name condition ≡ subject_name subject
+  pub sign_is : condition_sign condition ≡ sign
+  pub spelled : SpellsMembers members condition
+  pub fit : IsFitCondition condition

@@ -12,6 +12,7 @@ use Rattle.cube_model.specs.declared.query.Kind.TheVariants.{Plain, Rollup, Cube
 use Rattle.cube_model.specs.declared.query.Query.{Query}
 use Rattle.cube_model.specs.Limits.{most_asked_aggregates}
 use Rattle.cube_model.specs.Names.{attr_name, measure_name, agg_name}
+use Rattle.cube_model.specs.Proper.{IsProper}
 use Rattle.ssb_reports.specs.declared.number.QNumber.{QNumber}
 use Rattle.ssb_reports.specs.Benchmark.{benchmark_query, number_text}
 
@@ -122,3 +123,7 @@ pub record SpellsCube (words : Words) (query : Query) : Type 0 where
 -- words spell a query
 abbrev pub SpellsQuery : Words → Query → Type 0
 SpellsQuery words query = SpellsBenchmark words query ⊎ SpellsCube words query
+
+-- and one that may be asked
+abbrev pub SpellsProper : Words → Query → Type 0
+SpellsProper words query = SpellsQuery words query × IsProper query

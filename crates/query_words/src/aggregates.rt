@@ -1,128 +1,109 @@
-//! The words of columns and aggregates.
-ghost use Rattle.std.specs.Prelude.{◌≡◌, Some, map};
+//! The words of aggregates.
+ghost use Rattle.std.specs.Prelude.{◌≡◌, ◌≢◌, map};
 ghost use Rattle.std.specs.List.{AllZip};
-ghost use Rattle.std.specs.Option.{option_map};
-ghost use Rattle.cube_model.specs.Names.{agg_name, attr_name};
-ghost use Rattle.query_words.specs.Reading.{Finds, Reads};
-ghost use Rattle.query_words.specs.Words.{SpellsColumns, SpellsAggregate, SpellsAggregates, agg_word};
+ghost use Rattle.cube_model.specs.declared.measure.Measure.{Measure};
+ghost use Rattle.cube_model.specs.Names.{measure_name};
+ghost use Rattle.query_words.specs.Cuts.{HasNeither};
+ghost use Rattle.query_words.specs.Known.{agg_of};
+ghost use Rattle.query_words.specs.Mistakes.{IsAggregateMistake, IsAggregatesMistake, IsMeasureMistake, IsMistakeAmong};
+ghost use Rattle.query_words.specs.Reading.{Reads};
+ghost use Rattle.query_words.specs.Words.{SpellsAggregate, parts_by};
 
-use crate::names::{attribute, measure};
+use crate::cuts::cut;
+use crate::known::{COUNT, Known, Taken};
+use crate::names::{measure, taken};
 use crate::parts::parts;
-use cube_model::limits::MOST_ASKED_AGGREGATES;
-use cube_model::{Agg, Attr, Fault, Items};
+use crate::refused::{Mistake, Refused};
+use cube_model::{Agg, Items};
 use std::alloc::Global;
 
-/// Reads columns that are separated by commas, such as `d_year,p_brand1`. Without a word there are none.
-pub fn read_columns(alloc: Global, by: Option<&str>) -> Result<Items<Attr>, Fault>
-    ensures { Reads (SpellsColumns (option_map (λ text. text.now) by.entry)) result }
-{
-    match by {
-        None => Ok(Items::new(alloc)),
-        Some(names) => columns_named(alloc, names),
-    }
-}
-
-fn columns_named(alloc: Global, text: &str) -> Result<Items<Attr>, Fault>
-    ensures { Reads (SpellsColumns (Some text.now)) result }
-{
-    let names = parts(alloc, text, ',')?;
-    attributes_of(alloc, names.as_slice())
-}
-
-// The attributes of names, or a refusal where a name is that of none.
-fn attributes_of(alloc: Global, names: &[&str]) -> Result<Items<Attr>, Fault>
-    ensures { Reads (λ columns. map attr_name columns ≡ map (λ name. name.now) names.now) result }
-{
-    let mut columns = Items::new(alloc);
-    for name in names {
-        let Some(attr) = attribute(name) else {
-            return Err(Fault::BadQuery);
-        };
-        columns.push(attr)?;
-    }
-    Ok(columns)
-}
-
 /// Reads aggregates that are separated by commas, such as `count,sum:revenue`, or as a header has them, `count,sum(revenue)`.
-pub fn read_aggregates(alloc: Global, text: &str) -> Result<Items<Agg>, Fault>
-    ensures { Reads (SpellsAggregates (Some text.now)) result }
+pub fn read_aggregates(alloc: Global, text: &str) -> Result<Items<Agg>, Refused<'_>>
+    ensures { Reads (AllZip SpellsAggregate (parts_by 44 text.now)) (IsAggregatesMistake text.now) result }
 {
-    let words = parts(alloc, text, ',')?;
-    if words.len() > MOST_ASKED_AGGREGATES {
-        return Err(Fault::BadQuery);
+    if text.is_empty() {
+        return Err(Refused::NoAggregate);
     }
+    let words = parts(alloc, text, ',')?;
     aggregates_of(alloc, words.as_slice())
 }
 
-// The aggregates that words spell, or a refusal where a word spells none.
-fn aggregates_of(alloc: Global, words: &[&str]) -> Result<Items<Agg>, Fault>
-    ensures { Reads (AllZip SpellsAggregate (map (λ word. word.now) words.now)) result }
+// The aggregates that words spell.
+fn aggregates_of<'a>(alloc: Global, words: &[&'a str]) -> Result<Items<Agg>, Refused<'a>>
+    ensures { let words = map (λ word. word.now) words.now in
+        Reads (AllZip SpellsAggregate words) (IsMistakeAmong IsAggregateMistake words) result }
 {
     let mut aggregates = Items::new(alloc);
     for word in words {
-        let Some(agg) = aggregate(word) else {
-            return Err(Fault::BadQuery);
-        };
+        let agg = aggregate(word)?;
         aggregates.push(agg)?;
     }
     Ok(aggregates)
 }
 
-fn aggregate(word: &str) -> Option<Agg>
-    ensures { Finds (SpellsAggregate word.now) result }
+// What is taken is before the first colon or opening bracket, and the measure after it.
+fn aggregate(word: &str) -> Result<Agg, Refused<'_>>
+    ensures { Reads (SpellsAggregate word.now) (IsAggregateMistake word.now) result }
 {
-    match behind_colon(word) {
-        Some(agg) => Some(agg),
-        None => in_header(word),
+    let Some((name, sign, rest)) = cut(word, ':', '(') else {
+        return bare(word);
+    };
+    if name == COUNT {
+        return Err(Mistake::CountAlone.of(word));
+    }
+    let Some(taken) = taken(name) else {
+        return Err(Refused::Unknown {
+            word: name,
+            known: Known::Aggregate,
+        });
+    };
+    if sign == ':' {
+        return of_measure(word, taken, rest);
+    }
+    match rest.strip_suffix(')') {
+        None => Err(Mistake::NotClosed.of(word)),
+        Some(name) => of_measure(word, taken, name),
     }
 }
 
-// Count, or a measure after a colon, such as `sum:revenue`.
-fn behind_colon(word: &str) -> Option<Agg>
-    ensures { Finds (λ agg. word.now ≡ agg_word agg) result }
+// A word in which nothing comes after the name: only the count is of no measure.
+fn bare(word: &str) -> Result<Agg, Refused<'_>>
+    requires { HasNeither 58 40 word.now }
+    ensures { Reads (SpellsAggregate word.now) (IsAggregateMistake word.now) result }
 {
-    match word.split_once(':') {
-        None => {
-            if word == "count" {
-                Some(Agg::Count)
-            } else {
-                None
-            }
+    if word == COUNT {
+        return Ok(Agg::Count);
+    }
+    match taken(word) {
+        Some(_) => Err(Mistake::NoMeasure.of(word)),
+        None => Err(Refused::Unknown {
+            word,
+            known: Known::Aggregate,
+        }),
+    }
+}
+
+// What is taken of the measure of a name, in a word.
+fn of_measure<'a>(word: &'a str, taken: Taken, name: &'a str) -> Result<Agg, Refused<'a>>
+    ensures { Reads (λ agg. (measure : Measure) × (agg ≡ agg_of taken measure) × (name.now ≡ measure_name measure)) (IsMeasureMistake word.now name.now) result }
+{
+    match measure(name) {
+        Some(measure) => Ok(taken.of(measure)),
+        None => Err(no_measure(word, name)),
+    }
+}
+
+// The discount of a fact row is no measure.
+fn no_measure<'a>(word: &'a str, name: &'a str) -> Refused<'a>
+    requires { (measure : Measure) → name.now ≢ measure_name measure }
+    ensures { IsMeasureMistake word.now name.now result }
+{
+    if name.eq_ignore_ascii_case("discount") {
+        Mistake::OnlyCondition.of(word)
+    } else {
+        Refused::Unknown {
+            word: name,
+            known: Known::Measure,
         }
-        Some((taken, name)) => match measure(name) {
-            None => None,
-            Some(measure) => match taken {
-                "sum" => Some(Agg::Sum(measure)),
-                "min" => Some(Agg::Min(measure)),
-                "max" => Some(Agg::Max(measure)),
-                "avg" => Some(Agg::Avg(measure)),
-                _ => None,
-            },
-        },
-    }
-}
-
-// An aggregate as the header of a report has it, such as `sum(revenue)`.
-fn in_header(word: &str) -> Option<Agg>
-    ensures { Finds (λ agg. word.now ≡ agg_name agg) result }
-{
-    match word.split_once('(') {
-        None => match word {
-            "count" => Some(Agg::Count),
-            _ => None,
-        },
-        Some((taken, closed)) => match closed.strip_suffix(')') {
-            None => None,
-            Some(name) => match measure(name) {
-                None => None,
-                Some(of) => match taken {
-                    "sum" => Some(Agg::Sum(of)),
-                    "min" => Some(Agg::Min(of)),
-                    "max" => Some(Agg::Max(of)),
-                    "avg" => Some(Agg::Avg(of)),
-                    _ => None,
-                },
-            },
-        },
     }
 }

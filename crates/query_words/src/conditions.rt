@@ -1,18 +1,27 @@
 //! The words of conditions.
-ghost use Rattle.std.specs.Prelude.{map};
+ghost use Rattle.std.specs.Prelude.{◌≡◌, ◌≢◌, ℕ, List, map};
 ghost use Rattle.std.specs.List.{AllZip};
+ghost use Rattle.query_words.specs.declared.known.Subject.{Subject};
+ghost use Rattle.query_words.specs.Cuts.{IsCut};
+ghost use Rattle.query_words.specs.Known.{subject_name};
+ghost use Rattle.query_words.specs.Mistakes.{IsConditionMistake, IsListMistake, IsMistakeAmong};
 ghost use Rattle.query_words.specs.Reading.{Reads};
-ghost use Rattle.query_words.specs.Words.{SpellsCondition};
+ghost use Rattle.query_words.specs.Spelled.{SpellsAfter, SpellsFit};
 
-use crate::names::attribute;
-use crate::parts::texts;
+use crate::cuts::cut;
+use crate::known::{Known, Subject};
+use crate::names::subject;
+use crate::parts::{copies, parts};
 use crate::ranges::read_range;
-use cube_model::{Cond, Fault, Items};
+use crate::refused::{Counted, Mistake, Refused};
+use cube_model::limits::MOST_LISTED_TEXTS;
+use cube_model::{Cond, Items};
 use std::alloc::Global;
 
 /// Reads conditions, such as `d_year=1997|1998`, `p_brand1:MFGR#2221|MFGR#2228` and `quantity:0|24`.
-pub fn read_conditions(alloc: Global, words: &[&str]) -> Result<Items<Cond>, Fault>
-    ensures { Reads (AllZip SpellsCondition (map (λ word. word.now) words.now)) result }
+pub fn read_conditions<'a>(alloc: Global, words: &[&'a str]) -> Result<Items<Cond>, Refused<'a>>
+    ensures { let words = map (λ word. word.now) words.now in
+        Reads (AllZip SpellsFit words) (IsMistakeAmong IsConditionMistake words) result }
 {
     let mut conditions = Items::new(alloc);
     for word in words {
@@ -22,17 +31,55 @@ pub fn read_conditions(alloc: Global, words: &[&str]) -> Result<Items<Cond>, Fau
     Ok(conditions)
 }
 
-// After `=` come texts, after `:` the two ends of a range. No name has a sign in it.
-fn read_condition(alloc: Global, word: &str) -> Result<Cond, Fault>
-    ensures { Reads (SpellsCondition word.now) result }
+// What a condition is on is before its first sign. After `=` come texts, after `:` the two ends of a range.
+fn read_condition(alloc: Global, word: &str) -> Result<Cond, Refused<'_>>
+    ensures { Reads (SpellsFit word.now) (IsConditionMistake word.now) result }
 {
-    if let Some((name, list)) = word.split_once('=') {
-        if let Some(attr) = attribute(name) {
-            return Ok(Cond::OneOf(attr, texts(alloc, list)?));
+    let Some((name, sign, members)) = cut(word, '=', ':') else {
+        return Err(Mistake::NoSign.of(word));
+    };
+    let Some(subject) = subject(name) else {
+        return Err(no_subject(word, name));
+    };
+    if sign == '=' {
+        read_list(alloc, name, subject, members)
+    } else {
+        read_range(alloc, word, subject, members)
+    }
+}
+
+// What is before the sign is no name. Comparisons of other languages, such as `d_year>=1993` and `d_year!=1993`, have their sign there.
+fn no_subject<'a>(word: &'a str, name: &'a str) -> Refused<'a>
+    requires name { (subject : Subject) → name.now ≢ subject_name subject }
+    requires cut { (sign : ℕ) × (rest : List ℕ) × IsCut 61 58 word.now name.now sign rest }
+    ensures { IsConditionMistake word.now result }
+{
+    if name.contains('<') || name.contains('>') || name.contains('!') {
+        Mistake::NoSign.of(word)
+    } else {
+        Refused::Unknown {
+            word: name,
+            known: Known::Ranged,
         }
     }
-    match word.split_once(':') {
-        None => Err(Fault::BadQuery),
-        Some((name, range)) => read_range(alloc, name, range),
+}
+
+// Reads the texts after the name of what a condition is on.
+fn read_list<'a>(
+    alloc: Global,
+    name: &'a str,
+    subject: Subject,
+    list: &'a str,
+) -> Result<Cond, Refused<'a>>
+    requires { name.now ≡ subject_name subject }
+    ensures { Reads (SpellsAfter subject 61 list.now) (IsListMistake name.now list.now) result }
+{
+    let Subject::Member(attr) = subject else {
+        return Err(Mistake::NoList.of(name));
+    };
+    let texts = parts(alloc, list, '|')?;
+    if texts.len() > MOST_LISTED_TEXTS {
+        return Err(Counted::Texts.too_many(texts.len(), MOST_LISTED_TEXTS));
     }
+    Ok(Cond::OneOf(attr, copies(alloc, texts.as_slice())?))
 }

@@ -1,39 +1,15 @@
 //! Look-ups by name.
-ghost use Rattle.std.specs.Prelude.{◌≡◌};
-ghost use Rattle.std.specs.Option.{option_map};
+ghost use Rattle.std.specs.Prelude.{◌≡◌, ◌≢◌, MatchOption};
 ghost use Rattle.cube_model.specs.Names.{attr_name, measure_name};
 ghost use Rattle.ssb_reports.specs.Benchmark.{number_text};
+ghost use Rattle.query_words.specs.declared.known.Subject.TheVariants.{Quantity, Discount};
+ghost use Rattle.query_words.specs.Known.{subject_name, taken_name};
 ghost use Rattle.query_words.specs.Reading.{Finds};
-ghost use Rattle.query_words.specs.Words.{SpellsKind};
+ghost use Rattle.query_words.specs.Words.{kind_name};
 
+use crate::known::{self, ATTRIBUTES, KINDS, MEASURES, NUMBERS, Subject, TAKEN, Taken};
 use cube_model::{Attr, Kind, Measure};
 use ssb_reports::QNumber;
-
-const ATTRIBUTES: [Attr; 14] = [
-    Attr::CustomerCity,
-    Attr::CustomerNation,
-    Attr::CustomerRegion,
-    Attr::SupplierCity,
-    Attr::SupplierNation,
-    Attr::SupplierRegion,
-    Attr::PartBrand1,
-    Attr::PartCategory,
-    Attr::PartMfgr,
-    Attr::DateKey,
-    Attr::DateYearmonthnum,
-    Attr::DateYear,
-    Attr::DateYearmonth,
-    Attr::DateWeeknuminyear,
-];
-
-const MEASURES: [Measure; 6] = [
-    Measure::Quantity,
-    Measure::ExtendedPrice,
-    Measure::Revenue,
-    Measure::SupplyCost,
-    Measure::Discounted,
-    Measure::Profit,
-];
 
 /// The attribute of a name.
 pub fn attribute(name: &str) -> Option<Attr>
@@ -42,6 +18,29 @@ pub fn attribute(name: &str) -> Option<Attr>
     for attr in ATTRIBUTES {
         if attr.name() == name {
             return Some(attr);
+        }
+    }
+    None
+}
+
+/// What a condition is on, by its name.
+pub fn subject(name: &str) -> Option<Subject>
+    ensures { Finds (λ subject. name.now ≡ subject_name subject) result }
+{
+    match attribute(name) {
+        Some(attr) => Some(Subject::Member(attr)),
+        None => number_subject(name),
+    }
+}
+
+// What a condition is on that is no attribute, by its name.
+fn number_subject(name: &str) -> Option<Subject>
+    ensures { MatchOption result ((name.now ≢ subject_name Quantity) × (name.now ≢ subject_name Discount))
+        (λ subject. name.now ≡ subject_name subject) }
+{
+    for subject in NUMBERS {
+        if subject.name() == name {
+            return Some(subject);
         }
     }
     None
@@ -59,6 +58,18 @@ pub fn measure(name: &str) -> Option<Measure>
     None
 }
 
+/// What is taken of a measure, by its name.
+pub fn taken(name: &str) -> Option<Taken>
+    ensures { Finds (λ taken. name.now ≡ taken_name taken) result }
+{
+    for taken in TAKEN {
+        if taken.name() == name {
+            return Some(taken);
+        }
+    }
+    None
+}
+
 /// The query of the benchmark with a number, such as `2.1`.
 pub fn number(name: &str) -> Option<QNumber>
     ensures { Finds (λ number. name.now ≡ number_text number) result }
@@ -71,15 +82,14 @@ pub fn number(name: &str) -> Option<QNumber>
     None
 }
 
-/// The kind of a set by its name, plain where there is none.
-pub fn kind(set: Option<&str>) -> Option<Kind>
-    ensures { Finds (SpellsKind (option_map (λ word. word.now) set.entry)) result }
+/// The kind of a set by its name.
+pub fn kind(name: &str) -> Option<Kind>
+    ensures { Finds (λ kind. name.now ≡ kind_name kind) result }
 {
-    match set {
-        None => Some(Kind::Plain),
-        Some("plain") => Some(Kind::Plain),
-        Some("rollup") => Some(Kind::Rollup),
-        Some("cube") => Some(Kind::Cube),
-        Some(_) => None,
+    for kind in KINDS {
+        if known::kind_name(kind) == name {
+            return Some(kind);
+        }
     }
+    None
 }

@@ -1,58 +1,82 @@
 //! The words of ranges.
-ghost use Rattle.std.specs.Prelude.{◌≡◌, ℕ, List, [], ◌∷◌, IfOk, IfErr};
+ghost use Rattle.std.specs.Prelude.{◌≡◌, ◌≢◌, ℕ, List, length, [], ◌∷◌, IfOk, IfErr};
+ghost use Rattle.query_words.specs.Mistakes.{IsCountMistake, IsEndMistake, IsRangeMistake};
 ghost use Rattle.query_words.specs.Reading.{Finds, Reads};
-ghost use Rattle.query_words.specs.Spelled.{SpellsRange};
+ghost use Rattle.query_words.specs.Spelled.{SpellsAfter};
 ghost use Rattle.query_words.specs.Words.{IsSmallNumber, parts_by};
 
-use crate::names::attribute;
+use crate::known::Subject;
 use crate::parts::{parts, text_of};
-use cube_model::{Attr, Cond, Fault};
-use std::alloc::Global;
+use crate::refused::{Mistake, Refused};
+use cube_model::{Attr, Cond};
+use std::alloc::{AllocError, Global};
 
-/// Reads a condition whose two ends come after the name of what it is on.
-pub fn read_range(alloc: Global, name: &str, range: &str) -> Result<Cond, Fault>
-    ensures { Reads (SpellsRange name.now range.now) result }
+/// Reads the two ends after the name of what a condition is on.
+pub fn read_range<'a>(
+    alloc: Global,
+    word: &'a str,
+    subject: Subject,
+    range: &'a str,
+) -> Result<Cond, Refused<'a>>
+    ensures { Reads (SpellsAfter subject 58 range.now) (IsRangeMistake word.now range.now) result }
 {
     let ends = parts(alloc, range, '|')?;
     let [low, high] = ends.as_slice() else {
-        return Err(Fault::BadQuery);
+        return Err(no_range(word, range, ends.len()));
     };
-    read_ends(alloc, name, low, high)
+    read_ends(alloc, subject, low, high)
 }
 
-// Reads a condition by its name and its two ends, the parts of what is after the name.
-fn read_ends(alloc: Global, name: &str, low: &str, high: &str) -> Result<Cond, Fault>
-    ensures { (range : List ℕ) → low.now ∷ high.now ∷ [] ≡ parts_by 124 range → Reads (SpellsRange name.now range) result }
+// A range has one end, or more than two.
+fn no_range<'a>(word: &'a str, range: &str, ends: usize) -> Refused<'a>
+    requires ends { ends ≡ length (parts_by 124 range.now) }
+    requires not_two { ends ≢ 2 }
+    ensures { IsCountMistake word.now range.now result }
 {
-    match name {
-        "quantity" => match bounds(low, high) {
-            None => Err(Fault::BadQuery),
-            Some((low, high)) => Ok(Cond::Quantity(low, high)),
+    if ends == 1 {
+        Mistake::NoBar.of(word)
+    } else {
+        Mistake::NotTwoEnds.of(word)
+    }
+}
+
+// Reads a condition by what it is on and its two ends, the parts of what is after the name.
+fn read_ends<'a>(
+    alloc: Global,
+    subject: Subject,
+    low: &'a str,
+    high: &'a str,
+) -> Result<Cond, Refused<'a>>
+    ensures { (range : List ℕ) → low.now ∷ high.now ∷ [] ≡ parts_by 124 range
+        → Reads (SpellsAfter subject 58 range) (IsEndMistake low.now high.now) result }
+{
+    match subject {
+        Subject::Member(attr) => Ok(between(alloc, attr, low, high)?),
+        Subject::Quantity => match bounds(low, high) {
+            Ok((low, high)) => Ok(Cond::Quantity(low, high)),
+            Err(refused) => Err(refused),
         },
-        "discount" => match bounds(low, high) {
-            None => Err(Fault::BadQuery),
-            Some((low, high)) => Ok(Cond::Discount(low, high)),
-        },
-        _ => match attribute(name) {
-            None => Err(Fault::BadQuery),
-            Some(attr) => between(alloc, attr, low, high),
+        Subject::Discount => match bounds(low, high) {
+            Ok((low, high)) => Ok(Cond::Discount(low, high)),
+            Err(refused) => Err(refused),
         },
     }
 }
 
-fn between(alloc: Global, attr: Attr, low: &str, high: &str) -> Result<Cond, Fault>
-    ensures ok { IfOk result (λ condition. condition ≡ Cond.Between attr low.now high.now) }
-    ensures only { IfErr result (λ fault. fault ≡ Fault.Memory) }
+fn between(alloc: Global, attr: Attr, low: &str, high: &str) -> Result<Cond, AllocError>
+    ensures { IfOk result (λ condition. condition ≡ Cond.Between attr low.now high.now) }
 {
     Ok(Cond::Between(attr, text_of(alloc, low)?, text_of(alloc, high)?))
 }
 
-fn bounds(low: &str, high: &str) -> Option<(u8, u8)>
-    ensures { Finds (λ ends. IsSmallNumber low.now ends.0 × IsSmallNumber high.now ends.1) result }
+// The numbers that two texts are.
+fn bounds<'a>(low: &'a str, high: &'a str) -> Result<(u8, u8), Refused<'a>>
+    ensures { Reads (λ ends. IsSmallNumber low.now ends.0 × IsSmallNumber high.now ends.1) (IsEndMistake low.now high.now) result }
 {
     match (small_number(low), small_number(high)) {
-        (Some(low), Some(high)) => Some((low, high)),
-        _ => None,
+        (Some(low), Some(high)) => Ok((low, high)),
+        (None, _) => Err(Mistake::NoNumber.of(low)),
+        (Some(_), None) => Err(Mistake::NoNumber.of(high)),
     }
 }
 

@@ -1,81 +1,108 @@
 //! The words of a query.
-ghost use Rattle.std.specs.Prelude.{[], None, Some, map};
-ghost use Rattle.std.specs.Option.{option_map};
+ghost use Rattle.std.specs.Prelude.{◌≡◌, ◌↔◌, [], None, Some, map, IsTrue};
+ghost use Rattle.std.specs.List.{AllZip};
+ghost use Rattle.std.specs.Option.{option_map, IsSomeAnd};
+ghost use Rattle.query_words.specs.Mistakes.{IsAskedMistake, IsMistakeOf, IsPartMistake, IsSetMistake};
 ghost use Rattle.query_words.specs.Reading.{Reads};
-ghost use Rattle.query_words.specs.Words.{SpellsQuery, SpellsCube, SpellsBenchmark, Words};
+ghost use Rattle.query_words.specs.Given.{number_alone, words_of};
+ghost use Rattle.query_words.specs.Words.{SpellsKind, SpellsProper, Words};
 
-use crate::aggregates::{read_aggregates, read_columns};
+use crate::aggregates::read_aggregates;
+use crate::columns::read_columns;
 use crate::conditions::read_conditions;
+use crate::known::Known;
+use crate::limits::limit_mistake;
 use crate::names::{kind, number};
-use cube_model::{Fault, Query};
+use crate::refused::{QueryWords, Refused};
+use cube_model::{Kind, Query};
 use ssb_reports::query_of;
 use std::alloc::Global;
 
-/// Reads the words of a query: a query of the benchmark by its number `q`, or a cube query by the
-/// name of its set, its columns, its aggregates and its conditions.
-///
-/// Columns and aggregates are separated by commas. Words that are not a query are refused with
-/// `BadQuery`. Whether the query is proper is not checked here.
-pub fn read_query(
-    alloc: Global,
-    q: Option<&str>,
-    set: Option<&str>,
-    by: Option<&str>,
-    agg: Option<&str>,
-    conditions: &[&str],
-) -> Result<Query, Fault>
-    ensures { Reads (SpellsQuery (record {
-      q = option_map (λ word. word.now) q.entry;
-      set = option_map (λ word. word.now) set.entry;
-      by = option_map (λ word. word.now) by.entry;
-      agg = option_map (λ word. word.now) agg.entry;
-      conditions = map (λ word. word.now) conditions.now;
-    })) result }
+/// Reads the words of a query that may be asked: a query of the benchmark by its number, or a cube query by the name of its set,
+/// its columns, its aggregates and its conditions. Words that are no such query are refused with the first mistake in them.
+pub fn read_query<'a>(alloc: Global, words: &QueryWords<'a>) -> Result<Query, Refused<'a>>
+    ensures { Reads (SpellsProper (words_of words.now)) (IsMistakeOf (words_of words.now)) result }
 {
-    match (q, agg) {
-        (Some(q), None) => {
-            if set.is_some() || by.is_some() || !conditions.is_empty() {
-                return Err(Fault::BadQuery);
+    match (words.q, words.agg) {
+        (Some(q), _) => {
+            if is_number_alone(words) {
+                read_benchmark(alloc, q)
+            } else {
+                Err(Refused::NotAlone)
             }
-            read_benchmark(alloc, q)
         }
-        (None, Some(agg)) => read_cube(alloc, set, by, agg, conditions),
-        _ => Err(Fault::BadQuery),
+        (None, Some(agg)) => read_cube(alloc, words.set, words.by, agg, words.conditions),
+        (None, None) => Err(Refused::NothingAsked),
     }
 }
 
-fn read_benchmark(alloc: Global, q: &str) -> Result<Query, Fault>
-    ensures { Reads (SpellsBenchmark (record { q = Some q.now; set = None; by = None; agg = None; conditions = [] })) result }
+// Whether no other word comes with the number of a query.
+fn is_number_alone(words: &QueryWords<'_>) -> bool
+    ensures { IsTrue result ↔ (words_of words.now ≡ number_alone (words_of words.now).q) }
 {
-    match number(q) {
-        None => Err(Fault::BadQuery),
-        Some(number) => query_of(alloc, number),
+    words.set.is_none() && words.by.is_none() && words.agg.is_none() && words.conditions.is_empty()
+}
+
+fn read_benchmark(alloc: Global, q: &str) -> Result<Query, Refused<'_>>
+    ensures { Reads (SpellsProper (number_alone (Some q.now))) (IsAskedMistake (number_alone (Some q.now))) result }
+{
+    let Some(number) = number(q) else {
+        return Err(Refused::Unknown {
+            word: q,
+            known: Known::Query,
+        });
+    };
+    match query_of(alloc, number) {
+        Ok(query) => Ok(query),
+        Err(_) => Err(Refused::Memory),
     }
 }
 
-fn read_cube(
+fn read_cube<'a>(
     alloc: Global,
-    set: Option<&str>,
-    by: Option<&str>,
-    agg: &str,
-    conditions: &[&str],
-) -> Result<Query, Fault>
-    ensures { Reads (SpellsCube (record {
+    set: Option<&'a str>,
+    by: Option<&'a str>,
+    agg: &'a str,
+    conditions: &[&'a str],
+) -> Result<Query, Refused<'a>>
+    ensures { let words : Words = record {
       q = None;
       set = option_map (λ word. word.now) set.entry;
       by = option_map (λ word. word.now) by.entry;
       agg = Some agg.now;
       conditions = map (λ word. word.now) conditions.now;
-    })) result }
+    } in Reads (SpellsProper words) (IsPartMistake words) result }
 {
-    let Some(kind) = kind(set) else {
-        return Err(Fault::BadQuery);
-    };
-    Ok(Query {
+    let kind = read_set(set)?;
+    let columns = read_columns(alloc, by)?;
+    let conditions = read_conditions(alloc, conditions)?;
+    let aggregates = read_aggregates(alloc, agg)?;
+    let query = Query {
         kind,
-        columns: read_columns(alloc, by)?,
-        conditions: read_conditions(alloc, conditions)?,
-        aggregates: read_aggregates(alloc, agg)?,
+        columns,
+        conditions,
+        aggregates,
         order: None,
-    })
+    };
+    match limit_mistake(&query) {
+        None => Ok(query),
+        Some(refused) => Err(refused),
+    }
+}
+
+// The kind of a set by its name, and plain without a word.
+fn read_set(set: Option<&str>) -> Result<Kind, Refused<'_>>
+    ensures { let set = option_map (λ word. word.now) set.entry in
+        Reads (SpellsKind set) (λ refused. IsSomeAnd set (λ text. IsSetMistake text refused)) result }
+{
+    let Some(word) = set else {
+        return Ok(Kind::Plain);
+    };
+    match kind(word) {
+        Some(kind) => Ok(kind),
+        None => Err(Refused::Unknown {
+            word,
+            known: Known::Set,
+        }),
+    }
 }

@@ -8,6 +8,7 @@ use Rattle.partial_reports.specs.Head.{word_if_any, words_given}
 use Rattle.cube_model.specs.Proper.{IsProper}
 use Rattle.query_words.specs.Laws.{SpellOneQuery}
 use Rattle.query_words.specs.Words.{SpellsQuery, Words}
+use Rattle.report_merge.specs.Given.{AreUtf8}
 use Rattle.report_merge.specs.Merging.{SpellsWords}
 
 abbrev is_kind : WordKind → WordKind → Bool
@@ -120,7 +121,19 @@ one_query law list one other first second =
 
 -- a query that words spell, once it is found to be one that may be asked
 pub spelled_if : {E : Type 0} (found : Result Query E) (list : List Word) (words : Words) (query : Query)
-    → list ≡ words_given words.q words.set words.by words.agg words.conditions → SpellsQuery words query → IfOk found (λ one. one ≡ query) → IfOk found IsProper
+    → list ≡ words_given words.q words.set words.by words.agg words.conditions → AreUtf8 list → SpellsQuery words query → IfOk found (λ one. one ≡ query) → IfOk found IsProper
     → IfOk found (SpellsWords list)
-spelled_if (Ok one) list words query are spelled same asked = record { words = words; are = are; spelled = subst (SpellsQuery words) (sym same) spelled; asked = asked }
-spelled_if (Err refused) list words query are spelled same asked = tt
+spelled_if (Ok one) list words query are utf8 spelled same asked =
+    record { words = words; utf8 = utf8; are = are; spelled = subst (SpellsQuery words) (sym same) spelled; asked = asked }
+spelled_if (Err refused) list words query are utf8 spelled same asked = tt
+
+-- words that spell a query as they were given spell the one that is read of them
+pub read_of_words : SpellOneQuery → (list : List Word) (words : Words) (query other : Query) → list ≡ words_given words.q words.set words.by words.agg words.conditions
+    → SpellsQuery words query → SpellsWords list other → other ≡ query
+read_of_words law list words query other are spelled spells =
+    let same : words ≡ spells.words = same_words words spells.words (sym are ∙ spells.are) in
+    law words other query (subst (λ (w : Words). SpellsQuery w other) (sym same) spells.spelled) spelled
+
+pub spelled_by : (list : List Word) (words : Words) (other : Query) → list ≡ words_given words.q words.set words.by words.agg words.conditions
+    → SpellsWords list other → SpellsQuery words other
+spelled_by list words other are spells = subst (λ (w : Words). SpellsQuery w other) (same_words spells.words words (sym spells.are ∙ are)) spells.spelled

@@ -19,6 +19,7 @@ use Rattle.partial_reports.specs.Head.{are_parts, ascend_between, head_text, is_
 use Rattle.ssb_reports.specs.Report.{report_of}
 use Rattle.report_merge.specs.Kept.{IsKept, IsMore, with_lines}
 use Rattle.partial_reports.specs.HeadReading.{IsDigest}
+use Rattle.report_merge.specs.Refusals.{IsAlike}
 use Rattle.report_merge.specs.Merging.{Adds, IsPartialReport, Part, SpellsWords}
 use Rattle.report_merge.proofs.Gaps.{both, joined}
 
@@ -81,16 +82,10 @@ first_kept head digest query partial report answer lines proper is words partial
   rise = subst (IsAscending (answer_cmp None)) (sym same) read.rising;
 }
 
--- a head is of the same words and of the same whole, over the same dimension rows
-pub record IsAlike (start : Part) (head : Head) (digest : List ℕ) : Type 0 where
-  pub words : head.words ≡ start.head.words
-  pub parts : head.parts ≡ start.head.parts
-  pub dimensions : digest ≡ start.digest
-
 -- what was read of one more partial report
 pub one_more : (start : Part) (text : List ℕ) (head : Head) (digest : List ℕ) (partial : Query) (report numbers : List ℕ) (answer : Answer) (own : List WideLine)
     → IsKept start.head start.digest start.query partial own
-    → text ≡ head_text head digest ++ report → is_proper head ≡ true → IsAlike start head digest
+    → text ≡ head_text head digest ++ report → is_proper head ≡ true → IsAlike start.head start.digest head digest
     → IsPermutation (start.head.numbers ++ head.numbers) numbers → ascend_between 0 start.head.parts numbers ≡ true → IsRead partial report answer
     → IsMore start text numbers answer
 one_more start text head digest partial report numbers answer own kept spelled proper alike moved ascend read = record {

@@ -1,6 +1,11 @@
 -- Texts that readers have left, one after the other.
-use Rattle.std.proofs.Common.{◌≡◌, ◌∙◌, ap, refl, ℕ, ◌<◌, Option, Some, List, [], ◌∷◌, map, length, get_or, arith}
+use Rattle.std.proofs.Common.{◌≡◌, ◌∙◌, sym, ap, refl, subst, ℕ, ◌<◌, Option, Some, List, [], ◌∷◌, map, length, get_or, arith}
 use Rattle.std.specs.List.{remove}
+use Rattle.report_merge.specs.declared.refused.Refused.{Refused}
+use Rattle.report_merge.specs.declared.refused.Refused.TheVariants.{Memory, Input}
+use Rattle.report_merge.specs.Lawful.{PartialReportsAreOfOnePart}
+use Rattle.report_merge.specs.Mergeable.{CanAdd, CanMerge, IsOutside}
+use Rattle.report_merge.proofs.Refusing.{add_whole}
 use Rattle.report_merge.specs.Merging.{Adds, IsMerged, IsPartialReport, Merges, Part}
 
 module _ {R : Type 0} (left : R → Option (List ℕ)) where
@@ -39,3 +44,49 @@ module _ {R : Type 0} (left : R → Option (List ℕ)) where
     report text (ap left is ∙ first_text reader readers text texts e),
     merges texts (ap (map left) rest_is ∙ other_texts reader readers text texts e),
   )
+
+  -- the text of the first reader, and those of the others
+  pub record IsSplit (first : R) (rest : List R) (texts : List (List ℕ)) : Type 0 where
+    pub text : List ℕ
+    pub others : List (List ℕ)
+    pub are : texts ≡ text ∷ others
+    pub one : left first ≡ Some text
+    pub more : map left rest ≡ map Some others
+
+  pub split : (readers rest : List R) (first : R) (texts : List (List ℕ)) → 0 < length readers → first ≡ get_or readers 0 first → rest ≡ remove readers 0
+      → map left readers ≡ map Some texts → IsSplit first rest texts
+  split [] rest first texts some is rest_is e = absurd (omega (arith, some))
+  split (reader ∷ readers) rest first [] some is rest_is e = absurd (cc)
+  split (reader ∷ readers) rest first (text ∷ texts) some is rest_is e = record {
+    text = text;
+    others = texts;
+    are = refl;
+    one = ap left is ∙ first_text reader readers text texts e;
+    more = ap (map left) rest_is ∙ other_texts reader readers text texts e;
+  }
+
+  -- no reader has no text
+  pub no_texts : (readers : List R) (texts : List (List ℕ)) → length readers ≡ 0 → map left readers ≡ map Some texts → CanMerge texts → ⊥
+  no_texts [] [] none e can = can
+  no_texts [] (text ∷ texts) none e can = cc
+  no_texts (reader ∷ readers) texts none e can = absurd (omega (arith, none))
+
+-- the first text can be merged, and then the others
+pub can_first : PartialReportsAreOfOnePart → (text : List ℕ) (others texts : List (List ℕ)) (merge : Part) → texts ≡ text ∷ others → CanMerge texts → IsPartialReport text merge
+    → CanAdd merge others
+can_first one text others texts merge are can report =
+    let all : CanMerge (text ∷ others) = subst CanMerge are can in
+    subst (λ (part : Part). CanAdd part others) (one text all.0 merge all.1 report) all.2
+
+pub can_next : PartialReportsAreOfOnePart → (text : List ℕ) (others texts : List (List ℕ)) (start next : Part) → texts ≡ text ∷ others → CanAdd start texts → Adds start text next
+    → CanAdd next others
+can_next one text others texts start next are can adds =
+    let all : CanAdd start (text ∷ others) = subst (CanAdd start) are can in
+    all.4 next (add_whole one start all.0 next text adds all.1)
+
+-- what is refused for memory is from outside
+pub outside : (refused : Refused) → refused ≡ Memory → IsOutside refused
+outside refused e = subst IsOutside (sym e) tt
+
+pub outside_input : (refused : Refused) → refused ≡ Input → IsOutside refused
+outside_input refused e = subst IsOutside (sym e) tt

@@ -15,7 +15,11 @@ use Rattle.report_formats.specs.declared.layout.Layout.{Layout}
 use Rattle.report_formats.specs.Asked.{query_for}
 use Rattle.ssb_reports.specs.Report.{report_of}
 use Rattle.report_merge.specs.Finishing.{finished_for}
-use Rattle.report_merge.specs.Merging.{IsMerged, Part, SpellsWords}
+use Rattle.report_merge.specs.Merging.{IsMerged, IsPartialReport, Part, SpellsWords}
+
+-- a text is the partial report of no two parts
+abbrev pub PartialReportsAreOfOnePart : Type 0
+PartialReportsAreOfOnePart = (text : List ℕ) (one other : Part) → IsPartialReport text one → IsPartialReport text other → one ≡ other
 
 -- what is finished for a layout is the answer to the query that is asked for in it
 abbrev pub CountsAreAppended : Type 0

@@ -1,8 +1,11 @@
 pub mod Faults
 pub mod Finishing
+pub mod Given
 pub mod Kept
 pub mod Lawful
+pub mod Mergeable
 pub mod Merging
 pub mod Numbers
 pub mod Ranges
+pub mod Refusals
 pub mod Written

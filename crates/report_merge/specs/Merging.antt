@@ -1,7 +1,8 @@
 -- Partial reports of one query over one set of dimension rows, merged. Our own.
-use Rattle.std.specs.Prelude.{◌≡◌, ◌<◌, ℕ, true, None, List, [], ◌∷◌, ◌++◌, length, slice_index}
-use Rattle.std.specs.List.{range_with_len}
+use Rattle.std.specs.Prelude.{◌≡◌, ℕ, true, None, List, [], ◌∷◌, ◌++◌}
+use Rattle.std.specs.List.{AllByRecursion, range_with_len}
 use Rattle.std.specs.List.Sorted.{IsPermutation}
+use Rattle.std.specs.Str.{IsUtf8}
 use Rattle.cube_model.specs.declared.answer.Answer.{Answer}
 use Rattle.cube_model.specs.declared.query.Query.{Query}
 use Rattle.cube_model.specs.Ascending.{IsAscending}
@@ -25,9 +26,10 @@ pub record Part : Type 0 where
   pub query : Query
   pub answer : Answer
 
--- words as they were given spell a query that may be asked
+-- words as they were given, which are UTF-8, spell a query that may be asked
 pub record SpellsWords (given : List Word) (query : Query) : Type 0 where
   pub words : Words
+  pub utf8 : AllByRecursion (λ word. IsUtf8 word.text) given
   pub are : given ≡ words_given words.q words.set words.by words.agg words.conditions
   pub spelled : SpellsQuery words query
   pub asked : IsProper query

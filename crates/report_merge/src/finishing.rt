@@ -1,8 +1,9 @@
 //! The answer that is made of merged lines.
-ghost use Rattle.std.specs.Prelude.{◌≡◌, if◌then◌else◌, [], ◌∷◌, map, IfOk, MatchOption};
+ghost use Rattle.std.specs.Prelude.{◌≡◌, if◌then◌else◌, [], ◌∷◌, map, IfErr, IfOk, MatchOption};
 ghost use Rattle.std.specs.List.{list_any};
 ghost use Rattle.cube_model.specs.declared.answer.Value.TheVariants.{Whole};
 ghost use Rattle.cube_model.specs.Proper.{is_average};
+ghost use Rattle.answer_merge.specs.Finishing.{FinishRefuses};
 ghost use Rattle.answer_merge.specs.Parts.{finished};
 ghost use Rattle.answer_merge.specs.Wide.{Rise, line_of, lines_of};
 ghost use Rattle.report_formats.specs.Rows.{counts_averages};
@@ -45,6 +46,7 @@ pub(crate) fn counted_lines(
     requires { Rise lines.items }
     ensures lines { IfOk result (λ found. lines_of found.items ≡ (if counts then map recounted_line (lines_of lines.items) else lines_of lines.items)) }
     ensures rise { IfOk result (λ found. Rise found.items) }
+    ensures only { IfErr result (λ fault. fault ≡ Fault.Memory) }
 {
     if counts {
         recounted(alloc, lines)
@@ -55,7 +57,8 @@ pub(crate) fn counted_lines(
 
 // The lines with the count of each once more after all numbers.
 fn recounted(alloc: Global, lines: Vec<WideLine>) -> Result<Vec<WideLine>, Fault>
-    ensures { IfOk result (λ found. lines_of found.items ≡ map recounted_line (lines_of lines.items)) }
+    ensures ok { IfOk result (λ found. lines_of found.items ≡ map recounted_line (lines_of lines.items)) }
+    ensures only { IfErr result (λ fault. fault ≡ Fault.Memory) }
 {
     let mut found = Vec::new(alloc);
     for line in lines {
@@ -65,7 +68,8 @@ fn recounted(alloc: Global, lines: Vec<WideLine>) -> Result<Vec<WideLine>, Fault
 }
 
 fn recounted_line(line: WideLine) -> Result<WideLine, Fault>
-    ensures { IfOk result (λ found. line_of found ≡ recounted_line (line_of line)) }
+    ensures ok { IfOk result (λ found. line_of found ≡ recounted_line (line_of line)) }
+    ensures only { IfErr result (λ fault. fault ≡ Fault.Memory) }
 {
     let WideLine { key, mut numbers } = line;
     if let Some(count) = count_in(numbers.as_slice()) {
@@ -90,7 +94,8 @@ fn count_in(numbers: &[i128]) -> Option<i128>
 #[tactic(auto, using(crate::proofs::Rising::finished_rise))]
 pub(crate) fn finished(alloc: Global, query: &Query, lines: Vec<WideLine>) -> Result<Answer, Fault>
     requires { Rise lines.items }
-    ensures { IfOk result (λ answer. answer ≡ finished query.now (record { lines = lines_of lines.items })) }
+    ensures ok { IfOk result (λ answer. answer ≡ finished query.now (record { lines = lines_of lines.items })) }
+    ensures refused { IfErr result (FinishRefuses query.now.aggregates (lines_of lines.items)) }
 {
     let lines = finished_lines(alloc, query.aggregates.as_slice(), lines)?;
     Ok(Answer {

@@ -1,9 +1,18 @@
 //! Laws of merged partial reports: each function proves the statement that its contract names, and does nothing.
-ghost use Rattle.report_merge.specs.Lawful.{CountsAreAppended, MergedTextsAreTheAnswer};
+ghost use Rattle.report_merge.specs.Lawful.{CountsAreAppended, MergedTextsAreTheAnswer, PartialReportsAreOfOnePart};
 
 use answer_merge::{answers_merge, partial_answers_suffice, reports_read_back};
 use partial_reports::heads_read_back;
 use query_words::words_spell_one_query;
+
+/// A text is the partial report of one part at most.
+pub fn partial_reports_are_of_one_part()
+    ensures { PartialReportsAreOfOnePart }
+{
+    heads_read_back();
+    words_spell_one_query();
+    reports_read_back();
+}
 
 /// What is finished for a layout is the answer to what is asked for in it.
 pub fn counts_are_appended()

@@ -11,7 +11,7 @@ mod readers;
 mod refused;
 mod words;
 
-pub use laws::{counts_are_appended, merged_texts_are_the_answer};
+pub use laws::{counts_are_appended, merged_texts_are_the_answer, partial_reports_are_of_one_part};
 pub use merge::Merge;
 pub use readers::merge_readers;
 pub use refused::{Refused, Unmerged};

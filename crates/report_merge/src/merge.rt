@@ -1,25 +1,29 @@
 //! Partial reports merged.
-ghost use Rattle.std.specs.Prelude.{◌≡◌, ◌<◌, ◌++◌, ℕ, length, slice_index, IfNone, IfOk, IfSome, OnErr, OnOk};
+ghost use Rattle.std.specs.Prelude.{◌≡◌, ◌<◌, ◌++◌, ℕ, length, slice_index, IfErr, IfNone, IfOk, IfSome, OnErr, OnOk};
+ghost use Rattle.answer_merge.specs.Finishing.{FinishRefuses};
 ghost use Rattle.answer_merge.specs.Parts.{partial_query};
 ghost use Rattle.answer_merge.specs.Wide.{lines_of};
 ghost use Rattle.partial_reports.specs.Head.{head_text};
-ghost use Rattle.report_formats.specs.Asked.{asked_for};
-ghost use Rattle.report_merge.specs.Finishing.{finished_for};
+ghost use Rattle.report_formats.specs.Asked.{asked_for, query_for};
+ghost use Rattle.report_merge.specs.Finishing.{CanBeFinished, finished_for, partial_for};
 ghost use Rattle.report_merge.specs.Kept.{IsKept, IsMore};
-ghost use Rattle.report_merge.specs.Merging.{Adds, IsPartialReport, IsWhole, Part};
+ghost use Rattle.report_merge.specs.Merging.{Adds, AreOfOne, IsMergeOf, IsPartialReport, IsWhole, Part};
 ghost use Rattle.report_merge.specs.Numbers.{IsFirstGap};
+ghost use Rattle.report_merge.specs.Refusals.{AddRefuses, AreApart, IsUnlike, NewRefuses, UnlessMemory};
 ghost use Rattle.report_merge.specs.Written.{WritesOrKeeps};
 ghost use Rattle.ssb_reports.specs.Report.{report_of};
 ghost use Rattle.ssb_reports.specs.Writing.{Writes};
 
 use crate::finishing::{asks_for_counts, counted_lines, finished};
+use crate::laws::partial_reports_are_of_one_part;
 use crate::lines::narrow_lines;
 use crate::numbers::{first_missing, merged_numbers};
 use crate::refused::Refused;
 use crate::words::{are_same, queries_of};
 use answer_merge::{WideLine, merge_in, widened};
 use cube_model::{Answer, Fault, Items, Query};
-use partial_reports::{Head, HeadRead, head_text, read_answer, read_head};
+use partial_reports::{Head, HeadRead, head_text, heads_read_back, read_answer, read_head};
+use query_words::words_spell_one_query;
 use report_formats::{Asked, Layout};
 use ssb_reports::{write_bytes, write_report};
 use std::alloc::Global;
@@ -60,9 +64,11 @@ struct More {
 impl Merge {
     /// What a partial report has.
     ///
-    /// `At` where a line is wrong; or `Memory`.
+    /// `At` where the text is no partial report; or `Memory`.
     pub fn new(alloc: Global, text: &[u8]) -> Result<Merge, Refused>
-        ensures { IfOk result (IsPartialReport text.now) }
+        ensures ok { IfOk result (IsPartialReport text.now) }
+        ensures complete { (part : Part) → IsPartialReport text.now part → UnlessMemory result (λ merge. merge ≡ part) }
+        ensures refused { IfErr result (NewRefuses text.now) }
     {
         let HeadRead {
             head,
@@ -74,6 +80,7 @@ impl Merge {
         let (query, partial) = queries_of(alloc, head.words.as_slice())?;
         let answer = read_answer(alloc, &partial, line, report)?;
         let lines = widened(alloc, answer.lines)?;
+        partial_reports_are_of_one_part();
         Ok(Merge {
             head,
             digest,
@@ -85,11 +92,16 @@ impl Merge {
 
     /// With one more partial report.
     ///
-    /// `At` where a line is wrong; `OtherWords`, `OtherParts`, `OtherDimensions` and `Twice` where it is not one more part of the whole;
-    /// or `Memory`.
+    /// `At` where the text is no partial report; `OtherWords`, `OtherParts`, `OtherDimensions` and `Twice`, in this order, where its head
+    /// is not that of one more part of the whole; or `Memory`. `Twice` has the least number that is in both.
     pub fn add(self, alloc: Global, text: &[u8]) -> Result<Merge, Refused>
-        ensures { IfOk result (Adds self text.now) }
+        ensures ok { IfOk result (Adds self text.now) }
+        ensures complete { (other : Part) → IsPartialReport text.now other → AreOfOne self other → AreApart self.head.numbers other.head.numbers
+            → UnlessMemory result (IsMergeOf self other) }
+        ensures refused { IfErr result (AddRefuses self text.now) }
     {
+        heads_read_back();
+        partial_reports_are_of_one_part();
         let More { numbers, answer } = self.more(alloc, text)?;
         let Merge {
             head,
@@ -110,9 +122,12 @@ impl Merge {
 
     // What is read of one more partial report.
     fn more(&self, alloc: Global, text: &[u8]) -> Result<More, Refused>
-        ensures { IfOk result (λ more. IsMore self.now text.now more.numbers more.answer) }
+        ensures ok { IfOk result (λ more. IsMore self.now text.now more.numbers more.answer) }
+        ensures refused { IfErr result (AddRefuses self.now text.now) }
     {
         let read = read_head(alloc, text)?;
+        check_digest(&read.digest);
+        words_spell_one_query();
         check_alike(&self.head, &self.digest, &read)?;
         let numbers = merged_numbers(
             alloc,
@@ -152,6 +167,8 @@ impl Merge {
     pub fn finish(self, alloc: Global, layout: Layout) -> Result<(Asked, Answer), Fault>
         ensures asked { IfOk result (λ done. done.0 ≡ asked_for layout self.query) }
         ensures answer { IfOk result (λ done. done.1 ≡ finished_for layout self.query self.answer) }
+        ensures complete { CanBeFinished self.answer → IfErr result (λ fault. fault ≡ Fault.Memory) }
+        ensures refused { IfErr result (FinishRefuses (query_for layout self.query).aggregates (partial_for layout self.query self.answer).lines) }
     {
         let Merge {
             head: _,
@@ -214,6 +231,7 @@ fn check_alike(head: &Head, digest: &[u8; 32], read: &HeadRead<'_>) -> Result<()
     ensures words { OnOk result (read.now.head.words ≡ head.now.words) }
     ensures parts { OnOk result (read.now.head.parts ≡ head.now.parts) }
     ensures dimensions { OnOk result (read.now.digest ≡ digest.now) }
+    ensures refused { IfErr result (IsUnlike head.now digest.now read.now.head read.now.digest) }
 {
     if !are_same(head.words.as_slice(), read.head.words.as_slice()) {
         return Err(Refused::OtherWords);

@@ -1,7 +1,11 @@
 //! Partial reports from readers.
-ghost use Rattle.std.specs.Prelude.{◌≡◌, ℕ, List, Some, map, IfOk};
-ghost use Rattle.report_merge.specs.Merging.{Adds, IsMerged, IsPartialReport, Merges};
+ghost use Rattle.std.specs.Prelude.{◌≡◌, ℕ, List, Some, map, IfErr, IfOk};
+ghost use Rattle.report_merge.specs.declared.refused.Refused.TheVariants.{Input};
+ghost use Rattle.report_merge.specs.Mergeable.{CanAdd, CanMerge, IsOutside};
+ghost use Rattle.report_merge.specs.Merging.{Adds, AreOfOne, IsMerged, IsPartialReport, Merges, Part};
+ghost use Rattle.report_merge.specs.Refusals.{AreApart};
 
+use crate::laws::partial_reports_are_of_one_part;
 use crate::merge::Merge;
 use crate::refused::{Refused, Unmerged};
 use std::alloc::Global;
@@ -9,10 +13,13 @@ use std::io::Read;
 
 /// Reads partial reports, one after the other, each to its end, and merges them.
 ///
-/// A refusal has the place of the reader that it is of. Of no reader it is `Input`.
+/// A refusal has the place of the reader that it is of. Of no reader it is `Input`. Where the texts are partial reports of parts
+/// of one whole and no number is in two of them, there is no refusal but `Memory` and `Input`.
 pub fn merge_readers<R: Read + Drop>(alloc: Global, readers: Vec<R>) -> Result<Merge, Unmerged>
-    ensures { IfOk result (λ merge. (texts : List (List ℕ)) → map R.remaining readers.items ≡ map Some texts → IsMerged texts merge) }
+    ensures ok { IfOk result (λ merge. (texts : List (List ℕ)) → map R.remaining readers.items ≡ map Some texts → IsMerged texts merge) }
+    ensures complete { (texts : List (List ℕ)) → map R.remaining readers.items ≡ map Some texts → CanMerge texts → IfErr result (λ unmerged. IsOutside unmerged.refused) }
 {
+    partial_reports_are_of_one_part();
     let mut readers = readers;
     if readers.is_empty() {
         return Err(unmerged(0, Refused::Input));
@@ -31,8 +38,10 @@ fn add_all<R: Read + Drop>(
     merge: Merge,
     readers: Vec<R>,
 ) -> Result<Merge, Unmerged>
-    ensures { IfOk result (λ whole. (texts : List (List ℕ)) → map R.remaining readers.items ≡ map Some texts → Merges merge texts whole) }
+    ensures ok { IfOk result (λ whole. (texts : List (List ℕ)) → map R.remaining readers.items ≡ map Some texts → Merges merge texts whole) }
+    ensures complete { (texts : List (List ℕ)) → map R.remaining readers.items ≡ map Some texts → CanAdd merge texts → IfErr result (λ unmerged. IsOutside unmerged.refused) }
 {
+    partial_reports_are_of_one_part();
     let mut readers = readers;
     if readers.is_empty() {
         return Ok(merge);
@@ -45,14 +54,17 @@ fn add_all<R: Read + Drop>(
 }
 
 fn first_of<R: Read + Drop>(alloc: Global, reader: R) -> Result<Merge, Refused>
-    ensures { IfOk result (λ merge. (text : List ℕ) → R.remaining reader ≡ Some text → IsPartialReport text merge) }
+    ensures ok { IfOk result (λ merge. (text : List ℕ) → R.remaining reader ≡ Some text → IsPartialReport text merge) }
+    ensures complete { (text : List ℕ) (part : Part) → R.remaining reader ≡ Some text → IsPartialReport text part → IfErr result IsOutside }
 {
     let text = text_of(alloc, reader)?;
     Merge::new(alloc, text.as_slice())
 }
 
 fn add_one<R: Read + Drop>(alloc: Global, merge: Merge, reader: R) -> Result<Merge, Refused>
-    ensures { IfOk result (λ next. (text : List ℕ) → R.remaining reader ≡ Some text → Adds merge text next) }
+    ensures ok { IfOk result (λ next. (text : List ℕ) → R.remaining reader ≡ Some text → Adds merge text next) }
+    ensures complete { (text : List ℕ) (other : Part) → R.remaining reader ≡ Some text → IsPartialReport text other → AreOfOne merge other
+        → AreApart merge.head.numbers other.head.numbers → IfErr result IsOutside }
 {
     let text = text_of(alloc, reader)?;
     merge.add(alloc, text.as_slice())
@@ -60,7 +72,8 @@ fn add_one<R: Read + Drop>(alloc: Global, merge: Merge, reader: R) -> Result<Mer
 
 // What a reader has left.
 fn text_of<R: Read + Drop>(alloc: Global, reader: R) -> Result<Vec<u8>, Refused>
-    ensures { IfOk result (λ text. (bytes : List ℕ) → R.remaining reader ≡ Some bytes → text.items ≡ bytes) }
+    ensures ok { IfOk result (λ text. (bytes : List ℕ) → R.remaining reader ≡ Some bytes → text.items ≡ bytes) }
+    ensures only { IfErr result (λ refused. refused ≡ Input) }
 {
     let mut reader = reader;
     let mut text = Vec::new(alloc);
@@ -70,6 +83,8 @@ fn text_of<R: Read + Drop>(alloc: Global, reader: R) -> Result<Vec<u8>, Refused>
     }
 }
 
-fn unmerged(place: usize, refused: Refused) -> Unmerged {
+fn unmerged(place: usize, refused: Refused) -> Unmerged
+    ensures { result ≡ record { place = place; refused = refused } }
+{
     Unmerged { place, refused }
 }

@@ -1,6 +1,7 @@
 //! Why partial reports were not merged.
 ghost use Rattle.std.specs.Prelude.{◌≡◌};
 ghost use Rattle.report_merge.specs.Faults.{fault_of};
+ghost use Rattle.report_merge.specs.Given.{no_query};
 
 use cube_model::Fault;
 use partial_reports::Wrong;
@@ -50,7 +51,9 @@ impl Refused {
     }
 
     // That the words of a head spell no query that may be asked. They begin in the fourth line.
-    pub(crate) fn no_query() -> Refused {
+    pub(crate) fn no_query() -> Refused
+        ensures { result ≡ no_query }
+    {
         Refused::At {
             line: 4,
             wrong: Wrong::Words,
@@ -59,31 +62,58 @@ impl Refused {
 }
 
 impl From<AllocError> for Refused {
+    ghost use Rattle.report_merge.specs.declared.refused.Refused.TheVariants.{Memory};
+
+    ghost from_gives = { λ _ refused. refused ≡ Memory };
+
     fn from(_refused: AllocError) -> Refused {
         Refused::Memory
     }
 }
 
 impl<T: Drop> From<AllocFailed<T>> for Refused {
+    ghost use Rattle.report_merge.specs.declared.refused.Refused.TheVariants.{Memory};
+
+    ghost from_gives = { λ _ refused. refused ≡ Memory };
+
     fn from(_refused: AllocFailed<T>) -> Refused {
         Refused::Memory
     }
 }
 
 impl From<Fault> for Refused {
-    fn from(fault: Fault) -> Refused {
-        match fault {
-            Fault::Input => Refused::Input,
-            _ => Refused::Memory,
+    ghost use Rattle.report_merge.specs.declared.refused.Refused.TheVariants.{Memory};
+
+    ghost from_gives = { λ _ refused. refused ≡ Memory };
+
+    // No other fault than `Memory` comes here: values that were read are whole numbers of 64 bits, and sums of those of 1,024 parts
+    // have fewer than 128.
+    fn from(_fault: Fault) -> Refused {
+        Refused::Memory
+    }
+}
+
+impl From<query_words::Refused<'_>> for Refused {
+    ghost use Rattle.report_merge.specs.Given.{unspelled};
+
+    ghost from_gives = { λ was refused. refused ≡ unspelled was };
+
+    fn from(refused: query_words::Refused<'_>) -> Refused {
+        match refused {
+            query_words::Refused::Memory => Refused::Memory,
+            _ => Refused::no_query(),
         }
     }
 }
 
 impl From<partial_reports::Refused> for Refused {
+    ghost use Rattle.report_merge.specs.Refusals.{refused_of};
+
+    ghost from_gives = { λ was refused. refused ≡ refused_of was };
+
     fn from(refused: partial_reports::Refused) -> Refused {
         match refused {
             partial_reports::Refused::Memory => Refused::Memory,
-            partial_reports::Refused::Input => Refused::Input,
             partial_reports::Refused::At { line, wrong } => Refused::At { line, wrong },
         }
     }

@@ -1,18 +1,22 @@
 //! The query that the words of a head spell.
-ghost use Rattle.std.specs.Prelude.{◌≡◌, ◌++◌, map, IfOk, Some, None};
-ghost use Rattle.std.specs.Bool.{OnTrue};
+ghost use Rattle.std.specs.Prelude.{◌≡◌, ◌⊎◌, ◌↔◌, ◌++◌, ℕ, List, map, IfErr, IfOk, IsOkAnd, IsTrue, Option, Some, None};
 ghost use Rattle.std.specs.Option.{option_map};
-ghost use Rattle.cube_model.specs.Proper.{IsProper};
+ghost use Rattle.cube_model.specs.declared.query.Query.{Query};
 ghost use Rattle.answer_merge.specs.Parts.{partial_query};
 ghost use Rattle.partial_reports.specs.declared.words.WordKind.TheVariants.{If};
+ghost use Rattle.std.specs.Str.{IsUtf8};
+ghost use Rattle.partial_reports.specs.declared.words.Word.{Word};
 ghost use Rattle.partial_reports.specs.Head.{word_if_any};
+ghost use Rattle.report_merge.specs.declared.refused.Refused.TheVariants.{Memory};
+ghost use Rattle.report_merge.specs.Given.{AreConditions, AreUtf8, IsNextGiven, no_query};
 ghost use Rattle.report_merge.specs.Merging.{SpellsWords};
+ghost use Rattle.report_merge.specs.Refusals.{UnlessMemory, WordsRefuse};
 
 use crate::refused::Refused;
 use answer_merge::partial_query;
-use cube_model::{Fault, Query};
+use cube_model::Query;
 use partial_reports::{Word, WordKind};
-use query_words::{read_query, words_spell_one_query};
+use query_words::{QueryWords, read_query, words_spell_one_query};
 use std::alloc::Global;
 
 /// The query that words spell, and that for its partial answers. `At` the fourth line where they spell none that may be
@@ -20,6 +24,8 @@ use std::alloc::Global;
 pub(crate) fn queries_of(alloc: Global, words: &[Word]) -> Result<(Query, Query), Refused>
     ensures query { IfOk result (λ both. SpellsWords words.now both.0) }
     ensures partial { IfOk result (λ both. both.1 ≡ partial_query both.0) }
+    ensures one { IfOk result (λ both. (other : Query) → SpellsWords words.now other → other ≡ both.0) }
+    ensures refused { IfErr result (WordsRefuse words.now) }
 {
     let query = query_of(alloc, words)?;
     let again = query_of(alloc, words)?;
@@ -31,34 +37,33 @@ pub(crate) fn queries_of(alloc: Global, words: &[Word]) -> Result<(Query, Query)
 
 // The query that words spell.
 fn query_of(alloc: Global, words: &[Word]) -> Result<Query, Refused>
-    ensures { IfOk result (SpellsWords words.now) }
+    ensures ok { IfOk result (SpellsWords words.now) }
+    ensures refused { IfErr result (WordsRefuse words.now) }
 {
+    words_spell_one_query();
     let (q, left) = take_word(WordKind::Q, words)?;
     let (set, left) = take_word(WordKind::Set, left)?;
     let (by, left) = take_word(WordKind::By, left)?;
     let (agg, left) = take_word(WordKind::Agg, left)?;
     let conditions = conditions_in(alloc, left)?;
-    match read_query(alloc, q, set, by, agg, conditions.as_slice()) {
-        Ok(query) => checked(query),
-        Err(Fault::Memory) => Err(Refused::Memory),
-        Err(_) => Err(Refused::no_query()),
-    }
-}
-
-// A query that may be asked.
-fn checked(query: Query) -> Result<Query, Refused>
-    ensures same { IfOk result (λ found. found ≡ query) }
-    ensures asked { IfOk result IsProper }
-{
-    match query.check() {
-        Ok(()) => Ok(query),
-        Err(_) => Err(Refused::no_query()),
-    }
+    let words = QueryWords {
+        q,
+        set,
+        by,
+        agg,
+        conditions: conditions.as_slice(),
+    };
+    let query = read_query(alloc, &words)?;
+    Ok(query)
 }
 
 // The text of the first word where it is of a kind, and the words after it.
 fn take_word(kind: WordKind, words: &[Word]) -> Result<(Option<&str>, &[Word]), Refused>
-    ensures { IfOk result (λ taken. words.now ≡ word_if_any kind (option_map (λ text. text.now) taken.0) ++ taken.1.now) }
+    ensures ok { IfOk result (λ taken. words.now ≡ word_if_any kind (option_map (λ text. text.now) taken.0) ++ taken.1.now) }
+    ensures utf8 { IfOk result (λ taken. AreUtf8 taken.1.now → AreUtf8 words.now) }
+    ensures complete { (text : Option (List ℕ)) (others : List Word) → IsNextGiven kind words.now text others
+        → IsOkAnd result (λ taken. (option_map (λ text. text.now) taken.0 ≡ text) × (taken.1.now ≡ others)) }
+    ensures only { IfErr result (λ refused. refused ≡ no_query) }
 {
     let Some((word, left)) = words.split_first() else {
         return Ok((None, words));
@@ -72,7 +77,10 @@ fn take_word(kind: WordKind, words: &[Word]) -> Result<(Option<&str>, &[Word]), 
 
 // The texts of words that are conditions.
 fn conditions_in(alloc: Global, words: &[Word]) -> Result<Vec<&str>, Refused>
-    ensures { IfOk result (λ texts. words.now ≡ map (λ text. record { kind = If; text = text }) (map (λ text. text.now) texts.items)) }
+    ensures ok { IfOk result (λ texts. words.now ≡ map (λ text. record { kind = If; text = text }) (map (λ text. text.now) texts.items)) }
+    ensures utf8 { IfOk result (λ texts. AreUtf8 words.now) }
+    ensures complete { AreConditions words.now → UnlessMemory result (λ texts. Unit {0}) }
+    ensures only { IfErr result (λ refused. (refused ≡ Memory) ⊎ (refused ≡ no_query)) }
 {
     let mut texts = Vec::new(alloc);
     for word in words {
@@ -86,7 +94,9 @@ fn conditions_in(alloc: Global, words: &[Word]) -> Result<Vec<&str>, Refused>
 
 // The text of a word, which is UTF-8 as words that are given to a command are.
 fn text_of(word: &Word) -> Result<&str, Refused>
-    ensures { IfOk result (λ text. text.now ≡ word.now.text) }
+    ensures ok { IfOk result (λ text. text.now ≡ word.now.text) }
+    ensures utf8 { IfOk result (λ text. IsUtf8 word.now.text) }
+    ensures refused { IfErr result (λ refused. (refused ≡ no_query) × (IsUtf8 word.now.text → ⊥)) }
 {
     match str::from_utf8(word.text.as_slice()) {
         Ok(text) => Ok(text),
@@ -96,7 +106,7 @@ fn text_of(word: &Word) -> Result<&str, Refused>
 
 /// Two lists of words are the same.
 pub(crate) fn are_same(ones: &[Word], others: &[Word]) -> bool
-    ensures { OnTrue result (others.now ≡ ones.now) }
+    ensures { IsTrue result ↔ (others.now ≡ ones.now) }
 {
     let Some((one, ones)) = ones.split_first() else {
         return others.is_empty();
@@ -108,7 +118,7 @@ pub(crate) fn are_same(ones: &[Word], others: &[Word]) -> bool
 }
 
 fn is_same(one: &Word, other: &Word) -> bool
-    ensures { OnTrue result (other.now ≡ one.now) }
+    ensures { IsTrue result ↔ (other.now ≡ one.now) }
 {
     one.kind == other.kind && one.text.as_slice() == other.text.as_slice()
 }

@@ -2,12 +2,13 @@
 ghost use Rattle.std.specs.Prelude.{◌≡◌, ◌⊎◌, map, None, Some, IfErr, IfOk};
 ghost use Rattle.std.specs.Option.{option_map};
 ghost use Rattle.cube_model.specs.declared.fault.Fault.TheVariants.{BadQuery, Memory};
+ghost use Rattle.query_words.specs.Given.{words_of};
 ghost use Rattle.query_words.specs.Words.{parts_by};
 ghost use Rattle.report_formats.specs.Rows.{format_named};
 ghost use Rattle.report_words.specs.Words.{IsReportOf, benchmark_words, cube_words, lines_in, word_in};
 
 use cube_model::Fault;
-use query_words::read_query;
+use query_words::{QueryWords, read_query};
 use report_formats::{Asked, Format, Layout};
 use std::alloc::{AllocError, Global};
 use std::str;
@@ -18,8 +19,14 @@ pub fn asked_benchmark(alloc: Global, layout: Layout, number: &[u8]) -> Result<A
     ensures causes { IfErr result (λ fault. (fault ≡ Memory) ⊎ (fault ≡ BadQuery)) }
 {
     let number = word(number)?;
-    let query = read_query(alloc, number, None, None, None, &[])?;
-    Asked::new(alloc, layout, query)
+    let words = QueryWords {
+        q: number,
+        set: None,
+        by: None,
+        agg: None,
+        conditions: &[],
+    };
+    asked_in(alloc, layout, &words)
 }
 
 /// The report of a query by the name of its set, its columns, its aggregates, and its conditions, one a line.
@@ -39,8 +46,25 @@ pub fn asked_cube(
     let by = word(by)?;
     let agg = word(agg)?;
     let conditions = lines(alloc, conditions)?;
-    let query = read_query(alloc, None, set, by, agg, conditions.as_slice())?;
-    Asked::new(alloc, layout, query)
+    let words = QueryWords {
+        q: None,
+        set,
+        by,
+        agg,
+        conditions: conditions.as_slice(),
+    };
+    asked_in(alloc, layout, &words)
+}
+
+// The report of the query that words spell.
+fn asked_in(alloc: Global, layout: Layout, words: &QueryWords<'_>) -> Result<Asked, Fault>
+    ensures ok { IfOk result (IsReportOf (words_of words.now) layout) }
+    ensures causes { IfErr result (λ fault. (fault ≡ Memory) ⊎ (fault ≡ BadQuery)) }
+{
+    match read_query(alloc, words) {
+        Ok(query) => Asked::new(alloc, layout, query),
+        Err(refused) => Err(Fault::from(refused)),
+    }
 }
 
 /// The layout of a format by its name: bars, csv, tsv or json. Averages are fractions, and in json a sum and a count.

@@ -1,12 +1,12 @@
 //! What is said after a refusal that no page shows, and the names that hints know.
 use cube_model::{Axis, Fault};
-use query_words::read_query;
+use query_words::{Known, QueryWords, read_query};
 use sample_sessions::sample_dims;
 use sample_star::{Pieces, TABLES, whole};
 use std::alloc::Global;
 use std::test::Fail;
 use table_hints::{Cut, Table, TableFiles, addition_hint, load_hint, table_hint};
-use word_hints::{Known, nearest};
+use word_hints::nearest;
 
 /// The sample tables.
 #[derive(Clone, Copy)]
@@ -180,6 +180,24 @@ fn each_refused_addition_has_its_line(rt: HostRuntime) -> Result<(), Fail> {
     Ok(())
 }
 
+// The words of a query with a word where names of its kind may be.
+fn words_for<'a>(known: Known, word: &'a str, conditions: &'a [&'a str]) -> QueryWords<'a> {
+    QueryWords {
+        q: (known == Known::Query).then_some(word),
+        set: (known == Known::Set).then_some(word),
+        by: (known == Known::Attribute).then_some(word),
+        agg: match known {
+            Known::Query => None,
+            Known::Aggregate | Known::Measure => Some(word),
+            Known::Set | Known::Attribute | Known::Ranged => Some("count"),
+        },
+        conditions: match known {
+            Known::Ranged => conditions,
+            _ => &[],
+        },
+    }
+}
+
 // Whether a name is read where it may be: that of an aggregate before what it is of, but for a count, which is of
 // nothing.
 fn is_read(alloc: Global, known: Known, name: &str) -> Result<bool, Fault> {
@@ -191,23 +209,19 @@ fn is_read(alloc: Global, known: Known, name: &str) -> Result<bool, Fault> {
     };
     let word = format!(in alloc; "{before}{name}{after}")?;
     let word = word.as_str();
-    let count = Some("count");
-    let read = match known {
-        Known::Query => read_query(alloc, Some(word), None, None, None, &[]),
-        Known::Set => read_query(alloc, None, Some(word), None, count, &[]),
-        Known::Attribute => read_query(alloc, None, None, Some(word), count, &[]),
-        Known::Aggregate | Known::Measure => read_query(alloc, None, None, None, Some(word), &[]),
-        Known::Ranged => read_query(alloc, None, None, None, count, &[word]),
-    };
-    Ok(read.is_ok())
+    let conditions = [word];
+    let words = words_for(known, word, &conditions);
+    Ok(read_query(alloc, &words).is_ok())
 }
 
 // Whether names are so many, no two of them equal, and each is read.
 fn are_known(alloc: Global, known: Known, count: usize) -> Result<bool, Fault> {
-    let names = known.names();
-    let mut right = names.len() == count;
-    for (place, name) in names.iter().enumerate() {
-        let again = names.iter().take(place).any(|other| other == name);
+    let mut right = known.count() == count && known.name_at(count).is_none();
+    for place in 0..count {
+        let Some(name) = known.name_at(place) else {
+            return Ok(false);
+        };
+        let again = (0..place).any(|other| known.name_at(other) == Some(name));
         right = right && !again && is_read(alloc, known, name)?;
     }
     Ok(right)

@@ -1,12 +1,12 @@
 //! Words that spell a query, each with the whole query.
 use crate::words::{NO_WORDS, Words};
 use cube_model::{Agg, Attr, Fault, Kind, Measure};
-use sample_star::{ATTRIBUTES, Asked, Condition, query};
+use sample_star::{Asked, Condition, query};
 use std::alloc::Global;
 use std::test::Fail;
 
 // Sets, columns and aggregates.
-static RIGHT: [(Words, Asked<'static>); 15] = [
+static RIGHT: [(Words, Asked<'static>); 17] = [
     (
         Words {
             agg: Some("count"),
@@ -111,15 +111,54 @@ static RIGHT: [(Words, Asked<'static>); 15] = [
     ),
     (
         Words {
-            by: Some(
-                "c_city,c_nation,c_region,s_city,s_nation,s_region,p_brand1,p_category,p_mfgr,d_datekey,d_yearmonthnum,d_year,d_yearmonth,d_weeknuminyear",
-            ),
+            by: Some("c_city,c_nation,c_region,s_city,s_nation,s_region"),
             agg: Some("count"),
             ..NO_WORDS
         },
         Asked {
             kind: Kind::Plain,
-            columns: &ATTRIBUTES,
+            columns: &[
+                Attr::CustomerCity,
+                Attr::CustomerNation,
+                Attr::CustomerRegion,
+                Attr::SupplierCity,
+                Attr::SupplierNation,
+                Attr::SupplierRegion,
+            ],
+            conditions: &[],
+            aggregates: &[Agg::Count],
+            order: None,
+        },
+    ),
+    (
+        Words {
+            by: Some("p_brand1,p_category,p_mfgr,d_datekey,d_yearmonthnum"),
+            agg: Some("count"),
+            ..NO_WORDS
+        },
+        Asked {
+            kind: Kind::Plain,
+            columns: &[
+                Attr::PartBrand1,
+                Attr::PartCategory,
+                Attr::PartMfgr,
+                Attr::DateKey,
+                Attr::DateYearmonthnum,
+            ],
+            conditions: &[],
+            aggregates: &[Agg::Count],
+            order: None,
+        },
+    ),
+    (
+        Words {
+            by: Some("d_year,d_yearmonth,d_weeknuminyear"),
+            agg: Some("count"),
+            ..NO_WORDS
+        },
+        Asked {
+            kind: Kind::Plain,
+            columns: &[Attr::DateYear, Attr::DateYearmonth, Attr::DateWeeknuminyear],
             conditions: &[],
             aggregates: &[Agg::Count],
             order: None,
@@ -166,7 +205,7 @@ static RIGHT: [(Words, Asked<'static>); 15] = [
             order: None,
         },
     ),
-    // Conditions, and lists past the limits of a query.
+    // Conditions, and as many aggregates as there may be.
     (
         Words {
             agg: Some("count"),
@@ -250,14 +289,14 @@ static RIGHT: [(Words, Asked<'static>); 15] = [
     ),
     (
         Words {
-            by: Some("d_year,d_year"),
+            by: Some("d_year,d_yearmonth"),
             agg: Some("count,count,count,count,count,count,count,count"),
             conditions: &["d_year:1998|1992"],
             ..NO_WORDS
         },
         Asked {
             kind: Kind::Plain,
-            columns: &[Attr::DateYear, Attr::DateYear],
+            columns: &[Attr::DateYear, Attr::DateYearmonth],
             conditions: &[Condition::Between(Attr::DateYear, "1998", "1992")],
             aggregates: &[
                 Agg::Count,

@@ -1,6 +1,6 @@
 //! Words as constants.
 use cube_model::{Fault, Query};
-use query_words::read_query;
+use query_words::{QueryWords, read_query};
 use std::alloc::Global;
 
 /// The words of a query.
@@ -30,6 +30,16 @@ pub const FIRST: Words = Words {
 
 impl Words {
     pub fn read(&self, alloc: Global) -> Result<Query, Fault> {
-        read_query(alloc, self.q, self.set, self.by, self.agg, self.conditions)
+        let words = QueryWords {
+            q: self.q,
+            set: self.set,
+            by: self.by,
+            agg: self.agg,
+            conditions: self.conditions,
+        };
+        match read_query(alloc, &words) {
+            Ok(query) => Ok(query),
+            Err(refused) => Err(Fault::from(refused)),
+        }
     }
 }

@@ -1,16 +1,12 @@
-//! What is wrong with words that spell no query, and what no row can meet of the conditions of one that they spell.
+//! What is said of the mistake in words that spell no query, and of what no row can meet of the conditions of one that they spell.
 #![tactic(auto)]
 
-mod cubes;
-mod known;
+mod hints;
 mod members;
 mod nearness;
 mod notes;
 mod said;
-mod words;
 
-pub use known::Known;
+pub use hints::{WordHint, hint_of};
 pub use nearness::nearest;
 pub use notes::{End, Note, write_notes};
-pub use said::{Counted, Slip, WordHint};
-pub use words::{QueryWords, hint_of, hint_of_cube};

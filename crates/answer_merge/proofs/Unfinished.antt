@@ -1,0 +1,22 @@
+-- The line for which merged lines are not finished.
+use Rattle.std.proofs.Common.{◌≡◌, ◌∙◌, sym, ap, subst, ℕ, ◌<◌, List, length, map, get_or, ◌⊎◌, inl, inr, arith}
+use Rattle.std.proofs.Math.ListN.{get_or-map}
+use Rattle.std.proofs.lemmas.List.{length-map}
+use Rattle.cube_model.specs.declared.fault.Fault.{Fault}
+use Rattle.cube_model.specs.declared.fault.Fault.TheVariants.{Memory}
+use Rattle.cube_model.specs.declared.measure.Agg.{Agg}
+use Rattle.answer_merge.specs.declared.wide.WideLine.{WideLine}
+use Rattle.answer_merge.specs.Finishing.{FinishRefuses, LineRefuses}
+use Rattle.answer_merge.specs.Wide.{line_of, lines_of}
+
+-- it is one of the lines
+pub refused_at : (aggs : List Agg) (lines : List WideLine) (place : ℕ) (line : WideLine) (fault : Fault) → place < length lines → line ≡ get_or lines place line
+    → (fault ≡ Memory) ⊎ LineRefuses aggs fault (line_of line) → FinishRefuses aggs (lines_of lines) fault
+refused_at aggs lines place line fault within is (inl memory) = inl memory
+refused_at aggs lines place line fault within is (inr refuses) = inr (
+  place,
+  line_of line,
+  subst (λ n. place < n) (sym (length-map lines line_of)) within,
+  get_or-map line_of lines place line ∙ ap line_of (sym is),
+  refuses,
+)

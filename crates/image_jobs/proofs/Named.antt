@@ -1,0 +1,10 @@
+-- The fault that is named.
+use Rattle.std.proofs.Common.{◌≡◌, ◌⊎◌, inl, inr, refl}
+use Rattle.cube_model.specs.declared.fault.Fault.{Fault}
+use Rattle.cube_model.specs.declared.fault.Fault.TheVariants.{Device, Memory}
+use Rattle.image_jobs.specs.Journals.{named}
+
+-- what holds of a fault holds of the one that is named, unless that is Memory
+pub or_memory : (P : Fault → Type 0) (fault : Fault) → P fault → (named fault ≡ Memory) ⊎ P (named fault)
+or_memory P Device has = inl refl
+or_memory P fault has = inr has

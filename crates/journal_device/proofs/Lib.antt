@@ -1,0 +1,4 @@
+pub mod Steps
+pub mod Prefixes
+pub mod Spelled
+pub mod Within

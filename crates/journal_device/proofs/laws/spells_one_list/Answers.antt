@@ -1,0 +1,5 @@
+use Rattle.journal_device.proofs.Spelled as proved
+use Rattle.journal_device.proofs.laws.spells_one_list.Goals as goal
+
+pub returns : goal.returns
+returns c = proved.spells_one_list

@@ -1,0 +1,14 @@
+use Rattle.std.proofs.Common.{inr, List, subst}
+use Rattle.cube_model.specs.declared.attr.Attr.{Attr}
+use Rattle.query_words.specs.Limits.{OccursTwice}
+use Rattle.query_words.proofs.limits.limit_mistake.Goals as goal
+
+pub returns-in-Some : goal.returns-in-Some
+returns-in-Some c = inr (inr (inr (
+  c.in-Some.column,
+  c.name.result,
+  c.of.ensures,
+  c.name.ensures,
+  subst (λ
+      (columns : List Attr). OccursTwice columns c.in-Some.column) c.as_slice.ensures c.in-Some.ensures,
+)))
