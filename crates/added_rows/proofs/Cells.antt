@@ -76,14 +76,14 @@ module _ (rows more : DimRows) (modes : List (List ℕ)) (view : View) where
       λ i. Some (record { key = key i; count = length (row ∷ facts); measures = summaries_over (row ∷ facts) })
 
 pub cells_kept : CellsStay
-cells_kept rows more modes facts plain stand =
+cells_kept rows more modes facts plain represent =
     let view = plain.view in
     record {
-      known = λ place default within. members_kept rows more modes view (get_or facts place default) (stand.known place default within);
-      ascending = stand.ascending;
+      known = λ place default within. members_kept rows more modes view (get_or facts place default) (represent.known place default within);
+      ascending = represent.ascending;
       group = λ number.
-          stand.group number
-          ∙ sym (ap (cell_over (joined rows more) modes view) (of_number_kept rows more modes view number facts stand.known)
+          represent.group number
+          ∙ sym (ap (cell_over (joined rows more) modes view) (of_number_kept rows more modes view number facts represent.known)
           ∙ cell_kept rows more modes view (rows_of rows modes view number facts)
-          (All-filter (λ row. number_of (key_of rows modes view row) == number) (HasMembers rows modes view) facts stand.known));
+          (All-filter (λ row. number_of (key_of rows modes view row) == number) (HasMembers rows modes view) facts represent.known));
     }

@@ -9,7 +9,7 @@ use Rattle.cube_model.specs.declared.rows.DimRows.{DimRows}
 use Rattle.object_store.specs.Commit.{ArePuts, IsObject}
 use Rattle.object_store.proofs.Lists.{AllPairs-nil}
 use Rattle.warehouse_objects.specs.Lawful.{dimension_puts}
-use Rattle.warehouse_objects.specs.Stands.{dimension_of}
+use Rattle.warehouse_objects.specs.Represents.{dimension_of}
 use Rattle.dimensions.specs.Added.{joined}
 use Rattle.added_rows.specs.Added.{put_of, widening_puts}
 

@@ -13,12 +13,12 @@ use Rattle.dimension_objects.specs.Spelled.{dimension_spelling}
 use Rattle.warehouse_root.specs.Layouts.{number_of}
 use Rattle.warehouse_root.specs.Objects.{run_id, segment_id}
 use Rattle.warehouse_root.specs.Root as roots
-use Rattle.warehouse_objects.specs.Stands.{HasRows, HoldsGroupings, dimension_of, object_of, root_of, rows_in, run_behind, segment_behind}
+use Rattle.warehouse_objects.specs.Represents.{HasRows, HoldsGroupings, dimension_of, object_of, root_of, rows_in, run_behind, segment_behind}
 use Rattle.warehouse_objects.specs.Warehouse.{AreInOrder, Cuboid, Warehouse, fresh, modes_of}
 use Rattle.warehouse_objects.proofs.CallerLemmas.{root_proper}
 use Rattle.dimensions.specs.Added.{joined}
 use Rattle.added_rows.specs.Added.{put_of, widened, widening_puts}
-use Rattle.added_rows.specs.Lawful.{WideningStands}
+use Rattle.added_rows.specs.Lawful.{WideningRepresents}
 use Rattle.added_rows.proofs.Answers.{admissions_kept}
 use Rattle.added_rows.proofs.Cells.{cells_kept}
 
@@ -122,25 +122,25 @@ module _ (w : Warehouse) (more : DimRows) where
         cells_kept w.rows more (modes_of w) (rows_in w.batches (get_or cuboid.runs k d).span) (cells_of cuboid.view (get_or cuboid.runs k d).cells) (holds.groupings k d within);
   }
 
-pub stands_widened : WideningStands
-stands_widened c w more stands storable few =
+pub represents_widened : WideningRepresents
+represents_widened c w more represents storable few =
     let bytes : List ℕ = roots.root_of (root_of (widened w more)) in
     let puts = widening_puts w.rows more in record {
-      objects = λ id. bytes_after puts [] bytes (number_of w.layout) c id ∙ ap (among puts id) (stands.objects id) ∙ objects_then w more id;
-      once = once_after puts [] bytes (number_of w.layout) c stands.once;
+      objects = λ id. bytes_after puts [] bytes (number_of w.layout) c id ∙ ap (among puts id) (represents.objects id) ∙ objects_then w more id;
+      once = once_after puts [] bytes (number_of w.layout) c represents.once;
       layout = layout_after puts [] bytes (number_of w.layout) c;
-      first = stands.first;
+      first = represents.first;
       root = record {
         spelled = root_after puts [] bytes (number_of w.layout) c;
-        proper = root_proper (widened w more) (in_order_then w more stands.batches) (omega (arith, stands.root.proper.target, length-map w.batches length)) (omega (arith, few)) (record {
-          most = stands.root.proper.most_cuboids;
-          each = stands.root.proper.each;
-          ascending = stands.root.proper.ascending;
+        proper = root_proper (widened w more) (in_order_then w more represents.batches) (omega (arith, represents.root.proper.target, length-map w.batches length)) (omega (arith, few)) (record {
+          most = represents.root.proper.most_cuboids;
+          each = represents.root.proper.each;
+          ascending = represents.root.proper.ascending;
         });
       };
       rows = storable;
-      batches = in_order_then w more stands.batches;
-      cuboids = λ k d within. cuboid_then w more (get_or w.cuboids k d) (stands.cuboids k d within);
+      batches = in_order_then w more represents.batches;
+      cuboids = λ k d within. cuboid_then w more (get_or w.cuboids k d) (represents.cuboids k d within);
     }
 
 -- its dimensions are those with the rows

@@ -4,7 +4,7 @@ use Rattle.cube_model.specs.declared.attr.Axis.{Axis}
 use Rattle.cube_model.specs.declared.attr.Axis.TheVariants.{Customer, Supplier, Part, Date}
 use Rattle.cube_model.specs.declared.rows.DimRows.{DimRows}
 use Rattle.dimensions.specs.Added.{joined}
-use Rattle.warehouse_objects.specs.Stands.{dimension_of}
+use Rattle.warehouse_objects.specs.Represents.{dimension_of}
 use Rattle.warehouse_objects.specs.Warehouse.{Warehouse}
 
 -- a warehouse with rows added to its dimensions

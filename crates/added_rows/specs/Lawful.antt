@@ -6,10 +6,10 @@ use Rattle.cube_model.specs.declared.rows.LineOrder.{LineOrder}
 use Rattle.cube_model.specs.Admission.{HaveKnownKeys, IsAdmissible}
 use Rattle.cube_model.specs.Answers.{answer, answer_as_of}
 use Rattle.cuboid_cells.specs.Cells.{PlainCells}
-use Rattle.cuboid_upkeep.specs.Grouping.{StandFor}
+use Rattle.cuboid_upkeep.specs.Grouping.{RepresentRows}
 use Rattle.object_store.specs.Commit.{committed}
 use Rattle.object_store.specs.Content.{Content}
-use Rattle.warehouse_objects.specs.Stands.{Stands, root_of}
+use Rattle.warehouse_objects.specs.Represents.{Represents, root_of}
 use Rattle.warehouse_objects.specs.Warehouse.{AreInOrder, AreStorable, Warehouse}
 use Rattle.warehouse_root.specs.Layouts.{number_of}
 use Rattle.warehouse_root.specs.Limits.{most_additions}
@@ -35,9 +35,9 @@ AdmissionsStay = (rows more : DimRows) (batches : List (List LineOrder)) (number
 -- cells represent the same fact rows
 abbrev pub CellsStay : Type 0
 CellsStay = (rows more : DimRows) (modes : List (List ℕ)) (facts : List LineOrder) (plain : PlainCells)
-    → StandFor rows modes facts plain → StandFor (joined rows more) modes facts plain
+    → RepresentRows rows modes facts plain → RepresentRows (joined rows more) modes facts plain
 
 -- a commit of the dimensions with new rows and of the root with one addition more makes a content that represents the warehouse with them
-abbrev pub WideningStands : Type 0
-WideningStands = (c : Content) (w : Warehouse) (more : DimRows) → Stands c w → AreStorable (joined w.rows more) → w.additions < most_additions
-    → Stands (committed (widening_puts w.rows more) [] (roots.root_of (root_of (widened w more))) (number_of w.layout) c) (widened w more)
+abbrev pub WideningRepresents : Type 0
+WideningRepresents = (c : Content) (w : Warehouse) (more : DimRows) → Represents c w → AreStorable (joined w.rows more) → w.additions < most_additions
+    → Represents (committed (widening_puts w.rows more) [] (roots.root_of (root_of (widened w more))) (number_of w.layout) c) (widened w more)

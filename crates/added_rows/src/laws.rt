@@ -1,5 +1,5 @@
 //! Laws of added dimension rows: each function proves the statement that its contract names, and does nothing.
-ghost use Rattle.added_rows.specs.Lawful.{AdmissionsStay, AnswersAsOfStay, AnswersStay, CellsStay, WideningStands};
+ghost use Rattle.added_rows.specs.Lawful.{AdmissionsStay, AnswersAsOfStay, AnswersStay, CellsStay, WideningRepresents};
 
 /// A query over fact rows whose keys are known has the same answer after rows are added to dimensions.
 pub fn answers_stay()
@@ -23,6 +23,6 @@ pub fn cells_stay()
 
 /// A commit of the dimensions that have new rows, with a root that counts the addition, makes a content that represents the warehouse
 /// with these rows.
-pub fn widening_stands()
-    ensures { WideningStands }
+pub fn widening_represents()
+    ensures { WideningRepresents }
 {}

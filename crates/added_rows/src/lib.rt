@@ -5,4 +5,6 @@ mod comparing;
 mod laws;
 
 pub use comparing::has_rows;
-pub use laws::{admissions_stay, answers_as_of_stay, answers_stay, cells_stay, widening_stands};
+pub use laws::{
+    admissions_stay, answers_as_of_stay, answers_stay, cells_stay, widening_represents,
+};

@@ -1,5 +1,6 @@
 mod Bytes
 pub mod CallerLemmas
+mod Finishable
 mod Fits
 mod MergeLaws
 mod Places

@@ -149,7 +149,7 @@ list_any-flat_map p f [] = refl
 list_any-flat_map p f (x ∷ xs) = list_any-append p (f x) (flat_map f xs) ∙ ap (λ b. list_any p (f x) || b) (list_any-flat_map p f xs)
 
 -- a test that no item passes leaves none, and one that some item passes leaves some
-abbrev has_some : {X : Type 0} → List X → Bool
+abbrev pub has_some : {X : Type 0} → List X → Bool
 has_some [] = false
 has_some (x ∷ xs) = true
 
@@ -166,7 +166,7 @@ module _ (query : Query) (dimensions : DimRows) where
   of_key key rows = rows_of_key dimensions query key rows
 
   -- a key that is among those of rows has some row, and no other key has one
-  has_rows : (key : List Member) (rows : List LineOrder) → list_any (same_key key) (keys_among dimensions query rows) ≡ has_some (of_key key rows)
+  pub has_rows : (key : List Member) (rows : List LineOrder) → list_any (same_key key) (keys_among dimensions query rows) ≡ has_some (of_key key rows)
   has_rows key rows =
       list_any-ascending key_cmp key_cmp_total key_cmp-IsAntisymmetric key (flat_map (keys_of dimensions query) rows)
       ∙ list_any-flat_map (same_key key) (keys_of dimensions query) rows

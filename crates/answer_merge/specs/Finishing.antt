@@ -1,6 +1,7 @@
--- Why merged lines are not finished. Our own.
+-- Why merged lines are not finished, and when they are. Our own.
 use Rattle.std.specs.Prelude.{◌≡◌, ◌⊎◌, ◌≤ℤ◌, pos, List, [], ◌∷◌}
-use Rattle.std.specs.List.{Any}
+use Rattle.std.specs.List.{AllByRecursion, Any}
+use Rattle.cube_model.specs.declared.answer.Answer.{Answer}
 use Rattle.cube_model.specs.declared.answer.Line.{Line}
 use Rattle.cube_model.specs.declared.answer.Value.{Value}
 use Rattle.cube_model.specs.declared.fault.Fault.{Fault}
@@ -29,3 +30,12 @@ LineRefuses aggs fault line = ((fault ≡ BadLayout) × CountsNoRow line.values)
 -- memory ran out, or one of the lines is such a line
 abbrev pub FinishRefuses : List Agg → List Line → Fault → Type 0
 FinishRefuses aggs lines fault = (fault ≡ Memory) ⊎ Any (LineRefuses aggs fault) lines
+
+-- a line counts a row at least
+abbrev pub CountsRows : List Value → Type 0
+CountsRows [] = Unit {0}
+CountsRows (count ∷ kept) = pos 1 ≤ℤ value_number count
+
+-- each line of an answer does, and its numbers have 64 bits
+abbrev pub CanBeFinished : Answer → Type 0
+CanBeFinished partial = AllByRecursion (λ line. CountsRows line.values × AllByRecursion IsWholeNumber line.values) partial.lines

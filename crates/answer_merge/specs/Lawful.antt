@@ -15,6 +15,7 @@ use Rattle.cube_model.specs.Ascending.{IsAscending}
 use Rattle.cube_model.specs.Lawful.{KeepAllRules}
 use Rattle.cube_model.specs.Orders.{answer_cmp}
 use Rattle.cube_model.specs.Proper.{is_average}
+use Rattle.answer_merge.specs.Finishing.{CanBeFinished}
 use Rattle.answer_merge.specs.Merges.{line_of_key, merged_answer, merged_all, merged_line_if_any, merged_lines}
 use Rattle.answer_merge.specs.Parts.{partial_query, finished}
 use Rattle.answer_merge.specs.Plain.{HaveUnbrokenTexts}
@@ -82,6 +83,11 @@ abbrev pub MergedNumbersFit : Type 0
 MergedNumbersFit = (query : Query) (dimensions : DimRows) (parts : List (List LineOrder))
     → AreInRange (all_rows parts) → length (all_rows parts) < 2 ^ 63
     → AllByRecursion (λ line. AllByRecursion IsWholeNumber line.values) (merged_all (partial_query query) (map (answer (partial_query query) dimensions) parts)).lines
+
+-- and where they are, the partial answer over these rows can be finished
+abbrev pub PartialAnswersCanBeFinished : Type 0
+PartialAnswersCanBeFinished = (query : Query) (dimensions : DimRows) (rows : List LineOrder)
+    → AreInRange rows → length rows < 2 ^ 63 → CanBeFinished (answer (partial_query query) dimensions rows)
 
 -- answers merge in any grouping
 abbrev pub MergingIsAssociative : Type 0

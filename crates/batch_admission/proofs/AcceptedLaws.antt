@@ -13,7 +13,7 @@ use Rattle.cube_model.specs.declared.rows.LineOrder.{LineOrder}
 use Rattle.cube_model.specs.Admission.{all_rows, long_text, refusal, unknown_key}
 use Rattle.cube_model.specs.Causes.{first_cause, cause_if}
 use Rattle.cube_model.specs.Limits.{most_batch_rows, most_batches}
-use Rattle.batch_admission.specs.Accepted.{Accepted, Admits, CanFollow, StandsBehind, number_cause}
+use Rattle.batch_admission.specs.Accepted.{Accepted, Admits, CanFollow, HasAccepted, number_cause}
 use Rattle.batch_admission.specs.Found.{Found, cause_of, found_in}
 use Rattle.batch_admission.specs.Totals.{plus_rows, totals_of, totals_cause, size_of}
 
@@ -32,8 +32,8 @@ pub all_rows-last : (batches : List (List LineOrder)) (rows : List LineOrder) �
 all_rows-last batches rows = flat_map-append (λ batch. batch) batches (rows ∷ []) ∙ ap (λ more. all_rows batches ++ more) (append-nil rows)
 
 -- the totals with those of further rows
-pub plus_rows-all : (accepted : Accepted) (batches : List (List LineOrder)) (rows : List LineOrder) → StandsBehind accepted batches → plus_rows accepted.totals rows ≡ totals_of (all_rows batches ++ rows)
-plus_rows-all accepted batches rows stands = ap (λ totals. plus_rows totals rows) stands.totals ∙ totals_of-append (all_rows batches) rows
+pub plus_rows-all : (accepted : Accepted) (batches : List (List LineOrder)) (rows : List LineOrder) → HasAccepted accepted batches → plus_rows accepted.totals rows ≡ totals_of (all_rows batches ++ rows)
+plus_rows-all accepted batches rows represents = ap (λ totals. plus_rows totals rows) represents.totals ∙ totals_of-append (all_rows batches) rows
 
 -- the first of seven causes, in three groups
 in_groups : (a b c d e f g : Option Fault) → first_cause (a ∷ b ∷ c ∷ d ∷ e ∷ f ∷ g ∷ []) ≡ first_cause (first_cause (a ∷ b ∷ c ∷ []) ∷ d ∷ first_cause (e ∷ f ∷ g ∷ []) ∷ [])
@@ -53,22 +53,22 @@ in_parts dimensions accepted number rows = first_cause (
     ∷ cause_if (nat_lt most_batch_rows (length rows)) TooManyRows
     ∷ cause_of (found_in dimensions accepted.totals rows) ∷ [])
 
-refusal-in_parts : (dimensions : DimRows) (accepted : Accepted) (batches : List (List LineOrder)) (number : ℕ) (rows : List LineOrder) → StandsBehind accepted batches → in_parts dimensions accepted number rows ≡ refusal dimensions batches number rows
-refusal-in_parts dimensions accepted batches number rows stands =
-    let sums = plus_rows-all accepted batches rows stands in
+refusal-in_parts : (dimensions : DimRows) (accepted : Accepted) (batches : List (List LineOrder)) (number : ℕ) (rows : List LineOrder) → HasAccepted accepted batches → in_parts dimensions accepted number rows ≡ refusal dimensions batches number rows
+refusal-in_parts dimensions accepted batches number rows represents =
+    let sums = plus_rows-all accepted batches rows represents in
     sym (in_groups (cause_if (nat_le number accepted.count) Repeated) (cause_if (nat_lt (accepted.count + 1) number) Gap) (cause_if (nat_le most_batches accepted.count) TooManyBatches)
     (cause_if (nat_lt most_batch_rows (length rows)) TooManyRows) (long_text 1 rows) (unknown_key dimensions 1 rows) (totals_cause (plus_rows accepted.totals rows)))
     ∙ ap (λ totals. first_cause (cause_if (nat_le number accepted.count) Repeated ∷ cause_if (nat_lt (accepted.count + 1) number) Gap ∷ cause_if (nat_le most_batches accepted.count) TooManyBatches
     ∷ cause_if (nat_lt most_batch_rows (length rows)) TooManyRows ∷ long_text 1 rows ∷ unknown_key dimensions 1 rows ∷ totals_cause totals ∷ [])) sums
     ∙ ap (λ count. first_cause (cause_if (nat_le number count) Repeated ∷ cause_if (nat_lt (count + 1) number) Gap ∷ cause_if (nat_le most_batches count) TooManyBatches
-    ∷ cause_if (nat_lt most_batch_rows (length rows)) TooManyRows ∷ long_text 1 rows ∷ unknown_key dimensions 1 rows ∷ totals_cause (totals_of (all_rows batches ++ rows)) ∷ [])) stands.count
+    ∷ cause_if (nat_lt most_batch_rows (length rows)) TooManyRows ∷ long_text 1 rows ∷ unknown_key dimensions 1 rows ∷ totals_cause (totals_of (all_rows batches ++ rows)) ∷ [])) represents.count
 
-module _ (dimensions : DimRows) (old : Accepted) (number : ℕ) (rows : List LineOrder) (batches : List (List LineOrder)) (stands : StandsBehind old batches) where
+module _ (dimensions : DimRows) (old : Accepted) (number : ℕ) (rows : List LineOrder) (batches : List (List LineOrder)) (represents : HasAccepted old batches) where
   -- a batch whose number is refused
   pub Admits-numbered : (fault : Fault) → Some fault ≡ number_cause old.count number → Admits dimensions old old number rows (Some fault) batches
   Admits-numbered fault refused = record {
     cause = ap (λ first. first_cause (first ∷ cause_if (nat_lt most_batch_rows (length rows)) TooManyRows ∷ cause_of (found_in dimensions old.totals rows) ∷ [])) refused
-        ∙ refusal-in_parts dimensions old batches number rows stands;
+        ∙ refusal-in_parts dimensions old batches number rows represents;
     taken = refl;
   }
 
@@ -77,7 +77,7 @@ module _ (dimensions : DimRows) (old : Accepted) (number : ℕ) (rows : List Lin
   Admits-long next long = record {
     cause = ap (λ first. first_cause (first ∷ cause_if true TooManyRows ∷ cause_of (found_in dimensions old.totals rows) ∷ [])) next
         ∙ ap (λ test. first_cause (number_cause old.count number ∷ cause_if test TooManyRows ∷ cause_of (found_in dimensions old.totals rows) ∷ [])) (sym long)
-        ∙ refusal-in_parts dimensions old batches number rows stands;
+        ∙ refusal-in_parts dimensions old batches number rows represents;
     taken = refl;
   }
 
@@ -87,7 +87,7 @@ module _ (dimensions : DimRows) (old : Accepted) (number : ℕ) (rows : List Lin
       alone (cause_of (found_in dimensions old.totals rows))
       ∙ ap (λ first. first_cause (first ∷ None ∷ cause_of (found_in dimensions old.totals rows) ∷ [])) next
       ∙ ap (λ test. first_cause (number_cause old.count number ∷ cause_if test TooManyRows ∷ cause_of (found_in dimensions old.totals rows) ∷ [])) (sym few)
-      ∙ refusal-in_parts dimensions old batches number rows stands where
+      ∙ refusal-in_parts dimensions old batches number rows represents where
         alone : (cause : Option Fault) → cause ≡ first_cause (None ∷ None ∷ cause ∷ [])
         alone None = refl
         alone (Some cause) = refl
@@ -99,8 +99,8 @@ module _ (dimensions : DimRows) (old : Accepted) (number : ℕ) (rows : List Lin
   Admits-found new found (Ok done) next is few was cause ok err = record {
     cause = cause ∙ ap cause_of was ∙ found_decides next few;
     taken = record {
-      count = ap (λ accepted. accepted.count) ok ∙ is ∙ ap (λ n. n + 1) stands.count ∙ sym (length_push batches rows);
-      totals = ap (λ accepted. accepted.totals) ok ∙ ap (λ some. some.totals) was ∙ ap (λ earlier. plus_rows earlier rows) stands.totals
+      count = ap (λ accepted. accepted.count) ok ∙ is ∙ ap (λ n. n + 1) represents.count ∙ sym (length_push batches rows);
+      totals = ap (λ accepted. accepted.totals) ok ∙ ap (λ some. some.totals) was ∙ ap (λ earlier. plus_rows earlier rows) represents.totals
           ∙ totals_of-append (all_rows batches) rows ∙ ap totals_of (sym (all_rows-last batches rows));
     };
   }

@@ -16,7 +16,7 @@ pub record Accepted : Type 0 where
   pub totals : Totals
 
 -- it comes after accepted batches: it has their number, and the totals of their rows
-pub record StandsBehind (accepted : Accepted) (batches : List (List LineOrder)) : Type 0 where
+pub record HasAccepted (accepted : Accepted) (batches : List (List LineOrder)) : Type 0 where
   pub count : accepted.count ≡ length batches
   pub totals : accepted.totals ≡ totals_of (all_rows batches)
 
@@ -39,4 +39,4 @@ pub record CanFollow (count number : ℕ) (rows : List LineOrder) : Type 0 where
 pub record Admits (dimensions : DimRows) (old new : Accepted) (number : ℕ) (rows : List LineOrder) (answer : Option Fault)
     (batches : List (List LineOrder)) : Type 0 where
   pub cause : answer ≡ refusal dimensions batches number rows
-  pub taken : MatchOption answer (StandsBehind new (batches ++ rows ∷ [])) (λ fault. new ≡ old)
+  pub taken : MatchOption answer (HasAccepted new (batches ++ rows ∷ [])) (λ fault. new ≡ old)

@@ -4,7 +4,7 @@ ghost use Rattle.std.specs.Result.{result_err};
 ghost use Rattle.cube_model.specs.declared.rows.DimRows.{DimRows};
 ghost use Rattle.cube_model.specs.declared.rows.LineOrder.{LineOrder};
 ghost use Rattle.cube_model.specs.Limits.{most_batch_rows, most_batches};
-ghost use Rattle.batch_admission.specs.Accepted.{Admits, CanFollow, StandsBehind, number_cause};
+ghost use Rattle.batch_admission.specs.Accepted.{Admits, CanFollow, HasAccepted, number_cause};
 ghost use Rattle.batch_admission.specs.Found.{cause_of, found_in};
 ghost use Rattle.batch_admission.specs.Totals.{AreBelow, sum_limit};
 
@@ -38,7 +38,7 @@ impl Model for Admission {
 impl Admission {
     /// No batch yet.
     pub fn new() -> Admission
-        ensures { StandsBehind result [] }
+        ensures { HasAccepted result [] }
     {
         Admission {
             count: 0,
@@ -88,7 +88,7 @@ impl Admission {
 
     /// Takes a batch in, or answers the first cause for which it is refused.
     pub fn admit(&mut self, dims: &Dims, number: u32, rows: &[LineOrder]) -> Result<(), Fault>
-        ensures admits { (batches : List (List LineOrder)) → StandsBehind self.old batches
+        ensures admits { (batches : List (List LineOrder)) → HasAccepted self.old batches
             → Admits dims.now self.old self.new number rows.now (result_err result) batches }
         ensures follows { OnOk result (CanFollow self.old.count number rows.now) }
     {
@@ -112,7 +112,7 @@ impl Admission {
     /// Takes a batch in by what was found in its rows, or answers the first cause for which it is refused.
     pub fn admit_found(&mut self, number: u32, found: &Findings) -> Result<(), Fault>
         ensures admits { (dimensions : DimRows) (batches : List (List LineOrder)) (rows : List LineOrder)
-            → StandsBehind self.old batches → found.now ≡ found_in dimensions self.old.totals rows
+            → HasAccepted self.old batches → found.now ≡ found_in dimensions self.old.totals rows
             → Admits dimensions self.old self.new number rows (result_err result) batches }
         ensures follows { OnOk result ((dimensions : DimRows) (rows : List LineOrder)
             → found.now ≡ found_in dimensions self.old.totals rows → CanFollow self.old.count number rows) }

@@ -8,28 +8,28 @@ use Rattle.lattice.specs.declared.view.View.{View}
 use Rattle.lattice.specs.Views.{index_of}
 use Rattle.cuboid_cells.specs.Cells.{PlainCells}
 use Rattle.cuboid_upkeep.specs.Steps.{AreUnfit, HaveTooMany, IsAddFault}
-use Rattle.batch_cells.specs.Grouped.{IsAddFaultOf, StandForSome}
+use Rattle.batch_cells.specs.Grouped.{IsAddFaultOf, RepresentSomeRows}
 
 module _ (dimensions : DimRows) (cells : PlainCells) (rows : List LineOrder) where
   -- a read was refused, where the object is there
   pub read_refused : (fault : Fault) → (fault ≡ Memory) ⊎ ((fault ≡ Device) ⊎ (fault ≡ BadLayout)) → (fault ≡ Device → ⊥) → (fault ≡ BadLayout → ⊥) → IsAddFaultOf dimensions cells rows fault
-  read_refused fault causes other there so_far stand =
+  read_refused fault causes other there so_far represent =
       ⊎_elim (λ (memory : fault ≡ Memory). inl memory)
       (λ (two : (fault ≡ Device) ⊎ (fault ≡ BadLayout)). absurd (⊎_elim (λ (device : fault ≡ Device). other device) (λ (bad : fault ≡ BadLayout). there bad) two)) causes
 
   -- bytes were refused, where they are those of a batch
   pub decode_refused : {P : Type 0} (fault : Fault) → (fault ≡ Memory) ⊎ ((fault ≡ BadLayout) × P) → (P → ⊥) → IsAddFaultOf dimensions cells rows fault
-  decode_refused {P} fault causes not so_far stand =
+  decode_refused {P} fault causes not so_far represent =
       ⊎_elim (λ (memory : fault ≡ Memory). inl memory) (λ (bad : (fault ≡ BadLayout) × P). absurd (not bad.1)) causes
 
-  pub add_causes : (fault : Fault) → StandForSome dimensions cells → IsAddFaultOf dimensions cells rows fault
+  pub add_causes : (fault : Fault) → RepresentSomeRows dimensions cells → IsAddFaultOf dimensions cells rows fault
       → (fault ≡ Memory) ⊎ ((fault ≡ Device) ⊎ ((fault ≡ BadLayout) ⊎ (fault ≡ TooManyCells (index_of cells.view))))
   add_causes fault some why =
       ⊎_elim (λ (memory : fault ≡ Memory). inl memory)
       (⊎_elim (λ bad. inr (inr (inl bad.0))) (λ many. inr (inr (inr many.0))))
       (why some.0 some.1)
 
-  pub never_device_here : StandForSome dimensions cells → IsAddFaultOf dimensions cells rows Device → ⊥
+  pub never_device_here : RepresentSomeRows dimensions cells → IsAddFaultOf dimensions cells rows Device → ⊥
   never_device_here some why =
       ⊎_elim (λ (memory : Device ≡ Memory). absurd cc)
       (⊎_elim (λ bad. let no_fault : Device ≡ BadLayout = bad.0 in absurd cc) (λ many. let no_fault : Device ≡ TooManyCells (index_of cells.view) = many.0 in absurd cc))

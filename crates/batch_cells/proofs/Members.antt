@@ -6,7 +6,7 @@ use Rattle.cube_model.specs.declared.rows.LineOrder.{LineOrder}
 use Rattle.group_plan.specs.Numbers.{IsKnown}
 use Rattle.lattice.specs.declared.view.View.{View}
 use Rattle.cuboid_cells.specs.Cells.{PlainCells}
-use Rattle.cuboid_upkeep.specs.Grouping.{HasMembers, PassType, StandFor}
+use Rattle.cuboid_upkeep.specs.Grouping.{HasMembers, PassType, RepresentRows}
 use Rattle.cuboid_upkeep.specs.Lawful.{MoreRowsHaveNoFewerCells, RowsHaveCells, RowsInRangeFit}
 use Rattle.cuboid_upkeep.specs.Steps.{AreUnfit, HaveTooMany}
 use Rattle.cube_query.proofs.Known.{known_behind}
@@ -15,9 +15,9 @@ use Rattle.warehouse_objects.proofs.Batches.{foldable}
 use Rattle.batch_cells.proofs.Spans.{begins_with, between, ends_with, one_more}
 
 -- no cells represent no rows
-pub none_stand : (dimensions : DimRows) (view : View) (cells : PlainCells) → cells ≡ record { view = view; cells = [] } → StandFor dimensions [] [] cells
-none_stand dimensions view cells empty =
-    subst (λ (plain : PlainCells). StandFor dimensions [] [] plain) (sym empty) (record {
+pub none_represent : (dimensions : DimRows) (view : View) (cells : PlainCells) → cells ≡ record { view = view; cells = [] } → RepresentRows dimensions [] [] cells
+none_represent dimensions view cells empty =
+    subst (λ (plain : PlainCells). RepresentRows dimensions [] [] plain) (sym empty) (record {
       known = λ k row lt. absurd (omega (arith, lt));
       ascending = λ i j cell before lt. absurd (omega (arith, lt));
       group = λ number. refl;
@@ -48,8 +48,8 @@ pub too_many : RowsHaveCells → MoreRowsHaveNoFewerCells → (dimensions : DimR
 too_many have more dimensions view rows part rest parts members many =
     let all = have dimensions [] view rows members in
     let no_fewer : length many.cells ≤ length all.0 =
-    more dimensions [] view [] part rest many.cells all.0 many.stand (subst (λ (l : List LineOrder). StandFor dimensions [] l (record { view = view; cells = all.0 })) parts all.1) in
-    record { cells = all.0; stand = all.1; many = omega (arith, many.many, no_fewer) }
+    more dimensions [] view [] part rest many.cells all.0 many.represent (subst (λ (l : List LineOrder). RepresentRows dimensions [] l (record { view = view; cells = all.0 })) parts all.1) in
+    record { cells = all.0; represent = all.1; many = omega (arith, many.many, no_fewer) }
 
 module _ (rows : DimRows) (batches : List (List LineOrder)) (order : AreInOrder rows batches) (view : View) (no_modes : view.ship_mode ≡ false) (from to : ℕ) (within : to ≤ length batches) where
   abbrev front : List LineOrder

@@ -5,18 +5,18 @@ use Rattle.cube_model.specs.declared.rows.DimRows.{DimRows}
 use Rattle.cube_model.specs.declared.rows.LineOrder.{LineOrder}
 use Rattle.object_store.specs.Content.{Content}
 use Rattle.cuboid_cells.specs.Cells.{PlainCells}
-use Rattle.cuboid_upkeep.specs.Grouping.{StandFor}
+use Rattle.cuboid_upkeep.specs.Grouping.{RepresentRows}
 use Rattle.cuboid_upkeep.specs.Steps.{IsAddFault}
-use Rattle.warehouse_objects.specs.Stands.{IsLaidOut}
+use Rattle.warehouse_objects.specs.Represents.{IsLaidOut}
 use Rattle.warehouse_objects.specs.Warehouse.{Warehouse}
 
 -- cells represent some fact rows
-abbrev pub StandForSome : DimRows → PlainCells → Type 0
-StandForSome dimensions cells = (rows : List LineOrder) × StandFor dimensions [] rows cells
+abbrev pub RepresentSomeRows : DimRows → PlainCells → Type 0
+RepresentSomeRows dimensions cells = (rows : List LineOrder) × RepresentRows dimensions [] rows cells
 
 -- Fact rows were grouped into cells: whatever rows these represented, they represent them and for these after them.
 pub record GroupsMore (dimensions : DimRows) (old : PlainCells) (rows : List LineOrder) (new : PlainCells) : Type 0 where
-  pub stand : (so_far : List LineOrder) → StandFor dimensions [] so_far old → StandFor dimensions [] (so_far ++ rows) new
+  pub represent : (so_far : List LineOrder) → RepresentRows dimensions [] so_far old → RepresentRows dimensions [] (so_far ++ rows) new
 
 -- Fact rows were grouped into cells. Where the device keeps its word and the content is that of a warehouse, whatever the
 -- cells of its cuboids are, they are those of the batch after so many others.
@@ -27,5 +27,5 @@ pub record GroupsBatch (dimensions : DimRows) (old new : PlainCells) (before : �
 
 -- why fact rows are not grouped into cells, whatever rows these represent
 abbrev pub IsAddFaultOf : DimRows → PlainCells → List LineOrder → Fault → Type 0
-IsAddFaultOf dimensions old rows fault = (so_far : List LineOrder) → StandFor dimensions [] so_far old
+IsAddFaultOf dimensions old rows fault = (so_far : List LineOrder) → RepresentRows dimensions [] so_far old
     → IsAddFault dimensions [] old.view (so_far ++ rows) fault

@@ -6,12 +6,12 @@ ghost use Rattle.cube_model.specs.Limits.{most_batch_rows, most_batches};
 ghost use Rattle.object_store.specs.Disk.{Leaves};
 ghost use Rattle.object_store.specs.Store.{Breaks, IsStill, content_of, device_of, disk_of, has_failed};
 ghost use Rattle.lattice.specs.Views.{index_of};
-ghost use Rattle.cuboid_upkeep.specs.Grouping.{StandFor};
+ghost use Rattle.cuboid_upkeep.specs.Grouping.{RepresentRows};
 ghost use Rattle.cuboid_upkeep.specs.Steps.{HaveTooMany};
 ghost use Rattle.warehouse_objects.specs.Warehouse.{Warehouse, modes_of};
-ghost use Rattle.warehouse_objects.specs.Stands.{IsLaidOut, root_of, rows_in};
+ghost use Rattle.warehouse_objects.specs.Represents.{IsLaidOut, root_of, rows_in};
 ghost use Rattle.cuboid_upkeep.specs.Growing.{GrowOver, grown};
-ghost use Rattle.batch_cells.specs.Grouped.{GroupsBatch, GroupsMore, IsAddFaultOf, StandForSome};
+ghost use Rattle.batch_cells.specs.Grouped.{GroupsBatch, GroupsMore, IsAddFaultOf, RepresentSomeRows};
 
 use column_segment::Segment;
 use cube_model::Fault;
@@ -47,7 +47,7 @@ pub fn cells_of_batches<D: Sectors>(
 
     // Then they represent the rows of these batches, whatever the stored cuboids hold.
     ensures ok { IfOk result (λ cells. D.keeps_word (device_of store.new) → (w : Warehouse) → IsLaidOut (content_of D.Sectors store.old) w
-        → dims.now ≡ w.rows → StandFor w.rows (modes_of w) (rows_in w.batches span) cells) }
+        → dims.now ≡ w.rows → RepresentRows w.rows (modes_of w) (rows_in w.batches span) cells) }
     ensures view { IfOk result (λ cells. cells.view ≡ view) }
     ensures large { IsErrOf result (TooManyCells (index_of view)) → D.keeps_word (device_of store.new) → (w : Warehouse)
         → IsLaidOut (content_of D.Sectors store.old) w → root.now ≡ root_of w → dims.now ≡ w.rows → view.ship_mode ≡ false
@@ -86,7 +86,7 @@ fn add_batch<D: Sectors>(
 ) -> Result<(), Fault>
     requires fine { has_failed store.old ≡ false }
     requires few { before < most_batches }
-    requires some { StandForSome dims.now (grown cells.old) }
+    requires some { RepresentSomeRows dims.now (grown cells.old) }
     requires over { GrowOver dims.now cells.old }
     ensures ok { OnOk result (GroupsBatch dims.now (grown cells.old) (grown cells.new) before (D.keeps_word (device_of store.new)) (content_of D.Sectors store.old)) }
     ensures over { OnOk result (GrowOver dims.now cells.new) }

@@ -9,7 +9,7 @@ use Rattle.object_store.specs.Content.{Content, bytes_of}
 use Rattle.column_segment.specs.Projected.{HoldsNoneOf}
 use Rattle.column_segment.specs.Segment.{IsSegment}
 use Rattle.warehouse_root.specs.Root.{PlainRoot}
-use Rattle.warehouse_objects.specs.Stands.{Stands, root_of}
+use Rattle.warehouse_objects.specs.Represents.{Represents, root_of}
 use Rattle.warehouse_objects.specs.Warehouse.{Warehouse}
 use Rattle.warehouse_objects.proofs.Batches.{some_one}
 use Rattle.warehouse_objects.proofs.Folded.{found_at, none_there}
@@ -36,17 +36,17 @@ module _ (w : Warehouse) (root : PlainRoot) (rooted : root ≡ root_of w) (befor
       by None e = let both : Some count ≡ None = sym is ∙ said ∙ ap (option_map length) e in absurd cc
       by (Some batch) e = (batch, e, some_one (length batch) count (sym (ap (option_map length) e) ∙ sym said ∙ is))
 
-module _ (c : Content) (w : Warehouse) (stands : Stands c w) (before : ℕ) (low : before < 65535) where
+module _ (c : Content) (w : Warehouse) (represents : Represents c w) (before : ℕ) (low : before < 65535) where
   -- the rows of its object are those of the batch
   pub rows_are : (rows : List LineOrder) → HoldsBatch c (65536 + (before + 1)) (before + 1) rows → Some rows ≡ slice_get w.batches before
-  rows_are rows held = sym (found_at c w stands before (before + 1) (65536 + (before + 1)) refl refl low held.bytes rows held.there held.segment)
+  rows_are rows held = sym (found_at c w represents before (before + 1) (65536 + (before + 1)) refl refl low held.bytes rows held.there held.segment)
 
   -- the object of a batch is not that of none
   pub never_none : (root : PlainRoot) → root ≡ root_of w → (count : ℕ) → slice_get root.batches before ≡ Some count
       → HoldsNoneOf (bytes_of c (65536 + (before + 1))) (before + 1) count → ⊥
   never_none root rooted count is none =
       let got = count_said w root rooted before count is in
-      none_there c w stands before (before + 1) (65536 + (before + 1)) refl refl low got.0 got.1 (subst (HoldsNoneOf (bytes_of c (65536 + (before + 1))) (before + 1)) (sym got.2) none)
+      none_there c w represents before (before + 1) (65536 + (before + 1)) refl refl low got.0 got.1 (subst (HoldsNoneOf (bytes_of c (65536 + (before + 1))) (before + 1)) (sym got.2) none)
 
 -- no object is that of no batch
 pub missing : (text : Option (List ℕ)) (number count : ℕ) → text ≡ None → HoldsNoneOf text number count

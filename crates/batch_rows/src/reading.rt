@@ -8,7 +8,7 @@ ghost use Rattle.object_store.specs.Store.{Breaks, IsStill, content_of, device_o
 ghost use Rattle.column_segment.specs.Projected.{HoldsNoneOf};
 ghost use Rattle.warehouse_root.specs.Objects.{segment_id};
 ghost use Rattle.warehouse_objects.specs.Warehouse.{Warehouse};
-ghost use Rattle.warehouse_objects.specs.Stands.{Stands, root_of};
+ghost use Rattle.warehouse_objects.specs.Represents.{Represents, root_of};
 ghost use Rattle.batch_rows.specs.Stored.{HoldsBatch};
 
 use column_segment::Segment;
@@ -33,9 +33,9 @@ pub fn read_rows<D: Sectors>(
     requires fine { has_failed store.old ≡ false }
 
     // The rows are those of that batch of the warehouse, and there are none exactly where it has no such batch.
-    ensures rows { IfOk result (λ found. D.keeps_word (device_of store.new) → (w : Warehouse) → Stands (content_of D.Sectors store.old) w
+    ensures rows { IfOk result (λ found. D.keeps_word (device_of store.new) → (w : Warehouse) → Represents (content_of D.Sectors store.old) w
         → root.now ≡ root_of w → found ≡ slice_get w.batches before) }
-    ensures refused { IsErrOf result BadLayout → D.keeps_word (device_of store.new) → (w : Warehouse) → Stands (content_of D.Sectors store.old) w
+    ensures refused { IsErrOf result BadLayout → D.keeps_word (device_of store.new) → (w : Warehouse) → Represents (content_of D.Sectors store.old) w
         → root.now ≡ root_of w → ⊥ }
 
     // The content stays, at each moment.

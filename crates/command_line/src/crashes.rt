@@ -7,7 +7,7 @@ use self_test::test_crashes;
 use ssb_eval::exit_of;
 use std::rt::Clock;
 
-/// For how many seconds there are random stops, if the command does not say.
+/// For how many seconds there are random crashes, if the command does not say.
 const SECONDS: u32 = 10;
 
 /// Tests the program by crashes of a warehouse on a disk in memory, and gives the status of the program: 0 where nothing is wrong, else 1.

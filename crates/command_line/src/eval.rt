@@ -1,7 +1,7 @@
 //! The command `eval`.
 use crate::exit::DONE;
 use crate::files::{DimensionFiles, open, open_dimensions};
-use crate::notes::note_conditions;
+use crate::notes::note_report;
 use crate::output::{cut_short, output};
 use crate::progress::{Progress, Tally, Wanted};
 use crate::refusal::{Met, Refusal, explained};
@@ -85,7 +85,7 @@ fn print_report<R: Files + AllocGlobal + Print + Eprint, F: Read + Drop, L: Read
     let mut out = output(rt)?;
     match report(rt.alloc(), asked, dimensions, lineorder, &mut out) {
         Ok(dims) => {
-            note_conditions(rt, given, &dims);
+            note_report(rt, given, asked, &dims);
             Ok(DONE)
         }
         Err(fault) => not_done(rt, given, fault, out.failure()),
@@ -109,7 +109,7 @@ fn save_report<R: Files + AllocGlobal + Eprint, F: Read + Drop, L: Read + Drop>(
     match done {
         Ok(dims) => {
             let status = finish(rt, path, part.as_str())?;
-            note_conditions(rt, given, &dims);
+            note_report(rt, given, asked, &dims);
             Ok(status)
         }
         Err(fault) => {

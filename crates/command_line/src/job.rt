@@ -2,7 +2,7 @@
 use crate::device::{self, Access, Device};
 use crate::exit::{DONE, NO_COMMAND, UNFINISHED};
 use crate::load::cut_of;
-use crate::notes::note_conditions;
+use crate::notes::note_report;
 use crate::output::{Output, cut_short, is_closed, output, unwritten};
 use crate::plans::say_reads;
 use crate::refusal::{Met, Refusal, explained};
@@ -86,11 +86,9 @@ where
         Some(path) => save_reports(rt, given, session, reports, path)?,
     };
     note_unfinished(rt, given, session);
-    note_conditions(rt, given, session.dims());
-    match reports {
-        Reports::One(asked) => say_reads(rt, given, &asked.query, session),
-        Reports::Part(asked) => say_reads(rt, given, &asked.query, session),
-        Reports::Several(_) => {}
+    note_report(rt, given, reports, session.dims());
+    if let Some(query) = reports.query() {
+        say_reads(rt, given, query, session);
     }
     Ok(status)
 }

@@ -1,18 +1,34 @@
 //! Notes on conditions that select nothing.
-use crate::query::{benchmark_word, query_of};
+use crate::query::benchmark_word;
+use crate::reports::Reports;
 use clap::ArgMatches;
+use cube_model::Query;
 use dimensions::Dims;
 use word_hints::write_notes;
 
-/// Says on standard error what no row of the dimensions can meet of the conditions of a command. It is called once the report is
-/// written; standard output and the status stay as they are, also where standard error takes nothing.
+/// Says on standard error what no row of the dimensions can meet of the conditions of the query of a command. It is called once the
+/// report is written; standard output and the status stay as they are, also where standard error takes nothing.
 ///
 /// Of a query of the benchmark nothing is said: its conditions are not the user's.
-pub fn note_conditions<R: AllocGlobal + Eprint>(rt: &R, given: &ArgMatches<'_>, dims: &Dims) {
-    if benchmark_word(given).is_some() {
-        return;
+pub fn note_conditions<R: AllocGlobal + Eprint>(
+    rt: &R,
+    given: &ArgMatches<'_>,
+    query: &Query,
+    dims: &Dims,
+) {
+    if benchmark_word(given).is_none() {
+        let _said = write_notes(rt, dims, query);
     }
-    if let Ok(query) = query_of(rt.alloc(), given) {
-        let _said = write_notes(rt, dims, &query);
+}
+
+/// The same of the one report that a command asks for. Of several reports nothing is said.
+pub fn note_report<R: AllocGlobal + Eprint>(
+    rt: &R,
+    given: &ArgMatches<'_>,
+    reports: &Reports,
+    dims: &Dims,
+) {
+    if let Some(query) = reports.query() {
+        note_conditions(rt, given, query, dims);
     }
 }

@@ -80,7 +80,7 @@ where
         Some(format) => print_records(rt, given, query, session, format)?,
     };
     note_unfinished(rt, given, session);
-    note_conditions(rt, given, session.dims());
+    note_conditions(rt, given, query, session.dims());
     Ok(status)
 }
 

@@ -30,6 +30,17 @@ pub enum Reports {
     Several(Vec<NamedReport>),
 }
 
+impl Reports {
+    /// The query of the one report that is asked for. Several reports have none.
+    pub fn query(&self) -> Option<&Query> {
+        match self {
+            Reports::One(asked) => Some(&asked.query),
+            Reports::Part(asked) => Some(&asked.query),
+            Reports::Several(_) => None,
+        }
+    }
+}
+
 /// A report, and the line after which it is written.
 #[derive(Drop)]
 pub struct NamedReport {

@@ -30,7 +30,7 @@ use Rattle.column_segment.specs.declared.columns.FactColumn.TheVariants.{Amount,
 use Rattle.column_segment.specs.declared.columns.NumberColumn.TheVariants.{LineNumber, CustKey, PartKey, SuppKey, OrderDate}
 use Rattle.column_segment.specs.Projected.{AgreeOn, value_of}
 use Rattle.cube_query.specs.Asked.{AreSame, SameIn, aggregate_asks, asked_columns, condition_asks, fact_columns, has_keys_of, is_asked, is_made_of}
-use Rattle.cube_query.specs.Groups.{FoldState, StandsFor, Takes, finest, rows_at}
+use Rattle.cube_query.specs.Groups.{FoldState, RepresentsRows, Takes, finest, rows_at}
 use Rattle.cube_query.specs.Tallies.{number_of, tallies_of, tally_of}
 use Rattle.cube_query.proofs.OneRow.{plain_key, rows_at-skip, rows_at-take}
 
@@ -209,20 +209,20 @@ module _ (dimensions : DimRows) (query : Query) where
 
 -- ---- a fold
 
-stands_for_both : (dimensions : DimRows) (fold : FoldState) (rows others : List LineOrder) → AreSame (is_asked fold.query) rows others → StandsFor dimensions fold rows → StandsFor dimensions fold others
-stands_for_both dimensions fold rows others same stands = record {
-  over = stands.over;
-  each = λ number below. stands.each number below ∙ same_tallies dimensions fold.query rows others same _;
-  others = λ key none. same_none dimensions fold.query rows others same key (stands.others key none);
+represents_for_both : (dimensions : DimRows) (fold : FoldState) (rows others : List LineOrder) → AreSame (is_asked fold.query) rows others → RepresentsRows dimensions fold rows → RepresentsRows dimensions fold others
+represents_for_both dimensions fold rows others same represents = record {
+  over = represents.over;
+  each = λ number below. represents.each number below ∙ same_tallies dimensions fold.query rows others same _;
+  others = λ key none. same_none dimensions fold.query rows others same key (represents.others key none);
 }
 
 pub takes_both : (dimensions : DimRows) (old new : FoldState) (rows others : List LineOrder) → AgreeOn (asked_columns old.query) rows others → Takes dimensions old rows new → Takes dimensions old others new
 takes_both dimensions old new rows others agree takes = record {
   query = takes.query;
-  stands = λ so_far stands.
+  represents = λ so_far represents.
       let same = subst (λ (query : Query). AreSame (is_asked query) (so_far ++ rows) (so_far ++ others)) (sym takes.query)
       (are_same_with (is_asked old.query) so_far rows others (agreeing_same dimensions old.query rows others agree)) in
-      stands_for_both dimensions new (so_far ++ rows) (so_far ++ others) same (takes.stands so_far stands);
+      represents_for_both dimensions new (so_far ++ rows) (so_far ++ others) same (takes.represents so_far represents);
 }
 
 pub query_stays : {T E : Type 0} (dimensions : DimRows) (old new : FoldState) (rows : List LineOrder) (result : Result T E) → OnOk result (Takes dimensions old rows new) → OnErr result (new ≡ old) → new.query ≡ old.query

@@ -13,14 +13,14 @@ use Rattle.group_plan.specs.Plans.{IsPlanOver, query_of}
 use Rattle.group_plan.specs.declared.plan.Plan.{Plan}
 use Rattle.cube_query.specs.Columns.{tallies_at}
 use Rattle.cube_query.specs.FoldInvariant.{AreGroupSlots, CountIn, IsKept}
-use Rattle.cube_query.specs.Groups.{FoldState, StandsFor, Takes}
+use Rattle.cube_query.specs.Groups.{FoldState, RepresentsRows, Takes}
 use Rattle.cube_query.specs.Limits.{AreFoldable}
 use Rattle.cube_query.specs.Slots.{entries_of, slot_of, AreSlots, CanPlace, Cover, Grow}
 use Rattle.cube_query.specs.WholeBatch.{HaveRoomAt, all_at, has_one_group, with_rows}
 use Rattle.cube_query.specs.declared.slots.Slots.{Slots}
 use Rattle.cube_query.specs.declared.slots.Slots.TheVariants.{Direct, Below, Seen}
 use Rattle.cube_query.specs.declared.tally.Tally.{Tally}
-use Rattle.cube_query.proofs.Folds.{HaveRoom-ready, kept_count, kept_cover, kept_numbers, kept_ready, shown, shown_ready, stands_count}
+use Rattle.cube_query.proofs.Folds.{HaveRoom-ready, kept_count, kept_cover, kept_numbers, kept_ready, shown, shown_ready, represents_count}
 use Rattle.cube_query.proofs.WholeBatches.{batch_counted, one_at_least, room_at, slots_are}
 
 -- ---- the slot of the first number
@@ -36,7 +36,7 @@ below_all slot len (column ∷ columns) below long = (omega (arith, below, long.
 
 -- ---- no row changes nothing
 pub takes_none : (dimensions : DimRows) (fold : FoldState) → Takes dimensions fold [] fold
-takes_none dimensions fold = record { query = refl; stands = λ so_far stands. subst (StandsFor dimensions fold) (sym (append-nil so_far)) stands }
+takes_none dimensions fold = record { query = refl; represents = λ so_far represents. subst (RepresentsRows dimensions fold) (sym (append-nil so_far)) represents }
 
 -- ---- a fold
 module _ (dimensions : DimRows) (plan : Plan) (over : IsPlanOver dimensions plan) (old : Slots) (columns : List (Vec Tally Global)) (kept : IsKept plan old columns) (one : has_one_group (query_of plan) ≡ true) where
@@ -74,11 +74,11 @@ module _ (dimensions : DimRows) (plan : Plan) (over : IsPlanOver dimensions plan
         have : AreGroupSlots dimensions query (entries_of new) some (all_at slot some)
         have = slots_are dimensions query (entries_of new) slot one there marks rows marks_are
 
-        pub room_one : (so_far : List LineOrder) → StandsFor dimensions (shown plan old columns) so_far → AreFoldable dimensions (so_far ++ some)
+        pub room_one : (so_far : List LineOrder) → RepresentsRows dimensions (shown plan old columns) so_far → AreFoldable dimensions (so_far ++ some)
             → AllByRecursion (λ column. length (entries_of new) ≤ length column.items) longer → 0 < length some → HaveRoomAt query.aggregates longer slot some
-        room_one so_far stands foldable long any =
+        room_one so_far represents foldable long any =
             room_at query.aggregates longer slot some any
-            (HaveRoom-ready dimensions plan over old columns kept new longer cover grow same some (all_at slot some) have so_far stands foldable long)
+            (HaveRoom-ready dimensions plan over old columns kept new longer cover grow same some (all_at slot some) have so_far represents foldable long)
 
         module _ (merged : List (Vec Tally Global)) (merged_is : (other : ℕ) → tallies_at merged other ≡ with_rows query.aggregates some slot other (tallies_at longer other)) where
           counted : CountIn query.aggregates some (all_at slot some) longer merged
@@ -87,5 +87,5 @@ module _ (dimensions : DimRows) (plan : Plan) (over : IsPlanOver dimensions plan
           pub kept_batch : IsKept plan new merged
           kept_batch = kept_count dimensions plan over old columns kept new longer cover grow same some (all_at slot some) have merged counted
 
-          pub stands_batch : (so_far : List LineOrder) → StandsFor dimensions (shown plan old columns) so_far → StandsFor dimensions (shown plan new merged) (so_far ++ some)
-          stands_batch so_far stands = stands_count dimensions plan over old columns kept new longer cover grow same some (all_at slot some) have merged counted so_far stands
+          pub represents_batch : (so_far : List LineOrder) → RepresentsRows dimensions (shown plan old columns) so_far → RepresentsRows dimensions (shown plan new merged) (so_far ++ some)
+          represents_batch so_far represents = represents_count dimensions plan over old columns kept new longer cover grow same some (all_at slot some) have merged counted so_far represents

@@ -18,9 +18,9 @@ use Rattle.lattice.specs.declared.view.View.{View}
 use Rattle.lattice.specs.Determined.{Serves}
 use Rattle.cuboid_cells.specs.declared.cell.Cell.{Cell}
 use Rattle.cuboid_cells.specs.Cells.{AreAscending, PlainCells, cell_at, number_of as key_number}
-use Rattle.cuboid_upkeep.specs.Grouping.{HasMembers, StandFor, cell_over, key_of, rows_of}
+use Rattle.cuboid_upkeep.specs.Grouping.{HasMembers, RepresentRows, cell_over, key_of, rows_of}
 use Rattle.cuboid_upkeep.specs.Lawful.{OneKeyOneGroup}
-use Rattle.cuboid_upkeep.proofs.Standing.{row_of_cell}
+use Rattle.cuboid_upkeep.proofs.Represented.{row_of_cell}
 use Rattle.group_plan.specs.Numbers.{group_count, key_at}
 use Rattle.group_plan.specs.Plans.{IsPlanOver, query_of}
 use Rattle.group_plan.specs.declared.plan.Plan.{Plan}
@@ -30,7 +30,7 @@ use Rattle.cube_query.specs.CellSlots.{AreMergedIn, asked_of}
 use Rattle.cube_query.specs.CellTallies.{AreBelow, GroupsHaveRoomFor, HasRoomFor, HaveRoomFor, with_cells}
 use Rattle.cube_query.specs.Columns.{size_of, slotted, tallies_at}
 use Rattle.cube_query.specs.FoldInvariant.{AreGroupSlots, CountIn, IsGroupSlot, IsKept}
-use Rattle.cube_query.specs.Groups.{StandsFor, finest, rows_at}
+use Rattle.cube_query.specs.Groups.{RepresentsRows, finest, rows_at}
 use Rattle.cube_query.specs.Limits.{AreFoldable}
 use Rattle.cube_query.specs.Slots.{entries_of, Cover, Grow}
 use Rattle.cube_query.specs.Tallies.{number_of, tallies_of, tally_of}
@@ -41,7 +41,7 @@ use Rattle.cube_query.proofs.CellMerges.{all_untouched}
 use Rattle.cube_query.proofs.CellSlots.{cell_slots-length}
 use Rattle.cube_query.proofs.RowSlots.{HasSlot}
 use Rattle.cube_query.proofs.Wanted.{leaves_none, slots_for, slots_for-length, wanted_slot, with_wanted}
-use Rattle.cube_query.proofs.Folds.{kept_numbers, kept_ready, shown, shown_ready, stands_count, tallied_for}
+use Rattle.cube_query.proofs.Folds.{kept_numbers, kept_ready, shown, shown_ready, represents_count, tallied_for}
 use Rattle.cube_query.proofs.Marking.{AreGroupSlots-at}
 use Rattle.cube_query.proofs.Ranges.{range_of_agg}
 use Rattle.cube_query.proofs.Steps.{AreTallied-grow}
@@ -82,16 +82,16 @@ module _ (dimensions : DimRows) (modes : List (List ℕ)) (view : View) (query :
       (group_slots : List (Option ℕ))
       (have : (number : ℕ) (found : Cell) → cell_at number cells ≡ Some found
       → HasSlot dimensions modes view query entries number (slot_by cells group_slots number)) (rows : List LineOrder)
-      (stand_for : StandFor dimensions modes rows (record { view = view; cells = cells })) where
+      (represent : RepresentRows dimensions modes rows (record { view = view; cells = cells })) where
     abbrev pub slot_of_row : LineOrder → Option ℕ
     slot_of_row row = slot_by cells group_slots (key_number (key_of dimensions modes view row))
 
     row_slot : (row : LineOrder) → Contains rows row → IsGroupSlot dimensions query entries row (slot_of_row row)
     row_slot row there =
         let number = key_number (key_of dimensions modes view row) in
-        let members : HasMembers dimensions modes view row = subst (HasMembers dimensions modes view) there.2 (stand_for.known there.0 row there.1) in
+        let members : HasMembers dimensions modes view row = subst (HasMembers dimensions modes view) there.2 (represent.known there.0 row there.1) in
         (elim (cell_at number cells) as (λ o. cell_at number cells ≡ o → IsGroupSlot dimensions query entries row (slot_of_row row)) [
-          | None ↦ λ e. absurd (row_found number rows row there refl (sym (stand_for.group number) ∙ e))
+          | None ↦ λ e. absurd (row_found number rows row there refl (sym (represent.group number) ∙ e))
           | Some found ↦ λ e. turned row members (have number found e)
         ]) refl
       where
@@ -126,19 +126,19 @@ module _ (dimensions : DimRows) (modes : List (List ℕ)) (view : View) (query :
         each : (aggs : List Agg) → with_cells aggs slot cells group_slots (tallies_of aggs before) ≡ tallies_of aggs (before ++ slotted slot rows (map slot_of_row rows))
         each [] = refl
         each (agg ∷ aggs) =
-            let one = cells_are_rows dimensions modes view agg slot cells group_slots rows before same stand_for.group (apart cells stand_for.ascending)
+            let one = cells_are_rows dimensions modes view agg slot cells group_slots rows before same represent.group (apart cells represent.ascending)
             ∙ sym (ap (λ (more : List LineOrder). tally_over agg (before ++ more)) (slotted-filter slot slot_of_row rows)) in
             λ i. one i ∷ each aggs i
 
 -- tallies over some of the rows so far have room for the cells that represent others
-module _ (dimensions : DimRows) (modes : List (List ℕ)) (plain : PlainCells) (so_far rows : List LineOrder) (stand_for : StandFor dimensions modes rows plain) (foldable : AreFoldable dimensions (so_far ++ rows))
+module _ (dimensions : DimRows) (modes : List (List ℕ)) (plain : PlainCells) (so_far rows : List LineOrder) (represent : RepresentRows dimensions modes rows plain) (foldable : AreFoldable dimensions (so_far ++ rows))
     (own : List LineOrder) (fewer : length own ≤ length so_far) (smaller : (agg : Agg) → size_of agg own ≤ size_of agg so_far) where
   room_for : (agg : Agg) → HasRoomFor agg plain.cells (tally_of (map (number_of agg) own))
   room_for agg =
       let number = number_of agg in
-      let up = apart plain.cells stand_for.ascending in
-      let counts = counts-rows dimensions modes plain.view plain.cells rows stand_for.group up in
-      let sizes = sizes-rows dimensions modes plain.view agg plain.cells rows stand_for.group up in
+      let up = apart plain.cells represent.ascending in
+      let counts = counts-rows dimensions modes plain.view plain.cells rows represent.group up in
+      let sizes = sizes-rows dimensions modes plain.view agg plain.cells rows represent.group up in
       let total = range_of_agg (so_far ++ rows) foldable.in_range agg in
       let sums = sum_by-append (λ (row : LineOrder). nat_abs (number row)) so_far rows in
       record {
@@ -194,10 +194,10 @@ module _ (dimensions : DimRows) (plan : Plan) (over : IsPlanOver dimensions plan
         → AreWantedMerged (asked_of dimensions (query_of plan) plain.view modes) (query_of plan).aggregates
         (entries_of new) plain.cells columns merged
         → OneKeyOneGroup dimensions → Serves plain.view (query_of plan) → (rows : List LineOrder)
-        → StandFor dimensions modes rows plain
-        → (so_far : List LineOrder) → StandsFor dimensions (shown plan old columns) so_far
-        → StandsFor dimensions (shown plan new merged) (so_far ++ rows)
-    represents_wanted merged are law serves rows stand_for so_far stands =
+        → RepresentRows dimensions modes rows plain
+        → (so_far : List LineOrder) → RepresentsRows dimensions (shown plan old columns) so_far
+        → RepresentsRows dimensions (shown plan new merged) (so_far ++ rows)
+    represents_wanted merged are law serves rows represent so_far represents =
         let query = query_of plan in
         let asked = asked_of dimensions query plain.view modes in
         let entries = entries_of new in
@@ -205,30 +205,30 @@ module _ (dimensions : DimRows) (plan : Plan) (over : IsPlanOver dimensions plan
         let group_slots = slots_for asked plain.cells are.wanted are.out own.group_slots in
         let count = cell_slots-length asked entries are.wanted own.group_slots own.slots in
         let rows_there = λ (cell : Cell) (among : Contains plain.cells cell). row_of_cell dimensions modes plain rows
-        (HasMembers dimensions modes plain.view) cell stand_for stand_for.known among in
+        (HasMembers dimensions modes plain.view) cell represent represent.known among in
         let have = λ (number : ℕ) (found : Cell) (is : cell_at number plain.cells ≡ Some found).
         wanted_slot asked entries plain.cells are.wanted are.out own.slots.rows own.group_slots number found
-        own.slots.stand own.slots.slots rows_there is in
+        own.slots.represent own.slots.slots rows_there is in
         let slots = rows_have_slots dimensions modes plain.view query entries law serves plain.cells group_slots have
-        rows stand_for in
+        rows represent in
         let counted = rows_counted dimensions modes plain.view query entries law serves plain.cells group_slots have
-        rows stand_for query.aggregates columns merged
+        rows represent query.aggregates columns merged
         (slots_for-length asked plain.cells are.wanted are.out own.group_slots)
         (λ slot. own.merged slot ∙ sym
         (with_wanted asked slot plain.cells are.wanted are.out own.group_slots count query.aggregates
         (tallies_at columns slot))) in
-        stands_count dimensions plan over old columns kept new columns cover grow as_they_are rows
+        represents_count dimensions plan over old columns kept new columns cover grow as_they_are rows
         (map (slot_of_row dimensions modes plain.view query entries law serves plain.cells group_slots have rows
-        stand_for) rows) slots merged counted so_far stands
+        represent) rows) slots merged counted so_far represents
 
-    pub stands_merged : (merged : List (Vec Tally Global))
+    pub represents_merged : (merged : List (Vec Tally Global))
         → AreMergedIn (asked_of dimensions (query_of plan) plain.view modes) (query_of plan).aggregates (entries_of new)
         plain.cells columns merged
         → OneKeyOneGroup dimensions → Serves plain.view (query_of plan) → (rows : List LineOrder)
-        → StandFor dimensions modes rows plain
-        → (so_far : List LineOrder) → StandsFor dimensions (shown plan old columns) so_far
-        → StandsFor dimensions (shown plan new merged) (so_far ++ rows)
-    stands_merged merged are =
+        → RepresentRows dimensions modes rows plain
+        → (so_far : List LineOrder) → RepresentsRows dimensions (shown plan old columns) so_far
+        → RepresentsRows dimensions (shown plan new merged) (so_far ++ rows)
+    represents_merged merged are =
         represents_wanted merged (record {
           wanted = plain.cells;
           out = leaves_none (asked_of dimensions (query_of plan) plain.view modes)
@@ -236,19 +236,19 @@ module _ (dimensions : DimRows) (plan : Plan) (over : IsPlanOver dimensions plan
           merged = are;
         })
 
-    pub room_for_cells : (rows : List LineOrder) → StandFor dimensions modes rows plain → (so_far : List LineOrder) → StandsFor dimensions (shown plan old columns) so_far → AreFoldable dimensions (so_far ++ rows)
+    pub room_for_cells : (rows : List LineOrder) → RepresentRows dimensions modes rows plain → (so_far : List LineOrder) → RepresentsRows dimensions (shown plan old columns) so_far → AreFoldable dimensions (so_far ++ rows)
         → GroupsHaveRoomFor (entries_of new) (query_of plan).aggregates plain.cells columns
-    room_for_cells rows stand_for so_far stands foldable number slot found =
+    room_for_cells rows represent so_far represents foldable number slot found =
         let query = finest (query_of plan) in
         let made = plan_of_over dimensions plan over in
         let tallied = AreTallied-grow dimensions query (entries_of old) (entries_of new) columns columns so_far made.rising (kept_numbers dimensions plan over old columns kept) grow as_they_are
-        (tallied_for dimensions plan over old columns kept so_far stands) in
+        (tallied_for dimensions plan over old columns kept so_far represents) in
         let p = is_selected dimensions query.conditions in
         let key = key_at dimensions query.columns number in
         let q = λ (row : LineOrder). list_any (eq_by_cmp key_cmp key) (keys_of dimensions query row) in
         let size = λ (agg : Agg) (row : LineOrder). nat_abs (number_of agg row) in
         let own = rows_at dimensions query key so_far in
         subst (HaveRoomFor query.aggregates plain.cells) (sym (tallied.each number slot found))
-        (rooms_for dimensions modes plain so_far rows stand_for foldable own
+        (rooms_for dimensions modes plain so_far rows represent foldable own
         (omega (arith, length-filter-le q (filter p so_far), length-filter-le p so_far))
         (λ agg. omega (arith, sum_by-filter (size agg) q (filter p so_far), sum_by-filter (size agg) p so_far)) query.aggregates)

@@ -12,8 +12,8 @@ use Rattle.cube_model.specs.declared.rows.DimRows.{DimRows}
 use Rattle.cube_model.specs.declared.rows.LineOrder.{LineOrder}
 use Rattle.cuboid_cells.specs.declared.cell.Cell.{Cell}
 use Rattle.cuboid_upkeep.specs.CellNumbers.{AskedOfCells}
-use Rattle.cuboid_upkeep.specs.StandIns.{AreStandIns}
-use Rattle.cube_query.specs.CellSlots.{AreCellSlots, AreMergedIn, HaveNoStandIn}
+use Rattle.cuboid_upkeep.specs.Representatives.{AreRepresentatives}
+use Rattle.cube_query.specs.CellSlots.{AreCellSlots, AreMergedIn, HaveNoRepresentative}
 use Rattle.cube_query.specs.CellTallies.{GroupsHaveRoomFor, HasRoomFor, HaveRoomFor, after_cells, cell_tally, with_cells}
 use Rattle.cube_query.specs.Columns.{tallies_at, tally_at}
 use Rattle.cube_query.specs.FoldInvariant.{AreGroupSlots}
@@ -44,12 +44,12 @@ module _ (slot : ℕ) where
       let rest = with_cells-append a b ga gb same aggs tallies in
       λ i. one i ∷ rest i
 
-stand_append : (asked : AskedOfCells) (a b : List Cell) (rows others : List LineOrder) → AreStandIns asked.dimensions asked.modes asked.view a rows → AreStandIns asked.dimensions asked.modes asked.view b others
-    → AreStandIns asked.dimensions asked.modes asked.view (a ++ b) (rows ++ others)
-stand_append asked [] b [] others one other = other
-stand_append asked [] b (row ∷ rows) others one other = absurd one
-stand_append asked (cell ∷ a) b [] others one other = absurd one
-stand_append asked (cell ∷ a) b (row ∷ rows) others one other = (one.0, stand_append asked a b rows others one.1 other)
+represent_append : (asked : AskedOfCells) (a b : List Cell) (rows others : List LineOrder) → AreRepresentatives asked.dimensions asked.modes asked.view a rows → AreRepresentatives asked.dimensions asked.modes asked.view b others
+    → AreRepresentatives asked.dimensions asked.modes asked.view (a ++ b) (rows ++ others)
+represent_append asked [] b [] others one other = other
+represent_append asked [] b (row ∷ rows) others one other = absurd one
+represent_append asked (cell ∷ a) b [] others one other = absurd one
+represent_append asked (cell ∷ a) b (row ∷ rows) others one other = (one.0, represent_append asked a b rows others one.1 other)
 
 slots_append : (dimensions : DimRows) (query : Query) (entries : List (ℕ × ℕ)) (rows others : List LineOrder) (ga gb : List (Option ℕ)) → AreGroupSlots dimensions query entries rows ga → AreGroupSlots dimensions query entries others gb
     → AreGroupSlots dimensions query entries (rows ++ others) (ga ++ gb)
@@ -65,7 +65,7 @@ module _ (asked : AskedOfCells) where
       let kept = AreGroupSlots-keep asked.dimensions asked.query old new keep one.rows ga one.slots in
       record {
         rows = one.rows ++ other.rows;
-        stand = stand_append asked a b one.rows other.rows one.stand other.stand;
+        represent = represent_append asked a b one.rows other.rows one.represent other.represent;
         slots = slots_append asked.dimensions asked.query new one.rows other.rows ga gb kept other.slots;
       }
 
@@ -82,7 +82,7 @@ module _ (asked : AskedOfCells) where
   }
 
   -- what no row represents among a part, none represents among all
-  pub none_among : (a b rest all : List Cell) → all ≡ (a ++ b) ++ rest → HaveNoStandIn asked b → HaveNoStandIn asked all
+  pub none_among : (a b rest all : List Cell) → all ≡ (a ++ b) ++ rest → HaveNoRepresentative asked b → HaveNoRepresentative asked all
   none_among a b rest all is none = record {
     cell = none.cell;
     among = subst (λ (cells : List Cell). Contains cells none.cell) (sym is) (Contains-append_left (a ++ b) rest none.cell (Contains-append_right a b none.cell none.among));

@@ -6,7 +6,7 @@ use Rattle.cube_model.specs.declared.measure.Agg.{Agg}
 use Rattle.cube_model.specs.declared.rows.LineOrder.{LineOrder}
 use Rattle.cuboid_cells.specs.declared.cell.Cell.{Cell}
 use Rattle.cuboid_upkeep.specs.CellNumbers.{AskedOfCells}
-use Rattle.cuboid_upkeep.specs.StandIns.{AreStandIns, IsStandIn}
+use Rattle.cuboid_upkeep.specs.Representatives.{AreRepresentatives, IsRepresentative}
 use Rattle.cube_query.specs.CellSlots.{AreCellSlots, AreMergedIn, IsCellSlot, IsMergedIn}
 use Rattle.cube_query.specs.CellTallies.{GroupsHaveRoomFor, HaveRoomFor, with_cells}
 use Rattle.cube_query.specs.Columns.{tallies_at}
@@ -16,25 +16,25 @@ use Rattle.cube_query.proofs.CellMerges.{columns_as_they_are, no_cell, room_next
 use Rattle.cube_query.proofs.Marking.{AreGroupSlots-keep, AreGroupSlots-length, AreGroupSlots-push}
 
 module _ (asked : AskedOfCells) where
-  stand_push : (cells : List Cell) (rows : List LineOrder) (cell : Cell) (row : LineOrder) → AreStandIns asked.dimensions asked.modes asked.view cells rows
-      → IsStandIn asked.dimensions asked.modes asked.view cell row → AreStandIns asked.dimensions asked.modes asked.view (cells ++ cell ∷ []) (rows ++ row ∷ [])
-  stand_push [] [] cell row are is = (is, tt)
-  stand_push [] (other ∷ rows) cell row are is = absurd are
-  stand_push (first ∷ cells) [] cell row are is = absurd are
-  stand_push (first ∷ cells) (other ∷ rows) cell row are is = (are.0, stand_push cells rows cell row are.1 is)
+  represent_push : (cells : List Cell) (rows : List LineOrder) (cell : Cell) (row : LineOrder) → AreRepresentatives asked.dimensions asked.modes asked.view cells rows
+      → IsRepresentative asked.dimensions asked.modes asked.view cell row → AreRepresentatives asked.dimensions asked.modes asked.view (cells ++ cell ∷ []) (rows ++ row ∷ [])
+  represent_push [] [] cell row are is = (is, tt)
+  represent_push [] (other ∷ rows) cell row are is = absurd are
+  represent_push (first ∷ cells) [] cell row are is = absurd are
+  represent_push (first ∷ cells) (other ∷ rows) cell row are is = (are.0, represent_push cells rows cell row are.1 is)
 
-  stand_length : (cells : List Cell) (rows : List LineOrder) → AreStandIns asked.dimensions asked.modes asked.view cells rows → length rows ≡ length cells
-  stand_length [] [] are = refl
-  stand_length [] (row ∷ rows) are = absurd are
-  stand_length (cell ∷ cells) [] are = absurd are
-  stand_length (cell ∷ cells) (row ∷ rows) are = ap suc (stand_length cells rows are.1)
+  represent_length : (cells : List Cell) (rows : List LineOrder) → AreRepresentatives asked.dimensions asked.modes asked.view cells rows → length rows ≡ length cells
+  represent_length [] [] are = refl
+  represent_length [] (row ∷ rows) are = absurd are
+  represent_length (cell ∷ cells) [] are = absurd are
+  represent_length (cell ∷ cells) (row ∷ rows) are = ap suc (represent_length cells rows are.1)
 
   pub cell_slots-length : (entries : List (ℕ × ℕ)) (cells : List Cell) (group_slots : List (Option ℕ)) → AreCellSlots asked entries cells group_slots → length group_slots ≡ length cells
   cell_slots-length entries cells group_slots are =
-      AreGroupSlots-length asked.dimensions asked.query entries are.rows group_slots are.slots ∙ stand_length cells are.rows are.stand
+      AreGroupSlots-length asked.dimensions asked.query entries are.rows group_slots are.slots ∙ represent_length cells are.rows are.represent
 
   pub cell_slots-none : (entries : List (ℕ × ℕ)) → AreCellSlots asked entries [] []
-  cell_slots-none entries = record { rows = []; stand = tt; slots = tt }
+  cell_slots-none entries = record { rows = []; represent = tt; slots = tt }
 
   -- one cell more, where numbers keep their slots
   pub cell_slots-push : (old new : List (ℕ × ℕ)) → ((number slot : ℕ) → slot_of old number ≡ Some slot → slot_of new number ≡ Some slot)
@@ -44,7 +44,7 @@ module _ (asked : AskedOfCells) where
       let kept = AreGroupSlots-keep asked.dimensions asked.query old new keep are.rows group_slots are.slots in
       record {
         rows = are.rows ++ is.row ∷ [];
-        stand = stand_push cells are.rows cell is.row are.stand is.stands;
+        represent = represent_push cells are.rows cell is.row are.represent is.represents;
         slots = AreGroupSlots-push asked.dimensions asked.query new are.rows group_slots is.row group_slot kept is.slot;
       }
 

@@ -28,7 +28,7 @@ use Rattle.group_plan.specs.Rows.{row_at}
 use Rattle.group_plan.specs.declared.bounds.Bounds.{Bounds}
 use Rattle.group_plan.proofs.Outcomes.{out_of_bounds}
 use Rattle.cube_query.specs.Chosen.{KeepSelected, lies_within, places_from}
-use Rattle.cube_query.specs.Groups.{CanTake, FoldState, StandsFor, Takes, finest}
+use Rattle.cube_query.specs.Groups.{CanTake, FoldState, RepresentsRows, Takes, finest}
 use Rattle.cube_query.specs.Limits.{AreFoldable}
 use Rattle.cube_query.specs.Tallies.{tallies_of}
 
@@ -261,24 +261,24 @@ keep_over asked dimensions query old some all is same keep =
     (subst (λ (a : Asked). KeepSelected a.dimensions a.query.conditions some all) is keep)
 
 -- ---- what a fold represents
-pub stands_for_all : (dimensions : DimRows) (fold : FoldState) (some all : List LineOrder)
-    → selected_by dimensions fold.query.conditions some ≡ selected_by dimensions fold.query.conditions all → StandsFor dimensions fold some → StandsFor dimensions fold all
-stands_for_all dimensions fold some all same stands = record {
-  over = stands.over;
-  each = λ number h. stands.each number h
+pub represents_for_all : (dimensions : DimRows) (fold : FoldState) (some all : List LineOrder)
+    → selected_by dimensions fold.query.conditions some ≡ selected_by dimensions fold.query.conditions all → RepresentsRows dimensions fold some → RepresentsRows dimensions fold all
+represents_for_all dimensions fold some all same represents = record {
+  over = represents.over;
+  each = λ number h. represents.each number h
       ∙ ap (λ (chosen : List LineOrder). tallies_of fold.query.aggregates (rows_of_key dimensions (finest fold.query) (key_at dimensions fold.query.columns number) chosen)) same;
-  others = λ key none. sym (ap (λ (chosen : List LineOrder). rows_of_key dimensions (finest fold.query) key chosen) same) ∙ stands.others key none;
+  others = λ key none. sym (ap (λ (chosen : List LineOrder). rows_of_key dimensions (finest fold.query) key chosen) same) ∙ represents.others key none;
 }
 
 takes : (dimensions : DimRows) (old : FoldState) (some all : List LineOrder) (new : FoldState) → KeepSelected dimensions old.query.conditions some all
     → Takes dimensions old some new → Takes dimensions old all new
 takes dimensions old some all new keep taken = record {
   query = taken.query;
-  stands = λ so_far stands.
+  represents = λ so_far represents.
       let p = is_selected dimensions new.query.conditions in
       let same : filter p some ≡ filter p all = subst (λ (q : Query). selected_by dimensions q.conditions some ≡ selected_by dimensions q.conditions all) (sym taken.query) keep.same in
-      stands_for_all dimensions new (so_far ++ some) (so_far ++ all)
-      (filter-append p so_far some ∙ ap (λ (l : List LineOrder). filter p so_far ++ l) same ∙ sym (filter-append p so_far all)) (taken.stands so_far stands);
+      represents_for_all dimensions new (so_far ++ some) (so_far ++ all)
+      (filter-append p so_far some ∙ ap (λ (l : List LineOrder). filter p so_far ++ l) same ∙ sym (filter-append p so_far all)) (taken.represents so_far represents);
 }
 
 pub takes_all : {T : Type 0} (result : Result T Fault) (dimensions : DimRows) (old : FoldState) (some all : List LineOrder) (new : FoldState) → KeepSelected dimensions old.query.conditions some all

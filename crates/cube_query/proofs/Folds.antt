@@ -16,7 +16,7 @@ use Rattle.cube_model.specs.declared.rows.DimRows.{DimRows}
 use Rattle.cube_model.specs.declared.rows.LineOrder.{LineOrder}
 use Rattle.cube_query.specs.Columns.{is_seen, tallies_at}
 use Rattle.cube_query.specs.FoldInvariant.{AreGroupSlots, HaveRoom, CountIn, AreTallied, IsFold, IsKept, all_tallies, tallies_in, tallies_or_none}
-use Rattle.cube_query.specs.Groups.{FoldState, StandsFor, finest, rows_at}
+use Rattle.cube_query.specs.Groups.{FoldState, RepresentsRows, finest, rows_at}
 use Rattle.cube_query.specs.Limits.{AreFoldable}
 use Rattle.cube_query.specs.Slots.{entries_of, slot_of, AreSlots, Cover, Grow}
 use Rattle.cube_query.specs.Tallies.{tallies_of}
@@ -90,8 +90,8 @@ module _ (dimensions : DimRows) (plan : Plan) (over : IsPlanOver dimensions plan
     kept_cover = subst (λ n. Cover n slots) made.counted kept.cover
 
     -- ---- rows that it represents
-    pub tallied_for : (rows : List LineOrder) → StandsFor dimensions (shown plan slots columns) rows → AreTallied dimensions (finest (query_of plan)) (entries_of slots) columns rows
-    tallied_for rows stands =
+    pub tallied_for : (rows : List LineOrder) → RepresentsRows dimensions (shown plan slots columns) rows → AreTallied dimensions (finest (query_of plan)) (entries_of slots) columns rows
+    tallied_for rows represents =
         let query = query_of plan in
         let aggs = query.aggregates in
         let entries = entries_of slots in
@@ -99,25 +99,25 @@ module _ (dimensions : DimRows) (plan : Plan) (over : IsPlanOver dimensions plan
         record {
           each = λ number slot found.
               let below = kept_numbers.below number slot found in
-              sym (shown_at slots columns number below ∙ ap (tallies_or_none query columns) found) ∙ stands.each number below;
+              sym (shown_at slots columns number below ∙ ap (tallies_or_none query columns) found) ∙ represents.each number below;
           others = λ key absent. elim (which_number dimensions query.columns key bound) [
             | inl found ↦
                 (elim (slot_of entries found.0) as (λ o. slot_of entries found.0 ≡ o → rows_at dimensions (finest query) key rows ≡ []) [
                   | None ↦ λ e.
                       let same : tallies_of aggs [] ≡ tallies_of aggs (rows_at dimensions (finest query) (key_at dimensions query.columns found.0) rows) =
-                      sym (shown_at slots columns found.0 found.1 ∙ ap (tallies_or_none query columns) e) ∙ stands.each found.0 found.1 in
+                      sym (shown_at slots columns found.0 found.1 ∙ ap (tallies_or_none query columns) e) ∙ represents.each found.0 found.1 in
                       ap (λ k. rows_at dimensions (finest query) k rows) (sym found.2)
                       ∙ no_rows aggs (rows_at dimensions (finest query) (key_at dimensions query.columns found.0) rows) kept.proper.some_aggregate same
                   | Some slot ↦ λ e. absurd (absent found.0 slot e found.2)
                 ]) refl
-            | inr none ↦ stands.others key none
+            | inr none ↦ represents.others key none
           ];
           fresh = kept.fresh;
         }
 
-  pub stands_for : (slots : Slots) (columns : List (Vec Tally Global)) (rows : List LineOrder) → AreSlots (group_count dimensions (query_of plan).columns) (entries_of slots)
-      → AreTallied dimensions (finest (query_of plan)) (entries_of slots) columns rows → StandsFor dimensions (shown plan slots columns) rows
-  stands_for slots columns rows numbers tallied =
+  pub represents_for : (slots : Slots) (columns : List (Vec Tally Global)) (rows : List LineOrder) → AreSlots (group_count dimensions (query_of plan).columns) (entries_of slots)
+      → AreTallied dimensions (finest (query_of plan)) (entries_of slots) columns rows → RepresentsRows dimensions (shown plan slots columns) rows
+  represents_for slots columns rows numbers tallied =
       let query = query_of plan in
       let aggs = query.aggregates in
       let entries = entries_of slots in
@@ -139,8 +139,8 @@ module _ (dimensions : DimRows) (plan : Plan) (over : IsPlanOver dimensions plan
 
   -- ---- as it begins
   pub begun : (slots : Slots) (columns : List (Vec Tally Global)) → AreSlots (group_count dimensions (query_of plan).columns) (entries_of slots) → ((slot : ℕ) → tallies_at columns slot ≡ tallies_of (query_of plan).aggregates [])
-      → StandsFor dimensions (shown plan slots columns) []
-  begun slots columns numbers none = stands_for slots columns [] numbers (record {
+      → RepresentsRows dimensions (shown plan slots columns) []
+  begun slots columns numbers none = represents_for slots columns [] numbers (record {
     each = λ number slot found. none slot;
     others = λ key absent. refl;
     fresh = λ slot h. none slot;
@@ -193,19 +193,19 @@ module _ (dimensions : DimRows) (plan : Plan) (over : IsPlanOver dimensions plan
 
     -- ---- and with more rows
     module _ (rows : List LineOrder) (group_slots : List (Option ℕ)) (group_slots_are : AreGroupSlots dimensions (query_of plan) (entries_of new) rows group_slots) where
-      pub HaveRoom-ready : (so_far : List LineOrder) → StandsFor dimensions (shown plan old columns) so_far → AreFoldable dimensions (so_far ++ rows) → AllByRecursion (λ column. length (entries_of new) ≤ length column.items) longer
+      pub HaveRoom-ready : (so_far : List LineOrder) → RepresentsRows dimensions (shown plan old columns) so_far → AreFoldable dimensions (so_far ++ rows) → AllByRecursion (λ column. length (entries_of new) ≤ length column.items) longer
           → HaveRoom (query_of plan).aggregates longer rows group_slots
-      HaveRoom-ready so_far stands foldable long =
+      HaveRoom-ready so_far represents foldable long =
           HaveRoom-foldable dimensions (finest (query_of plan)) (entries_of new) longer so_far rows group_slots grow.slots
           (AreGroupSlots-finest dimensions (query_of plan) (entries_of new) rows group_slots group_slots_are) long foldable
-          (tallied_ready so_far (tallied_for old columns kept so_far stands))
+          (tallied_ready so_far (tallied_for old columns kept so_far represents))
 
       module _ (counted : List (Vec Tally Global)) (count : CountIn (query_of plan).aggregates rows group_slots longer counted) where
-        tallied_count : (so_far : List LineOrder) → StandsFor dimensions (shown plan old columns) so_far → AreTallied dimensions (finest (query_of plan)) (entries_of new) counted (so_far ++ rows)
-        tallied_count so_far stands =
+        tallied_count : (so_far : List LineOrder) → RepresentsRows dimensions (shown plan old columns) so_far → AreTallied dimensions (finest (query_of plan)) (entries_of new) counted (so_far ++ rows)
+        tallied_count so_far represents =
             AreTallied-count dimensions (finest (query_of plan)) (entries_of new) longer counted so_far rows group_slots refl made.rising grow.slots
             (AreGroupSlots-finest dimensions (query_of plan) (entries_of new) rows group_slots group_slots_are) count
-            (tallied_ready so_far (tallied_for old columns kept so_far stands))
+            (tallied_ready so_far (tallied_for old columns kept so_far represents))
 
         pub kept_count : IsKept plan new counted
         kept_count = record {
@@ -217,5 +217,5 @@ module _ (dimensions : DimRows) (plan : Plan) (over : IsPlanOver dimensions plan
               ∙ ap (tallies_of (query_of plan).aggregates) (slotted-none dimensions (query_of plan) (group_count dimensions (query_of plan).columns) (entries_of new) grow.slots rows group_slots group_slots_are slot h);
         }
 
-        pub stands_count : (so_far : List LineOrder) → StandsFor dimensions (shown plan old columns) so_far → StandsFor dimensions (shown plan new counted) (so_far ++ rows)
-        stands_count so_far stands = stands_for new counted (so_far ++ rows) grow.slots (tallied_count so_far stands)
+        pub represents_count : (so_far : List LineOrder) → RepresentsRows dimensions (shown plan old columns) so_far → RepresentsRows dimensions (shown plan new counted) (so_far ++ rows)
+        represents_count so_far represents = represents_for new counted (so_far ++ rows) grow.slots (tallied_count so_far represents)

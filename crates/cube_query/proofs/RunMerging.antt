@@ -19,7 +19,7 @@ use Rattle.cuboid_cells.specs.Pieces.{AreLeft, PassesOver, ReadsOn, RunPlace}
 use Rattle.cuboid_cells.proofs.Continuing.{cells_left, none_left}
 use Rattle.cuboid_upkeep.specs.CellNumbers.{AreUnwanted, AskedOfCells, IsUnwanted}
 use Rattle.cube_query.specs.CellRuns.{AreWantedMerged, LeavesOut, ReadsWanted}
-use Rattle.cube_query.specs.CellSlots.{AreMergedIn, HaveNoStandIn}
+use Rattle.cube_query.specs.CellSlots.{AreMergedIn, HaveNoRepresentative}
 use Rattle.cube_query.specs.CellTallies.{GroupsHaveRoomFor}
 use Rattle.cube_query.specs.Slots.{slot_of}
 use Rattle.cube_query.specs.declared.tally.Tally.{Tally}
@@ -72,7 +72,7 @@ module _ (asked : AskedOfCells) (aggs : List Agg) (text own : Option (List ℕ))
   }
 
   -- a piece was refused
-  pub run_refused : HaveNoStandIn asked piece ⊎ (GroupsHaveRoomFor new aggs piece now → ⊥) → HaveNoStandIn asked cells
+  pub run_refused : HaveNoRepresentative asked piece ⊎ (GroupsHaveRoomFor new aggs piece now → ⊥) → HaveNoRepresentative asked cells
       ⊎ (GroupsHaveRoomFor new aggs cells first → ⊥)
   run_refused (inl none) = inl (none_among asked (are.part ++ further.passed) piece further.rest cells parts_now none)
   run_refused (inr full) =

@@ -14,7 +14,7 @@ use Rattle.cuboid_cells.specs.declared.key.Key.{Key}
 use Rattle.cuboid_cells.specs.Cells.{cell_at, number_of as key_number}
 use Rattle.cuboid_upkeep.specs.CellNumbers.{AskedOfCells, IsUnwanted}
 use Rattle.cuboid_upkeep.specs.Grouping.{HasMembers, key_of}
-use Rattle.cuboid_upkeep.specs.StandIns.{AreStandIns}
+use Rattle.cuboid_upkeep.specs.Representatives.{AreRepresentatives}
 use Rattle.cube_query.specs.CellRuns.{LeavesOut}
 use Rattle.cube_query.specs.CellTallies.{GroupsHaveRoomFor, HasRoomFor, HaveRoomFor, after_cells, cell_tally, with_cells}
 use Rattle.cube_query.specs.Columns.{tallies_at}
@@ -138,7 +138,7 @@ module _ (asked : AskedOfCells) where
   -- the slot at the number of each cell is that of a row
   pub wanted_slot : (entries : List (ℕ × ℕ)) (cells wanted : List Cell) (out : LeavesOut asked cells wanted)
       (rows : List LineOrder) (group_slots : List (Option ℕ)) (number : ℕ) (found : Cell)
-      → AreStandIns asked.dimensions asked.modes asked.view wanted rows
+      → AreRepresentatives asked.dimensions asked.modes asked.view wanted rows
       → AreGroupSlots asked.dimensions asked.query entries rows group_slots → HaveRows cells
       → cell_at number cells ≡ Some found
       → HasSlot asked.dimensions asked.modes asked.view asked.query entries number
@@ -166,15 +166,15 @@ module _ (asked : AskedOfCells) where
       ]) refl is
   wanted_slot entries (cell ∷ cells) wanted (inr kept) rows group_slots number found have_cells are have is =
       kept_slot rows group_slots (subst
-      (λ (own : List Cell). AreStandIns asked.dimensions asked.modes asked.view own rows) kept.1 have_cells) are
+      (λ (own : List Cell). AreRepresentatives asked.dimensions asked.modes asked.view own rows) kept.1 have_cells) are
       (λ others later own slots there. wanted_slot entries cells kept.0 kept.2 others later number found own slots
       (λ one among. have one (suc among.0, omega (arith, among.1), among.2)) there)
     where
       kept_slot : (rows : List LineOrder) (group_slots : List (Option ℕ))
-          → AreStandIns asked.dimensions asked.modes asked.view (cell ∷ kept.0) rows
+          → AreRepresentatives asked.dimensions asked.modes asked.view (cell ∷ kept.0) rows
           → AreGroupSlots asked.dimensions asked.query entries rows group_slots
           → ((others : List LineOrder) (later : List (Option ℕ))
-          → AreStandIns asked.dimensions asked.modes asked.view kept.0 others
+          → AreRepresentatives asked.dimensions asked.modes asked.view kept.0 others
           → AreGroupSlots asked.dimensions asked.query entries others later
           → cell_at number cells ≡ Some found
           → HasSlot asked.dimensions asked.modes asked.view asked.query entries number

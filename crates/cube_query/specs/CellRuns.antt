@@ -9,7 +9,7 @@ use Rattle.cuboid_cells.specs.declared.cell.Cell.{Cell}
 use Rattle.cuboid_cells.specs.Pieces.{AreLeft, RunPlace}
 use Rattle.cuboid_cells.specs.Steps.{cells_of}
 use Rattle.cuboid_upkeep.specs.CellNumbers.{AskedOfCells, IsUnwanted}
-use Rattle.cuboid_upkeep.specs.Grouping.{StandFor}
+use Rattle.cuboid_upkeep.specs.Grouping.{RepresentRows}
 use Rattle.cube_query.specs.CellSlots.{AreMergedIn}
 use Rattle.cube_query.specs.Groups.{FoldState, Takes}
 use Rattle.cube_query.specs.declared.tally.Tally.{Tally}
@@ -46,5 +46,5 @@ IsRunMerged asked aggs entries text run old new = (cells : List Cell) → AreLef
 -- represent
 abbrev pub TakesRun : DimRows → List (List ℕ) → Option (List ℕ) → RunPlace → FoldState → FoldState → Type 0
 TakesRun dimensions modes text run old new = (cells : List Cell) → AreLeft text run cells
-    → (rows : List LineOrder) → StandFor dimensions modes rows (cells_of run.head.view cells)
+    → (rows : List LineOrder) → RepresentRows dimensions modes rows (cells_of run.head.view cells)
     → Takes dimensions old rows new

@@ -10,7 +10,7 @@ use Rattle.cube_model.specs.declared.rows.LineOrder.{LineOrder}
 use Rattle.cuboid_cells.specs.declared.cell.Cell.{Cell}
 use Rattle.lattice.specs.declared.view.View.{View}
 use Rattle.cuboid_upkeep.specs.CellNumbers.{AskedOfCells}
-use Rattle.cuboid_upkeep.specs.StandIns.{AreStandIns, IsStandIn}
+use Rattle.cuboid_upkeep.specs.Representatives.{AreRepresentatives, IsRepresentative}
 use Rattle.cube_query.specs.CellTallies.{with_cells}
 use Rattle.cube_query.specs.Columns.{tallies_at}
 use Rattle.cube_query.specs.FoldInvariant.{AreGroupSlots, IsGroupSlot}
@@ -23,13 +23,13 @@ asked_of dimensions query view modes = record { dimensions = dimensions; query =
 -- the slot of the group of a row that represents a cell, and none where the row is not selected
 pub record IsCellSlot (asked : AskedOfCells) (entries : List (ℕ × ℕ)) (cell : Cell) (group_slot : Option ℕ) : Type 0 where
   pub row : LineOrder
-  pub stands : IsStandIn asked.dimensions asked.modes asked.view cell row
+  pub represents : IsRepresentative asked.dimensions asked.modes asked.view cell row
   pub slot : IsGroupSlot asked.dimensions asked.query entries row group_slot
 
 -- the slots of the groups of cells: those of rows that represent them
 pub record AreCellSlots (asked : AskedOfCells) (entries : List (ℕ × ℕ)) (cells : List Cell) (group_slots : List (Option ℕ)) : Type 0 where
   pub rows : List LineOrder
-  pub stand : AreStandIns asked.dimensions asked.modes asked.view cells rows
+  pub represent : AreRepresentatives asked.dimensions asked.modes asked.view cells rows
   pub slots : AreGroupSlots asked.dimensions asked.query entries rows group_slots
 
 -- a cell is merged into columns at the slot of its group, if its rows are selected
@@ -47,11 +47,11 @@ pub record AreMergedIn (asked : AskedOfCells) (aggs : List Agg) (entries : List 
   pub merged : (slot : ℕ) → tallies_at new slot ≡ with_cells aggs slot cells group_slots (tallies_at old slot)
 
 -- no row represents a cell
-abbrev pub HasNoStandIn : AskedOfCells → Cell → Type 0
-HasNoStandIn asked cell = (row : LineOrder) → IsStandIn asked.dimensions asked.modes asked.view cell row → ⊥
+abbrev pub HasNoRepresentative : AskedOfCells → Cell → Type 0
+HasNoRepresentative asked cell = (row : LineOrder) → IsRepresentative asked.dimensions asked.modes asked.view cell row → ⊥
 
 -- and so it is with one of the cells
-pub record HaveNoStandIn (asked : AskedOfCells) (cells : List Cell) : Type 0 where
+pub record HaveNoRepresentative (asked : AskedOfCells) (cells : List Cell) : Type 0 where
   pub cell : Cell
   pub among : Contains cells cell
-  pub none : HasNoStandIn asked cell
+  pub none : HasNoRepresentative asked cell

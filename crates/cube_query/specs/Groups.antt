@@ -37,7 +37,7 @@ pub record FoldState : Type 0 where
 
 -- A fold represents fact rows over dimensions: its plan is over these, at the number of each group it has the tallies over
 -- the selected rows of that group's key, and no selected row has another key.
-pub record StandsFor (dimensions : DimRows) (fold : FoldState) (rows : List LineOrder) : Type 0 where
+pub record RepresentsRows (dimensions : DimRows) (fold : FoldState) (rows : List LineOrder) : Type 0 where
   pub over : IsPlanOver dimensions fold.plan
   pub each : (number : ℕ) → number < group_count dimensions fold.query.columns
       → slice_index_or fold.tallies number []
@@ -49,7 +49,7 @@ pub record StandsFor (dimensions : DimRows) (fold : FoldState) (rows : List Line
 -- a fold that begins: it represents no fact row
 pub record Begins (dimensions : DimRows) (query : Query) (fold : FoldState) : Type 0 where
   pub query_is : fold.query ≡ query
-  pub stands : StandsFor dimensions fold []
+  pub represents : RepresentsRows dimensions fold []
 
 -- the dimensions are those of a fold's beginning
 abbrev pub IsOver : DimRows → FoldState → Type 0
@@ -57,18 +57,18 @@ IsOver dimensions fold = IsPlanOver dimensions fold.plan
 
 -- a fold over the dimensions of its beginning: it represents some fact rows
 abbrev pub IsFoldOver : DimRows → FoldState → Type 0
-IsFoldOver dimensions fold = (rows : List LineOrder) × StandsFor dimensions fold rows
+IsFoldOver dimensions fold = (rows : List LineOrder) × RepresentsRows dimensions fold rows
 
 -- a fold over the dimensions of its beginning that represents fact rows that may be folded
 abbrev pub IsFoldable : DimRows → FoldState → Type 0
-IsFoldable dimensions fold = (rows : List LineOrder) × (StandsFor dimensions fold rows × AreFoldable dimensions rows)
+IsFoldable dimensions fold = (rows : List LineOrder) × (RepresentsRows dimensions fold rows × AreFoldable dimensions rows)
 
 -- the fold represents fact rows after which others may be added
 abbrev pub CanTake : DimRows → FoldState → List LineOrder → Type 0
 CanTake dimensions fold rows = (so_far : List LineOrder)
-    × (StandsFor dimensions fold so_far × AreFoldable dimensions (so_far ++ rows))
+    × (RepresentsRows dimensions fold so_far × AreFoldable dimensions (so_far ++ rows))
 
 -- the fold represents the fact rows that it represented, with others after them
 pub record Takes (dimensions : DimRows) (old : FoldState) (rows : List LineOrder) (new : FoldState) : Type 0 where
   pub query : new.query ≡ old.query
-  pub stands : (so_far : List LineOrder) → StandsFor dimensions old so_far → StandsFor dimensions new (so_far ++ rows)
+  pub represents : (so_far : List LineOrder) → RepresentsRows dimensions old so_far → RepresentsRows dimensions new (so_far ++ rows)

@@ -8,7 +8,7 @@ ghost use Rattle.cuboid_cells.specs.Pieces.{AreLeft, size_of_run};
 ghost use Rattle.cuboid_cells.specs.declared.cell.Cell.{Cell};
 ghost use Rattle.group_plan.specs.Numbers.{group_count};
 ghost use Rattle.cube_query.specs.CellRuns.{IsRunMerged, ReadsWanted};
-ghost use Rattle.cube_query.specs.CellSlots.{HaveNoStandIn};
+ghost use Rattle.cube_query.specs.CellSlots.{HaveNoRepresentative};
 ghost use Rattle.cube_query.specs.CellTallies.{GroupsHaveRoomFor};
 ghost use Rattle.cube_query.specs.Columns.{tallies_at};
 ghost use Rattle.cube_query.specs.Slots.{entries_of, AreSlots, Cover, Grow};
@@ -46,7 +46,7 @@ pub fn merge_run<S: Source>(
         (S.texts source.old run.old.id) run.old columns.old columns.new) }
     ensures refused { IsErrOf result Fault.BadLayout → S.keeps_word source.new
         → (cells : List Cell) → AreLeft (S.texts source.old run.old.id) run.old cells
-        → HaveNoStandIn numbers.now cells ⊎ (GroupsHaveRoomFor (entries_of slots.new) aggs.now cells columns.old → ⊥) }
+        → HaveNoRepresentative numbers.now cells ⊎ (GroupsHaveRoomFor (entries_of slots.new) aggs.now cells columns.old → ⊥) }
     ensures fresh { (slot : ℕ) → length (entries_of slots.new) ≤ slot → tallies_at columns.new slot ≡ tallies_at columns.old slot }
     ensures cover { Cover (group_count numbers.now.dimensions numbers.now.query.columns) slots.new }
     ensures grow { Grow (group_count numbers.now.dimensions numbers.now.query.columns) (entries_of slots.old)

@@ -3,7 +3,7 @@ ghost use Rattle.std.specs.Prelude.{◌≡◌, ◌⊎◌, ◌<◌, ◌≤◌, �
 ghost use Rattle.std.specs.List.{All};
 ghost use Rattle.cuboid_cells.specs.Cells.{IsCellOf};
 ghost use Rattle.group_plan.specs.Numbers.{group_count};
-ghost use Rattle.cube_query.specs.CellSlots.{AreMergedIn, HasNoStandIn, HaveNoStandIn, IsCellSlot, IsMergedIn};
+ghost use Rattle.cube_query.specs.CellSlots.{AreMergedIn, HasNoRepresentative, HaveNoRepresentative, IsCellSlot, IsMergedIn};
 ghost use Rattle.cube_query.specs.CellTallies.{GroupsHaveRoomFor};
 ghost use Rattle.cube_query.specs.Columns.{tallies_at};
 ghost use Rattle.cube_query.specs.Slots.{entries_of, slot_of, AreSlots, Cover, Grow};
@@ -36,7 +36,7 @@ pub fn with_cells(
     requires columns { length columns.now ≡ length aggs.now }
     ensures merged { IfOk result (λ merged.
         AreMergedIn numbers.now aggs.now (entries_of slots.new) cells.now columns.now merged.items) }
-    ensures refused { result ≡ Err Fault.BadLayout → HaveNoStandIn numbers.now cells.now
+    ensures refused { result ≡ Err Fault.BadLayout → HaveNoRepresentative numbers.now cells.now
         ⊎ (GroupsHaveRoomFor (entries_of slots.new) aggs.now cells.now columns.now → ⊥) }
     ensures only { IfErr result (λ fault. (fault ≡ Fault.Memory) ⊎ (fault ≡ Fault.BadLayout)) }
     ensures cover { Cover (group_count numbers.now.dimensions numbers.now.query.columns) slots.new }
@@ -63,7 +63,7 @@ pub fn merge_cells(
     requires columns { length columns.old ≡ length aggs.now }
     ensures merged { OnOk result
         (AreMergedIn numbers.now aggs.now (entries_of slots.new) cells.now columns.old columns.new) }
-    ensures refused { result ≡ Err Fault.BadLayout → HaveNoStandIn numbers.now cells.now
+    ensures refused { result ≡ Err Fault.BadLayout → HaveNoRepresentative numbers.now cells.now
         ⊎ (GroupsHaveRoomFor (entries_of slots.new) aggs.now cells.now columns.old → ⊥) }
     ensures fresh { (first : List (ℕ × ℕ))
         → Grow (group_count numbers.now.dimensions numbers.now.query.columns) first (entries_of slots.old)
@@ -94,7 +94,7 @@ fn merge_one(
     requires columns { length columns.old ≡ length aggs.now }
     ensures merged { OnOk result
         (IsMergedIn numbers.now aggs.now (entries_of slots.new) cell.now columns.old columns.new) }
-    ensures refused { result ≡ Err Fault.BadLayout → HasNoStandIn numbers.now cell.now
+    ensures refused { result ≡ Err Fault.BadLayout → HasNoRepresentative numbers.now cell.now
         ⊎ (GroupsHaveRoomFor (entries_of slots.new) aggs.now (cell.now ∷ []) columns.old → ⊥) }
     ensures fresh { (first : List (ℕ × ℕ))
         → Grow (group_count numbers.now.dimensions numbers.now.query.columns) first (entries_of slots.old)
@@ -119,7 +119,7 @@ fn cell_slot_of(numbers: &CellNumbers, slots: &mut Slots, cell: &Cell) -> Result
     requires cell { IsCellOf numbers.now.view cell.now }
     requires cover { Cover (group_count numbers.now.dimensions numbers.now.query.columns) slots.old }
     ensures group_slot { IfOk result (IsCellSlot numbers.now (entries_of slots.new) cell.now) }
-    ensures refused { result ≡ Err Fault.BadLayout → HasNoStandIn numbers.now cell.now }
+    ensures refused { result ≡ Err Fault.BadLayout → HasNoRepresentative numbers.now cell.now }
     ensures only { IfErr result (λ fault. (fault ≡ Fault.Memory) ⊎ (fault ≡ Fault.BadLayout)) }
     ensures cover { Cover (group_count numbers.now.dimensions numbers.now.query.columns) slots.new }
     ensures keep { (number slot : ℕ) → slot_of (entries_of slots.old) number ≡ Some slot

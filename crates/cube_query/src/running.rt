@@ -14,11 +14,11 @@ ghost use Rattle.cuboid_cells.specs.Steps.{cells_of};
 ghost use Rattle.cuboid_cells.specs.declared.cell.Cell.{Cell};
 ghost use Rattle.cube_query.specs.Asked.{AreSame, asked_columns, is_asked};
 ghost use Rattle.cube_query.specs.CellRuns.{IsRunMerged, TakesRun};
-ghost use Rattle.cube_query.specs.CellSlots.{AreMergedIn, HaveNoStandIn, asked_of};
+ghost use Rattle.cube_query.specs.CellSlots.{AreMergedIn, HaveNoRepresentative, asked_of};
 ghost use Rattle.cube_query.specs.CellTallies.{GroupsHaveRoomFor};
 ghost use Rattle.cube_query.specs.Columns.{tallies_at};
 ghost use Rattle.cube_query.specs.GroupLines.{AreGroupsOver, answer_over};
-ghost use Rattle.cube_query.specs.Groups.{StandsFor, Begins, CanTake, IsFoldable, IsOver, Takes};
+ghost use Rattle.cube_query.specs.Groups.{RepresentsRows, Begins, CanTake, IsFoldable, IsOver, Takes};
 ghost use Rattle.group_plan.specs.Numbers.{group_count, IsKnown};
 ghost use Rattle.group_plan.specs.Parts.{IsKnownFor};
 ghost use Rattle.group_plan.specs.Plans.{IsPlanOver, query_of};
@@ -26,7 +26,7 @@ ghost use Rattle.cube_query.specs.Slots.{entries_of, slot_of, AreSlots, CanPlace
 ghost use Rattle.cube_query.specs.WholeBatch.{has_one_group};
 ghost use Rattle.cube_query.specs.FoldInvariant.{AreGroupSlots};
 ghost use Rattle.cuboid_upkeep.specs.Codes.{modes_of};
-ghost use Rattle.cuboid_upkeep.specs.Grouping.{StandFor};
+ghost use Rattle.cuboid_upkeep.specs.Grouping.{RepresentRows};
 ghost use Rattle.lattice.specs.Determined.{Serves};
 
 use crate::asked::asked_columns;
@@ -184,11 +184,11 @@ impl Fold {
         ensures over { IsOver dims.now self.new }
         ensures query { self.new.query ≡ self.old.query }
         ensures ok { OnOk result ((rows : List LineOrder)
-            → StandFor dims.now (modes_of (option_map (λ modes. modes.now) modes.entry)) rows cells.now
+            → RepresentRows dims.now (modes_of (option_map (λ modes. modes.now) modes.entry)) rows cells.now
             → Takes dims.now self.old rows self.new) }
         ensures err { OnErr result (self.new ≡ self.old) }
         ensures refused { result ≡ Err Fault.BadLayout → (rows : List LineOrder)
-            → StandFor dims.now (modes_of (option_map (λ modes. modes.now) modes.entry)) rows cells.now
+            → RepresentRows dims.now (modes_of (option_map (λ modes. modes.now) modes.entry)) rows cells.now
             → CanTake dims.now self.old rows → ⊥ }
         ensures only { IfErr result (λ fault. (fault ≡ Fault.Memory) ⊎ (fault ≡ Fault.BadLayout)) }
     {
@@ -227,7 +227,7 @@ impl Fold {
             self.old self.new) }
         ensures refused { IsErrOf result Fault.BadLayout → S.keeps_word source.new
             → (cells : List Cell) → AreLeft (S.texts source.old run.old.id) run.old cells → (rows : List LineOrder)
-            → StandFor dims.now (modes_of (option_map (λ modes. modes.now) modes.entry)) rows
+            → RepresentRows dims.now (modes_of (option_map (λ modes. modes.now) modes.entry)) rows
             (cells_of run.old.head.view cells)
             → CanTake dims.now self.old rows → ⊥ }
         ensures run { MatchResult result (λ _. HasRead S.Source source.old source.new)
@@ -337,7 +337,7 @@ impl Fold {
     /// The answer over the fact rows that were added. `BadLayout` says that a sum over some of them passes its limit.
     pub fn finish(&self, dims: &Dims) -> Result<Answer, Fault>
         requires { IsOver dims.now self.now }
-        ensures answer { IfOk result (λ found. (rows : List LineOrder) → StandsFor dims.now self.now rows
+        ensures answer { IfOk result (λ found. (rows : List LineOrder) → RepresentsRows dims.now self.now rows
             → found ≡ answer self.now.query dims.now rows) }
         ensures refused { result ≡ Err Fault.BadLayout → IsFoldable dims.now self.now → ⊥ }
         ensures only { IfErr result (λ fault. (fault ≡ Fault.Memory) ⊎ (fault ≡ Fault.BadLayout)) }
@@ -359,7 +359,7 @@ impl Fold {
     pub fn into_groups(self, dims: &Dims) -> Result<Groups, Fault>
         requires { IsOver dims.now self }
         ensures over { IfOk result (AreGroupsOver dims.now) }
-        ensures answer { IfOk result (λ groups. (rows : List LineOrder) → StandsFor dims.now self rows
+        ensures answer { IfOk result (λ groups. (rows : List LineOrder) → RepresentsRows dims.now self rows
             → answer_over dims.now groups ≡ answer self.query dims.now rows) }
         ensures refused { result ≡ Err Fault.BadLayout → IsFoldable dims.now self → ⊥ }
         ensures only { IfErr result (λ fault. (fault ≡ Fault.Memory) ⊎ (fault ≡ Fault.BadLayout)) }
@@ -445,7 +445,7 @@ fn columns_with_cells(
         (modes_of (option_map (λ modes. modes.now) modes.entry))) (query_of plan.now).aggregates (entries_of slots.new)
         cells.now.cells columns.now merged.items) }
     ensures refused { result ≡ Err Fault.BadLayout → (rows : List LineOrder)
-        → StandFor dims.now (modes_of (option_map (λ modes. modes.now) modes.entry)) rows cells.now
+        → RepresentRows dims.now (modes_of (option_map (λ modes. modes.now) modes.entry)) rows cells.now
         → All (IsKnown dims.now) rows
         → GroupsHaveRoomFor (entries_of slots.new) (query_of plan.now).aggregates cells.now.cells columns.now → ⊥ }
     ensures only { IfErr result (λ fault. (fault ≡ Fault.Memory) ⊎ (fault ≡ Fault.BadLayout)) }
@@ -483,7 +483,7 @@ fn with_run<S: Source>(
         columns.old columns.new) }
     ensures refused { IsErrOf result Fault.BadLayout → S.keeps_word source.new
         → (cells : List Cell) → AreLeft (S.texts source.old run.old.id) run.old cells
-        → HaveNoStandIn
+        → HaveNoRepresentative
         (asked_of dims.now (query_of plan.now) run.old.head.view (modes_of (option_map (λ modes. modes.now) modes.entry)))
         cells
         ⊎ (GroupsHaveRoomFor (entries_of slots.new) (query_of plan.now).aggregates cells columns.old → ⊥) }

@@ -10,20 +10,20 @@ use Rattle.object_store.specs.Content.{Content}
 use Rattle.warehouse_root.specs.declared.cuboid.StoredCuboid.{StoredCuboid}
 use Rattle.warehouse_root.specs.Root.{PlainRoot, with_cuboid}
 use Rattle.warehouse_objects.specs.Warehouse.{Cuboid, Warehouse}
-use Rattle.warehouse_objects.specs.Stands.{Stands, root_of, said_of}
+use Rattle.warehouse_objects.specs.Represents.{Represents, root_of, said_of}
 use Rattle.cuboid_commits.specs.Nexts.{HasStored, IsBroughtBy, IsNext}
 use Rattle.cuboid_commits.specs.declared.keeping.Next.{Next}
 use Rattle.cuboid_commits.proofs.Places.{changed, changed_is}
 
 pub brought_by : (Holds : Warehouse → Type 0) (root : PlainRoot) (said : StoredCuboid) (mark : ℕ) (next : Next) (is : IsNext Holds root said mark next) (c : Content) (w : Warehouse) (old : Cuboid)
-    → Stands c w → HasStored root said w old → Holds w → IsBroughtBy w next (changed is.change said.view w)
-brought_by Holds root said mark next is c w old stands has holds =
+    → Represents c w → HasStored root said w old → Holds w → IsBroughtBy w next (changed is.change said.view w)
+brought_by Holds root said mark next is c w old represents has holds =
     let by = is.brings w old has holds in record {
       old = old;
       new = is.change old;
       run = by.0;
       brings = by.1;
-      is = ap (λ (l : List Cuboid). record w { cuboids = l }) (changed_is is.change said.view old w.cuboids is.goes_on stands.root.proper.ascending (ap (λ (s : StoredCuboid). s.view) has.said_is) has.found);
+      is = ap (λ (l : List Cuboid). record w { cuboids = l }) (changed_is is.change said.view old w.cuboids is.goes_on represents.root.proper.ascending (ap (λ (s : StoredCuboid). s.view) has.said_is) has.found);
     }
 
 same_Some : {A : Type 0} (a b : A) → Some a ≡ Some b → a ≡ b

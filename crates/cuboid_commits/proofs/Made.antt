@@ -15,7 +15,7 @@ use Rattle.cuboid_cells.specs.Cells.{AreProper, PlainCells}
 use Rattle.cuboid_cells.specs.Spelled.{IsRun, IsSpan, cell_bytes, run_of}
 use Rattle.cuboid_cells.specs.Steps.{cells_of}
 use Rattle.cuboid_cells.proofs.CallerLemmas.{length-run_of}
-use Rattle.cuboid_upkeep.specs.Grouping.{StandFor}
+use Rattle.cuboid_upkeep.specs.Grouping.{RepresentRows}
 use Rattle.object_store.specs.Commit.{ArePuts}
 use Rattle.object_store.proofs.CallerLemmas.{one_put}
 use Rattle.warehouse_root.specs.declared.cuboid.StoredCuboid.{StoredCuboid}
@@ -23,7 +23,7 @@ use Rattle.warehouse_root.specs.Limits.{most_cells, most_runs}
 use Rattle.warehouse_root.specs.Objects.{run_id}
 use Rattle.warehouse_root.specs.Root.{PlainRoot}
 use Rattle.warehouse_objects.specs.Warehouse.{Cuboid, StoredRun, Warehouse, cells_in, cuboid_at, modes_of}
-use Rattle.warehouse_objects.specs.Stands.{Follow, rows_in}
+use Rattle.warehouse_objects.specs.Represents.{Follow, rows_in}
 use Rattle.cuboid_commits.specs.Nexts.{BringsOn, GoesOn, HasStored, IsMade, IsNext, first_run}
 use Rattle.cuboid_commits.specs.declared.keeping.Next.{Next}
 use Rattle.cuboid_commits.proofs.Places.{root_kept}
@@ -96,14 +96,14 @@ module _ (w : Warehouse) (root : PlainRoot) (said : StoredCuboid) (old : Cuboid)
   proper_here : AreProper cells → AreProper (cells_of old.view cells.cells)
   proper_here proper = subst (λ (v : View). AreProper (cells_of v cells.cells)) view_is proper
 
-  stand_here : (rows : List LineOrder) → StandFor w.rows (modes_of w) rows cells → StandFor w.rows (modes_of w) rows (cells_of old.view cells.cells)
-  stand_here rows stand = subst (λ (v : View). StandFor w.rows (modes_of w) rows (cells_of v cells.cells)) view_is stand
+  represent_here : (rows : List LineOrder) → RepresentRows w.rows (modes_of w) rows cells → RepresentRows w.rows (modes_of w) rows (cells_of old.view cells.cells)
+  represent_here rows represent = subst (λ (v : View). RepresentRows w.rows (modes_of w) rows (cells_of v cells.cells)) view_is represent
 
   -- a run after the others
   pub append_brings : after.runs ≡ said.runs + 1 → after.cells ≡ said.cells + length cells.cells → id ≡ run_id said.view said.runs → drops ≡ []
-      → span.from ≡ said.mark → said.runs < most_runs → said.cells + length cells.cells ≤ most_cells → StandFor w.rows (modes_of w) (rows_in w.batches span) cells
+      → span.from ≡ said.mark → said.runs < most_runs → said.cells + length cells.cells ≤ most_cells → RepresentRows w.rows (modes_of w) (rows_in w.batches span) cells
       → BringsOn w old (appending span cells.cells old) (run_over span cells.cells) next
-  append_brings after_runs after_cells id_is drops_are from few few_cells stand = record {
+  append_brings after_runs after_cells id_is drops_are from few few_cells represent = record {
     may = record {
       stored = stored;
       view = refl;
@@ -118,9 +118,9 @@ module _ (w : Warehouse) (root : PlainRoot) (said : StoredCuboid) (old : Cuboid)
               (All-cons (λ run. AreProper (cells_of old.view run.cells)) (run_over span cells.cells) [] (proper_here made.bytes.proper) (All-nil (λ run. AreProper (cells_of old.view run.cells))));
         };
         groupings =
-            All-append (λ run. StandFor w.rows (modes_of w) (rows_in w.batches run.span) (cells_of old.view run.cells)) old.runs (run_over span cells.cells ∷ []) has.holds.groupings
-            (All-cons (λ run. StandFor w.rows (modes_of w) (rows_in w.batches run.span) (cells_of old.view run.cells)) (run_over span cells.cells) [] (stand_here (rows_in w.batches span) stand)
-            (All-nil (λ run. StandFor w.rows (modes_of w) (rows_in w.batches run.span) (cells_of old.view run.cells))));
+            All-append (λ run. RepresentRows w.rows (modes_of w) (rows_in w.batches run.span) (cells_of old.view run.cells)) old.runs (run_over span cells.cells ∷ []) has.holds.groupings
+            (All-cons (λ run. RepresentRows w.rows (modes_of w) (rows_in w.batches run.span) (cells_of old.view run.cells)) (run_over span cells.cells) [] (represent_here (rows_in w.batches span) represent)
+            (All-nil (λ run. RepresentRows w.rows (modes_of w) (rows_in w.batches run.span) (cells_of old.view run.cells))));
       };
       some = omega (arith, mark_is, above);
       within = omega (arith, mark_is, within, count);
@@ -152,9 +152,9 @@ module _ (w : Warehouse) (root : PlainRoot) (said : StoredCuboid) (old : Cuboid)
 
   -- one run in the place of all
   pub replace_brings : after.runs ≡ 1 → after.cells ≡ length cells.cells → id ≡ run_id said.view 0 → drops ≡ range_with_len (run_id said.view 1) (said.runs - 1)
-      → span.from ≡ 0 → StandFor w.rows (modes_of w) (all_rows (take span.to w.batches)) cells
+      → span.from ≡ 0 → RepresentRows w.rows (modes_of w) (all_rows (take span.to w.batches)) cells
       → BringsOn w old (replacing span cells.cells old) (run_over span cells.cells) next
-  replace_brings after_runs after_cells id_is drops_are from stand = record {
+  replace_brings after_runs after_cells id_is drops_are from represent = record {
     may = record {
       stored = stored;
       view = refl;
@@ -165,9 +165,9 @@ module _ (w : Warehouse) (root : PlainRoot) (said : StoredCuboid) (old : Cuboid)
           proper = All-cons (λ run. AreProper (cells_of old.view run.cells)) (run_over span cells.cells) [] (proper_here made.bytes.proper) (All-nil (λ run. AreProper (cells_of old.view run.cells)));
         };
         groupings =
-            All-cons (λ run. StandFor w.rows (modes_of w) (rows_in w.batches run.span) (cells_of old.view run.cells)) (run_over span cells.cells) []
-            (stand_here (rows_in w.batches span) (subst (λ (n : ℕ). StandFor w.rows (modes_of w) (all_rows (drop n (take span.to w.batches))) cells) (sym from) stand))
-            (All-nil (λ run. StandFor w.rows (modes_of w) (rows_in w.batches run.span) (cells_of old.view run.cells)));
+            All-cons (λ run. RepresentRows w.rows (modes_of w) (rows_in w.batches run.span) (cells_of old.view run.cells)) (run_over span cells.cells) []
+            (represent_here (rows_in w.batches span) (subst (λ (n : ℕ). RepresentRows w.rows (modes_of w) (all_rows (drop n (take span.to w.batches))) cells) (sym from) represent))
+            (All-nil (λ run. RepresentRows w.rows (modes_of w) (rows_in w.batches run.span) (cells_of old.view run.cells)));
       };
       some = omega (arith, mark_is, above);
       within = omega (arith, mark_is, within, count);
@@ -200,7 +200,7 @@ module _ (root : PlainRoot) (said : StoredCuboid) (cells : PlainCells) (span : S
     (view : index_of cells.view ≡ said.view) (above : said.mark < span.to) (within : span.to ≤ length root.batches) (after_view : after.view ≡ said.view) (after_mark : after.mark ≡ span.to) where
   pub next_appended : after.runs ≡ said.runs + 1 → after.cells ≡ said.cells + length cells.cells → id ≡ run_id said.view said.runs → drops ≡ []
       → span.from ≡ said.mark → said.runs < most_runs → said.cells + length cells.cells ≤ most_cells
-      → IsNext (λ w. StandFor w.rows (modes_of w) (rows_in w.batches span) cells) root said span.to next
+      → IsNext (λ w. RepresentRows w.rows (modes_of w) (rows_in w.batches span) cells) root said span.to next
   next_appended after_runs after_cells id_is drops_are from few few_cells = record {
     put = made_put root after id span cells drops next made;
     runs = made_runs next.id said.view said.runs next.drops.items 0 (made.id_is ∙ id_is) (made.drops_are ∙ drops_are);
@@ -212,14 +212,14 @@ module _ (root : PlainRoot) (said : StoredCuboid) (cells : PlainCells) (span : S
     change = appending span cells.cells;
     goes_on = appending_goes_on span cells.cells;
     reaches = λ cuboid less. omega (arith, less);
-    brings = λ w old has stand. (
+    brings = λ w old has represent. (
       run_over span cells.cells,
-      append_brings w root said old has cells span next after id drops made view above within after_view after_mark after_runs after_cells id_is drops_are from few few_cells stand,
+      append_brings w root said old has cells span next after id drops made view above within after_view after_mark after_runs after_cells id_is drops_are from few few_cells represent,
     );
   }
 
   pub next_replaced : after.runs ≡ 1 → after.cells ≡ length cells.cells → id ≡ run_id said.view 0 → drops ≡ range_with_len (run_id said.view 1) (said.runs - 1) → span.from ≡ 0
-      → IsNext (λ w. StandFor w.rows (modes_of w) (all_rows (take span.to w.batches)) cells) root said span.to next
+      → IsNext (λ w. RepresentRows w.rows (modes_of w) (all_rows (take span.to w.batches)) cells) root said span.to next
   next_replaced after_runs after_cells id_is drops_are from = record {
     put = made_put root after id span cells drops next made;
     runs = made_runs next.id said.view 0 next.drops.items (said.runs - 1) (made.id_is ∙ id_is) (made.drops_are ∙ drops_are);
@@ -231,9 +231,9 @@ module _ (root : PlainRoot) (said : StoredCuboid) (cells : PlainCells) (span : S
     change = replacing span cells.cells;
     goes_on = replacing_goes_on span cells.cells;
     reaches = λ cuboid less. omega (arith, less);
-    brings = λ w old has stand. (
+    brings = λ w old has represent. (
       run_over span cells.cells,
-      replace_brings w root said old has cells span next after id drops made view above within after_view after_mark after_runs after_cells id_is drops_are from stand,
+      replace_brings w root said old has cells span next after id drops made view above within after_view after_mark after_runs after_cells id_is drops_are from represent,
     );
   }
 

@@ -16,7 +16,7 @@ use Rattle.object_store.specs.declared.store.Store.{Store}
 use Rattle.warehouse_root.specs.declared.cuboid.StoredCuboid.{StoredCuboid}
 use Rattle.warehouse_root.specs.Root.{PlainRoot, with_cuboid}
 use Rattle.warehouse_objects.specs.Warehouse.{Cuboid, Warehouse}
-use Rattle.warehouse_objects.specs.Stands.{Stands}
+use Rattle.warehouse_objects.specs.Represents.{Represents}
 use Rattle.warehouse_objects.proofs.Folded.{err_fault}
 use Rattle.cuboid_commits.specs.Keeping.{IsCaughtUp, IsReached, IsTooLarge, StoreAt}
 use Rattle.cuboid_commits.specs.Nexts.{EndsBringing, HasStored, IsBroughtBy, IsNext, RefusesNext}
@@ -28,10 +28,10 @@ use Rattle.cuboid_commits.proofs.Turns.{same}
 
 -- what a read leaves
 pub read_leaves : {D : Type 0} (g : Ghosts D) (a b : Store D g) (root : PlainRoot) (w : Warehouse) → StoreAt g a root w → Leaves (disk_of g a) (disk_of g b) (λ c. c ≡ content_of g a)
-    → Leaves (disk_of g a) (disk_of g b) (λ c. (v : Warehouse) × IsCaughtUp w v × Stands c v)
+    → Leaves (disk_of g a) (disk_of g b) (λ c. (v : Warehouse) × IsCaughtUp w v × Represents c v)
 read_leaves g a b root w is =
-    leaves_weaker (λ (c : Content). c ≡ content_of g a) (λ (c : Content). (v : Warehouse) × IsCaughtUp w v × Stands c v) (disk_of g a) (disk_of g b)
-    (λ k c e. (w, same w, subst (λ (x : Content). Stands x w) (sym e) (is.stands k)))
+    leaves_weaker (λ (c : Content). c ≡ content_of g a) (λ (c : Content). (v : Warehouse) × IsCaughtUp w v × Represents c v) (disk_of g a) (disk_of g b)
+    (λ k c e. (w, same w, subst (λ (x : Content). Represents x w) (sym e) (is.represents k)))
 
 -- ---- refusals
 
@@ -95,26 +95,26 @@ ends_unread fault number many =
 module _ {D : Type 0} (g : Ghosts D) (a b : Store D g) (still : IsStill g a b) (dims : DimRows) (root : PlainRoot) (said : StoredCuboid) (place : ℕ) (there : slice_get root.cuboids place ≡ Some said) where
   -- the cuboid in the warehouse
   pub stored_at : (w : Warehouse) → StoreAt g a root w → g.keeps_word (device_of b) → (old : Cuboid) × (slice_get w.cuboids place ≡ Some old) × HasStored root said w old
-  stored_at w is k = stored_there (content_of g a) w root said place (is.stands (still.word k)) (is.root_is (still.word k)) there
+  stored_at w is k = stored_there (content_of g a) w root said place (is.represents (still.word k)) (is.root_is (still.word k)) there
 
   -- the view was found too large
   pub passed_over : (view : View) → index_of view ≡ said.view
-      → ((w : Warehouse) (stored : Cuboid) → Stands (content_of g a) w → HasStored root said w stored → dims ≡ w.rows → IsTooLarge w view)
+      → ((w : Warehouse) (stored : Cuboid) → Represents (content_of g a) w → HasStored root said w stored → dims ≡ w.rows → IsTooLarge w view)
       → (v : Warehouse) → StoreAt g b root v → g.keeps_word (device_of b) → dims ≡ v.rows → (cuboid : Cuboid) → slice_get v.cuboids place ≡ Some cuboid → IsReached (Some view) v cuboid
   passed_over view number large v is k rows cuboid at_place =
-      let stands = subst (λ (x : Content). Stands x v) (still.content k) (is.stands k) in
-      let found = stored_there (content_of g a) v root said place stands (is.root_is k) there in
-      (view_there said cuboid view (said_there v root said place cuboid (is.root_is k) there at_place) number, large v found.0 stands found.2 rows)
+      let represents = subst (λ (x : Content). Represents x v) (still.content k) (is.represents k) in
+      let found = stored_there (content_of g a) v root said place represents (is.root_is k) there in
+      (view_there said cuboid view (said_there v root said place cuboid (is.root_is k) there at_place) number, large v found.0 represents found.2 rows)
 
-  module _ (next : Next) (is : IsNext (λ w. g.keeps_word (device_of b) × Stands (content_of g a) w × (dims ≡ w.rows)) root said root.target next) where
+  module _ (next : Next) (is : IsNext (λ w. g.keeps_word (device_of b) × Represents (content_of g a) w × (dims ≡ w.rows)) root said root.target next) where
     abbrev pub brought : Warehouse → Warehouse
     brought w = changed is.change said.view w
 
     pub by_next : (w : Warehouse) → StoreAt g a root w → (g.keeps_word (device_of a) → dims ≡ w.rows) → g.keeps_word (device_of b) → IsBroughtBy w next (brought w)
     by_next w at_a rows k =
-        let stands = at_a.stands (still.word k) in
+        let represents = at_a.represents (still.word k) in
         let found = stored_at w at_a k in
-        brought_by (λ x. g.keeps_word (device_of b) × Stands (content_of g a) x × (dims ≡ x.rows)) root said root.target next is (content_of g a) w found.0 stands found.2 (k, stands, rows (still.word k))
+        brought_by (λ x. g.keeps_word (device_of b) × Represents (content_of g a) x × (dims ≡ x.rows)) root said root.target next is (content_of g a) w found.0 represents found.2 (k, represents, rows (still.word k))
 
     pub caught : (w : Warehouse) → IsCaughtUp w (brought w)
     caught w = changed_caught is.change said.view w is.goes_on
@@ -125,7 +125,7 @@ module _ {D : Type 0} (g : Ghosts D) (a b : Store D g) (still : IsStill g a b) (
         → (refused : RefusesNext g c w fault) × (slice_get w.cuboids place ≡ Some refused.old)
     refused_next c w fault at_a rows k less as_before refuses =
         let found = stored_at w at_a k in
-        let by = is.brings w found.0 found.2 (k, at_a.stands (still.word k), rows (still.word k)) in
+        let by = is.brings w found.0 found.2 (k, at_a.represents (still.word k), rows (still.word k)) in
         let mark : found.0.mark ≡ said.mark = ap (λ (s : StoredCuboid). s.mark) found.2.said_is in
         let target : w.target ≡ root.target = ap (λ (r : PlainRoot). r.target) (at_a.root_is (still.word k)) in (
           record {
@@ -145,11 +145,11 @@ module _ {D : Type 0} (g : Ghosts D) (a b : Store D g) (still : IsStill g a b) (
 
     module _ (c : Store D g) where
       pub bring_leaves : (w : Warehouse) → StoreAt g a root w → (g.keeps_word (device_of a) → dims ≡ w.rows) → Leaves (disk_of g a) (disk_of g b) (λ x. x ≡ content_of g a)
-          → ((w v : Warehouse) → StoreAt g b root w → (g.keeps_word (device_of b) → IsBroughtBy w next v) → Leaves (disk_of g b) (disk_of g c) (λ x. Stands x w ⊎ Stands x v))
-          → Leaves (disk_of g a) (disk_of g c) (λ x. (v : Warehouse) × IsCaughtUp w v × Stands x v)
+          → ((w v : Warehouse) → StoreAt g b root w → (g.keeps_word (device_of b) → IsBroughtBy w next v) → Leaves (disk_of g b) (disk_of g c) (λ x. Represents x w ⊎ Represents x v))
+          → Leaves (disk_of g a) (disk_of g c) (λ x. (v : Warehouse) × IsCaughtUp w v × Represents x v)
       bring_leaves w at_a rows read put =
-          leaves_then (λ (x : Content). (v : Warehouse) × IsCaughtUp w v × Stands x v) (disk_of g a) (disk_of g b) (disk_of g c) (read_leaves g a b root w at_a read)
-          (leaves_weaker (λ (x : Content). Stands x w ⊎ Stands x (brought w)) (λ (x : Content). (v : Warehouse) × IsCaughtUp w v × Stands x v) (disk_of g b) (disk_of g c)
+          leaves_then (λ (x : Content). (v : Warehouse) × IsCaughtUp w v × Represents x v) (disk_of g a) (disk_of g b) (disk_of g c) (read_leaves g a b root w at_a read)
+          (leaves_weaker (λ (x : Content). Represents x w ⊎ Represents x (brought w)) (λ (x : Content). (v : Warehouse) × IsCaughtUp w v × Represents x v) (disk_of g b) (disk_of g c)
           (λ k x. ⊎_elim (λ before. (w, same w, before)) (λ after. (brought w, caught w, after)))
           (put w (brought w) (at_still g a b still root w at_a) (by_next w at_a rows)))
 

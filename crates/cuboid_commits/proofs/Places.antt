@@ -10,7 +10,7 @@ use Rattle.warehouse_root.specs.Root as roots
 use Rattle.warehouse_root.specs.Root.{AreAscending, PlainRoot, with_cuboid}
 use Rattle.object_store.specs.Content.{Content}
 use Rattle.warehouse_objects.specs.Warehouse.{Cuboid, Warehouse, cuboid_at, kept, put_cuboid}
-use Rattle.warehouse_objects.specs.Stands.{HoldsGroupings, Stands, root_of, said_of}
+use Rattle.warehouse_objects.specs.Represents.{HoldsGroupings, Represents, root_of, said_of}
 use Rattle.cuboid_commits.specs.Keeping.{AreKeptOn, IsCaughtUp}
 use Rattle.cuboid_commits.specs.Nexts.{GoesOn, HasStored}
 
@@ -52,9 +52,9 @@ not_below (c ∷ cs) (suc i) zero x y up at_i at_j order = absurd (omega (arith,
 not_below (c ∷ cs) (suc i) (suc j) x y up at_i at_j order = not_below cs i j x y (up_tail c cs up) at_i at_j (omega (arith, order))
 
 -- the cuboid of which the root of a warehouse says something at a place
-pub stored_there : (c : Content) (w : Warehouse) (root : PlainRoot) (said : StoredCuboid) (place : ℕ) → Stands c w → root_of w ≡ root → slice_get root.cuboids place ≡ Some said
+pub stored_there : (c : Content) (w : Warehouse) (root : PlainRoot) (said : StoredCuboid) (place : ℕ) → Represents c w → root_of w ≡ root → slice_get root.cuboids place ≡ Some said
     → (old : Cuboid) × (slice_get w.cuboids place ≡ Some old) × HasStored root said w old
-stored_there c w root said place stands root_is is = by (slice_get w.cuboids place) refl
+stored_there c w root said place represents root_is is = by (slice_get w.cuboids place) refl
   where
     by : (o : Option Cuboid) → slice_get w.cuboids place ≡ o → (old : Cuboid) × (slice_get w.cuboids place ≡ Some old) × HasStored root said w old
     by None e =
@@ -62,7 +62,7 @@ stored_there c w root said place stands root_is is = by (slice_get w.cuboids pla
     by (Some old) e =
         let own : Some (said_of old) ≡ Some said = sym (slice_get-map said_of w.cuboids place ∙ ap (option_map said_of) e) ∙ ap (λ (r : PlainRoot). slice_get r.cuboids place) root_is ∙ is in
         let said_is : said_of old ≡ said = cc in
-        let found = own_view w.cuboids place old stands.root.proper.ascending e in
+        let found = own_view w.cuboids place old represents.root.proper.ascending e in
         let within = slice_get_within w.cuboids place old e in (
           old,
           e,
@@ -70,7 +70,7 @@ stored_there c w root said place stands root_is is = by (slice_get w.cuboids pla
             root_is = sym root_is;
             found = ap (λ (n : ℕ). cuboid_at n w.cuboids) (ap (λ (s : StoredCuboid). s.view) (sym said_is)) ∙ found;
             said_is = said_is;
-            holds = subst (λ (x : Cuboid). HoldsGroupings w x) (get_or_from_slice_get w.cuboids place old old e) (stands.cuboids place old within);
+            holds = subst (λ (x : Cuboid). HoldsGroupings w x) (get_or_from_slice_get w.cuboids place old old e) (represents.cuboids place old within);
           },
         )
 

@@ -8,7 +8,7 @@ use Rattle.object_store.specs.Store.{IsAsBefore, IsStill, content_of, disk_of}
 use Rattle.object_store.specs.declared.store.Store.{Store}
 use Rattle.warehouse_root.specs.Root.{PlainRoot}
 use Rattle.warehouse_objects.specs.Loaded.{IsLoaded}
-use Rattle.warehouse_objects.specs.Stands.{Stands}
+use Rattle.warehouse_objects.specs.Represents.{Represents}
 use Rattle.warehouse_objects.specs.Warehouse.{Warehouse}
 use Rattle.cuboid_commits.specs.Keeping.{StoreAt}
 
@@ -16,12 +16,12 @@ module _ {D : Type 0} (g : Ghosts D) (a b : Store D g) where
   pub at_still : IsStill g a b → (root : PlainRoot) (w : Warehouse) → StoreAt g a root w → StoreAt g b root w
   at_still still root w is = record {
     fine = still.failed ∙ is.fine;
-    stands = λ k. subst (λ (x : Content). Stands x w) (sym (still.content k)) (is.stands (still.word k));
+    represents = λ k. subst (λ (x : Content). Represents x w) (sym (still.content k)) (is.represents (still.word k));
     root_is = λ k. is.root_is (still.word k);
   }
 
-  pub back_still : IsStill g a b → (disk_of g b).keeps_word → (w : Warehouse) → Stands (content_of g b) w → Stands (content_of g a) w
-  back_still still k w stands = subst (λ (x : Content). Stands x w) (still.content k) stands
+  pub back_still : IsStill g a b → (disk_of g b).keeps_word → (w : Warehouse) → Represents (content_of g b) w → Represents (content_of g a) w
+  back_still still k w represents = subst (λ (x : Content). Represents x w) (still.content k) represents
 
   pub loaded_still : IsStill g a b → (disk_of g b).keeps_word → (rows : DimRows) (root : PlainRoot) → IsLoaded (content_of g a) rows root → IsLoaded (content_of g b) rows root
   loaded_still still k rows root is = subst (λ (x : Content). IsLoaded x rows root) (sym (still.content k)) is
@@ -29,7 +29,7 @@ module _ {D : Type 0} (g : Ghosts D) (a b : Store D g) where
   pub at_before : IsAsBefore g a b → (root : PlainRoot) (w : Warehouse) → StoreAt g a root w → StoreAt g b root w
   at_before same root w is = record {
     fine = same.failed ∙ is.fine;
-    stands = λ k. subst (λ (x : Content). Stands x w) (sym same.content) (is.stands (subst (λ (d : D). g.keeps_word d) same.device k));
+    represents = λ k. subst (λ (x : Content). Represents x w) (sym same.content) (is.represents (subst (λ (d : D). g.keeps_word d) same.device k));
     root_is = λ k. is.root_is (subst (λ (d : D). g.keeps_word d) same.device k);
   }
 

@@ -28,9 +28,9 @@ use Rattle.warehouse_root.specs.Objects.{run_id, run_ids}
 use Rattle.warehouse_root.specs.Root as roots
 use Rattle.warehouse_root.specs.Root.{PlainRoot}
 use Rattle.warehouse_objects.specs.Loaded.{IsLoaded}
-use Rattle.warehouse_objects.specs.Stands.{Stands, root_of, said_with}
+use Rattle.warehouse_objects.specs.Represents.{Represents, root_of, said_with}
 use Rattle.warehouse_objects.specs.Warehouse.{Warehouse, aimed, dropped_ids, is_among, with_views}
-use Rattle.warehouse_objects.proofs.CallerLemmas.{dropped_are, few_objects, root_viewed, stands_aimed, stands_chosen}
+use Rattle.warehouse_objects.proofs.CallerLemmas.{dropped_are, few_objects, root_viewed, represents_aimed, represents_chosen}
 use Rattle.cuboid_commits.specs.Keeping.{StoreAt}
 use Rattle.cuboid_commits.specs.Nexts.{first_run}
 use Rattle.cuboid_commits.specs.Replacing.{dropped_of, replaced}
@@ -81,15 +81,15 @@ leaves_before c d old new = leaves_weaker (λ (x : Content). x ≡ c) (IsOneOf c
 
 -- a root and drops make one warehouse of another
 pub record Makes (c : Content) (root next : PlainRoot) (drops : List ℕ) (w v : Warehouse) : Type 0 where
-  pub stands : Stands c w → root_of w ≡ root → Stands (replaced next drops c) v
+  pub represents : Represents c w → root_of w ≡ root → Represents (replaced next drops c) v
   pub root_is : root_of w ≡ root → root_of v ≡ next
 
-made_so : (c : Content) (w v : Warehouse) (next : PlainRoot) (dropped drops : List ℕ) → Stands c w → root_of v ≡ next → dropped ≡ drops
-    → Stands (committed [] dropped (roots.root_of (root_of v)) (number_of w.layout) c) v → Stands (replaced next drops c) v
-made_so c w v next dropped drops stands next_is drops_are is =
-    subst (λ (d : List ℕ). Stands (replaced next d c) v) drops_are
-    (subst (λ (r : PlainRoot). Stands (committed [] dropped (roots.root_of r) (number_of First) c) v) next_is
-    (subst (λ (l : ℕ). Stands (committed [] dropped (roots.root_of (root_of v)) l c) v) (ap number_of stands.first) is))
+made_so : (c : Content) (w v : Warehouse) (next : PlainRoot) (dropped drops : List ℕ) → Represents c w → root_of v ≡ next → dropped ≡ drops
+    → Represents (committed [] dropped (roots.root_of (root_of v)) (number_of w.layout) c) v → Represents (replaced next drops c) v
+made_so c w v next dropped drops represents next_is drops_are is =
+    subst (λ (d : List ℕ). Represents (replaced next d c) v) drops_are
+    (subst (λ (r : PlainRoot). Represents (committed [] dropped (roots.root_of r) (number_of First) c) v) next_is
+    (subst (λ (l : ℕ). Represents (committed [] dropped (roots.root_of (root_of v)) l c) v) (ap number_of represents.first) is))
 
 -- a new target
 aimed_root : (root : PlainRoot) (w : Warehouse) → root_of w ≡ root → root_of (aimed w) ≡ roots.with_target (length root.batches) root
@@ -98,7 +98,7 @@ aimed_root root w same =
 
 pub makes_aimed : (c : Content) (root : PlainRoot) (w : Warehouse) → Makes c root (roots.with_target (length root.batches) root) [] w (aimed w)
 makes_aimed c root w = record {
-  stands = λ stands same. made_so c w (aimed w) (roots.with_target (length root.batches) root) [] [] stands (aimed_root root w same) refl (stands_aimed c w stands);
+  represents = λ represents same. made_so c w (aimed w) (roots.with_target (length root.batches) root) [] [] represents (aimed_root root w same) refl (represents_aimed c w represents);
   root_is = λ same. aimed_root root w same;
 }
 
@@ -112,9 +112,9 @@ viewed_drops root w views same = ap (λ (r : PlainRoot). dropped_of views r.cubo
 pub makes_viewed : (c : Content) (root : PlainRoot) (w : Warehouse) (views : List View) → length views ≤ most_cuboids
     → Makes c root (roots.with_cuboids (said_with views root.cuboids) root) (dropped_of views root.cuboids) w (with_views w views)
 makes_viewed c root w views few = record {
-  stands = λ stands same.
-      made_so c w (with_views w views) (roots.with_cuboids (said_with views root.cuboids) root) (dropped_ids w views) (dropped_of views root.cuboids) stands
-      (viewed_root root w views same) (sym (viewed_drops root w views same)) (stands_chosen c w views stands few);
+  represents = λ represents same.
+      made_so c w (with_views w views) (roots.with_cuboids (said_with views root.cuboids) root) (dropped_ids w views) (dropped_of views root.cuboids) represents
+      (viewed_root root w views same) (sym (viewed_drops root w views same)) (represents_chosen c w views represents few);
   root_is = λ same. viewed_root root w views same;
 }
 
@@ -165,17 +165,17 @@ module _ {D : Type 0} (g : Ghosts D) (old new : Store D g) (w v : Warehouse) (ro
   before = stores.content_of g old
 
   pub replaced_leaves : Leaves (stores.disk_of g old) (stores.disk_of g new) (IsOneOf before (replaced next drops before))
-      → Leaves (stores.disk_of g old) (stores.disk_of g new) (λ c. Stands c w ⊎ Stands c v)
+      → Leaves (stores.disk_of g old) (stores.disk_of g new) (λ c. Represents c w ⊎ Represents c v)
   replaced_leaves leaves =
-      leaves_weaker (IsOneOf before (replaced next drops before)) (λ (c : Content). Stands c w ⊎ Stands c v) (stores.disk_of g old) (stores.disk_of g new)
-      (λ k c. ⊎_elim (λ e. inl (subst (λ (x : Content). Stands x w) (sym e) (at.stands k)))
-      (λ e. inr (subst (λ (x : Content). Stands x v) (sym e) (makes.stands (at.stands k) (at.root_is k))))) leaves
+      leaves_weaker (IsOneOf before (replaced next drops before)) (λ (c : Content). Represents c w ⊎ Represents c v) (stores.disk_of g old) (stores.disk_of g new)
+      (λ k c. ⊎_elim (λ e. inl (subst (λ (x : Content). Represents x w) (sym e) (at.represents k)))
+      (λ e. inr (subst (λ (x : Content). Represents x v) (sym e) (makes.represents (at.represents k) (at.root_is k))))) leaves
 
   pub replaced_at : stores.has_failed new ≡ false → ((stores.disk_of g new).keeps_word → (stores.disk_of g old).keeps_word)
       → ((stores.disk_of g new).keeps_word → stores.content_of g new ≡ replaced next drops before) → StoreAt g new next v
   replaced_at fine word is = record {
     fine = fine;
-    stands = λ k. subst (λ (x : Content). Stands x v) (sym (is k)) (makes.stands (at.stands (word k)) (at.root_is (word k)));
+    represents = λ k. subst (λ (x : Content). Represents x v) (sym (is k)) (makes.represents (at.represents (word k)) (at.root_is (word k)));
     root_is = λ k. makes.root_is (at.root_is (word k));
   }
 
@@ -185,7 +185,7 @@ module _ {D : Type 0} (g : Ghosts D) (old new : Store D g) (w v : Warehouse) (ro
       → Refuses before (stores.room_of old) [] dropped (roots.root_of (root_of v)) fault
   replaced_causes dropped fault drops_are k =
       ⊎_elim {C = Refuses before (stores.room_of old) [] dropped (roots.root_of (root_of v)) fault}
-      (λ many. absurd (omega (arith, many.1, few_objects before w (at.stands k))))
+      (λ many. absurd (omega (arith, many.1, few_objects before w (at.represents k))))
       (λ refuses.
       subst (λ (d : List ℕ). Refuses before (stores.room_of old) [] d (roots.root_of (root_of v)) fault) (drops_are (at.root_is k))
       (subst (λ (r : PlainRoot). Refuses before (stores.room_of old) [] drops (roots.root_of r) fault) (sym (makes.root_is (at.root_is k))) refuses))
@@ -195,12 +195,12 @@ module _ {D : Type 0} (g : Ghosts D) (old new : Store D g) (w : Warehouse) (root
   pub before_at : StoreAt g new root w
   before_at = record {
     fine = same.failed ∙ at.fine;
-    stands = λ k. subst (λ (x : Content). Stands x w) (sym same.content) (at.stands (subst (λ (d : D). g.keeps_word d) same.device k));
+    represents = λ k. subst (λ (x : Content). Represents x w) (sym same.content) (at.represents (subst (λ (d : D). g.keeps_word d) same.device k));
     root_is = λ k. at.root_is (subst (λ (d : D). g.keeps_word d) same.device k);
   }
 
-  pub before_leaves : Leaves (stores.disk_of g old) (stores.disk_of g old) (λ c. c ≡ stores.content_of g old) → Leaves (stores.disk_of g old) (stores.disk_of g new) (λ c. Stands c w)
+  pub before_leaves : Leaves (stores.disk_of g old) (stores.disk_of g old) (λ c. c ≡ stores.content_of g old) → Leaves (stores.disk_of g old) (stores.disk_of g new) (λ c. Represents c w)
   before_leaves leaves =
-      subst (λ (d : D). Leaves (stores.disk_of g old) (disk g d) (λ c. Stands c w)) (sym same.device)
-      (leaves_weaker (λ (c : Content). c ≡ stores.content_of g old) (λ (c : Content). Stands c w) (stores.disk_of g old) (stores.disk_of g old)
-      (λ k c e. subst (λ (x : Content). Stands x w) (sym e) (at.stands k)) leaves)
+      subst (λ (d : D). Leaves (stores.disk_of g old) (disk g d) (λ c. Represents c w)) (sym same.device)
+      (leaves_weaker (λ (c : Content). c ≡ stores.content_of g old) (λ (c : Content). Represents c w) (stores.disk_of g old) (stores.disk_of g old)
+      (λ k c e. subst (λ (x : Content). Represents x w) (sym e) (at.represents k)) leaves)

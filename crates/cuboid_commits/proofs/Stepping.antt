@@ -19,16 +19,16 @@ use Rattle.warehouse_root.specs.Root.{PlainRoot}
 use Rattle.warehouse_root.specs.declared.layout.Layout.TheVariants.{First}
 use Rattle.warehouse_objects.specs.Loaded.{IsLoaded}
 use Rattle.warehouse_objects.specs.Lawful.{later_runs, run_put}
-use Rattle.warehouse_objects.specs.Stands.{Stands, root_of}
+use Rattle.warehouse_objects.specs.Represents.{Represents, root_of}
 use Rattle.warehouse_objects.specs.Warehouse.{Cuboid, StoredRun, Warehouse, kept}
-use Rattle.warehouse_objects.proofs.Kept.{stands_appended, stands_merged}
+use Rattle.warehouse_objects.proofs.Kept.{represents_appended, represents_merged}
 use Rattle.cuboid_commits.specs.Nexts.{Appends, BringsOn, Merges, first_run}
 use Rattle.cuboid_commits.specs.declared.keeping.Next.{Next}
 
 pub few_one : (c : Content) (puts : List (ℕ × List ℕ)) (drops bytes : List ℕ) (layout : ℕ) → length puts ≡ 1 → length c.objects < 65536 → IsFew (committed puts drops bytes layout c)
 few_one c puts drops bytes layout one few = omega (arith, few_after puts drops bytes layout c, one, few)
 
-module _ (c : Content) (w : Warehouse) (old new : Cuboid) (run : StoredRun) (next : Next) (stands : Stands c w) (brings : BringsOn w old new run next) where
+module _ (c : Content) (w : Warehouse) (old new : Cuboid) (run : StoredRun) (next : Next) (represents : Represents c w) (brings : BringsOn w old new run next) where
   abbrev root_bytes : List ℕ
   root_bytes = roots.root_of (root_of (kept w new))
 
@@ -36,39 +36,39 @@ module _ (c : Content) (w : Warehouse) (old new : Cuboid) (run : StoredRun) (nex
   bytes_are = brings.spelled.spelled ∙ ap roots.root_of brings.root
 
   -- where the puts and the drops are such
-  moved : (n : ℕ) (drops : List ℕ) → next.id ≡ run_id (index_of new.view) n → next.drops.items ≡ drops → Stands (committed (run_put new n run) drops root_bytes (number_of w.layout) c) (kept w new)
-      → Stands (committed ((next.id, next.bytes.items) ∷ []) next.drops.items next.root_bytes.items (number_of First) c) (kept w new)
+  moved : (n : ℕ) (drops : List ℕ) → next.id ≡ run_id (index_of new.view) n → next.drops.items ≡ drops → Represents (committed (run_put new n run) drops root_bytes (number_of w.layout) c) (kept w new)
+      → Represents (committed ((next.id, next.bytes.items) ∷ []) next.drops.items next.root_bytes.items (number_of First) c) (kept w new)
   moved n drops id_is drops_are is =
-      subst (λ (i : ℕ). Stands (committed ((i, next.bytes.items) ∷ []) next.drops.items next.root_bytes.items (number_of First) c) (kept w new)) (sym id_is)
-      (subst (λ (b : List ℕ). Stands (committed ((run_id (index_of new.view) n, b) ∷ []) next.drops.items next.root_bytes.items (number_of First) c) (kept w new)) (sym brings.bytes)
-      (subst (λ (d : List ℕ). Stands (committed (run_put new n run) d next.root_bytes.items (number_of First) c) (kept w new)) (sym drops_are)
-      (subst (λ (b : List ℕ). Stands (committed (run_put new n run) drops b (number_of First) c) (kept w new)) (sym bytes_are)
-      (subst (λ (l : ℕ). Stands (committed (run_put new n run) drops root_bytes l c) (kept w new)) (ap number_of stands.first) is))))
+      subst (λ (i : ℕ). Represents (committed ((i, next.bytes.items) ∷ []) next.drops.items next.root_bytes.items (number_of First) c) (kept w new)) (sym id_is)
+      (subst (λ (b : List ℕ). Represents (committed ((run_id (index_of new.view) n, b) ∷ []) next.drops.items next.root_bytes.items (number_of First) c) (kept w new)) (sym brings.bytes)
+      (subst (λ (d : List ℕ). Represents (committed (run_put new n run) d next.root_bytes.items (number_of First) c) (kept w new)) (sym drops_are)
+      (subst (λ (b : List ℕ). Represents (committed (run_put new n run) drops b (number_of First) c) (kept w new)) (sym bytes_are)
+      (subst (λ (l : ℕ). Represents (committed (run_put new n run) drops root_bytes l c) (kept w new)) (ap number_of represents.first) is))))
 
-  pub stands_next : Stands (committed ((next.id, next.bytes.items) ∷ []) next.drops.items next.root_bytes.items (number_of First) c) (kept w new)
-  stands_next =
-      ⊎_elim {C = Stands (committed ((next.id, next.bytes.items) ∷ []) next.drops.items next.root_bytes.items (number_of First) c) (kept w new)}
-      (λ (a : Appends old new run next). moved (length old.runs) [] a.id a.drops (stands_appended c w old new stands brings.may run a.runs))
-      (λ (m : Merges old new run next). moved 0 (later_runs old) m.id m.drops (stands_merged c w old new stands brings.may run m.runs))
+  pub represents_next : Represents (committed ((next.id, next.bytes.items) ∷ []) next.drops.items next.root_bytes.items (number_of First) c) (kept w new)
+  represents_next =
+      ⊎_elim {C = Represents (committed ((next.id, next.bytes.items) ∷ []) next.drops.items next.root_bytes.items (number_of First) c) (kept w new)}
+      (λ (a : Appends old new run next). moved (length old.runs) [] a.id a.drops (represents_appended c w old new represents brings.may run a.runs))
+      (λ (m : Merges old new run next). moved 0 (later_runs old) m.id m.drops (represents_merged c w old new represents brings.may run m.runs))
       brings.how
 
 -- what was handed to the commit
 module _ (c : Content) (w : Warehouse) (old new : Cuboid) (run : StoredRun) (next : Next) (put drops bytes : List ℕ) (layout : ℕ)
     (put_is : put ≡ next.bytes.items) (drops_are : drops ≡ next.drops.items) (bytes_are_next : bytes ≡ next.root_bytes.items) (layout_is : layout ≡ number_of First) where
-  pub after : Stands c w → BringsOn w old new run next → Stands (committed ((next.id, put) ∷ []) drops bytes layout c) (kept w new)
-  after stands brings =
-      subst (λ (p : List ℕ). Stands (committed ((next.id, p) ∷ []) drops bytes layout c) (kept w new)) (sym put_is)
-      (subst (λ (d : List ℕ). Stands (committed ((next.id, next.bytes.items) ∷ []) d bytes layout c) (kept w new)) (sym drops_are)
-      (subst (λ (b : List ℕ). Stands (committed ((next.id, next.bytes.items) ∷ []) next.drops.items b layout c) (kept w new)) (sym bytes_are_next)
-      (subst (λ (l : ℕ). Stands (committed ((next.id, next.bytes.items) ∷ []) next.drops.items next.root_bytes.items l c) (kept w new)) (sym layout_is)
-      (stands_next c w old new run next stands brings))))
+  pub after : Represents c w → BringsOn w old new run next → Represents (committed ((next.id, put) ∷ []) drops bytes layout c) (kept w new)
+  after represents brings =
+      subst (λ (p : List ℕ). Represents (committed ((next.id, p) ∷ []) drops bytes layout c) (kept w new)) (sym put_is)
+      (subst (λ (d : List ℕ). Represents (committed ((next.id, next.bytes.items) ∷ []) d bytes layout c) (kept w new)) (sym drops_are)
+      (subst (λ (b : List ℕ). Represents (committed ((next.id, next.bytes.items) ∷ []) next.drops.items b layout c) (kept w new)) (sym bytes_are_next)
+      (subst (λ (l : ℕ). Represents (committed ((next.id, next.bytes.items) ∷ []) next.drops.items next.root_bytes.items l c) (kept w new)) (sym layout_is)
+      (represents_next c w old new run next represents brings))))
 
-  pub next_leaves : (start now : Disk) → (start.keeps_word → Stands c w) → BringsOn w old new run next
-      → Leaves start now (IsOneOf c (committed ((next.id, put) ∷ []) drops bytes layout c)) → Leaves start now (λ x. Stands x w ⊎ Stands x (kept w new))
-  next_leaves start now stands brings leaves =
-      leaves_weaker (IsOneOf c (committed ((next.id, put) ∷ []) drops bytes layout c)) (λ (x : Content). Stands x w ⊎ Stands x (kept w new)) start now
-      (λ k x. ⊎_elim (λ e. inl (subst (λ (y : Content). Stands y w) (sym e) (stands k)))
-      (λ e. inr (subst (λ (y : Content). Stands y (kept w new)) (sym e) (after (stands k) brings)))) leaves
+  pub next_leaves : (start now : Disk) → (start.keeps_word → Represents c w) → BringsOn w old new run next
+      → Leaves start now (IsOneOf c (committed ((next.id, put) ∷ []) drops bytes layout c)) → Leaves start now (λ x. Represents x w ⊎ Represents x (kept w new))
+  next_leaves start now represents brings leaves =
+      leaves_weaker (IsOneOf c (committed ((next.id, put) ∷ []) drops bytes layout c)) (λ (x : Content). Represents x w ⊎ Represents x (kept w new)) start now
+      (λ k x. ⊎_elim (λ e. inl (subst (λ (y : Content). Represents y w) (sym e) (represents k)))
+      (λ e. inr (subst (λ (y : Content). Represents y (kept w new)) (sym e) (after (represents k) brings)))) leaves
 
 -- ---- what is kept in memory
 

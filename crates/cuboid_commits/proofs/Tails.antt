@@ -12,7 +12,7 @@ use Rattle.lattice.specs.Views.{index_of, mode_number}
 use Rattle.cuboid_cells.specs.declared.span.Span.{Span}
 use Rattle.cuboid_cells.specs.Cells.{AreProper, PlainCells}
 use Rattle.cuboid_cells.specs.Merges.{IsMergeFault}
-use Rattle.cuboid_upkeep.specs.Grouping.{HasMembers, PassType, StandFor}
+use Rattle.cuboid_upkeep.specs.Grouping.{HasMembers, PassType, RepresentRows}
 use Rattle.cuboid_upkeep.specs.Lawful.{MoreRowsHaveNoFewerCells, RowsHaveCells, RowsInRangeFit}
 use Rattle.cuboid_upkeep.specs.Steps.{AreUnfit, HaveTooMany}
 use Rattle.cuboid_upkeep.proofs.CallerLemmas.{merge_refused}
@@ -23,7 +23,7 @@ use Rattle.warehouse_root.specs.Root.{IsProperCuboid, PlainRoot}
 use Rattle.warehouse_root.specs.declared.layout.Layout.{Layout}
 use Rattle.warehouse_root.specs.declared.layout.Layout.TheVariants.{First}
 use Rattle.warehouse_objects.specs.Warehouse.{AreInOrder, Cuboid, Warehouse, modes_of}
-use Rattle.warehouse_objects.specs.Stands.{HoldsGroupings, Stands, rows_in}
+use Rattle.warehouse_objects.specs.Represents.{HoldsGroupings, Represents, rows_in}
 use Rattle.warehouse_objects.proofs.Batches.{foldable}
 use Rattle.cuboid_commits.specs.Nexts.{HasStored}
 use Rattle.cuboid_commits.proofs.Spans.{cuboid_known, rows_split}
@@ -53,12 +53,12 @@ pub whole_too_large : RowsHaveCells → MoreRowsHaveNoFewerCells → (w : Wareho
 whole_too_large have more w old holds span from some large =
     let before : All (HasMembers w.rows (modes_of w) old.view) (all_rows (take span.from w.batches)) =
     subst (λ (n : ℕ). All (HasMembers w.rows (modes_of w) old.view) (all_rows (take n w.batches))) (sym from) (cuboid_known w old holds) in
-    let known = All-append (HasMembers w.rows (modes_of w) old.view) (all_rows (take span.from w.batches)) (rows_in w.batches span) before large.stand.known in
+    let known = All-append (HasMembers w.rows (modes_of w) old.view) (all_rows (take span.from w.batches)) (rows_in w.batches span) before large.represent.known in
     let all = have w.rows (modes_of w) old.view (all_rows (take span.from w.batches) ++ rows_in w.batches span) known in
-    let no_fewer = more w.rows (modes_of w) old.view (all_rows (take span.from w.batches)) (rows_in w.batches span) [] large.cells all.0 large.stand
-    (subst (λ (l : List LineOrder). StandFor w.rows (modes_of w) (all_rows (take span.from w.batches) ++ l) (record { view = old.view; cells = all.0 })) (sym (append-nil (rows_in w.batches span))) all.1) in
+    let no_fewer = more w.rows (modes_of w) old.view (all_rows (take span.from w.batches)) (rows_in w.batches span) [] large.cells all.0 large.represent
+    (subst (λ (l : List LineOrder). RepresentRows w.rows (modes_of w) (all_rows (take span.from w.batches) ++ l) (record { view = old.view; cells = all.0 })) (sym (append-nil (rows_in w.batches span))) all.1) in
     subst (λ (l : List LineOrder). HaveTooMany w.rows (modes_of w) old.view l) (sym (rows_split w.batches span some))
-    (record { cells = all.0; stand = all.1; many = omega (arith, large.many, no_fewer) })
+    (record { cells = all.0; represent = all.1; many = omega (arith, large.many, no_fewer) })
 
 -- why cells that represent rows are not merged
 abbrev pub IsNotMerged : DimRows → View → List LineOrder → Fault → Type 0
@@ -68,9 +68,9 @@ IsNotMerged dimensions view rows fault =
     ⊎ ((fault ≡ TooManyCells (index_of view)) × HaveTooMany dimensions [] view rows))
 
 pub not_merged : RowsInRangeFit → (dimensions : DimRows) (one other : PlainCells) (so_far rows : List LineOrder) (fault : Fault) → other.view ≡ one.view → AreProper one
-    → StandFor dimensions [] so_far one → StandFor dimensions [] rows other → IsMergeFault one other fault → IsNotMerged dimensions one.view (so_far ++ rows) fault
+    → RepresentRows dimensions [] so_far one → RepresentRows dimensions [] rows other → IsMergeFault one other fault → IsNotMerged dimensions one.view (so_far ++ rows) fault
 not_merged fit dimensions one other so_far rows fault same proper first second why =
-    let here : StandFor dimensions [] rows (record { view = one.view; cells = other.cells }) = subst (λ (v : View). StandFor dimensions [] rows (record { view = v; cells = other.cells })) same second in
+    let here : RepresentRows dimensions [] rows (record { view = one.view; cells = other.cells }) = subst (λ (v : View). RepresentRows dimensions [] rows (record { view = v; cells = other.cells })) same second in
     ⊎_elim {C = IsNotMerged dimensions one.view (so_far ++ rows) fault}
     (λ memory. inl memory)
     (⊎_elim {C = IsNotMerged dimensions one.view (so_far ++ rows) fault}
@@ -109,8 +109,8 @@ pub count_of : (root : PlainRoot) (said : StoredCuboid) (w : Warehouse) (old : C
 count_of root said w old has = ap (λ (r : PlainRoot). length r.batches) has.root_is ∙ length-map w.batches length
 
 -- the view of a warehouse's cuboid does not group by ship mode
-pub first_view : (c : Content) (root : PlainRoot) (said : StoredCuboid) (w : Warehouse) (old : Cuboid) (view : View) → Stands c w → HasStored root said w old → IsProperCuboid root.layout (length root.batches) said → index_of view ≡ said.view
+pub first_view : (c : Content) (root : PlainRoot) (said : StoredCuboid) (w : Warehouse) (old : Cuboid) (view : View) → Represents c w → HasStored root said w old → IsProperCuboid root.layout (length root.batches) said → index_of view ≡ said.view
     → view.ship_mode ≡ false
-first_view c root said w old view stands has proper number =
-    let low = first_views root.layout said.view (ap (λ (r : PlainRoot). r.layout) has.root_is ∙ stands.first) proper.view in
+first_view c root said w old view represents has proper number =
+    let low = first_views root.layout said.view (ap (λ (r : PlainRoot). r.layout) has.root_is ∙ represents.first) proper.view in
     no_mode view (omega (arith, low, number))

@@ -15,7 +15,7 @@ use Rattle.cuboid_upkeep.specs.Steps.{HaveTooMany}
 use Rattle.warehouse_root.specs.Root.{AreAscending}
 use Rattle.warehouse_objects.specs.Facts.{Facts}
 use Rattle.warehouse_objects.specs.Warehouse.{Cuboid, Warehouse, cuboid_at}
-use Rattle.warehouse_objects.specs.Stands.{Stands, said_of}
+use Rattle.warehouse_objects.specs.Represents.{Represents, said_of}
 use Rattle.cuboid_commits.specs.Keeping.{AreKeptOn, IsCaughtUp, IsDone, IsKeptUp, IsReached, IsReachedOrLarge, IsTooLarge}
 use Rattle.cuboid_commits.proofs.Places.{not_below, own_view}
 
@@ -192,12 +192,12 @@ pub done_or_large : (w : Warehouse) (passed : Option View) → IsDone w passed �
 done_or_large w None done = λ k d within. inl (done k d within)
 done_or_large w (Some view) done = λ k d within. ⊎_elim {C = IsReachedOrLarge w (get_or w.cuboids k d)} (λ far. inl far) (λ many. inr many.0) (done.others k d within)
 
-pub leaves_first : (w : Warehouse) (old new : Disk) → Leaves old new (λ c. Stands c w) → Leaves old new (λ c. (v : Warehouse) × IsCaughtUp w v × Stands c v)
-leaves_first w old new = leaves_weaker (λ (c : Content). Stands c w) (λ (c : Content). (v : Warehouse) × IsCaughtUp w v × Stands c v) old new (λ k c stands. (w, same w, stands))
+pub leaves_first : (w : Warehouse) (old new : Disk) → Leaves old new (λ c. Represents c w) → Leaves old new (λ c. (v : Warehouse) × IsCaughtUp w v × Represents c v)
+leaves_first w old new = leaves_weaker (λ (c : Content). Represents c w) (λ (c : Content). (v : Warehouse) × IsCaughtUp w v × Represents c v) old new (λ k c represents. (w, same w, represents))
 
-pub leaves_more : (w v : Warehouse) (old mid new : Disk) → IsCaughtUp w v → Leaves old mid (λ c. (x : Warehouse) × IsCaughtUp w x × Stands c x) → Leaves mid new (λ c. (x : Warehouse) × IsCaughtUp v x × Stands c x)
-    → Leaves old new (λ c. (x : Warehouse) × IsCaughtUp w x × Stands c x)
+pub leaves_more : (w v : Warehouse) (old mid new : Disk) → IsCaughtUp w v → Leaves old mid (λ c. (x : Warehouse) × IsCaughtUp w x × Represents c x) → Leaves mid new (λ c. (x : Warehouse) × IsCaughtUp v x × Represents c x)
+    → Leaves old new (λ c. (x : Warehouse) × IsCaughtUp w x × Represents c x)
 leaves_more w v old mid new caught first second =
-    leaves_then (λ (c : Content). (x : Warehouse) × IsCaughtUp w x × Stands c x) old mid new first
-    (leaves_weaker (λ (c : Content). (x : Warehouse) × IsCaughtUp v x × Stands c x) (λ (c : Content). (x : Warehouse) × IsCaughtUp w x × Stands c x) mid new
+    leaves_then (λ (c : Content). (x : Warehouse) × IsCaughtUp w x × Represents c x) old mid new first
+    (leaves_weaker (λ (c : Content). (x : Warehouse) × IsCaughtUp v x × Represents c x) (λ (c : Content). (x : Warehouse) × IsCaughtUp w x × Represents c x) mid new
     (λ k c there. (there.0, then_more w v there.0 caught there.1, there.2)) second)

@@ -10,7 +10,7 @@ use Rattle.object_store.specs.Disk.{Disk, Leaves}
 use Rattle.object_store.specs.Moments.{leaves_then, leaves_weaker}
 use Rattle.object_store.proofs.Lists.{All-unmap}
 use Rattle.warehouse_root.specs.Root.{IsProperCuboid, PlainRoot}
-use Rattle.warehouse_objects.specs.Stands.{Stands, root_of, said_of}
+use Rattle.warehouse_objects.specs.Represents.{Represents, root_of, said_of}
 use Rattle.warehouse_objects.specs.Warehouse.{Warehouse, aimed}
 use Rattle.cuboid_commits.specs.Keeping.{IsCaughtUp, IsDone, IsKeptUp}
 use Rattle.cuboid_commits.specs.Upkeep.{AreWhole, AreWholeBut}
@@ -31,31 +31,31 @@ from_aimed w v caught = record {
 }
 
 abbrev pub Kept : Warehouse → Content → Type 0
-Kept w c = (v : Warehouse) × IsKeptUp w v × Stands c v
+Kept w c = (v : Warehouse) × IsKeptUp w v × Represents c v
 
-pub leaves_same : (w : Warehouse) (c : Content) (old new : Disk) → (old.keeps_word → Stands c w) → Leaves old new (λ x. x ≡ c) → Leaves old new (Kept w)
-leaves_same w c old new stands = leaves_weaker (λ (x : Content). x ≡ c) (Kept w) old new (λ k x e. (w, kept_same w, subst (λ (y : Content). Stands y w) (sym e) (stands k)))
+pub leaves_same : (w : Warehouse) (c : Content) (old new : Disk) → (old.keeps_word → Represents c w) → Leaves old new (λ x. x ≡ c) → Leaves old new (Kept w)
+leaves_same w c old new represents = leaves_weaker (λ (x : Content). x ≡ c) (Kept w) old new (λ k x e. (w, kept_same w, subst (λ (y : Content). Represents y w) (sym e) (represents k)))
 
-pub leaves_aimed : (w : Warehouse) (old new : Disk) → Leaves old new (λ c. Stands c w ⊎ Stands c (aimed w)) → Leaves old new (Kept w)
-leaves_aimed w old new = leaves_weaker (λ (c : Content). Stands c w ⊎ Stands c (aimed w)) (Kept w) old new
+pub leaves_aimed : (w : Warehouse) (old new : Disk) → Leaves old new (λ c. Represents c w ⊎ Represents c (aimed w)) → Leaves old new (Kept w)
+leaves_aimed w old new = leaves_weaker (λ (c : Content). Represents c w ⊎ Represents c (aimed w)) (Kept w) old new
     (λ k c. ⊎_elim {C = Kept w c} (λ before. (w, kept_same w, before)) (λ after. (aimed w, kept_aimed w, after)))
 
-pub leaves_both : (w : Warehouse) (old mid new : Disk) → Leaves old mid (λ c. Stands c w ⊎ Stands c (aimed w))
-    → Leaves mid new (λ c. (v : Warehouse) × IsCaughtUp (aimed w) v × Stands c v) → Leaves old new (Kept w)
+pub leaves_both : (w : Warehouse) (old mid new : Disk) → Leaves old mid (λ c. Represents c w ⊎ Represents c (aimed w))
+    → Leaves mid new (λ c. (v : Warehouse) × IsCaughtUp (aimed w) v × Represents c v) → Leaves old new (Kept w)
 leaves_both w old mid new first second =
     leaves_then (Kept w) old mid new (leaves_aimed w old mid first)
-    (leaves_weaker (λ (c : Content). (v : Warehouse) × IsCaughtUp (aimed w) v × Stands c v) (Kept w) mid new (λ k c there. (there.0, from_aimed w there.0 there.1, there.2)) second)
+    (leaves_weaker (λ (c : Content). (v : Warehouse) × IsCaughtUp (aimed w) v × Represents c v) (Kept w) mid new (λ k c there. (there.0, from_aimed w there.0 there.1, there.2)) second)
 
 -- a cuboid holds no more batches than there are
-within : (c : Content) (w : Warehouse) → Stands c w → All (λ cuboid. cuboid.mark ≤ length w.batches) w.cuboids
-within c w stands k default less =
-    let proper = All-unmap (IsProperCuboid (root_of w).layout (length (root_of w).batches)) said_of w.cuboids stands.root.proper.each k default less in
+within : (c : Content) (w : Warehouse) → Represents c w → All (λ cuboid. cuboid.mark ≤ length w.batches) w.cuboids
+within c w represents k default less =
+    let proper = All-unmap (IsProperCuboid (root_of w).layout (length (root_of w).batches)) said_of w.cuboids represents.root.proper.each k default less in
     omega (arith, proper.mark, length-map w.batches (λ (batch : List LineOrder). length batch))
 
 -- so one that holds as many as it is to, where that is all of them, holds all
-pub all_whole : (c : Content) (w : Warehouse) (passed : Option View) → Stands c w → w.target ≡ length w.batches → IsDone w passed → AreWholeBut w passed
-all_whole c w None stands target done = λ k default less. let low = done k default less in let high = within c w stands k default less in omega (arith, low, high, target)
-all_whole c w (Some view) stands target done = (done, target)
+pub all_whole : (c : Content) (w : Warehouse) (passed : Option View) → Represents c w → w.target ≡ length w.batches → IsDone w passed → AreWholeBut w passed
+all_whole c w None represents target done = λ k default less. let low = done k default less in let high = within c w represents k default less in omega (arith, low, high, target)
+all_whole c w (Some view) represents target done = (done, target)
 
 -- the target after upkeep is all batches
 pub target_is : (w v : Warehouse) → IsCaughtUp (aimed w) v → v.target ≡ length v.batches

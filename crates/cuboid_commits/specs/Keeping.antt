@@ -10,12 +10,12 @@ use Rattle.cuboid_upkeep.specs.Steps.{HaveTooMany}
 use Rattle.warehouse_root.specs.Root.{PlainRoot}
 use Rattle.warehouse_objects.specs.Facts.{facts_in}
 use Rattle.warehouse_objects.specs.Warehouse.{Cuboid, Warehouse, cuboid_at, modes_of}
-use Rattle.warehouse_objects.specs.Stands.{Stands, root_of}
+use Rattle.warehouse_objects.specs.Represents.{Represents, root_of}
 
 -- a store represents a warehouse, and its root is kept in memory
 pub record StoreAt {D : Type 0} (g : Ghosts D) (store : Store D g) (root : PlainRoot) (w : Warehouse) : Type 0 where
   pub fine : stores.has_failed store ≡ false
-  pub stands : (stores.disk_of g store).keeps_word → Stands (stores.content_of g store) w
+  pub represents : (stores.disk_of g store).keeps_word → Represents (stores.content_of g store) w
   pub root_is : (stores.disk_of g store).keeps_word → root_of w ≡ root
 
 -- the same views, and no mark is less

@@ -14,7 +14,7 @@ use Rattle.warehouse_root.specs.declared.cuboid.StoredCuboid.{StoredCuboid}
 use Rattle.warehouse_root.specs.Objects.{run_id}
 use Rattle.warehouse_root.specs.Root.{IsRoot, PlainRoot, with_cuboid}
 use Rattle.warehouse_objects.specs.Lawful.{MayReplace, later_runs}
-use Rattle.warehouse_objects.specs.Stands.{HoldsGroupings, root_of, run_bytes, said_of}
+use Rattle.warehouse_objects.specs.Represents.{HoldsGroupings, root_of, run_bytes, said_of}
 use Rattle.warehouse_objects.specs.Warehouse.{Cuboid, StoredRun, Warehouse, cuboid_at, kept}
 use Rattle.cuboid_commits.specs.Keeping.{IsReachedOrLarge}
 use Rattle.cuboid_commits.specs.declared.keeping.Next.{Next}

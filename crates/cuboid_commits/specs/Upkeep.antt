@@ -7,7 +7,7 @@ use Rattle.lattice.specs.declared.view.View.{View}
 use Rattle.object_store.specs.Store as stores
 use Rattle.object_store.specs.declared.store.Store.{Store}
 use Rattle.warehouse_root.specs.Root as roots
-use Rattle.warehouse_objects.specs.Stands.{root_of}
+use Rattle.warehouse_objects.specs.Represents.{root_of}
 use Rattle.warehouse_objects.specs.Warehouse.{Warehouse, aimed}
 use Rattle.cuboid_commits.specs.Keeping.{IsDone}
 use Rattle.cuboid_commits.specs.Nexts.{RefusesLeast}

@@ -6,7 +6,7 @@ ghost use Rattle.object_store.specs.Disk.{Leaves};
 ghost use Rattle.object_store.specs.Store.{Breaks, IsAsBefore, Refuses, content_of, device_of, disk_of, has_failed, room_of};
 ghost use Rattle.warehouse_root.specs.Root as roots;
 ghost use Rattle.warehouse_objects.specs.Loaded.{IsLoaded};
-ghost use Rattle.warehouse_objects.specs.Stands.{Stands, root_of};
+ghost use Rattle.warehouse_objects.specs.Represents.{Represents, root_of};
 ghost use Rattle.warehouse_objects.specs.Warehouse.{Warehouse, aimed};
 ghost use Rattle.cuboid_commits.specs.Keeping.{StoreAt};
 
@@ -26,7 +26,7 @@ pub fn aim<D: Sectors>(alloc: Global, store: &mut Store<D>, root: &mut Root) -> 
 
     // A crash at any point leaves the warehouse before or after.
     ensures leaves { (w : Warehouse) → StoreAt D.Sectors store.old root.old w
-        → Leaves (disk_of D.Sectors store.old) (disk_of D.Sectors store.new) (λ c. Stands c w ⊎ Stands c (aimed w)) }
+        → Leaves (disk_of D.Sectors store.old) (disk_of D.Sectors store.new) (λ c. Represents c w ⊎ Represents c (aimed w)) }
 
     // Then the warehouse after.
     ensures ok { OnOk result ((w : Warehouse) → StoreAt D.Sectors store.old root.old w → StoreAt D.Sectors store.new root.new (aimed w)) }
@@ -36,7 +36,7 @@ pub fn aim<D: Sectors>(alloc: Global, store: &mut Store<D>, root: &mut Root) -> 
 
     // What a refusal leaves, and when it comes.
     ensures refused { IfErr result (λ fault. fault ≢ Device → (w : Warehouse) → StoreAt D.Sectors store.old root.old w
-        → StoreAt D.Sectors store.new root.new w × Leaves (disk_of D.Sectors store.old) (disk_of D.Sectors store.new) (λ c. Stands c w)) }
+        → StoreAt D.Sectors store.new root.new w × Leaves (disk_of D.Sectors store.old) (disk_of D.Sectors store.new) (λ c. Represents c w)) }
     ensures kept { OnErr result (root.new ≡ root.old) }
     ensures as_before { IfErr result (λ fault. fault ≢ Device → IsAsBefore D.Sectors store.old store.new) }
     ensures causes { IfErr result (λ fault. fault ≢ Device → (w : Warehouse) → StoreAt D.Sectors store.old root.old w → D.keeps_word (device_of store.new)

@@ -10,7 +10,7 @@ ghost use Rattle.lattice.specs.Views.{index_of};
 ghost use Rattle.warehouse_root.specs.Root.{IsProperCuboid, IsRoot};
 ghost use Rattle.warehouse_root.specs.declared.layout.Layout.TheVariants.{First};
 ghost use Rattle.warehouse_objects.specs.Loaded.{IsLoaded};
-ghost use Rattle.warehouse_objects.specs.Stands.{Stands};
+ghost use Rattle.warehouse_objects.specs.Represents.{Represents};
 ghost use Rattle.warehouse_objects.specs.Warehouse.{Cuboid, Warehouse};
 ghost use Rattle.cuboid_commits.specs.Keeping.{IsCaughtUp, IsReached, StoreAt};
 ghost use Rattle.cuboid_commits.specs.Nexts.{EndsBringing, IsBroughtBy, RefusesNext, first_run};
@@ -38,7 +38,7 @@ pub(crate) fn bring_on<D: Sectors>(
     requires fine { has_failed store.old ≡ false }
     requires place { place < length root.old.cuboids }
     ensures leaves { (w : Warehouse) → StoreAt D.Sectors store.old root.old w → (D.keeps_word (device_of store.old) → dims.now ≡ w.rows)
-        → Leaves (disk_of D.Sectors store.old) (disk_of D.Sectors store.new) (λ c. (v : Warehouse) × IsCaughtUp w v × Stands c v) }
+        → Leaves (disk_of D.Sectors store.old) (disk_of D.Sectors store.new) (λ c. (v : Warehouse) × IsCaughtUp w v × Represents c v) }
     ensures stays { (IsErrOf result Device → ⊥) → (w : Warehouse) → StoreAt D.Sectors store.old root.old w → (D.keeps_word (device_of store.old) → dims.now ≡ w.rows)
         → (v : Warehouse) × IsCaughtUp w v × StoreAt D.Sectors store.new root.new v }
     ensures reached { IfOk result (λ passed. (v : Warehouse) → StoreAt D.Sectors store.new root.new v → D.keeps_word (device_of store.new) → dims.now ≡ v.rows
@@ -106,7 +106,7 @@ fn put_next<D: Sectors>(
     requires runs { All (λ id. first_run ≤ id) (next.id ∷ next.drops.items) }
     requires spelled { IsRoot next.root_bytes.items next.root }
     ensures leaves { (w v : Warehouse) → StoreAt D.Sectors store.old root.old w → (D.keeps_word (device_of store.old) → IsBroughtBy w next v)
-        → Leaves (disk_of D.Sectors store.old) (disk_of D.Sectors store.new) (λ c. Stands c w ⊎ Stands c v) }
+        → Leaves (disk_of D.Sectors store.old) (disk_of D.Sectors store.new) (λ c. Represents c w ⊎ Represents c v) }
     ensures ok { OnOk result ((w v : Warehouse) → StoreAt D.Sectors store.old root.old w → (D.keeps_word (device_of store.old) → IsBroughtBy w next v)
         → StoreAt D.Sectors store.new root.new v) }
     ensures loaded { OnOk result (D.keeps_word (device_of store.new) → (rows : DimRows) → IsLoaded (content_of D.Sectors store.old) rows root.old

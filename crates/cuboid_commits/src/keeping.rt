@@ -9,7 +9,7 @@ ghost use Rattle.object_store.specs.Store.{Breaks, IsAsBefore, Refuses, content_
 ghost use Rattle.warehouse_root.specs.Root.{IsRoot, PlainRoot};
 ghost use Rattle.warehouse_root.specs.declared.layout.Layout.TheVariants.{First};
 ghost use Rattle.warehouse_objects.specs.Loaded.{IsLoaded};
-ghost use Rattle.warehouse_objects.specs.Stands.{Stands};
+ghost use Rattle.warehouse_objects.specs.Represents.{Represents};
 ghost use Rattle.warehouse_objects.specs.Warehouse.{Cuboid, StoredRun, Warehouse, kept};
 ghost use Rattle.cuboid_commits.specs.Keeping.{StoreAt};
 ghost use Rattle.cuboid_commits.specs.Nexts.{BringsOn, first_run};
@@ -48,7 +48,7 @@ pub fn keep_one<D: Sectors>(alloc: Global, store: &mut Store<D>, next: &Next) ->
 
     // A crash at any point leaves the warehouse before or after.
     ensures leaves { (w : Warehouse) (root : PlainRoot) (old new : Cuboid) (run : StoredRun) → StoreAt D.Sectors store.old root w → BringsOn w old new run next.now
-        → Leaves (disk_of D.Sectors store.old) (disk_of D.Sectors store.new) (λ c. Stands c w ⊎ Stands c (kept w new)) }
+        → Leaves (disk_of D.Sectors store.old) (disk_of D.Sectors store.new) (λ c. Represents c w ⊎ Represents c (kept w new)) }
 
     // Then the warehouse after.
     ensures ok { OnOk result ((w : Warehouse) (root : PlainRoot) (old new : Cuboid) (run : StoredRun) → StoreAt D.Sectors store.old root w → BringsOn w old new run next.now

@@ -5,11 +5,11 @@ ghost use Rattle.cube_model.specs.declared.fault.Fault.TheVariants.{Memory};
 ghost use Rattle.cube_model.specs.Admission.{all_rows};
 ghost use Rattle.lattice.specs.Views.{index_of};
 ghost use Rattle.cuboid_cells.specs.Limits.{most_cells};
-ghost use Rattle.cuboid_upkeep.specs.Grouping.{StandFor};
+ghost use Rattle.cuboid_upkeep.specs.Grouping.{RepresentRows};
 ghost use Rattle.warehouse_root.specs.Limits.{most_runs};
 ghost use Rattle.warehouse_root.specs.Objects.{run_id};
 ghost use Rattle.warehouse_root.specs.Root.{IsProperCuboid};
-ghost use Rattle.warehouse_objects.specs.Stands.{rows_in};
+ghost use Rattle.warehouse_objects.specs.Represents.{rows_in};
 ghost use Rattle.warehouse_objects.specs.Warehouse.{modes_of};
 ghost use Rattle.cuboid_commits.specs.Nexts.{IsMade, IsNext};
 
@@ -43,7 +43,7 @@ pub(crate) fn appended(
     requires to { span.to ≤ length root.now.batches }
     requires runs { cuboid.runs < most_runs }
     requires cells { cuboid.cells + length tail.now.cells ≤ most_cells }
-    ensures ok { IfOk result (IsNext (λ w. StandFor w.rows (modes_of w) (rows_in w.batches span) tail.now) root.now cuboid span.to) }
+    ensures ok { IfOk result (IsNext (λ w. RepresentRows w.rows (modes_of w) (rows_in w.batches span) tail.now) root.now cuboid span.to) }
     ensures memory { IfErr result (λ fault. fault ≡ Memory) }
 {
     let _proper = tail.view();
@@ -69,7 +69,7 @@ pub(crate) fn replaced(
     requires view { index_of cells.now.view ≡ cuboid.view }
     requires above { cuboid.mark < mark }
     requires to { mark ≤ length root.now.batches }
-    ensures ok { IfOk result (IsNext (λ w. StandFor w.rows (modes_of w) (all_rows (take mark w.batches)) cells.now) root.now cuboid mark) }
+    ensures ok { IfOk result (IsNext (λ w. RepresentRows w.rows (modes_of w) (all_rows (take mark w.batches)) cells.now) root.now cuboid mark) }
     ensures memory { IfErr result (λ fault. fault ≡ Memory) }
 {
     let _proper = cells.view();

@@ -6,10 +6,10 @@ ghost use Rattle.cube_model.specs.Admission.{AreInRange, all_rows};
 ghost use Rattle.object_store.specs.Disk.{Leaves};
 ghost use Rattle.object_store.specs.Store.{Breaks, IsStill, content_of, device_of, disk_of, has_failed};
 ghost use Rattle.lattice.specs.Views.{index_of};
-ghost use Rattle.cuboid_upkeep.specs.Grouping.{StandFor};
+ghost use Rattle.cuboid_upkeep.specs.Grouping.{RepresentRows};
 ghost use Rattle.cuboid_upkeep.specs.Steps.{HaveTooMany};
 ghost use Rattle.warehouse_root.specs.Root.{IsProperCuboid};
-ghost use Rattle.warehouse_objects.specs.Stands.{Stands, root_of, rows_in, said_of};
+ghost use Rattle.warehouse_objects.specs.Represents.{Represents, root_of, rows_in, said_of};
 ghost use Rattle.warehouse_objects.specs.Warehouse.{Cuboid, Warehouse, cuboid_at, modes_of};
 ghost use Rattle.cuboid_commits.specs.Keeping.{IsTooLarge};
 ghost use Rattle.cuboid_commits.specs.Nexts.{HasStored, IsNext};
@@ -20,7 +20,7 @@ use batch_cells::cells_of_batches;
 use cube_model::Fault;
 use cuboid_cells::{Cells, Span};
 use cuboid_upkeep::{
-    merges_stand_for_both, more_rows_have_no_fewer_cells, rows_have_cells, rows_in_range_fit,
+    merges_represent_both, more_rows_have_no_fewer_cells, rows_have_cells, rows_in_range_fit,
 };
 use dimensions::Dims;
 use lattice::View;
@@ -47,12 +47,12 @@ pub(crate) fn next_of<D: Sectors>(
     requires view { index_of view ≡ cuboid.view }
     requires behind { cuboid.mark < root.now.target }
     requires within { root.now.target ≤ length root.now.batches }
-    ensures ok { IfOk result (IsNext (λ w. D.keeps_word (device_of store.new) × Stands (content_of D.Sectors store.old) w × (dims.now ≡ w.rows))
+    ensures ok { IfOk result (IsNext (λ w. D.keeps_word (device_of store.new) × Represents (content_of D.Sectors store.old) w × (dims.now ≡ w.rows))
         root.now cuboid root.now.target) }
     ensures large { IsErrOf result (TooManyCells (index_of view)) → D.keeps_word (device_of store.new) → (w : Warehouse) (stored : Cuboid)
-        → Stands (content_of D.Sectors store.old) w → HasStored root.now cuboid w stored → dims.now ≡ w.rows → IsTooLarge w view }
+        → Represents (content_of D.Sectors store.old) w → HasStored root.now cuboid w stored → dims.now ≡ w.rows → IsTooLarge w view }
     ensures refused { IsErrOf result BadLayout → D.keeps_word (device_of store.new) → (w : Warehouse) (stored : Cuboid)
-        → Stands (content_of D.Sectors store.old) w → HasStored root.now cuboid w stored → dims.now ≡ w.rows → ⊥ }
+        → Represents (content_of D.Sectors store.old) w → HasStored root.now cuboid w stored → dims.now ≡ w.rows → ⊥ }
 
     // The content stays, at each moment.
     ensures leaves { Leaves (disk_of D.Sectors store.old) (disk_of D.Sectors store.new) (λ c. c ≡ content_of D.Sectors store.old) }
@@ -89,13 +89,13 @@ fn next_run<D: Sectors>(
     requires from { span.from ≡ cuboid.mark }
     requires some { span.from < span.to }
     requires to { span.to ≤ length root.now.batches }
-    ensures ok { IfOk result (IsNext (λ w. D.keeps_word (device_of store.new) × Stands (content_of D.Sectors store.old) w
-        × StandFor w.rows (modes_of w) (rows_in w.batches span) tail.now) root.now cuboid span.to) }
+    ensures ok { IfOk result (IsNext (λ w. D.keeps_word (device_of store.new) × Represents (content_of D.Sectors store.old) w
+        × RepresentRows w.rows (modes_of w) (rows_in w.batches span) tail.now) root.now cuboid span.to) }
     ensures large { IsErrOf result (TooManyCells (index_of tail.now.view)) → D.keeps_word (device_of store.new) → (w : Warehouse) (stored : Cuboid)
-        → Stands (content_of D.Sectors store.old) w → HasStored root.now cuboid w stored → StandFor w.rows (modes_of w) (rows_in w.batches span) tail.now
+        → Represents (content_of D.Sectors store.old) w → HasStored root.now cuboid w stored → RepresentRows w.rows (modes_of w) (rows_in w.batches span) tail.now
         → HaveTooMany w.rows (modes_of w) tail.now.view (all_rows (take span.to w.batches)) }
     ensures refused { IsErrOf result BadLayout → D.keeps_word (device_of store.new) → (w : Warehouse) (stored : Cuboid)
-        → Stands (content_of D.Sectors store.old) w → HasStored root.now cuboid w stored → StandFor w.rows (modes_of w) (rows_in w.batches span) tail.now → ⊥ }
+        → Represents (content_of D.Sectors store.old) w → HasStored root.now cuboid w stored → RepresentRows w.rows (modes_of w) (rows_in w.batches span) tail.now → ⊥ }
     ensures leaves { Leaves (disk_of D.Sectors store.old) (disk_of D.Sectors store.new) (λ c. c ≡ content_of D.Sectors store.old) }
     ensures stays { (IsErrOf result Device → ⊥) → IsStill D.Sectors store.old store.new }
     ensures device { IsErrOf result Device → Breaks D.Sectors store.old store.new }
@@ -122,22 +122,22 @@ fn merged_with<D: Sectors>(
     requires fine { has_failed store.old ≡ false }
     requires view { index_of tail.now.view ≡ cuboid.view }
     ensures ok { IfOk result (λ cells. D.keeps_word (device_of store.new) → (w : Warehouse) (stored : Cuboid) (rows : List LineOrder)
-        → Stands (content_of D.Sectors store.old) w → cuboid_at cuboid.view w.cuboids ≡ Some stored → said_of stored ≡ cuboid
-        → StandFor w.rows (modes_of w) rows tail.now → StandFor w.rows (modes_of w) (all_rows (take cuboid.mark w.batches) ++ rows) cells) }
+        → Represents (content_of D.Sectors store.old) w → cuboid_at cuboid.view w.cuboids ≡ Some stored → said_of stored ≡ cuboid
+        → RepresentRows w.rows (modes_of w) rows tail.now → RepresentRows w.rows (modes_of w) (all_rows (take cuboid.mark w.batches) ++ rows) cells) }
     ensures view { IfOk result (λ cells. cells.view ≡ tail.now.view) }
     ensures large { IsErrOf result (TooManyCells (index_of tail.now.view)) → D.keeps_word (device_of store.new) → (w : Warehouse) (stored : Cuboid) (rows : List LineOrder)
-        → Stands (content_of D.Sectors store.old) w → cuboid_at cuboid.view w.cuboids ≡ Some stored → said_of stored ≡ cuboid
-        → StandFor w.rows (modes_of w) rows tail.now → HaveTooMany w.rows (modes_of w) tail.now.view (all_rows (take cuboid.mark w.batches) ++ rows) }
+        → Represents (content_of D.Sectors store.old) w → cuboid_at cuboid.view w.cuboids ≡ Some stored → said_of stored ≡ cuboid
+        → RepresentRows w.rows (modes_of w) rows tail.now → HaveTooMany w.rows (modes_of w) tail.now.view (all_rows (take cuboid.mark w.batches) ++ rows) }
     ensures refused { IsErrOf result BadLayout → D.keeps_word (device_of store.new) → (w : Warehouse) (stored : Cuboid) (rows : List LineOrder)
-        → Stands (content_of D.Sectors store.old) w → cuboid_at cuboid.view w.cuboids ≡ Some stored → said_of stored ≡ cuboid
-        → StandFor w.rows (modes_of w) rows tail.now → AreInRange (all_rows (take cuboid.mark w.batches) ++ rows)
+        → Represents (content_of D.Sectors store.old) w → cuboid_at cuboid.view w.cuboids ≡ Some stored → said_of stored ≡ cuboid
+        → RepresentRows w.rows (modes_of w) rows tail.now → AreInRange (all_rows (take cuboid.mark w.batches) ++ rows)
         → length (all_rows (take cuboid.mark w.batches) ++ rows) < 2 ^ 63 → ⊥ }
     ensures leaves { Leaves (disk_of D.Sectors store.old) (disk_of D.Sectors store.new) (λ c. c ≡ content_of D.Sectors store.old) }
     ensures stays { (IsErrOf result Device → ⊥) → IsStill D.Sectors store.old store.new }
     ensures device { IsErrOf result Device → Breaks D.Sectors store.old store.new }
     ensures causes { IfErr result (λ fault. (fault ≡ Memory) ⊎ ((fault ≡ Device) ⊎ ((fault ≡ BadLayout) ⊎ (fault ≡ TooManyCells (index_of tail.now.view))))) }
 {
-    merges_stand_for_both();
+    merges_represent_both();
     rows_in_range_fit();
     let mut cells = match merged_runs(alloc, store, cuboid) {
         Ok(cells) => cells,

@@ -5,7 +5,7 @@ ghost use Rattle.cube_model.specs.declared.rows.DimRows.{DimRows};
 ghost use Rattle.object_store.specs.Disk.{Leaves};
 ghost use Rattle.object_store.specs.Store.{Breaks, content_of, device_of, disk_of, has_failed};
 ghost use Rattle.warehouse_objects.specs.Loaded.{IsLoaded};
-ghost use Rattle.warehouse_objects.specs.Stands.{Stands};
+ghost use Rattle.warehouse_objects.specs.Represents.{Represents};
 ghost use Rattle.warehouse_objects.specs.Warehouse.{Warehouse};
 ghost use Rattle.cuboid_commits.specs.Keeping.{IsKeptUp, StoreAt};
 ghost use Rattle.cuboid_commits.specs.Upkeep.{AreWholeBut, KeepUpRefuses};
@@ -36,7 +36,7 @@ pub fn keep_up<D: Sectors>(
 
     // A crash leaves the same rows, batches and views, and no mark less.
     ensures leaves { (w : Warehouse) → StoreAt D.Sectors store.old root.old w → (D.keeps_word (device_of store.old) → dims.now ≡ w.rows)
-        → Leaves (disk_of D.Sectors store.old) (disk_of D.Sectors store.new) (λ c. (v : Warehouse) × IsKeptUp w v × Stands c v) }
+        → Leaves (disk_of D.Sectors store.old) (disk_of D.Sectors store.new) (λ c. (v : Warehouse) × IsKeptUp w v × Represents c v) }
     ensures stays { (IsErrOf result Device → ⊥) → (w : Warehouse) → StoreAt D.Sectors store.old root.old w → (D.keeps_word (device_of store.old) → dims.now ≡ w.rows)
         → (v : Warehouse) × IsKeptUp w v × StoreAt D.Sectors store.new root.new v }
     ensures ok { IfOk result (λ passed. (w : Warehouse) → StoreAt D.Sectors store.old root.old w → (D.keeps_word (device_of store.old) → dims.now ≡ w.rows)

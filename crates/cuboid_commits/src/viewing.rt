@@ -8,7 +8,7 @@ ghost use Rattle.object_store.specs.Store.{Breaks, IsAsBefore, Refuses, content_
 ghost use Rattle.warehouse_root.specs.Limits.{most_cuboids};
 ghost use Rattle.warehouse_root.specs.Root as roots;
 ghost use Rattle.warehouse_objects.specs.Loaded.{IsLoaded};
-ghost use Rattle.warehouse_objects.specs.Stands.{Stands, root_of, said_below, said_or_new, said_with};
+ghost use Rattle.warehouse_objects.specs.Represents.{Represents, root_of, said_below, said_or_new, said_with};
 ghost use Rattle.warehouse_objects.specs.Warehouse.{Warehouse, dropped_ids, is_among, with_views};
 ghost use Rattle.cuboid_commits.specs.Keeping.{StoreAt};
 ghost use Rattle.cuboid_commits.specs.Replacing.{dropped_of};
@@ -37,7 +37,7 @@ pub fn set_views<D: Sectors>(
 
     // A crash at any point leaves the warehouse before or after.
     ensures leaves { (w : Warehouse) → StoreAt D.Sectors store.old root.old w
-        → Leaves (disk_of D.Sectors store.old) (disk_of D.Sectors store.new) (λ c. Stands c w ⊎ Stands c (with_views w views.now)) }
+        → Leaves (disk_of D.Sectors store.old) (disk_of D.Sectors store.new) (λ c. Represents c w ⊎ Represents c (with_views w views.now)) }
 
     // Then the warehouse after.
     ensures ok { OnOk result ((w : Warehouse) → StoreAt D.Sectors store.old root.old w → StoreAt D.Sectors store.new root.new (with_views w views.now)) }
@@ -47,7 +47,7 @@ pub fn set_views<D: Sectors>(
 
     // What a refusal leaves, and when it comes.
     ensures refused { IfErr result (λ fault. fault ≢ Device → (w : Warehouse) → StoreAt D.Sectors store.old root.old w
-        → StoreAt D.Sectors store.new root.new w × Leaves (disk_of D.Sectors store.old) (disk_of D.Sectors store.new) (λ c. Stands c w)) }
+        → StoreAt D.Sectors store.new root.new w × Leaves (disk_of D.Sectors store.old) (disk_of D.Sectors store.new) (λ c. Represents c w)) }
     ensures kept { OnErr result (root.new ≡ root.old) }
     ensures as_before { IfErr result (λ fault. fault ≢ Device → IsAsBefore D.Sectors store.old store.new) }
     ensures causes { IfErr result (λ fault. fault ≢ Device → (w : Warehouse) → StoreAt D.Sectors store.old root.old w → D.keeps_word (device_of store.new)

@@ -9,8 +9,8 @@ use Rattle.lattice.specs.declared.view.View.{View}
 use Rattle.cuboid_cells.specs.declared.cell.Cell.{Cell}
 use Rattle.cuboid_cells.specs.Cells.{AreAscending, CellFits, KeyFits, PlainCells, cell_at, number_of}
 use Rattle.cuboid_cells.specs.Merges.{IsMergeFault, IsMergeOf, PassesType, merged, merged_if_any}
-use Rattle.cuboid_upkeep.specs.Grouping.{Group, HasMembers, PassType, StandFor}
-use Rattle.cuboid_upkeep.specs.Lawful.{MergesStandForBoth}
+use Rattle.cuboid_upkeep.specs.Grouping.{Group, HasMembers, PassType, RepresentRows}
+use Rattle.cuboid_upkeep.specs.Lawful.{MergesRepresentBoth}
 use Rattle.cuboid_upkeep.specs.Steps.{AreUnfit, IsAddFault}
 use Rattle.cuboid_upkeep.proofs.Merged.{both_group, over_append}
 use Rattle.cuboid_upkeep.proofs.Sorted.{ascending_apart, only_one}
@@ -24,8 +24,8 @@ pub err_through : {A : Type 0} (r : Result A Fault) (P Q : Fault → Type 0) →
 err_through (Ok a) P Q f p = p
 err_through (Err fault) P Q f p = f fault p
 
-pub both_stand : MergesStandForBoth
-both_stand dimensions modes rows others one other new same first second merge =
+pub both_represent : MergesRepresentBoth
+both_represent dimensions modes rows others one other new same first second merge =
     let to_new : one.view ≡ new.view = sym merge.view in
     let from_other : other.view ≡ new.view = sym same ∙ sym merge.view in record {
       known = All-append (HasMembers dimensions modes new.view) rows others
@@ -70,8 +70,8 @@ module _ (dimensions : DimRows) (modes : List (List ℕ)) (view : View) (so_far 
   batch_refused fault (inl memory) = inl memory
   batch_refused fault (inr bad) = inr (inl (bad.0, unfit_behind bad.1))
 
-  module _ (one other : List Cell) (fit : All CellFits one) (first : StandFor dimensions modes so_far (record { view = view; cells = one }))
-      (second : StandFor dimensions modes rows (record { view = view; cells = other })) where
+  module _ (one other : List Cell) (fit : All CellFits one) (first : RepresentRows dimensions modes so_far (record { view = view; cells = one }))
+      (second : RepresentRows dimensions modes rows (record { view = view; cells = other })) where
     passed : PassesType one other → PassType dimensions modes view (so_far ++ rows)
     passed p =
         let number : ℕ = number_of p.left.key in
@@ -100,7 +100,7 @@ module _ (dimensions : DimRows) (modes : List (List ℕ)) (view : View) (so_far 
       many.0,
       record {
         cells = many.1.cells;
-        stand = both_stand dimensions modes so_far rows (record { view = view; cells = one }) (record { view = view; cells = other })
+        represent = both_represent dimensions modes so_far rows (record { view = view; cells = one }) (record { view = view; cells = other })
             (record { view = view; cells = many.1.cells }) refl first second (record { view = refl; cells = many.1.are });
         many = many.1.many;
       },

@@ -87,8 +87,8 @@ not_all level code apart below = (λ same. absurd (omega (arith, same, below)), 
 -- ---- the column of a level
 
 -- the members of a level are in its column
-abbrev pub StandIn : DimRows → Axis → Level → ℕ → ℕ → Type 0
-StandIn dimensions axis level place column = (column < length (lowers_of axis)) × (code_at (column_of column (rows_on dimensions axis)) place ≡ member_code dimensions axis level place)
+abbrev pub Representative : DimRows → Axis → Level → ℕ → ℕ → Type 0
+Representative dimensions axis level place column = (column < length (lowers_of axis)) × (code_at (column_of column (rows_on dimensions axis)) place ≡ member_code dimensions axis level place)
 
 module _ (dimensions : DimRows) (place column : ℕ) where
   in_column : (attr : Attr) → attr_column attr ≡ Some column
@@ -97,7 +97,7 @@ module _ (dimensions : DimRows) (place column : ℕ) where
       let has = has_column dimensions attr column e in
       (has.1, ap (λ (texts : List (List ℕ)). code_at texts place) (sym has.0) ∙ ap (λ (o : Option ℕ). code_in o dimensions attr place) (sym e))
 
-  pub in_level_column : (axis : Axis) (level : Level) → level_column (level_attribute axis level) ≡ Some column → StandIn dimensions axis level place column
+  pub in_level_column : (axis : Axis) (level : Level) → level_column (level_attribute axis level) ≡ Some column → Representative dimensions axis level place column
   in_level_column Customer Lowest e = in_column CustomerCity e
   in_level_column Customer Middle e = in_column CustomerNation e
   in_level_column Customer Highest e = in_column CustomerRegion e

@@ -18,8 +18,8 @@ use Rattle.lattice.specs.declared.view.View.{View}
 use Rattle.cuboid_cells.specs.declared.cell.Cell.{Cell}
 use Rattle.cuboid_cells.specs.Cells.{AreAscending, cell_at, number_of}
 use Rattle.cuboid_cells.specs.Merges.{merged, merged_if_any}
-use Rattle.cuboid_upkeep.specs.Grouping.{Group, HasMembers, StandFor, cell_over, key_of, rows_of, summaries_over}
-use Rattle.cuboid_upkeep.proofs.Added.{both_stand}
+use Rattle.cuboid_upkeep.specs.Grouping.{Group, HasMembers, RepresentRows, cell_over, key_of, rows_of, summaries_over}
+use Rattle.cuboid_upkeep.proofs.Added.{both_represent}
 use Rattle.cuboid_upkeep.proofs.Found.{flipped, none_else, other_key}
 use Rattle.cuboid_upkeep.proofs.Sorted.{key_number}
 
@@ -117,16 +117,16 @@ module _ (dimensions : DimRows) (modes : List (List ℕ)) (view : View) where
   climb [] = tt
   climb (row ∷ rows) = climbs_insert 0 (cell_of row) (cells_of rows) (omega arith) (climb rows)
 
-  pub they_stand : (rows : List LineOrder) → All (HasMembers dimensions modes view) rows → StandFor dimensions modes rows (record { view = view; cells = cells_of rows })
-  they_stand [] known = record { known = known; ascending = ascends 0 [] tt; group = λ number. refl }
-  they_stand (row ∷ rows) known =
-      both_stand dimensions modes (row ∷ []) rows (record { view = view; cells = cell_of row ∷ [] }) (record { view = view; cells = cells_of rows }) (record { view = view; cells = insert (cell_of row) (cells_of rows) }) refl
+  pub they_represent : (rows : List LineOrder) → All (HasMembers dimensions modes view) rows → RepresentRows dimensions modes rows (record { view = view; cells = cells_of rows })
+  they_represent [] known = record { known = known; ascending = ascends 0 [] tt; group = λ number. refl }
+  they_represent (row ∷ rows) known =
+      both_represent dimensions modes (row ∷ []) rows (record { view = view; cells = cell_of row ∷ [] }) (record { view = view; cells = cells_of rows }) (record { view = view; cells = insert (cell_of row) (cells_of rows) }) refl
       (record {
         known = All-cons (HasMembers dimensions modes view) row [] (All-head (HasMembers dimensions modes view) row rows known) (All-nil (HasMembers dimensions modes view));
         ascending = ascends 0 (cell_of row ∷ []) (omega arith, tt);
         group = one_group row;
       })
-      (they_stand rows (All-tail (HasMembers dimensions modes view) row rows known))
+      (they_represent rows (All-tail (HasMembers dimensions modes view) row rows known))
       (record {
         view = refl;
         cells = record {
@@ -177,8 +177,8 @@ module _ (dimensions : DimRows) (modes : List (List ℕ)) (view : View) where
   some_amid [] (row ∷ rows) behind some = refl
   some_amid (first ∷ before) rows behind some = refl
 
-  pub no_fewer : (before rows behind : List LineOrder) (one other : List Cell) → StandFor dimensions modes rows (record { view = view; cells = one })
-      → StandFor dimensions modes (before ++ (rows ++ behind)) (record { view = view; cells = other }) → length one ≤ length other
+  pub no_fewer : (before rows behind : List LineOrder) (one other : List Cell) → RepresentRows dimensions modes rows (record { view = view; cells = one })
+      → RepresentRows dimensions modes (before ++ (rows ++ behind)) (record { view = view; cells = other }) → length one ≤ length other
   no_fewer before rows behind one other first second =
       let most = length-le_from_is_member nat_eq_laws (map key_number one) (map key_number other) (once one first.ascending) (λ key there.
       any_at key other ∙ ap is_some (second.group key)

@@ -17,7 +17,7 @@ use Rattle.lattice.specs.declared.level.Level.{Level}
 use Rattle.lattice.specs.declared.level.Level.TheVariants.{All}
 use Rattle.cuboid_cells.specs.Limits.{all_code}
 use Rattle.cuboid_upkeep.specs.Codes.{member_code}
-use Rattle.cuboid_upkeep.specs.StandIns.{AreAtCodes, AreKeysOf, HasCode, HaveAllCodes, HoldAllCodes, missing_in, with_key}
+use Rattle.cuboid_upkeep.specs.Representatives.{AreAtCodes, AreKeysOf, HasCode, HaveAllCodes, HoldAllCodes, missing_in, with_key}
 use Rattle.cuboid_upkeep.specs.declared.member_keys.MemberKeys.{MemberKeys}
 
 -- ---- one key more

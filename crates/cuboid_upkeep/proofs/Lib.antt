@@ -8,7 +8,7 @@ mod Coded
 mod InRange
 mod Told
 mod OneGroup
-pub mod Standing
+pub mod Represented
 mod Keyed
 mod Leading
 mod Modes

@@ -18,7 +18,7 @@ use Rattle.cuboid_cells.specs.Limits.{all_code}
 use Rattle.cuboid_upkeep.specs.Codes.{IsMode, mode_code}
 use Rattle.cuboid_upkeep.specs.Grouping.{HasMembers, cell_over, code_on, key_of, rows_of, summaries_over}
 use Rattle.cuboid_upkeep.specs.Lawful.{ModesAreAddedBehind}
-use Rattle.cuboid_upkeep.specs.StandIns.{IsCodeOfMode}
+use Rattle.cuboid_upkeep.specs.Representatives.{IsCodeOfMode}
 
 -- ---- modes after others
 still : (modes more : List (List ℕ)) (text : List ℕ) → place_of modes text < length modes → place_of (modes ++ more) text ≡ place_of modes text
@@ -63,17 +63,17 @@ module _ (dimensions : DimRows) (modes more : List (List ℕ)) (view : View) whe
       let key = key_still row (All-head (HasMembers dimensions modes view) row rows all) in
       λ i. Some (record { key = key i; count = length (row ∷ rows); measures = summaries_over (row ∷ rows) })
 
-pub they_still_stand : ModesAreAddedBehind
-they_still_stand dimensions modes more rows plain stand =
+pub they_still_represent : ModesAreAddedBehind
+they_still_represent dimensions modes more rows plain represent =
     let view = plain.view in
     record {
-      known = λ place default within. members_still dimensions modes more view (get_or rows place default) (stand.known place default within);
-      ascending = stand.ascending;
+      known = λ place default within. members_still dimensions modes more view (get_or rows place default) (represent.known place default within);
+      ascending = represent.ascending;
       group = λ number.
-          stand.group number
-          ∙ sym (ap (cell_over dimensions (modes ++ more) view) (rows_still dimensions modes more view number rows stand.known)
+          represent.group number
+          ∙ sym (ap (cell_over dimensions (modes ++ more) view) (rows_still dimensions modes more view number rows represent.known)
           ∙ cell_still dimensions modes more view (rows_of dimensions modes view number rows)
-          (All-filter (λ row. number_of (key_of dimensions modes view row) == number) (HasMembers dimensions modes view) rows stand.known));
+          (All-filter (λ row. number_of (key_of dimensions modes view row) == number) (HasMembers dimensions modes view) rows represent.known));
     }
 
 -- ---- codes of cells

@@ -107,10 +107,10 @@ module _ (dimensions : DimRows) (law : ValidRowsKeepTheRules) (valid : IsValid d
       (elim (level_column (level_attribute axis grouped)) as (λ o. level_column (level_attribute axis grouped) ≡ o → member_code dimensions axis grouped place < 65536) [
         | None ↦ λ e. day_fits axis grouped place within e
         | Some column ↦ λ e.
-            (let stand = in_level_column dimensions place column axis grouped e in
+            (let represent = in_level_column dimensions place column axis grouped e in
             let there = within (λ is. absurd (cc (e, ap (λ (l : Level). level_column (level_attribute axis l)) is, no_column axis))) in
-            let low = code_below axis rows good column place (omega (arith, there, count_on dimensions axis)) stand.0 in
-            omega (arith, low, stand.1))
+            let low = code_below axis rows good column place (omega (arith, there, count_on dimensions axis)) represent.0 in
+            omega (arith, low, represent.1))
       ]) refl
     where
       no_column : (axis : Axis) → level_column (level_attribute axis level.All) ≡ None

@@ -12,7 +12,7 @@ use Rattle.cube_model.specs.declared.rows.LineOrder.{LineOrder}
 use Rattle.lattice.specs.declared.view.View.{View}
 use Rattle.cuboid_cells.specs.declared.cell.Cell.{Cell}
 use Rattle.cuboid_cells.specs.Cells.{AreAscending, AreProper, cell_at, number_of}
-use Rattle.cuboid_upkeep.specs.Grouping.{StandFor}
+use Rattle.cuboid_upkeep.specs.Grouping.{RepresentRows}
 use Rattle.cuboid_upkeep.specs.Steps.{AreGrouped, IsGood}
 use Rattle.cuboid_upkeep.proofs.Found.{at_place, found_key, has_key, other_key, own_key}
 
@@ -90,8 +90,8 @@ module _ (cells new : List Cell) (same : IsPermutation cells new) (once : IsDist
 
 module _ (dimensions : DimRows) (modes : List (List ℕ)) (view : View) (rows : List LineOrder) (cells new : List Cell) (are : AreGrouped dimensions modes view rows cells)
     (same : IsPermutation cells new) (order : IsNonDecreasingBy key_number new) where
-  pub they_stand : StandFor dimensions modes rows (record { view = view; cells = new })
-  they_stand = record {
+  pub they_represent : RepresentRows dimensions modes rows (record { view = view; cells = new })
+  they_represent = record {
     known = are.known;
     ascending = ascend_still cells new same are.once order;
     group = λ number. found_still cells new same are.once number ∙ are.group number;

@@ -10,9 +10,9 @@ use Rattle.cuboid_cells.specs.declared.cell.Cell.{Cell}
 use Rattle.cuboid_cells.specs.declared.key.Key.{Key}
 use Rattle.cuboid_cells.specs.Cells.{CellFits, KeyFits, cell_at, number_of}
 use Rattle.cuboid_cells.specs.Merges.{PassesType}
-use Rattle.cuboid_upkeep.specs.Grouping.{HasMembers, StandFor, key_of, summaries_over}
+use Rattle.cuboid_upkeep.specs.Grouping.{HasMembers, RepresentRows, key_of, summaries_over}
 use Rattle.cuboid_upkeep.specs.Steps.{AreUnfit, IsAddFault, IsCellOfRow, IsRowKey}
-use Rattle.cuboid_upkeep.proofs.Added.{both_stand, merge_refused}
+use Rattle.cuboid_upkeep.proofs.Added.{both_represent, merge_refused}
 use Rattle.cuboid_upkeep.proofs.Existing.{ascends}
 use Rattle.cuboid_upkeep.specs.declared.member_codes.ViewMembers.{ViewMembers}
 use Rattle.cuboid_upkeep.specs.Keys.{IsKeyOfRow, IsNumberOfRow}
@@ -28,7 +28,7 @@ pub none_taken : (dimensions : DimRows) (view : View) (members : ViewMembers) (r
 none_taken dimensions view members rows slots are = record {
   size = refl;
   slots = are;
-  stand = λ so_far stand. subst (λ (l : List LineOrder). StandFor dimensions [] l (cells_in view slots)) (sym (append-nil so_far)) stand;
+  represent = λ so_far represent. subst (λ (l : List LineOrder). RepresentRows dimensions [] l (cells_in view slots)) (sym (append-nil so_far)) represent;
 }
 
 -- what the cell of a row is, whatever the dimensions of its key are
@@ -61,7 +61,7 @@ module _ (dimensions : DimRows) (view : View) (members : ViewMembers) (no_modes 
         good = is.good;
       }
 
-  alone : StandFor dimensions [] (row ∷ []) (record { view = view; cells = cell ∷ [] })
+  alone : RepresentRows dimensions [] (row ∷ []) (record { view = view; cells = cell ∷ [] })
   alone =
       let is = cell_is dimensions [] view own.is in record {
         known = All-cons (HasMembers dimensions [] view) row [] is.members (All-nil (HasMembers dimensions [] view));
@@ -74,19 +74,19 @@ module _ (dimensions : DimRows) (view : View) (members : ViewMembers) (no_modes 
     one_taken next many takes = record {
       size = many ∙ so_far.size;
       slots = slots_then view members no_modes now (place_of members key) cell next so_far.slots low there takes;
-      stand = λ front stand.
-          subst (λ (l : List LineOrder). StandFor dimensions [] l (cells_in view next))
+      represent = λ front represent.
+          subst (λ (l : List LineOrder). RepresentRows dimensions [] l (cells_in view next))
           (append_assoc front (take place rows) (row ∷ []) ∙ ap (λ (l : List LineOrder). front ++ l) (sym (one_row_more dimensions [] view rows place within)))
-          (both_stand dimensions [] (front ++ take place rows) (row ∷ []) (cells_in view now) (record { view = view; cells = cell ∷ [] }) (cells_in view next) refl
-          (so_far.stand front stand) alone
+          (both_represent dimensions [] (front ++ take place rows) (row ∷ []) (cells_in view now) (record { view = view; cells = cell ∷ [] }) (cells_in view next) refl
+          (so_far.represent front represent) alone
           (merge_then view members no_modes now (place_of members key) cell next so_far.slots low there takes));
     }
 
     -- the cell passes a type
     pub one_passes : PassesAt now (place_of members key) cell → (front : List LineOrder)
-        → StandFor dimensions [] front (cells_in view old) → AreUnfit dimensions [] view (front ++ rows)
-    one_passes past front stand =
-        let first = so_far.stand front stand in
+        → RepresentRows dimensions [] front (cells_in view old) → AreUnfit dimensions [] view (front ++ rows)
+    one_passes past front represent =
+        let first = so_far.represent front represent in
         let number : ℕ = number_of cell.key in
         let before : cell_at number (used now) ≡ Some past.slot = past_is view members no_modes now (place_of members key) cell so_far.slots low there past in
         let passes : PassesType (used now) (cell ∷ []) = record {

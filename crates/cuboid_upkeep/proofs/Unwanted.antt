@@ -29,7 +29,7 @@ use Rattle.cuboid_upkeep.specs.CellNumbers.{AskedOfCells, HasUnselected}
 use Rattle.cuboid_upkeep.specs.Codes.{mode_code}
 use Rattle.cuboid_upkeep.specs.Grouping.{HasMembers, code_on, key_of}
 use Rattle.cuboid_upkeep.specs.MemberParts.{AreParts, AreUnselected, IsPartAt, IsUnselected, given_by, part_in}
-use Rattle.cuboid_upkeep.specs.StandIns.{HasCode}
+use Rattle.cuboid_upkeep.specs.Representatives.{HasCode}
 use Rattle.cuboid_upkeep.specs.declared.member_parts.MemberPart.TheVariants.{NoMember}
 use Rattle.cuboid_upkeep.specs.declared.member_parts.MemberParts.{MemberParts}
 

@@ -12,7 +12,7 @@ use Rattle.cuboid_cells.specs.declared.cell.Cell.{Cell}
 use Rattle.cuboid_cells.specs.Cells.{IsCellOf, KeyFits, number_of}
 use Rattle.cuboid_upkeep.specs.Grouping.{HasMembers, key_of}
 use Rattle.cuboid_upkeep.specs.MemberParts.{AreParts}
-use Rattle.cuboid_upkeep.specs.StandIns.{IsStandIn}
+use Rattle.cuboid_upkeep.specs.Representatives.{IsRepresentative}
 use Rattle.cuboid_upkeep.specs.declared.member_parts.MemberParts.{MemberParts}
 
 -- a query over dimensions that is asked of the cells of a view, whose fifth codes are places among the modes
@@ -25,7 +25,7 @@ pub record AskedOfCells : Type 0 where
 -- the number of the group of a row that represents a cell: none where the row is not selected
 pub record IsCellNumber (asked : AskedOfCells) (cell : Cell) (number : Option ℕ) : Type 0 where
   pub row : LineOrder
-  pub stands : IsStandIn asked.dimensions asked.modes asked.view cell row
+  pub represents : IsRepresentative asked.dimensions asked.modes asked.view cell row
   pub number_is : IsNumber asked.dimensions asked.query row number
 
 -- a row has the key of a cell, and is not selected

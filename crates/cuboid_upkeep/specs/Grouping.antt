@@ -82,7 +82,7 @@ pub record HasMembers (dimensions : DimRows) (modes : List (List ℕ)) (view : V
   pub ship_mode : view.ship_mode ≡ true → IsMode modes row.shipmode
 
 -- the cells of a view represent fact rows: each row has its members, and the cells group the rows
-pub record StandFor (dimensions : DimRows) (modes : List (List ℕ)) (rows : List LineOrder) (plain : PlainCells) : Type 0 where
+pub record RepresentRows (dimensions : DimRows) (modes : List (List ℕ)) (rows : List LineOrder) (plain : PlainCells) : Type 0 where
   pub known : All (HasMembers dimensions modes plain.view) rows
   pub ascending : AreAscending plain.cells
   pub group : Group dimensions modes plain.view rows plain.cells

@@ -10,23 +10,23 @@ use Rattle.lattice.specs.declared.view.View.{View}
 use Rattle.cuboid_cells.specs.declared.cell.Cell.{Cell}
 use Rattle.cuboid_cells.specs.Cells.{PlainCells, number_of}
 use Rattle.cuboid_cells.specs.Merges.{IsMergeOf}
-use Rattle.cuboid_upkeep.specs.Grouping.{HasMembers, PassType, StandFor, key_of}
+use Rattle.cuboid_upkeep.specs.Grouping.{HasMembers, PassType, RepresentRows, key_of}
 
 -- the cells of fact rows put end to end are the merge of their cells
-abbrev pub MergesStandForBoth : Type 0
-MergesStandForBoth = (dimensions : DimRows) (modes : List (List ℕ)) (rows others : List LineOrder) (one other new : PlainCells)
-    → one.view ≡ other.view → StandFor dimensions modes rows one → StandFor dimensions modes others other
-    → IsMergeOf one other new → StandFor dimensions modes (rows ++ others) new
+abbrev pub MergesRepresentBoth : Type 0
+MergesRepresentBoth = (dimensions : DimRows) (modes : List (List ℕ)) (rows others : List LineOrder) (one other new : PlainCells)
+    → one.view ≡ other.view → RepresentRows dimensions modes rows one → RepresentRows dimensions modes others other
+    → IsMergeOf one other new → RepresentRows dimensions modes (rows ++ others) new
 
 -- Cells represent the same rows when modes are added after the others: the codes of those that were there stay.
 abbrev pub ModesAreAddedBehind : Type 0
 ModesAreAddedBehind = (dimensions : DimRows) (modes more : List (List ℕ)) (rows : List LineOrder) (plain : PlainCells)
-    → StandFor dimensions modes rows plain → StandFor dimensions (modes ++ more) rows plain
+    → RepresentRows dimensions modes rows plain → RepresentRows dimensions (modes ++ more) rows plain
 
 -- fact rows have one list of cells
 abbrev pub CellsAreTheOne : Type 0
 CellsAreTheOne = (dimensions : DimRows) (modes : List (List ℕ)) (rows : List LineOrder) (one other : PlainCells)
-    → one.view ≡ other.view → StandFor dimensions modes rows one → StandFor dimensions modes rows other → one ≡ other
+    → one.view ≡ other.view → RepresentRows dimensions modes rows one → RepresentRows dimensions modes rows other → one ≡ other
 
 -- no cell of fact rows passes a type where the sums of the rows are in range
 abbrev pub RowsInRangeFit : Type 0
@@ -43,10 +43,10 @@ OneKeyOneGroup dimensions = (modes : List (List ℕ)) (view : View) (query : Que
 -- fact rows that have their members have cells
 abbrev pub RowsHaveCells : Type 0
 RowsHaveCells = (dimensions : DimRows) (modes : List (List ℕ)) (view : View) (rows : List LineOrder) → All (HasMembers dimensions modes view) rows
-    → (cells : List Cell) × StandFor dimensions modes rows (record { view = view; cells = cells })
+    → (cells : List Cell) × RepresentRows dimensions modes rows (record { view = view; cells = cells })
 
 -- cells of some of the fact rows are no more than those of all
 abbrev pub MoreRowsHaveNoFewerCells : Type 0
 MoreRowsHaveNoFewerCells = (dimensions : DimRows) (modes : List (List ℕ)) (view : View) (before rows behind : List LineOrder) (one other : List Cell)
-    → StandFor dimensions modes rows (record { view = view; cells = one })
-    → StandFor dimensions modes (before ++ (rows ++ behind)) (record { view = view; cells = other }) → length one ≤ length other
+    → RepresentRows dimensions modes rows (record { view = view; cells = one })
+    → RepresentRows dimensions modes (before ++ (rows ++ behind)) (record { view = view; cells = other }) → length one ≤ length other

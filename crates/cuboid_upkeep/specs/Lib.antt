@@ -8,6 +8,6 @@ pub mod MemberParts
 pub mod Members
 pub mod Numbers
 pub mod Slots
-pub mod StandIns
+pub mod Representatives
 pub mod Steps
 pub mod Tables

@@ -8,7 +8,7 @@ use Rattle.cube_model.specs.Places.{row_count_of, row_index_of}
 use Rattle.group_plan.specs.Parts.{given_at}
 use Rattle.lattice.specs.declared.level.Level.{Level}
 use Rattle.cuboid_cells.specs.Limits.{all_code}
-use Rattle.cuboid_upkeep.specs.StandIns.{HasCode}
+use Rattle.cuboid_upkeep.specs.Representatives.{HasCode}
 use Rattle.cuboid_upkeep.specs.declared.member_parts.MemberPart.{MemberPart}
 use Rattle.cuboid_upkeep.specs.declared.member_parts.MemberPart.TheVariants.{NoMember, Nothing, Part}
 use Rattle.cuboid_upkeep.specs.declared.member_parts.MemberParts.{MemberParts}

@@ -7,7 +7,7 @@ use Rattle.lattice.specs.declared.view.View.{View}
 use Rattle.cuboid_cells.specs.declared.cell.Cell.{Cell}
 use Rattle.cuboid_cells.specs.Cells.{CellFits, PlainCells}
 use Rattle.cuboid_cells.specs.Merges.{merged}
-use Rattle.cuboid_upkeep.specs.Grouping.{StandFor}
+use Rattle.cuboid_upkeep.specs.Grouping.{RepresentRows}
 use Rattle.cuboid_upkeep.specs.Steps.{IsGood}
 use Rattle.cuboid_upkeep.specs.declared.member_codes.ViewMembers.{ViewMembers}
 use Rattle.cuboid_upkeep.specs.Numbers.{LiesIn, place_of}
@@ -57,5 +57,5 @@ pub record PassesAt (slots : List Cell) (place : ℕ) (cell : Cell) : Type 0 whe
 pub record IsTaken (dimensions : DimRows) (view : View) (members : ViewMembers) (rows : List LineOrder) (count : ℕ) (old new : List Cell) : Type 0 where
   pub size : length new ≡ length old
   pub slots : AreSlots view members 0 new
-  pub stand : (so_far : List LineOrder) → StandFor dimensions [] so_far (cells_in view old)
-      → StandFor dimensions [] (so_far ++ take count rows) (cells_in view new)
+  pub represent : (so_far : List LineOrder) → RepresentRows dimensions [] so_far (cells_in view old)
+      → RepresentRows dimensions [] (so_far ++ take count rows) (cells_in view new)

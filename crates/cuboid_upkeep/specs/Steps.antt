@@ -12,7 +12,7 @@ use Rattle.cuboid_cells.specs.declared.key.Key.{Key}
 use Rattle.cuboid_cells.specs.Cells.{CellFits, IsCellOf, IsKeyOf, KeyFits, cell_at, number_of}
 use Rattle.cuboid_cells.specs.Limits.{most_cells}
 use Rattle.cuboid_cells.specs.Merges.{merged, merged_if_any}
-use Rattle.cuboid_upkeep.specs.Grouping.{Group, HasMembers, NumbersFit, PassType, StandFor, cell_over, key_of}
+use Rattle.cuboid_upkeep.specs.Grouping.{Group, HasMembers, NumbersFit, PassType, RepresentRows, cell_over, key_of}
 
 -- a cell of a view whose numbers fit their fields
 pub record IsGood (view : View) (cell : Cell) : Type 0 where
@@ -83,7 +83,7 @@ AreUnfit dimensions modes view rows = (All (HasMembers dimensions modes view) ro
 -- the cells of a view that represent fact rows are more than a cuboid can have
 pub record HaveTooMany (dimensions : DimRows) (modes : List (List ℕ)) (view : View) (rows : List LineOrder) : Type 0 where
   pub cells : List Cell
-  pub stand : StandFor dimensions modes rows (record { view = view; cells = cells })
+  pub represent : RepresentRows dimensions modes rows (record { view = view; cells = cells })
   pub many : most_cells < length cells
 
 -- why fact rows are not added to others

@@ -6,7 +6,7 @@ ghost use Rattle.group_plan.specs.Plans.{IsPlanOver, query_of};
 ghost use Rattle.cuboid_cells.specs.Cells.{IsCellOf};
 ghost use Rattle.cuboid_upkeep.specs.CellNumbers.{AreUnwanted, IsCellNumber};
 ghost use Rattle.cuboid_upkeep.specs.Codes.{modes_of};
-ghost use Rattle.cuboid_upkeep.specs.StandIns.{IsCodeOfMode, IsStandIn};
+ghost use Rattle.cuboid_upkeep.specs.Representatives.{IsCodeOfMode, IsRepresentative};
 
 use crate::codes::is_all;
 use crate::member_parts::{MemberParts, parts_of_members};
@@ -113,7 +113,7 @@ impl<'a> CellNumbers<'a> {
         requires { IsCellOf self.now.view cell.now }
         ensures ok { IfOk result (IsCellNumber self.now cell.now) }
         ensures refused { OnErr result ((row : LineOrder)
-            → IsStandIn self.now.dimensions self.now.modes self.now.view cell.now row → ⊥) }
+            → IsRepresentative self.now.dimensions self.now.modes self.now.view cell.now row → ⊥) }
     {
         if !has_mode(self.view, self.modes, cell.key.ship_mode) {
             return Err(UnknownMember);

@@ -4,7 +4,7 @@ ghost use Rattle.cube_model.specs.declared.fault.Fault.{Fault};
 ghost use Rattle.cube_model.specs.declared.rows.DimRows.{DimRows};
 ghost use Rattle.cube_model.specs.declared.rows.LineOrder.{LineOrder};
 ghost use Rattle.cube_model.specs.Limits.{most_batch_rows};
-ghost use Rattle.cuboid_upkeep.specs.Grouping.{StandFor};
+ghost use Rattle.cuboid_upkeep.specs.Grouping.{RepresentRows};
 ghost use Rattle.cuboid_upkeep.specs.Steps.{IsAddFault};
 ghost use Rattle.cuboid_upkeep.specs.Growing.{GrowOver, grown};
 
@@ -59,10 +59,10 @@ impl GrowingCells {
     ) -> Result<(), Fault>
         requires over { GrowOver dims.now self.old }
         requires batch { length (F.rows rows.now) ≤ most_batch_rows }
-        ensures ok { OnOk result ((so_far : List LineOrder) → StandFor dims.now [] so_far (grown self.old)
-            → StandFor dims.now [] (so_far ++ F.rows rows.now) (grown self.new)) }
+        ensures ok { OnOk result ((so_far : List LineOrder) → RepresentRows dims.now [] so_far (grown self.old)
+            → RepresentRows dims.now [] (so_far ++ F.rows rows.now) (grown self.new)) }
         ensures over { OnOk result (GrowOver dims.now self.new) }
-        ensures refused { IfErr result (λ fault. (so_far : List LineOrder) → StandFor dims.now [] so_far (grown self.old)
+        ensures refused { IfErr result (λ fault. (so_far : List LineOrder) → RepresentRows dims.now [] so_far (grown self.old)
             → IsAddFault dims.now [] (grown self.old).view (so_far ++ F.rows rows.now) fault) }
 
         // Also after an error.

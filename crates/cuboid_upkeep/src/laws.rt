@@ -1,12 +1,12 @@
 //! Laws of the definitions: each function proves the statement that its contract names, and does nothing.
-ghost use Rattle.cuboid_upkeep.specs.Lawful.{CellsAreTheOne, MergesStandForBoth, ModesAreAddedBehind, MoreRowsHaveNoFewerCells, OneKeyOneGroup, RowsHaveCells, RowsInRangeFit};
+ghost use Rattle.cuboid_upkeep.specs.Lawful.{CellsAreTheOne, MergesRepresentBoth, ModesAreAddedBehind, MoreRowsHaveNoFewerCells, OneKeyOneGroup, RowsHaveCells, RowsInRangeFit};
 
 use cube_model::{Axis, valid_rows_keep_the_rules};
 use dimensions::Dims;
 
 /// The cells of fact rows put end to end are the merge of their cells.
-pub fn merges_stand_for_both()
-    ensures { MergesStandForBoth }
+pub fn merges_represent_both()
+    ensures { MergesRepresentBoth }
 {}
 
 /// Cells represent the same rows when modes are added after the others.

@@ -6,7 +6,7 @@ ghost use Rattle.dimensions.specs.Shown.{rows_on};
 ghost use Rattle.lattice.specs.declared.level.Level.TheVariants as level;
 ghost use Rattle.cuboid_cells.specs.Limits.{all_code};
 ghost use Rattle.cuboid_upkeep.specs.Codes.{member_code};
-ghost use Rattle.cuboid_upkeep.specs.StandIns.{AreAtCodes, AreKeysOf, HaveAllCodes, HoldAllCodes, missing_in, with_key};
+ghost use Rattle.cuboid_upkeep.specs.Representatives.{AreAtCodes, AreKeysOf, HaveAllCodes, HoldAllCodes, missing_in, with_key};
 
 use crate::codes::{LevelCodes, code_count};
 use cube_model::{Axis, valid_rows_keep_the_rules};

@@ -5,7 +5,7 @@ ghost use Rattle.cube_model.specs.declared.fault.Fault.{Fault};
 ghost use Rattle.cube_model.specs.declared.rows.LineOrder.{LineOrder};
 ghost use Rattle.cube_model.specs.Limits.{most_batch_rows};
 ghost use Rattle.cuboid_cells.specs.Cells.{number_of};
-ghost use Rattle.cuboid_upkeep.specs.Grouping.{StandFor};
+ghost use Rattle.cuboid_upkeep.specs.Grouping.{RepresentRows};
 ghost use Rattle.cuboid_upkeep.specs.Members.{AreMembersOf};
 ghost use Rattle.cuboid_upkeep.specs.Steps.{AreUnfit, IsAddFault};
 
@@ -29,9 +29,9 @@ pub(crate) fn merge_rows<F: FactRows>(
 ) -> Result<(), Fault>
     requires members { AreMembersOf dims.now cells.old.view members.now }
     requires batch { length (F.rows rows.now) ≤ most_batch_rows }
-    ensures ok { OnOk result ((so_far : List LineOrder) → StandFor dims.now [] so_far cells.old
-        → StandFor dims.now [] (so_far ++ F.rows rows.now) cells.new) }
-    ensures refused { IfErr result (λ fault. (so_far : List LineOrder) → StandFor dims.now [] so_far cells.old
+    ensures ok { OnOk result ((so_far : List LineOrder) → RepresentRows dims.now [] so_far cells.old
+        → RepresentRows dims.now [] (so_far ++ F.rows rows.now) cells.new) }
+    ensures refused { IfErr result (λ fault. (so_far : List LineOrder) → RepresentRows dims.now [] so_far cells.old
         → IsAddFault dims.now [] cells.old.view (so_far ++ F.rows rows.now) fault) }
 
     // Also after an error.
@@ -55,7 +55,7 @@ fn cells_of<F: FactRows>(
 ) -> Result<Cells, Fault>
     requires members { AreMembersOf dims.now view members.now }
     requires batch { length (F.rows rows.now) ≤ most_batch_rows }
-    ensures ok { IfOk result (StandFor dims.now [] (F.rows rows.now)) }
+    ensures ok { IfOk result (RepresentRows dims.now [] (F.rows rows.now)) }
     ensures view { IfOk result (λ cells. cells.view ≡ view) }
     ensures refused { IfErr result (λ fault. (fault ≡ Fault.Memory)
         ⊎ ((fault ≡ Fault.BadLayout) × AreUnfit dims.now [] view (F.rows rows.now))) }

@@ -5,7 +5,7 @@ ghost use Rattle.cuboid_cells.specs.declared.cell.Cell.{Cell};
 ghost use Rattle.cube_model.specs.declared.fault.Fault.{Fault};
 ghost use Rattle.cube_model.specs.declared.rows.DimRows.{DimRows};
 ghost use Rattle.cube_model.specs.declared.rows.LineOrder.{LineOrder};
-ghost use Rattle.cuboid_upkeep.specs.Grouping.{StandFor};
+ghost use Rattle.cuboid_upkeep.specs.Grouping.{RepresentRows};
 ghost use Rattle.cuboid_upkeep.specs.Steps.{AreUnfit};
 ghost use Rattle.lattice.specs.declared.view.View.{View};
 ghost use Rattle.cuboid_upkeep.specs.declared.member_codes.ViewMembers.{ViewMembers};
@@ -103,11 +103,11 @@ impl CellTable {
         rows: &F,
     ) -> Result<(), Fault>
         requires over { IsTableOver dims.now self.old }
-        ensures ok { OnOk result ((so_far : List LineOrder) → StandFor dims.now [] so_far (cells_in self.old.view self.old.slots.items)
-            → StandFor dims.now [] (so_far ++ F.rows rows.now) (cells_in self.new.view self.new.slots.items)) }
+        ensures ok { OnOk result ((so_far : List LineOrder) → RepresentRows dims.now [] so_far (cells_in self.old.view self.old.slots.items)
+            → RepresentRows dims.now [] (so_far ++ F.rows rows.now) (cells_in self.new.view self.new.slots.items)) }
         ensures over { OnOk result (IsTableOver dims.now self.new) }
         ensures view { self.new.view ≡ self.old.view }
-        ensures refused { IfErr result (λ fault. (so_far : List LineOrder) → StandFor dims.now [] so_far (cells_in self.old.view self.old.slots.items)
+        ensures refused { IfErr result (λ fault. (so_far : List LineOrder) → RepresentRows dims.now [] so_far (cells_in self.old.view self.old.slots.items)
             → (fault ≡ Fault.Memory) ⊎ ((fault ≡ Fault.BadLayout) × AreUnfit dims.now [] self.old.view (so_far ++ F.rows rows.now))) }
     {
         let numbers = numbers_of_rows(alloc, dims, self.view, &self.members, rows)?;
@@ -162,7 +162,7 @@ fn take_in_rows<F: FactRows>(
     requires numbers { AreRowNumbers dims.now view members.now (F.rows rows.now) (length (F.rows rows.now)) numbers.now }
     ensures ok { IfOk result (λ _. IsTaken dims.now view members.now (F.rows rows.now) (length (F.rows rows.now)) slots.old.items slots.new.items) }
     ensures refused { IfErr result (λ fault. (fault ≡ Fault.BadLayout) × ((so_far : List LineOrder)
-        → StandFor dims.now [] so_far (cells_in view slots.old.items) → AreUnfit dims.now [] view (so_far ++ F.rows rows.now))) }
+        → RepresentRows dims.now [] so_far (cells_in view slots.old.items) → AreUnfit dims.now [] view (so_far ++ F.rows rows.now))) }
 {
     let mut free = 0;
     for place in 0..rows.count() {

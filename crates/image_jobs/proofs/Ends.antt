@@ -16,27 +16,27 @@ use Rattle.object_store.specs.Disk.{AllShow, Each, IsBlank, ShowsSome, ShowsSome
 use Rattle.object_store.specs.Room.{LacksRoom, empty_room}
 use Rattle.warehouse_objects.specs.Facts.{Facts}
 use Rattle.warehouse_objects.specs.Lawful.{dimension_puts}
-use Rattle.warehouse_objects.specs.Stands.{Stands}
+use Rattle.warehouse_objects.specs.Represents.{Represents}
 use Rattle.warehouse_objects.specs.Warehouse.{fresh}
 use Rattle.warehouse_root.specs.declared.layout.Layout.TheVariants.{First}
 use Rattle.warehouse_root.specs.Root.{first_root, root_of}
 
 module _ (law : PrefixIsLeft) (image : List ℕ) (before after calls : List Call) (none : before ≡ []) (are : calls ≡ after) where
-  pub creates : (rows : DimRows) → AllShow (device_after image after) (λ c. Stands c (fresh rows))
-      → (Each (device_after image before) IsBlank → LeavesOnly (state_after image before) (state_after image after) (ShowsSomeOrNone (λ c. Stands c (fresh rows)) (length (sectors_in image))))
+  pub creates : (rows : DimRows) → AllShow (device_after image after) (λ c. Represents c (fresh rows))
+      → (Each (device_after image before) IsBlank → LeavesOnly (state_after image before) (state_after image after) (ShowsSomeOrNone (λ c. Represents c (fresh rows)) (length (sectors_in image))))
       → Creates image rows calls
-  creates rows stands leaves = record {
-    stands = subst (λ (l : List Call). AllShow (device_after image l) (λ c. Stands c (fresh rows))) (sym are) stands;
-    leaves = λ blank. subst (λ (l : List Call). LeavesAtEach image l (ShowsSomeOrNone (λ c. Stands c (fresh rows)))) (sym are)
-        (at_each law image before after (ShowsSomeOrNone (λ c. Stands c (fresh rows))) none (leaves (at_first image before IsBlank none blank)));
+  creates rows represents leaves = record {
+    represents = subst (λ (l : List Call). AllShow (device_after image l) (λ c. Represents c (fresh rows))) (sym are) represents;
+    leaves = λ blank. subst (λ (l : List Call). LeavesAtEach image l (ShowsSomeOrNone (λ c. Represents c (fresh rows)))) (sym are)
+        (at_each law image before after (ShowsSomeOrNone (λ c. Represents c (fresh rows))) none (leaves (at_first image before IsBlank none blank)));
   }
 
-  pub loads : (facts : Facts) (first size : ℕ) (text : List ℕ) (all : LoadsAll facts first size text) → AllShow (device_after image after) (λ c. Stands c (loaded_all all))
+  pub loads : (facts : Facts) (first size : ℕ) (text : List ℕ) (all : LoadsAll facts first size text) → AllShow (device_after image after) (λ c. Represents c (loaded_all all))
       → LeavesOnly (state_after image before) (state_after image after) (ShowsSome (HoldsSome all.w first size text) (length (sectors_in image)))
       → Loads image facts first size text calls
-  loads facts first size text all stands leaves = record {
+  loads facts first size text all represents leaves = record {
     all = all;
-    stands = subst (λ (l : List Call). AllShow (device_after image l) (λ c. Stands c (loaded_all all))) (sym are) stands;
+    represents = subst (λ (l : List Call). AllShow (device_after image l) (λ c. Represents c (loaded_all all))) (sym are) represents;
     leaves = subst (λ (l : List Call). LeavesAtEach image l (ShowsSome (HoldsSome all.w first size text))) (sym are)
         (at_each law image before after (ShowsSome (HoldsSome all.w first size text)) none leaves);
   }

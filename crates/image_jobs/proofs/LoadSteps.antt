@@ -15,7 +15,7 @@ use Rattle.object_store.specs.Moments.{leaves_then, leaves_weaker}
 use Rattle.warehouse_objects.specs.Facts.{Facts}
 use Rattle.warehouse_objects.specs.Warehouse.{Warehouse}
 use Rattle.warehouse.specs.declared.session.Session.{Session}
-use Rattle.warehouse.specs.Found.{MayBeFound, MayStandSince}
+use Rattle.warehouse.specs.Found.{MayBeFound, MayRepresentSince}
 use Rattle.warehouse.specs.Session.{IsAt, device_of, disk_of}
 use Rattle.warehouse.specs.Comparing.{numbered}
 use Rattle.warehouse_jobs.specs.Cutting.{AreCutFrom, IsNextBatch, IsNextFault}
@@ -29,13 +29,13 @@ use Rattle.image_jobs.proofs.Named.{or_memory}
 module _ {D : Type 0} (g : Ghosts D) (facts : Facts) (w : Warehouse) (first size : ℕ) (text : List ℕ) (device : D) (opened done : Session D g)
     (found : MayBeFound facts None w) (before after : Option (List ℕ)) where
   -- until it is open there are no batches of the text
-  none_yet : (c : Content) → MayStandSince (disk g device) facts None c → HoldsSome w first size text c
+  none_yet : (c : Content) → MayRepresentSince (disk g device) facts None c → HoldsSome w first size text c
   none_yet c since = record {
     some = [];
     next = 1;
     left = parts_of size (lines_of text);
     cut = (refl, refl);
-    stands = (since.0, inl (same_facts facts since.0 since.1 ∙ sym (same_facts facts w found)), since.3);
+    represents = (since.0, inl (same_facts facts since.0 since.1 ∙ sym (same_facts facts w found)), since.3);
   }
 
   then_some : (c : Content) → jobs.MayHold w first size (Some text) 0 c → HoldsSome w first size text c
@@ -44,10 +44,10 @@ module _ {D : Type 0} (g : Ghosts D) (facts : Facts) (w : Warehouse) (first size
     next = may.next;
     left = may.left;
     cut = may.cut;
-    stands = (jobs.with_batches w first may.some, inl refl, may.stands);
+    represents = (jobs.with_batches w first may.some, inl refl, may.represents);
   }
 
-  leaves : Leaves (disk g device) (disk_of g opened) (MayStandSince (disk g device) facts None) → Leaves (disk_of g opened) (disk_of g done) (jobs.MayHold w first size (Some text) 0)
+  leaves : Leaves (disk g device) (disk_of g opened) (MayRepresentSince (disk g device) facts None) → Leaves (disk_of g opened) (disk_of g done) (jobs.MayHold w first size (Some text) 0)
       → Leaves (disk g device) (disk_of g done) (HoldsSome w first size text)
   leaves opening load = leaves_then (HoldsSome w first size text) (disk g device) (disk_of g opened) (disk_of g done)
       (leaves_weaker _ (HoldsSome w first size text) (disk g device) (disk_of g opened) (λ k. none_yet) opening)
@@ -65,7 +65,7 @@ module _ {D : Type 0} (g : Ghosts D) (facts : Facts) (w : Warehouse) (first size
           ∙ sym (slice_get-map (λ (one : jobs.Done g). one.rows) load.trace place ∙ ap (option_map (λ (one : jobs.Done g). one.rows)) some) ∙ is
 
   pub loads_on : {yes : Bool} → LoadHoldsItsBatches g
-      → Leaves (disk g device) (disk_of g opened) (MayStandSince (disk g device) facts None)
+      → Leaves (disk g device) (disk_of g opened) (MayRepresentSince (disk g device) facts None)
       → jobs.Loads {A = Bool} g w first size (Some text) opened done before after (Ok yes)
       → LoadsOn g facts first size text device (device_of done)
   loads_on {yes} law opening load =
@@ -79,7 +79,7 @@ module _ {D : Type 0} (g : Ghosts D) (facts : Facts) (w : Warehouse) (first size
           cut = subst (λ (l : List (List (List ℕ))). AreCutFrom (Some text) size (jobs.batches_of load.trace) load.next l) load.ends.none load.cut;
           holds = held law load;
         };
-        stands = at.all;
+        represents = at.all;
         leaves = leaves opening load.leaves;
       }
 

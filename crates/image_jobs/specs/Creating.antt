@@ -11,7 +11,7 @@ use Rattle.object_store.specs.Disk.{AllShow, Each, IsBlank, ShowsSomeOrNone}
 use Rattle.object_store.specs.Room.{LacksRoom, empty_room}
 use Rattle.ssb_eval.specs.Evaluation.{dimensions_of}
 use Rattle.warehouse_objects.specs.Lawful.{dimension_puts}
-use Rattle.warehouse_objects.specs.Stands.{Stands}
+use Rattle.warehouse_objects.specs.Represents.{Represents}
 use Rattle.warehouse_objects.specs.Warehouse.{fresh}
 use Rattle.warehouse_root.specs.declared.layout.Layout.TheVariants.{First}
 use Rattle.warehouse_root.specs.Root.{first_root, root_of}
@@ -28,9 +28,9 @@ RefusesTables customer supplier part date fault =
 
 -- the calls make the warehouse of these dimensions without batches
 pub record Creates (image : List ℕ) (rows : DimRows) (calls : List Call) : Type 0 where
-  pub stands : AllShow (device_after image calls) (λ c. Stands c (fresh rows))
+  pub represents : AllShow (device_after image calls) (λ c. Represents c (fresh rows))
   -- where the bytes have no valid superblock, a crash after any of the calls leaves none, or this warehouse
-  pub leaves : Each (device_over image) IsBlank → LeavesAtEach image calls (ShowsSomeOrNone (λ c. Stands c (fresh rows)))
+  pub leaves : Each (device_over image) IsBlank → LeavesAtEach image calls (ShowsSomeOrNone (λ c. Represents c (fresh rows)))
 
 -- no warehouse of these dimensions can be made of the bytes: there is no memory; they are no whole sectors, or too few or too many;
 -- some image of them has a valid superblock; or the dimensions do not fit

@@ -4,7 +4,7 @@ use Rattle.sector_device.specs.Memory.{memory_state}
 use Rattle.image_device.specs.ImageDisk.{sectors_in}
 use Rattle.object_store.specs.Disk.{Disk, AllShow}
 use Rattle.warehouse_objects.specs.Facts.{Facts}
-use Rattle.warehouse.specs.Found.{MayStand}
+use Rattle.warehouse.specs.Found.{MayRepresent}
 
 -- the bytes as a device that nothing has changed
 abbrev pub device_over : List ℕ → Disk
@@ -12,7 +12,7 @@ device_over image = record { keeps_word = Unit {0}; state = memory_state (sector
 
 -- the bytes hold a warehouse of these facts
 abbrev pub Holds : List ℕ → Facts → Type 0
-Holds image facts = AllShow (device_over image) (MayStand facts None)
+Holds image facts = AllShow (device_over image) (MayRepresent facts None)
 
 -- they are whole sectors, fewer than 2^32
 pub record AreSectors (image : List ℕ) : Type 0 where

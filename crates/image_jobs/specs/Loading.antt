@@ -11,10 +11,10 @@ use Rattle.journal_device.specs.declared.call.Call.{Call}
 use Rattle.object_store.specs.Content.{Content}
 use Rattle.object_store.specs.Disk.{AllShow, Leaves, ShowsSome, disk}
 use Rattle.warehouse_objects.specs.Facts.{Admits, Facts, facts_in, refusal_of}
-use Rattle.warehouse_objects.specs.Stands.{Stands}
+use Rattle.warehouse_objects.specs.Represents.{Represents}
 use Rattle.warehouse_objects.specs.Warehouse.{Warehouse}
 use Rattle.warehouse.specs.Comparing.{numbered}
-use Rattle.warehouse.specs.Found.{MayStand}
+use Rattle.warehouse.specs.Found.{MayRepresent}
 use Rattle.warehouse_jobs.specs.Cutting.{AreCutFrom, IsNextBatch, IsNextFault}
 use Rattle.warehouse_jobs.specs.Loading.{with_batches}
 
@@ -38,18 +38,18 @@ pub record HoldsSome (w : Warehouse) (first size : ℕ) (text : List ℕ) (c : C
   pub next : ℕ
   pub left : List (List (List ℕ))
   pub cut : AreCutFrom (Some text) size some next left
-  pub stands : MayStand (facts_in (with_batches w first some)) None c
+  pub represents : MayRepresent (facts_in (with_batches w first some)) None c
 
 -- a text was loaded into the warehouse on a device
 pub record LoadsOn {D : Type 0} (g : Ghosts D) (facts : Facts) (first size : ℕ) (text : List ℕ) (old new : D) : Type 0 where
   pub all : LoadsAll facts first size text
-  pub stands : AllShow (disk g new) (λ c. Stands c (loaded_all all))
+  pub represents : AllShow (disk g new) (λ c. Represents c (loaded_all all))
   pub leaves : Leaves (disk g old) (disk g new) (HoldsSome all.w first size text)
 
 -- the calls load a text into the warehouse that the bytes hold
 pub record Loads (image : List ℕ) (facts : Facts) (first size : ℕ) (text : List ℕ) (calls : List Call) : Type 0 where
   pub all : LoadsAll facts first size text
-  pub stands : AllShow (device_after image calls) (λ c. Stands c (loaded_all all))
+  pub represents : AllShow (device_after image calls) (λ c. Represents c (loaded_all all))
   -- a crash after any of the calls leaves the warehouse with the first batches of the text
   pub leaves : LeavesAtEach image calls (ShowsSome (HoldsSome all.w first size text))
 

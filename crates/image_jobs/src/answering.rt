@@ -2,7 +2,7 @@
 ghost use Rattle.std.specs.Prelude.{◌⊎◌, None, IfErr, IfOk};
 ghost use Rattle.object_store.specs.Disk.{disk, AllShow};
 ghost use Rattle.warehouse_objects.specs.Facts.{Facts};
-ghost use Rattle.warehouse.specs.Found.{MayStand};
+ghost use Rattle.warehouse.specs.Found.{MayRepresent};
 ghost use Rattle.image_jobs.specs.Answers.{AnswerRefuses, Answers, IsNoDevice};
 ghost use Rattle.image_jobs.specs.Images.{Holds};
 
@@ -42,9 +42,9 @@ fn answer_on<D: Sectors + Drop>(
     as_of: Option<u32>,
     asked: &Asked,
 ) -> Result<Vec<u8>, Fault>
-    ensures answers { IfOk result (λ text. ((d : D) → D.keeps_word d) → (facts : Facts) → AllShow (disk D.Sectors device) (MayStand facts None)
+    ensures answers { IfOk result (λ text. ((d : D) → D.keeps_word d) → (facts : Facts) → AllShow (disk D.Sectors device) (MayRepresent facts None)
         → Answers facts as_of asked.now text.items) }
-    ensures refused { IfErr result (λ fault. ((d : D) → D.keeps_word d) → (facts : Facts) → AllShow (disk D.Sectors device) (MayStand facts None)
+    ensures refused { IfErr result (λ fault. ((d : D) → D.keeps_word d) → (facts : Facts) → AllShow (disk D.Sectors device) (MayRepresent facts None)
         → AnswerRefuses facts as_of asked.now fault) }
 {
     let mut session = match open_as_is(alloc, device) {

@@ -2,7 +2,7 @@
 ghost use Rattle.std.specs.Prelude.{◌≡◌, None, IfErr, IfOk};
 ghost use Rattle.object_store.specs.Disk.{disk, AllShow};
 ghost use Rattle.warehouse_objects.specs.Facts.{Facts};
-ghost use Rattle.warehouse.specs.Found.{MayStand};
+ghost use Rattle.warehouse.specs.Found.{MayRepresent};
 ghost use Rattle.image_jobs.specs.Images.{Holds};
 ghost use Rattle.image_jobs.specs.Journals.{AreFor};
 ghost use Rattle.image_jobs.specs.Loading.{IsLoadJournal, LoadRefuses, Loads, LoadsOn, RefusesLoad};
@@ -69,9 +69,9 @@ fn load_on<D: Sectors + Drop>(
     rows: BatchRows,
     lineorder: &[u8],
 ) -> Result<D, Fault>
-    ensures loads { IfOk result (λ new. ((d : D) → D.keeps_word d) → (facts : Facts) → AllShow (disk D.Sectors device) (MayStand facts None)
+    ensures loads { IfOk result (λ new. ((d : D) → D.keeps_word d) → (facts : Facts) → AllShow (disk D.Sectors device) (MayRepresent facts None)
         → LoadsOn D.Sectors facts first rows lineorder.now device new) }
-    ensures refused { IfErr result (λ fault. ((d : D) → D.keeps_word d) → (facts : Facts) → AllShow (disk D.Sectors device) (MayStand facts None)
+    ensures refused { IfErr result (λ fault. ((d : D) → D.keeps_word d) → (facts : Facts) → AllShow (disk D.Sectors device) (MayRepresent facts None)
         → LoadRefuses facts first rows lineorder.now fault) }
 {
     load_holds_its_batches::<D>();

@@ -49,7 +49,7 @@ module _ (size : ℕ) (was image : Image) (used : List Extent) (kept : List Entr
     -- where each other valid superblock is of an earlier generation
     pub shows : ((slot : ℕ) → slot < 2 → slot ≢ slot_of plan → (other : Super) → IsSuperblock slot (was slot) other → other.generation ≤ plan.superblock.generation) → ShowsBy size image c plan.superblock plan.entries.items
     shows older = record {
-      standing = subst (λ (n : ℕ). IsSuperblock (n % 2) (image (n % 2)) plan.superblock) (planned.numbered ∙ sym numbered) (record { spelled = has.block; proper = planned.proper; in_slot = refl });
+      in_slot = subst (λ (n : ℕ). IsSuperblock (n % 2) (image (n % 2)) plan.superblock) (planned.numbered ∙ sym numbered) (record { spelled = has.block; proper = planned.proper; in_slot = refl });
       newest = λ slot lt other is. newest slot lt other is (cases_eq slot (slot_of plan));
       spells = spells;
     }

@@ -71,7 +71,7 @@ pub shows_one : (size : ℕ) (image : Image) (c d : Content) → Shows size imag
 shows_one size image c d first second =
     let numbered : (first.0).generation ≡ c.generation = (first.2).spells.numbered in
     let newest : IsNewest image first.0 = record {
-      standing = subst (λ (n : ℕ). IsSuperblock (n % 2) (image (n % 2)) first.0) (sym numbered) (first.2).standing;
+      in_slot = subst (λ (n : ℕ). IsSuperblock (n % 2) (image (n % 2)) first.0) (sym numbered) (first.2).in_slot;
       newest = λ slot lt other is. omega (arith, (first.2).newest slot lt other is, numbered);
     } in
     let super : first.0 ≡ second.0 = newest_shows size image first.0 newest d second.0 second.1 second.2 in

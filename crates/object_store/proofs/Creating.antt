@@ -114,7 +114,7 @@ module _ (d0 d1 : Disk) (word : d1.keeps_word → d0.keeps_word) (size : d1.stat
 
   -- a valid superblock in a slot was there before
   pub not_blank : (super : Super) → d1.keeps_word → (d1.keeps_word → (i : ℕ) → d1.state.may_hold i (d1.state.reads i)) → IsNewest d1.state.reads super → Each d0 IsBlank → ⊥
-  not_blank super w stay newest blank = still_blank blank w d1.state.reads (stay w) (super.generation % 2) (omega arith) super newest.standing
+  not_blank super w stay newest blank = still_blank blank w d1.state.reads (stay w) (super.generation % 2) (omega arith) super newest.in_slot
 
   -- where no valid superblock is read, none was read before
   pub none_before : d1.keeps_word → HasNone d1.state.reads → HasNone d0.state.reads

@@ -5,7 +5,7 @@ use Rattle.sector_device.specs.Moments.{none_written, synced_within}
 use Rattle.extents.specs.Extents.{AreLaidOut}
 use Rattle.superblock.specs.declared.superblock.Super.{Super}
 use Rattle.superblock.specs.Superblock.{IsSuperblock}
-use Rattle.superblock.specs.Choice.{StandsOf}
+use Rattle.superblock.specs.Choice.{IsCurrentOf}
 use Rattle.superblock.proofs.CallerLemmas.{IsSuperblock-one}
 use Rattle.catalogue.specs.declared.entry.Entry.{Entry}
 use Rattle.catalogue.specs.Catalogue.{IsCatalogue}
@@ -19,23 +19,23 @@ use Rattle.object_store.specs.Frames.{shows_same}
 use Rattle.object_store.proofs.Pieces.{read_only}
 
 -- the one that is chosen is the newest
-pub chosen_is : (even odd : List ℕ) (first second chosen : Option Super) → ((s : Super) → (first ≡ Some s) ↔ IsSuperblock 0 even s) → ((s : Super) → (second ≡ Some s) ↔ IsSuperblock 1 odd s) → StandsOf first second chosen
+pub chosen_is : (even odd : List ℕ) (first second chosen : Option Super) → ((s : Super) → (first ≡ Some s) ↔ IsSuperblock 0 even s) → ((s : Super) → (second ≡ Some s) ↔ IsSuperblock 1 odd s) → IsCurrentOf first second chosen
     → MatchOption chosen (HasNone (two even odd)) (IsNewest (two even odd))
-chosen_is even odd first second None is_first is_second stands = none
+chosen_is even odd first second None is_first is_second current = none
   where
     none : (slot : ℕ) → slot < 2 → (super : Super) → IsSuperblock slot (two even odd slot) super → ⊥
-    none zero lt super is = stands.newest super (inl ((is_first super).1 is))
-    none (suc zero) lt super is = stands.newest super (inr ((is_second super).1 is))
+    none zero lt super is = current.newest super (inl ((is_first super).1 is))
+    none (suc zero) lt super is = current.newest super (inr ((is_second super).1 is))
     none (suc (suc n)) lt super is = absurd (omega (arith, lt))
-chosen_is even odd first second (Some c) is_first is_second stands = record { standing = by stands.given; newest = newest }
+chosen_is even odd first second (Some c) is_first is_second current = record { in_slot = by current.given; newest = newest }
   where
     by : (Some c ≡ first) ⊎ (Some c ≡ second) → IsSuperblock (c.generation % 2) (two even odd (c.generation % 2)) c
     by (inl e) = let is : IsSuperblock 0 even c = (is_first c).0 (sym e) in subst (λ (n : ℕ). IsSuperblock n (two even odd n) c) (sym is.in_slot) is
     by (inr e) = let is : IsSuperblock 1 odd c = (is_second c).0 (sym e) in subst (λ (n : ℕ). IsSuperblock n (two even odd n) c) (sym is.in_slot) is
 
     newest : (slot : ℕ) → slot < 2 → (other : Super) → IsSuperblock slot (two even odd slot) other → other.generation ≤ c.generation
-    newest zero lt other is = stands.newest other (inl ((is_first other).1 is))
-    newest (suc zero) lt other is = stands.newest other (inr ((is_second other).1 is))
+    newest zero lt other is = current.newest other (inl ((is_first other).1 is))
+    newest (suc zero) lt other is = current.newest other (inr ((is_second other).1 is))
     newest (suc (suc n)) lt other is = absurd (omega (arith, lt))
 
 -- the same in another image with these slots
@@ -45,7 +45,7 @@ module _ (a b : Image) (same : (slot : ℕ) → slot < 2 → a slot ≡ b slot) 
 
   pub newest_same : (super : Super) → IsNewest a super → IsNewest b super
   newest_same super newest = record {
-    standing = subst (λ (x : List ℕ). IsSuperblock (super.generation % 2) x super) (same (super.generation % 2) (omega arith)) newest.standing;
+    in_slot = subst (λ (x : List ℕ). IsSuperblock (super.generation % 2) x super) (same (super.generation % 2) (omega arith)) newest.in_slot;
     newest = λ slot lt other is. newest.newest slot lt other (subst (λ (x : List ℕ). IsSuperblock slot x other) (sym (same slot lt)) is);
   }
 
@@ -76,17 +76,17 @@ module _ (s0 s1 s2 s3 : DeviceState) (only : (image : Image) → s0.left_since s
 
 -- no valid superblock
 pub nothing_none : (size : ℕ) (image : Image) → HasNone image → ShowsNothing size image
-nothing_none size image none c shows = none (c.generation % 2) (omega arith) shows.0 (shows.2).standing
+nothing_none size image none c shows = none (c.generation % 2) (omega arith) shows.0 (shows.2).in_slot
 
 -- a content is shown by the newest superblock
 pub newest_shows : (size : ℕ) (image : Image) (super : Super) → IsNewest image super → (c : Content) (other : Super) (entries : List Entry) → ShowsBy size image c other entries → super ≡ other
 newest_shows size image super newest c other entries shows =
-    let above : super.generation ≤ c.generation = shows.newest (super.generation % 2) (omega arith) super newest.standing in
-    let below : other.generation ≤ super.generation = newest.newest (c.generation % 2) (omega arith) other shows.standing in
+    let above : super.generation ≤ c.generation = shows.newest (super.generation % 2) (omega arith) super newest.in_slot in
+    let below : other.generation ≤ super.generation = newest.newest (c.generation % 2) (omega arith) other shows.in_slot in
     let numbered : other.generation ≡ c.generation = shows.spells.numbered in
     let same : c.generation ≡ super.generation = omega (arith, above, below, numbered) in
-    IsSuperblock-one (super.generation % 2) (super.generation % 2) (image (super.generation % 2)) super other newest.standing
-    (subst (λ (n : ℕ). IsSuperblock (n % 2) (image (n % 2)) other) same shows.standing)
+    IsSuperblock-one (super.generation % 2) (super.generation % 2) (image (super.generation % 2)) super other newest.in_slot
+    (subst (λ (n : ℕ). IsSuperblock (n % 2) (image (n % 2)) other) same shows.in_slot)
 
 -- one for a device of another size
 pub nothing_sized : (size : ℕ) (image : Image) (super : Super) → IsNewest image super → (super.sectors ≡ size → ⊥) → ShowsNothing size image
@@ -106,7 +106,7 @@ pub ready_found : (s : DeviceState) (super : Super) (entries : List Entry) (root
 ready_found s super entries root kept found = record {
   settled = found.settled;
   shows = record {
-    standing = found.newest.standing;
+    in_slot = found.newest.in_slot;
     newest = found.newest.newest;
     spells = record { numbered = refl; of_layout = refl; sized = kept.sized; spelled = found.spelled; laid_out = kept.laid_out; objects = refl };
   };

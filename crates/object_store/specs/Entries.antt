@@ -9,8 +9,8 @@ IsPlace entries id place =
     × ((k : ℕ) (d : Entry) → place ≤ k → k < length entries → id ≤ (slice_index_or entries k d).id)
 
 -- an entry with this id is there
-abbrev pub StandsAt : List Entry → ℕ → ℕ → Type 0
-StandsAt entries id place = (place < length entries) × ((d : Entry) → (slice_index_or entries place d).id ≡ id)
+abbrev pub IsEntryAt : List Entry → ℕ → ℕ → Type 0
+IsEntryAt entries id place = (place < length entries) × ((d : Entry) → (slice_index_or entries place d).id ≡ id)
 
 -- there is none with this id
 abbrev pub IsMissing : List Entry → ℕ → Type 0

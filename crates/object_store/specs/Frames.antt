@@ -45,7 +45,7 @@ spells_same size a b c super entries spells same = record {
 -- two images that agree on the slots and on the sectors in use show the same
 pub shows_same : (size : ℕ) (a b : Image) (c : Content) (super : Super) (entries : List Entry) → ShowsBy size a c super entries → ((i : ℕ) → (i < 2) ⊎ SomeHolds (used_by super entries) i → a i ≡ b i) → ShowsBy size b c super entries
 shows_same size a b c super entries shows same = record {
-  standing = subst (λ (x : List ℕ). IsSuperblock (c.generation % 2) x super) (same (c.generation % 2) (inl (omega arith))) shows.standing;
+  in_slot = subst (λ (x : List ℕ). IsSuperblock (c.generation % 2) x super) (same (c.generation % 2) (inl (omega arith))) shows.in_slot;
   newest = λ slot lt other is. shows.newest slot lt other (subst (λ (x : List ℕ). IsSuperblock slot x other) (sym (same slot (inl lt))) is);
   spells = spells_same size a b c super entries shows.spells (λ i used. same i (inr used));
 }

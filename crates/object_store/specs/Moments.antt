@@ -1,4 +1,4 @@
--- Laws of what a stop leaves, over contents. Callers of the store need no others. Our own.
+-- Laws of what a crash leaves, over contents. Callers of the store need no others. Our own.
 use Rattle.std.specs.Prelude.{ℕ, refl}
 use Rattle.std.proofs.Common.{◌∙◌, subst}
 use Rattle.sector_device.specs.Device.{Image, IsImage, LeavesOnly}

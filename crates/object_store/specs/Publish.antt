@@ -1,4 +1,4 @@
--- What a commit is to write, and what a stop within its writes leaves. Our own.
+-- What a commit is to write, and what a crash within its writes leaves. Our own.
 use Rattle.std.specs.Prelude.{◌≡◌, ◌≢◌, ◌⊎◌, ℕ, ◌+◌, ◌%◌, List, ◌∷◌, length, map}
 use Rattle.sector_device.specs.Device.{Image}
 use Rattle.extents.specs.declared.extent.Extent.{Extent}
@@ -62,6 +62,6 @@ pub record HasWritten (plan : Plan) (puts : List (ℕ × List ℕ)) (was image :
   pub objects : objects_at image plan.placed.items ≡ puts
   pub catalogue : bytes_at image plan.superblock.catalogue plan.superblock.bytes ≡ plan.catalogue.items
 
--- what a stop within the writes leaves: all but the written sectors as it was, or all that was to be written
+-- what a crash within the writes leaves: all but the written sectors as it was, or all that was to be written
 abbrev pub IsEither : Plan → List (ℕ × List ℕ) → Image → Image → Type 0
 IsEither plan puts was image = IsAsBeside (written_by plan) was image ⊎ HasWritten plan puts was image

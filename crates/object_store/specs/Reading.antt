@@ -14,5 +14,5 @@ two even odd slot = if slot == 0 then even else odd
 
 -- the valid superblock of the greater generation
 pub record IsNewest (image : Image) (super : Super) : Type 0 where
-  pub standing : IsSuperblock (super.generation % 2) (image (super.generation % 2)) super
+  pub in_slot : IsSuperblock (super.generation % 2) (image (super.generation % 2)) super
   pub newest : (slot : ℕ) → slot < 2 → (other : Super) → IsSuperblock slot (image slot) other → other.generation ≤ super.generation

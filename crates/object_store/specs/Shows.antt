@@ -22,7 +22,7 @@ pub record Spells (size : ℕ) (image : Image) (c : Content) (super : Super) (en
 
 -- The content of the valid superblock with the greater generation. It names the superblock and the entries.
 pub record ShowsBy (size : ℕ) (image : Image) (c : Content) (super : Super) (entries : List Entry) : Type 0 where
-  pub standing : IsSuperblock (c.generation % 2) (image (c.generation % 2)) super
+  pub in_slot : IsSuperblock (c.generation % 2) (image (c.generation % 2)) super
   pub newest : (slot : ℕ) → slot < 2 → (other : Super) → IsSuperblock slot (image slot) other → other.generation ≤ c.generation
   pub spells : Spells size image c super entries
 

@@ -4,7 +4,7 @@ ghost use Rattle.cube_model.specs.declared.fault.Fault.{Fault};
 ghost use Rattle.catalogue.specs.declared.entry.Entry.{Entry};
 ghost use Rattle.catalogue.specs.Catalogue.{AreAscending};
 ghost use Rattle.object_store.specs.Commit.{put_by, drop_by, put_each, drop_each, find_by};
-ghost use Rattle.object_store.specs.Entries.{IsPlace, StandsAt, IsMissing};
+ghost use Rattle.object_store.specs.Entries.{IsPlace, IsEntryAt, IsMissing};
 
 use catalogue::Entry;
 use cube_model::Fault;
@@ -75,7 +75,7 @@ fn drop_entry(entries: &mut Vec<Entry>, id: u32)
 fn search(entries: &[Entry], id: u32) -> Result<usize, usize>
     requires { AreAscending entries.now }
     ensures place { MatchResult result (IsPlace entries.now id) (IsPlace entries.now id) }
-    ensures found { IfOk result (StandsAt entries.now id) }
+    ensures found { IfOk result (IsEntryAt entries.now id) }
     ensures missing { IfErr result (λ place. IsMissing entries.now id) }
 {
     let place = place_of(entries, id);

@@ -78,7 +78,7 @@ pub(crate) fn newest<D: Sectors>(device: &mut D) -> Result<Option<Super>, Device
     Ok(chosen(&even, &odd))
 }
 
-// Makes each sector one that has a single candidate, also where a stop left it several.
+// Makes each sector one that has a single candidate, also where a crash left it several.
 fn settle<D: Sectors>(device: &mut D) -> Result<(), DeviceError>
     ensures size { (D.state device.new).size ≡ (D.state device.old).size }
     ensures failures { CountsFailure result (D.failed device.old) (D.failed device.new) }

@@ -1,4 +1,4 @@
-//! A content of objects and a root on a device of sectors, replaced by commits that a stop leaves done or not begun.
+//! A content of objects and a root on a device of sectors, replaced by commits that a crash leaves done or not begun.
 #![tactic(auto)]
 
 mod create;

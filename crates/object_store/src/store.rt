@@ -26,7 +26,7 @@ use std::alloc::Global;
 use superblock::Super;
 use wire::limits::LEAST_SECTORS;
 
-/// Objects by id and a root, on a device. A commit replaces them at once, whatever stops it.
+/// Objects by id and a root, on a device. A commit replaces them at once, wherever it crashes.
 ///
 /// After `Device` it answers `Failed` to each `get`, `read_at` and `commit`, and calls the device no more. It is to be
 /// opened again.

@@ -10,7 +10,7 @@ use Rattle.planner.specs.declared.price.Plan.{Plan}
 use Rattle.planner.specs.declared.price.Plan.TheVariants.{Scan, Cells}
 use Rattle.planner.specs.declared.stored.Stored.{Stored}
 use Rattle.warehouse_root.specs.declared.cuboid.StoredCuboid.{StoredCuboid}
-use Rattle.warehouse_objects.specs.Stands.{Stands, said_of}
+use Rattle.warehouse_objects.specs.Represents.{Represents, said_of}
 use Rattle.warehouse_objects.specs.Warehouse.{Cuboid, Warehouse, cuboid_at}
 use Rattle.warehouse_objects.proofs.CallerLemmas.{find_said, own_view}
 use Rattle.planned_queries.specs.Planned.{IsOfCuboid, IsPlanOf, seen_of}
@@ -27,15 +27,15 @@ seen_at (c ∷ cs) one zero h is = (c, refl, is, omega arith)
 seen_at (c ∷ cs) one (suc k) h is = let rest = seen_at cs one k (omega (arith, h)) is in (rest.0, rest.1, rest.2, omega (arith, rest.3))
 
 -- the cells of a plan are those of a cuboid
-pub of_cuboid : (c : Content) (w : Warehouse) (as_of : ℕ) (query : Query) (plan : Plan) → Stands c w → IsPlanOf w as_of query plan → IsOfCuboid w plan
-of_cuboid c w as_of query Scan stands is = tt
-of_cuboid c w as_of query (Cells view mark) stands is =
+pub of_cuboid : (c : Content) (w : Warehouse) (as_of : ℕ) (query : Query) (plan : Plan) → Represents c w → IsPlanOf w as_of query plan → IsOfCuboid w plan
+of_cuboid c w as_of query Scan represents is = tt
+of_cuboid c w as_of query (Cells view mark) represents is =
     let answers = is.1.answers in
     let found = seen_at w.cuboids answers.0 answers.1.0 answers.1.1 answers.1.2 in
     let view_is : found.0.view ≡ view = ap (λ (s : Stored). s.view) found.2 ∙ answers.3 in (
       found.0,
       ap (λ (v : View). cuboid_at (index_of v) w.cuboids) (sym view_is) ∙ ap (λ (cuboid : Cuboid). cuboid_at (index_of cuboid.view) w.cuboids) (sym found.1)
-          ∙ own_view w.cuboids answers.1.0 found.0 stands.root.proper.ascending found.3 ∙ ap (λ (cuboid : Cuboid). Some cuboid) found.1,
+          ∙ own_view w.cuboids answers.1.0 found.0 represents.root.proper.ascending found.3 ∙ ap (λ (cuboid : Cuboid). Some cuboid) found.1,
       ap (λ (s : Stored). s.mark) found.2 ∙ answers.4,
     )
 

@@ -7,7 +7,7 @@ use Rattle.cube_model.specs.declared.rows.DimRows.{DimRows}
 use Rattle.cube_model.specs.declared.rows.LineOrder.{LineOrder}
 use Rattle.cube_model.specs.Admission.{all_rows}
 use Rattle.cube_model.specs.Answers.{answer}
-use Rattle.cube_query.specs.Groups.{FoldState, IsFoldable, StandsFor}
+use Rattle.cube_query.specs.Groups.{FoldState, IsFoldable, RepresentsRows}
 use Rattle.cube_query.specs.Limits.{AreFoldable}
 use Rattle.planner.specs.declared.price.Plan.{Plan}
 use Rattle.warehouse_objects.specs.Warehouse.{AreInOrder, Warehouse}
@@ -17,7 +17,7 @@ use Rattle.planned_queries.specs.Stepping.{Advances, Extends, IsRunning, Running
 
 -- a query that begins with the cells of its plan
 pub begun : (w : Warehouse) (as_of : ℕ) (query : Query) (running : RunningState)
-    → (plan : Plan) × IsPlanOf w as_of query plan × (running.done ≡ mark_of plan) × StandsFor w.rows running.fold (all_rows (take running.done w.batches))
+    → (plan : Plan) × IsPlanOf w as_of query plan × (running.done ≡ mark_of plan) × RepresentsRows w.rows running.fold (all_rows (take running.done w.batches))
     → running.rows ≡ w.rows → running.fold.query ≡ query → running.as_of ≡ as_of → running.done ≤ as_of → as_of ≤ length w.batches → AreInOrder w.rows w.batches
     → (s : Started) × Starts w as_of query s × IsRunning running s
 begun w as_of query running cells rows asked many in_time there order = (
@@ -30,7 +30,7 @@ begun w as_of query running cells rows asked many in_time there order = (
     there = there;
     in_order = order;
     left = omega (arith, cells.2, in_time);
-    folds = subst (λ (d : DimRows). StandsFor d running.fold (all_rows (take running.done w.batches))) (sym rows) cells.3;
+    folds = subst (λ (d : DimRows). RepresentsRows d running.fold (all_rows (take running.done w.batches))) (sym rows) cells.3;
   },
 )
 
@@ -42,9 +42,9 @@ there_are : (s : Started) (w : Warehouse) → Extends s w → length s.batches �
 there_are s w extends = let more : length w.batches ≡ length (s.batches ++ extends.more) = ap (λ (l : List (List LineOrder)). length l) extends.batches in omega (arith, more, length-append s.batches extends.more)
 
 module _ (running : RunningState) (w : Warehouse) (s : Started) (extends : Extends s w) (is : IsRunning running s) where
-  pub folds_first : StandsFor running.rows running.fold (all_rows (take running.done w.batches))
+  pub folds_first : RepresentsRows running.rows running.fold (all_rows (take running.done w.batches))
   folds_first =
-      subst (λ (l : List (List LineOrder)). StandsFor running.rows running.fold (all_rows l)) (sym (first_batches s w running.done extends (omega (arith, is.left, is.there)))) is.folds
+      subst (λ (l : List (List LineOrder)). RepresentsRows running.rows running.fold (all_rows l)) (sym (first_batches s w running.done extends (omega (arith, is.left, is.there)))) is.folds
 
   pub next_is_there : running.done < running.as_of → running.done < length w.batches
   next_is_there lt = omega (arith, lt, is.as_of, is.there, there_are s w extends)
@@ -63,25 +63,25 @@ module _ (running : RunningState) (w : Warehouse) (s : Started) (extends : Exten
       let within : running.done ≤ length s.batches = omega (arith, is.left, is.there) in (
         rows,
         (
-          subst (λ (d : DimRows). StandsFor d running.fold rows) (sym same) is.folds,
+          subst (λ (d : DimRows). RepresentsRows d running.fold rows) (sym same) is.folds,
           subst (λ (d : DimRows). AreFoldable d rows) (sym (same ∙ is.rows)) (foldable s.rows s.batches is.in_order running.done within),
         ),
       )
 
   -- the answer, where no batch is left
   pub last_step : (dims : DimRows) (found : Answer) → dims ≡ running.rows → running.as_of ≤ running.done
-      → ((rows : List LineOrder) → StandsFor dims running.fold rows → found ≡ answer running.fold.query dims rows) → Advances s running (Some found)
+      → ((rows : List LineOrder) → RepresentsRows dims running.fold rows → found ≡ answer running.fold.query dims rows) → Advances s running (Some found)
   last_step dims found same le answers =
       let n : running.done ≡ s.as_of = omega (arith, le, is.left, is.as_of) in
       let rows = all_rows (take running.done s.batches) in (
         omega (arith, le, is.left, is.as_of),
-        answers rows (subst (λ (d : DimRows). StandsFor d running.fold rows) (sym same) is.folds) ∙ ap (λ (q : Query). answer q dims rows) is.query
+        answers rows (subst (λ (d : DimRows). RepresentsRows d running.fold rows) (sym same) is.folds) ∙ ap (λ (q : Query). answer q dims rows) is.query
             ∙ ap (λ (d : DimRows). answer s.query d rows) (same ∙ is.rows) ∙ ap (λ (k : ℕ). answer s.query s.rows (all_rows (take k s.batches))) n,
       )
 
   -- one batch more
   pub next_step : (fold : FoldState) → running.done < running.as_of → fold.query ≡ running.fold.query
-      → StandsFor running.rows fold (all_rows (take (running.done + 1) w.batches))
+      → RepresentsRows running.rows fold (all_rows (take (running.done + 1) w.batches))
       → Advances s (record { rows = running.rows; fold = fold; done = running.done + 1; as_of = running.as_of }) None
   next_step fold lt same goes = (
     s.left - 1,
@@ -93,6 +93,6 @@ module _ (running : RunningState) (w : Warehouse) (s : Started) (extends : Exten
       there = is.there;
       in_order = is.in_order;
       left = omega (arith, lt, is.left, is.as_of);
-      folds = subst (λ (l : List (List LineOrder)). StandsFor running.rows fold (all_rows l)) (first_batches s w (running.done + 1) extends (omega (arith, lt, is.left, is.as_of, is.there))) goes;
+      folds = subst (λ (l : List (List LineOrder)). RepresentsRows running.rows fold (all_rows l)) (first_batches s w (running.done + 1) extends (omega (arith, lt, is.left, is.as_of, is.there))) goes;
     },
   )

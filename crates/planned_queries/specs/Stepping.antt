@@ -6,7 +6,7 @@ use Rattle.cube_model.specs.declared.rows.DimRows.{DimRows}
 use Rattle.cube_model.specs.declared.rows.LineOrder.{LineOrder}
 use Rattle.cube_model.specs.Admission.{all_rows}
 use Rattle.cube_model.specs.Answers.{answer_as_of}
-use Rattle.cube_query.specs.Groups.{FoldState, StandsFor}
+use Rattle.cube_query.specs.Groups.{FoldState, RepresentsRows}
 use Rattle.planner.specs.declared.price.Plan.{Plan}
 use Rattle.warehouse_objects.specs.Warehouse.{AreInOrder, Warehouse}
 use Rattle.planned_queries.specs.Planned.{IsPlanOf, mark_of}
@@ -52,7 +52,7 @@ pub record IsRunning (running : RunningState) (s : Started) : Type 0 where
   pub there : s.as_of ≤ length s.batches
   pub in_order : AreInOrder s.rows s.batches
   pub left : running.done + s.left ≡ s.as_of
-  pub folds : StandsFor running.rows running.fold (all_rows (take running.done s.batches))
+  pub folds : RepresentsRows running.rows running.fold (all_rows (take running.done s.batches))
 
 -- a step of a running query: one batch more, or the answer after the last one
 abbrev pub Advances : Started → RunningState → Option Answer → Type 0

@@ -3,14 +3,14 @@ ghost use Rattle.std.specs.Prelude.{◌≡◌, ◌⊎◌, ◌==◌, [], false, t
 ghost use Rattle.std.specs.List.{find};
 ghost use Rattle.cube_model.specs.declared.fault.Fault.TheVariants.{BadLayout, Device, Memory};
 ghost use Rattle.cube_model.specs.Admission.{all_rows};
-ghost use Rattle.cube_query.specs.Groups.{IsOver, StandsFor};
+ghost use Rattle.cube_query.specs.Groups.{IsOver, RepresentsRows};
 ghost use Rattle.lattice.specs.Determined.{Serves};
 ghost use Rattle.lattice.specs.Views.{index_of};
 ghost use Rattle.object_store.specs.Disk.{Leaves};
 ghost use Rattle.object_store.specs.Store.{Breaks, IsStill, content_of, device_of, disk_of, has_failed};
 ghost use Rattle.planner.specs.declared.price.Plan.TheVariants as plans;
 ghost use Rattle.warehouse_objects.specs.Warehouse.{Warehouse};
-ghost use Rattle.warehouse_objects.specs.Stands.{Stands, root_of};
+ghost use Rattle.warehouse_objects.specs.Represents.{Represents, root_of};
 ghost use Rattle.planned_queries.specs.Planned.{IsOfCuboid, ServesBy, mark_of};
 
 use cube_model::Fault;
@@ -37,16 +37,16 @@ pub fn begin_by_plan<D: Sectors>(
     plan: Plan,
 ) -> Result<u32, Fault>
     requires fine { has_failed store.old ≡ false }
-    requires begun { StandsFor dims.now fold.old [] }
+    requires begun { RepresentsRows dims.now fold.old [] }
     requires serves { ServesBy fold.old.query plan }
 
     // Then it represents the rows of these batches.
-    ensures ok { OnOk result (D.keeps_word (device_of store.new) → (w : Warehouse) → Stands (content_of D.Sectors store.old) w
-        → root.now ≡ root_of w → dims.now ≡ w.rows → IsOfCuboid w plan → StandsFor dims.now fold.new (all_rows (take (mark_of plan) w.batches))) }
+    ensures ok { OnOk result (D.keeps_word (device_of store.new) → (w : Warehouse) → Represents (content_of D.Sectors store.old) w
+        → root.now ≡ root_of w → dims.now ≡ w.rows → IsOfCuboid w plan → RepresentsRows dims.now fold.new (all_rows (take (mark_of plan) w.batches))) }
     ensures from { IfOk result (λ from. from ≡ mark_of plan) }
     ensures over { IsOver dims.now fold.new }
     ensures query { fold.new.query ≡ fold.old.query }
-    ensures refused { IsErrOf result BadLayout → D.keeps_word (device_of store.new) → (w : Warehouse) → Stands (content_of D.Sectors store.old) w
+    ensures refused { IsErrOf result BadLayout → D.keeps_word (device_of store.new) → (w : Warehouse) → Represents (content_of D.Sectors store.old) w
         → root.now ≡ root_of w → dims.now ≡ w.rows → IsOfCuboid w plan → ⊥ }
 
     // The content stays, at each moment.
@@ -76,13 +76,13 @@ fn add_cuboid<D: Sectors>(
     mark: u32,
 ) -> Result<(), Fault>
     requires fine { has_failed store.old ≡ false }
-    requires begun { StandsFor dims.now fold.old [] }
+    requires begun { RepresentsRows dims.now fold.old [] }
     requires serves { Serves view fold.old.query }
-    ensures ok { OnOk result (D.keeps_word (device_of store.new) → (w : Warehouse) → Stands (content_of D.Sectors store.old) w
-        → root.now ≡ root_of w → dims.now ≡ w.rows → IsOfCuboid w (plans.Cells view mark) → StandsFor dims.now fold.new (all_rows (take mark w.batches))) }
+    ensures ok { OnOk result (D.keeps_word (device_of store.new) → (w : Warehouse) → Represents (content_of D.Sectors store.old) w
+        → root.now ≡ root_of w → dims.now ≡ w.rows → IsOfCuboid w (plans.Cells view mark) → RepresentsRows dims.now fold.new (all_rows (take mark w.batches))) }
     ensures over { IsOver dims.now fold.new }
     ensures query { fold.new.query ≡ fold.old.query }
-    ensures refused { IsErrOf result BadLayout → D.keeps_word (device_of store.new) → (w : Warehouse) → Stands (content_of D.Sectors store.old) w
+    ensures refused { IsErrOf result BadLayout → D.keeps_word (device_of store.new) → (w : Warehouse) → Represents (content_of D.Sectors store.old) w
         → root.now ≡ root_of w → dims.now ≡ w.rows → IsOfCuboid w (plans.Cells view mark) → ⊥ }
     ensures leaves { Leaves (disk_of D.Sectors store.old) (disk_of D.Sectors store.new) (λ c. c ≡ content_of D.Sectors store.old) }
     ensures stays { (IsErrOf result Device → ⊥) → IsStill D.Sectors store.old store.new }

@@ -2,7 +2,7 @@
 ghost use Rattle.std.specs.Prelude.{◌≡◌, ◌⊎◌, Err, List, IfErr, IfOk};
 ghost use Rattle.cube_model.specs.Answers.{answer};
 ghost use Rattle.cube_model.specs.declared.rows.LineOrder.{LineOrder};
-ghost use Rattle.cube_query.specs.Groups.{IsFoldable, IsOver, StandsFor};
+ghost use Rattle.cube_query.specs.Groups.{IsFoldable, IsOver, RepresentsRows};
 
 use cube_model::{Answer, Fault};
 use cube_query::{Fold, GroupLines, Groups};
@@ -40,7 +40,7 @@ impl Found {
     // What a fold has found, over the dimensions of its beginning.
     pub(crate) fn of(dims: &Rc<Dims>, fold: Fold) -> Result<Found, Fault>
         requires { IsOver dims.now.value fold }
-        ensures answer { IfOk result (λ found. (rows : List LineOrder) → StandsFor dims.now.value fold rows
+        ensures answer { IfOk result (λ found. (rows : List LineOrder) → RepresentsRows dims.now.value fold rows
             → found ≡ answer fold.query dims.now.value rows) }
         ensures refused { result ≡ Err Fault.BadLayout → IsFoldable dims.now.value fold → ⊥ }
         ensures only { IfErr result (λ fault. (fault ≡ Fault.Memory) ⊎ (fault ≡ Fault.BadLayout)) }

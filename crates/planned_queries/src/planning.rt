@@ -2,7 +2,7 @@
 ghost use Rattle.std.specs.Prelude.{◌≡◌, ◌≤◌, Some, length, IfErr, IfOk};
 ghost use Rattle.cube_model.specs.declared.fault.Fault.TheVariants.{Memory};
 ghost use Rattle.warehouse_objects.specs.Warehouse.{Cuboid, Warehouse};
-ghost use Rattle.warehouse_objects.specs.Stands.{root_of, said_of};
+ghost use Rattle.warehouse_objects.specs.Represents.{root_of, said_of};
 ghost use Rattle.planned_queries.specs.Planned.{ArePlansOf, IsPlanOf, ServesBy, mark_of, seen_of, stored_of};
 
 use cube_model::{Fault, Query};

@@ -5,7 +5,7 @@ ghost use Rattle.cube_model.specs.Proper.{IsProper};
 ghost use Rattle.object_store.specs.Disk.{Leaves};
 ghost use Rattle.object_store.specs.Store.{Breaks, IsStill, content_of, device_of, disk_of, has_failed};
 ghost use Rattle.warehouse_objects.specs.Warehouse.{Warehouse};
-ghost use Rattle.warehouse_objects.specs.Stands.{Stands, root_of};
+ghost use Rattle.warehouse_objects.specs.Represents.{Represents, root_of};
 
 use crate::answering::begin_fold;
 use cube_model::{Answer, Fault, Query};
@@ -75,9 +75,9 @@ impl Running {
         requires fine { has_failed store.old ≡ false }
         requires proper { IsProper query.now }
         requires few { as_of ≤ length root.now.batches }
-        ensures begun { IfOk result (λ running. D.keeps_word (device_of store.new) → (w : Warehouse) → Stands (content_of D.Sectors store.old) w
+        ensures begun { IfOk result (λ running. D.keeps_word (device_of store.new) → (w : Warehouse) → Represents (content_of D.Sectors store.old) w
             → root.now ≡ root_of w → dims.now.value ≡ w.rows → (s : Started) × Starts w as_of query.now s × IsRunning running s) }
-        ensures refused { IsErrOf result BadLayout → D.keeps_word (device_of store.new) → (w : Warehouse) → Stands (content_of D.Sectors store.old) w
+        ensures refused { IsErrOf result BadLayout → D.keeps_word (device_of store.new) → (w : Warehouse) → Represents (content_of D.Sectors store.old) w
             → root.now ≡ root_of w → dims.now.value ≡ w.rows → ⊥ }
 
         // The content stays, at each moment.
@@ -116,10 +116,10 @@ impl Running {
         requires fine { has_failed store.old ≡ false }
 
         // On a store that has what the query was started over, it goes on by a step.
-        ensures steps { IfOk result (λ found. D.keeps_word (device_of store.new) → (w : Warehouse) → Stands (content_of D.Sectors store.old) w
+        ensures steps { IfOk result (λ found. D.keeps_word (device_of store.new) → (w : Warehouse) → Represents (content_of D.Sectors store.old) w
             → root.now ≡ root_of w → (s : Started) → Extends s w → IsRunning self.old s → Advances s self.new found) }
         ensures err { OnErr result (self.new ≡ self.old) }
-        ensures refused { IsErrOf result BadLayout → D.keeps_word (device_of store.new) → (w : Warehouse) → Stands (content_of D.Sectors store.old) w
+        ensures refused { IsErrOf result BadLayout → D.keeps_word (device_of store.new) → (w : Warehouse) → Represents (content_of D.Sectors store.old) w
             → root.now ≡ root_of w → (s : Started) → Extends s w → IsRunning self.old s → ⊥ }
 
         // The content stays, at each moment.

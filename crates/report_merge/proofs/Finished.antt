@@ -10,12 +10,12 @@ use Rattle.cube_model.specs.declared.fault.Fault.TheVariants.{Memory}
 use Rattle.cube_model.specs.declared.measure.Agg.{Agg}
 use Rattle.cube_model.specs.declared.measure.Agg.TheVariants.{Count}
 use Rattle.cube_model.specs.declared.query.Query.{Query}
-use Rattle.answer_merge.specs.Finishing.{CountsNoRow, FinishRefuses, IsPastRange, LineRefuses}
+use Rattle.answer_merge.specs.Finishing.{CanBeFinished, CountsNoRow, CountsRows, FinishRefuses, IsPastRange, LineRefuses}
 use Rattle.answer_merge.specs.Parts.{value_number}
 use Rattle.answer_merge.specs.Readable.{IsWholeNumber}
 use Rattle.report_formats.specs.declared.layout.Layout.{Layout}
 use Rattle.report_formats.specs.Asked.{query_for}
-use Rattle.report_merge.specs.Finishing.{CanBeFinished, CountsRows, asks_for_counts, count_in, partial_for, recounted, recounted_line}
+use Rattle.report_merge.specs.Finishing.{asks_for_counts, count_in, partial_for, recounted, recounted_line}
 use Rattle.report_merge.proofs.Ascent.{at_each}
 
 abbrev answer_with : List Line → Answer

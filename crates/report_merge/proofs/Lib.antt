@@ -12,3 +12,4 @@ mod Sorted
 mod Takings
 mod Whole
 mod Writing
+mod Written

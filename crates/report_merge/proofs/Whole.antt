@@ -5,7 +5,8 @@ use Rattle.cube_model.specs.declared.rows.DimRows.{DimRows}
 use Rattle.cube_model.specs.declared.rows.LineOrder.{LineOrder}
 use Rattle.cube_model.specs.Admission.{all_rows}
 use Rattle.cube_model.specs.Answers.{answer}
-use Rattle.answer_merge.specs.Lawful.{AnswersMerge, PartialAnswersSuffice, ReportsReadBack}
+use Rattle.answer_merge.specs.Finishing.{CanBeFinished}
+use Rattle.answer_merge.specs.Lawful.{AnswersMerge, PartialAnswersCanBeFinished, PartialAnswersSuffice, ReportsReadBack}
 use Rattle.answer_merge.specs.Merges.{merged_answer}
 use Rattle.answer_merge.specs.Parts.{partial_query}
 use Rattle.answer_merge.specs.Readable.{IsReadableAnswer}
@@ -14,7 +15,7 @@ use Rattle.ssb_reports.specs.Report.{report_of}
 use Rattle.report_merge.specs.Finishing.{finished_for}
 use Rattle.partial_reports.specs.HeadLaws.{HeadsReadBack}
 use Rattle.partial_reports.specs.HeadReading.{IsDigest}
-use Rattle.report_merge.specs.Lawful.{AreWritten, CountsAreAppended, IsWritten, MergedTextsAreTheAnswer}
+use Rattle.report_merge.specs.Lawful.{AreWritten, CountsAreAppended, IsWritten, MergedTextsAreTheAnswer, MergedTextsCanBeFinished}
 use Rattle.report_merge.specs.Merging.{Adds, IsMerged, IsPartialReport, Merges, Part, SpellsWords}
 use Rattle.report_merge.proofs.Given.{one_query}
 
@@ -72,3 +73,9 @@ merged_texts_are_the_answer heads words reports merge suffice counts query dimen
       is.query_is,
       λ layout. (λ i. finished_for layout (is.query_is i) (is.answer_is i)) ∙ counts layout query dimensions (all_rows parts),
     )
+
+pub merged_texts_can_be_finished : HeadsReadBack → SpellOneQuery → ReportsReadBack → AnswersMerge → PartialAnswersSuffice → PartialAnswersCanBeFinished
+    → MergedTextsCanBeFinished
+merged_texts_can_be_finished heads words reports merge suffice finish query dimensions digest parts texts whole is_digest written merged range few =
+    let is = whole_over heads words reports merge suffice query dimensions digest is_digest parts texts whole written merged in
+    subst CanBeFinished (sym is.answer_is) (finish query dimensions (all_rows parts) range few)

@@ -1,13 +1,12 @@
 -- The answer that is made of a partial answer over all rows, for a layout. Our own.
-use Rattle.std.specs.Prelude.{◌&&◌, ◌≤ℤ◌, if◌then◌else◌, pos, List, [], ◌∷◌, ◌++◌, map, Bool}
-use Rattle.std.specs.List.{AllByRecursion, list_any}
+use Rattle.std.specs.Prelude.{◌&&◌, if◌then◌else◌, List, [], ◌∷◌, ◌++◌, map, Bool}
+use Rattle.std.specs.List.{list_any}
 use Rattle.cube_model.specs.declared.answer.Answer.{Answer}
 use Rattle.cube_model.specs.declared.answer.Line.{Line}
 use Rattle.cube_model.specs.declared.answer.Value.{Value}
 use Rattle.cube_model.specs.declared.query.Query.{Query}
 use Rattle.cube_model.specs.Proper.{is_average}
-use Rattle.answer_merge.specs.Parts.{finished, value_number}
-use Rattle.answer_merge.specs.Readable.{IsWholeNumber}
+use Rattle.answer_merge.specs.Parts.{finished}
 use Rattle.report_formats.specs.declared.layout.Layout.{Layout}
 use Rattle.report_formats.specs.Asked.{query_for}
 use Rattle.report_formats.specs.Rows.{counts_averages}
@@ -35,11 +34,3 @@ partial_for layout query partial = if asks_for_counts layout query then recounte
 -- the answer to what is asked for in a layout
 abbrev pub finished_for : Layout → Query → Answer → Answer
 finished_for layout query partial = finished (query_for layout query) (partial_for layout query partial)
-
--- each line of an answer counts a row at least, and its numbers have 64 bits
-abbrev pub CountsRows : List Value → Type 0
-CountsRows [] = Unit {0}
-CountsRows (count ∷ kept) = pos 1 ≤ℤ value_number count
-
-abbrev pub CanBeFinished : Answer → Type 0
-CanBeFinished partial = AllByRecursion (λ line. CountsRows line.values × AllByRecursion IsWholeNumber line.values) partial.lines

@@ -1,11 +1,11 @@
 //! Partial reports merged.
 ghost use Rattle.std.specs.Prelude.{◌≡◌, ◌<◌, ◌++◌, ℕ, length, slice_index, IfErr, IfNone, IfOk, IfSome, OnErr, OnOk};
-ghost use Rattle.answer_merge.specs.Finishing.{FinishRefuses};
+ghost use Rattle.answer_merge.specs.Finishing.{CanBeFinished, FinishRefuses};
 ghost use Rattle.answer_merge.specs.Parts.{partial_query};
 ghost use Rattle.answer_merge.specs.Wide.{lines_of};
 ghost use Rattle.partial_reports.specs.Head.{head_text};
 ghost use Rattle.report_formats.specs.Asked.{asked_for, query_for};
-ghost use Rattle.report_merge.specs.Finishing.{CanBeFinished, finished_for, partial_for};
+ghost use Rattle.report_merge.specs.Finishing.{finished_for, partial_for};
 ghost use Rattle.report_merge.specs.Kept.{IsKept, IsMore};
 ghost use Rattle.report_merge.specs.Merging.{Adds, AreOfOne, IsMergeOf, IsPartialReport, IsWhole, Part};
 ghost use Rattle.report_merge.specs.Numbers.{IsFirstGap};

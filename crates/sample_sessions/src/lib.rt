@@ -1,21 +1,21 @@
 //! Sessions over the sample star, for the tests of warehouses: how they are made and asked, answers worked out by
 //! hand, disks of which bytes were changed, runs of commands and their replies, sessions that store cuboids, and
-//! openings that are stopped.
+//! openings that crash.
 #![tactic(auto)]
 
 mod answers;
 mod changes;
+mod crashed;
 mod scripts;
 mod sessions;
-mod stopped;
 mod stored;
 
 pub use answers::{Lines, answer, ask, finding, first_other, found, is_found, report};
 pub use changes::{Change, changed, make_change, refused_opening, sector};
+pub use crashed::{OPENING, SUBMIT, half_opened, refusal};
 pub use scripts::{Expected, Given, Numbers, Script, first_other_reply};
 pub use sessions::{
     add, as_is, created, created_over, fresh, loaded, opened, opened_again, sample_dims, status,
     submit,
 };
-pub use stopped::{OPENING, SUBMIT, half_opened, refusal};
 pub use stored::{THREE, TWO_CELLS, status_of_three, store_views, with_cuboids, with_three};

@@ -1,4 +1,4 @@
--- A device as its candidates, and the images that a stop at each moment may leave. Our own model of a disk.
+-- A device as its candidates, and the images that a crash at each moment may leave. Our own model of a disk.
 use Rattle.std.specs.Prelude.{◌≡◌, ◌≢◌, ◌⊎◌, ℕ, ◌+◌, ◌-◌, ◌*◌, ◌/◌, ◌^◌, ◌≤◌, ◌<◌, min, List, length, take, drop, Result, MatchResult}
 
 -- what is in each sector: a list of 512 bytes for each number of a sector
@@ -15,14 +15,14 @@ pub record DeviceState : Type 1 where
   pub may_hold : ℕ → List ℕ → Type 0
   -- the moment, as a number that doesn't fall
   pub moment : ℕ
-  -- the images that a stop at some moment from that one on might have left
+  -- the images that a crash at some moment from that one on might have left
   pub left_since : ℕ → Image → Type 0
 
 -- one candidate for each sector, independently
 abbrev pub IsImage : DeviceState → Image → Type 0
 IsImage s image = (i : ℕ) → s.may_hold i (image i)
 
--- time goes on: a stop since t might have left what it might have left before, or an image of now
+-- time goes on: a crash since t might have left what it might have left before, or an image of now
 pub record Elapses (old new : DeviceState) : Type 0 where
   pub later : old.moment ≤ new.moment
   pub nothing_else : (t : ℕ) (image : Image) → t ≤ old.moment → new.left_since t image → old.left_since t image ⊎ IsImage new image

@@ -11,7 +11,7 @@ started s P only here = record {
   before = λ t image le left. inl left;
 }
 
--- one call more, after which a stop leaves what has P
+-- one call more, after which a crash leaves what has P
 pub goes_on : (old mid new : DeviceState) (P : Image → Type 0) → LeavesOnly old mid P → Elapses mid new → ((image : Image) → IsImage new image → P image) → LeavesOnly old new P
 goes_on old mid new P so_far time here = record {
   later = omega (arith, so_far.later, time.later);

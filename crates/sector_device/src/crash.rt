@@ -1,4 +1,4 @@
-// Which candidate of each sector a stop leaves. Each step goes over the log or the sectors once.
+// Which candidate of each sector a crash leaves. Each step goes over the log or the sectors once.
 ghost use Rattle.std.specs.Prelude.{ℕ, ◌≡◌, ◌<◌, ◌≤◌, ◌+◌, ◌-◌, ◌%◌, ◌^◌, reverse, length, slice_index, slice_index_or, []};
 ghost use Rattle.sector_device.specs.Memory.{content, replaced, candidates, MayHold};
 ghost use Rattle.sector_device.specs.Picks.{several_below, named};

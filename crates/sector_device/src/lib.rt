@@ -1,4 +1,4 @@
-//! A device of sectors: what a read gives, what a stop may leave, and how often it failed.
+//! A device of sectors: what a read gives, what a crash may leave, and how often it failed.
 #![tactic(auto)]
 
 mod change;

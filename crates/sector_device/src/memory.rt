@@ -48,7 +48,7 @@ impl MemDisk {
         })
     }
 
-    /// What is in the disk after a stop: the j-th sector with several candidates takes the one of this
+    /// What is in the disk after a crash: the j-th sector with several candidates takes the one of this
     /// pick, modulo their number, the oldest first; a missing pick is 0. It takes no memory.
     pub fn crash(self, picks: &[u32]) -> MemDisk
         ensures size { (state_of result).size ≡ (state_of self).size }

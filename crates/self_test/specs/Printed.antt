@@ -2,6 +2,6 @@
 use Rattle.std.specs.Prelude.{ℕ, List, ◌++◌, codes}
 use Rattle.std.specs.Fmt.{decimal}
 
--- so many stops were opened
+-- so many crashes were opened
 abbrev pub sound_line : ℕ → List ℕ
-sound_line stops = codes "ok: " ++ (decimal stops ++ codes " stops opened\n")
+sound_line crashes = codes "ok: " ++ (decimal crashes ++ codes " stops opened\n")

@@ -4,9 +4,9 @@ ghost use Rattle.std.specs.Io.KnownBytes.{Appends};
 ghost use Rattle.cube_model.specs.declared.fault.Fault.TheVariants.{Memory, Output};
 ghost use Rattle.self_test.specs.Printed.{sound_line};
 
+use crate::crash::{Crash, WAYS};
 use crate::outcome::{Outcome, write_outcome};
 use crate::sample::Sample;
-use crate::stop::{Stop, WAYS};
 use crate::wrong::Wrong;
 use cube_model::Fault;
 use rand_pcg::Pcg32;
@@ -15,35 +15,35 @@ use std::io::Write;
 use std::rt::Clock;
 use std::time::Duration;
 
-/// The random stops are the same in each test.
+/// The random crashes are the same in each test.
 const SEED: u64 = 42;
 
 /// The sequence of the generator.
 const STREAM: u64 = 54;
 
-/// Stops a warehouse on a disk in memory at each call of the disk in turn, in four ways, and then at random calls until so many seconds
-/// have passed. After each stop it opens what the disk has kept: there have to be the batches that were acknowledged, or these and the one
+/// Crashes a warehouse on a disk in memory at each call of the disk in turn, in four ways, and then at random calls until so many seconds
+/// have passed. After each crash it opens what the disk has kept: there have to be the batches that were acknowledged, or these and the one
 /// that was being added; `check` has to find nothing; and the thirteen queries have to answer as one pass over the rows of these batches
-/// does. It writes one line, which it flushes, and answers whether nothing was wrong: `ok: 456 stops opened`, or the first stop after which
+/// does. It writes one line, which it flushes, and answers whether nothing was wrong: `ok: 456 stops opened`, or the first crash after which
 /// something was wrong, and what.
 ///
-/// With 0 seconds, or where there is no clock, it makes no random stop, and the line is always the same.
+/// With 0 seconds, or where there is no clock, it makes no random crash, and the line is always the same.
 pub fn test_crashes<R: Clock, W: Write>(
     rt: &R,
     alloc: Global,
     seconds: u32,
     out: &mut W,
 ) -> Result<bool, Fault>
-    // Yes is written with the number of stops.
-    ensures yes { IfOk result (λ sound. sound ≡ true → (stops : ℕ) × Appends (W.contents out.old) (W.contents out.new) (sound_line stops)) }
+    // Yes is written with the number of crashes.
+    ensures yes { IfOk result (λ sound. sound ≡ true → (crashes : ℕ) × Appends (W.contents out.old) (W.contents out.new) (sound_line crashes)) }
     ensures only { IfErr result (λ fault. (fault ≡ Memory) ⊎ (fault ≡ Output)) }
 {
-    let outcome = stopped(rt, alloc, seconds)?;
+    let outcome = crashed(rt, alloc, seconds)?;
     write_outcome(out, &outcome)
 }
 
-// Makes all stops.
-fn stopped<R: Clock>(rt: &R, alloc: Global, seconds: u32) -> Result<Outcome, Fault>
+// Makes all crashes.
+fn crashed<R: Clock>(rt: &R, alloc: Global, seconds: u32) -> Result<Outcome, Fault>
     ensures { IfErr result (λ fault. fault ≡ Memory) }
 {
     let time = Time {
@@ -53,30 +53,30 @@ fn stopped<R: Clock>(rt: &R, alloc: Global, seconds: u32) -> Result<Outcome, Fau
     let mut outcome = Outcome::new();
     match Sample::new(alloc) {
         Ok(sample) => {
-            stop_in_turn(alloc, &sample, &mut outcome)?;
-            stop_at_random(rt, alloc, &sample, time, &mut outcome)?;
+            crash_in_turn(alloc, &sample, &mut outcome)?;
+            crash_at_random(rt, alloc, &sample, time, &mut outcome)?;
         }
         Err(Fault::Memory) => return Err(Fault::Memory),
-        Err(fault) => outcome.wrong = Some((Stop::in_turn(0), Wrong::Refused(fault))),
+        Err(fault) => outcome.wrong = Some((Crash::in_turn(0), Wrong::Refused(fault))),
     }
     Ok(outcome)
 }
 
-// Stops the life at each of its calls, until it comes to its end or something is wrong.
-fn stop_in_turn(alloc: Global, sample: &Sample, outcome: &mut Outcome) -> Result<(), Fault>
+// Crashes the life at each of its calls, until it comes to its end or something is wrong.
+fn crash_in_turn(alloc: Global, sample: &Sample, outcome: &mut Outcome) -> Result<(), Fault>
     ensures { IfErr result (λ fault. fault ≡ Memory) }
 {
     for place in 0..u64::MAX {
         if outcome.is_whole || outcome.wrong.is_some() {
             break;
         }
-        outcome.take(alloc, Stop::in_turn(place), sample)?;
+        outcome.take(alloc, Crash::in_turn(place), sample)?;
     }
     Ok(())
 }
 
-// Stops the life at random calls after each of them had its turn, until the time is over or something is wrong.
-fn stop_at_random<R: Clock>(
+// Crashes the life at random calls after each of them had its turn, until the time is over or something is wrong.
+fn crash_at_random<R: Clock>(
     rt: &R,
     alloc: Global,
     sample: &Sample,
@@ -85,13 +85,13 @@ fn stop_at_random<R: Clock>(
 ) -> Result<(), Fault>
     ensures { IfErr result (λ fault. fault ≡ Memory) }
 {
-    let calls = outcome.stops / WAYS;
+    let calls = outcome.crashes / WAYS;
     let mut draw = Pcg32::new(SEED, STREAM);
     for _ in 0..u64::MAX {
         if outcome.wrong.is_some() || time.is_over(rt) {
             break;
         }
-        outcome.take(alloc, Stop::drawn(&mut draw, calls), sample)?;
+        outcome.take(alloc, Crash::drawn(&mut draw, calls), sample)?;
     }
     Ok(())
 }

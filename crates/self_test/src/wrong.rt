@@ -1,10 +1,10 @@
-//! What may be wrong after a stop.
+//! What may be wrong after a crash.
 use cube_model::Fault;
 use ssb_reports::QNumber;
 use std::fmt;
 use warehouse::Finding;
 
-/// What is wrong after a stop. It prints as a part of a line.
+/// What is wrong after a crash. It prints as a part of a line.
 #[derive(Clone, Copy)]
 pub(crate) enum Wrong {
     /// A call was refused.

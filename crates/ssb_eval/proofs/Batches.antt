@@ -16,12 +16,12 @@ use Rattle.cube_model.specs.declared.rows.DimRows.{DimRows}
 use Rattle.cube_model.specs.declared.rows.LineOrder.{LineOrder}
 use Rattle.cube_model.specs.Admission.{all_rows, refusal}
 use Rattle.cube_model.specs.Limits.{most_batch_rows}
-use Rattle.cube_query.specs.Groups.{FoldState, StandsFor}
-use Rattle.batch_admission.specs.Accepted.{Accepted, StandsBehind}
+use Rattle.cube_query.specs.Groups.{FoldState, RepresentsRows}
+use Rattle.batch_admission.specs.Accepted.{Accepted, HasAccepted}
 use Rattle.batch_admission.specs.Found.{Found, cause_of}
 use Rattle.cube_query.specs.GroupLines.{answer_over}
 use Rattle.cube_query.specs.declared.finished.Groups.{Groups}
-use Rattle.ssb_eval.specs.Evaluation.{facts_behind, facts_of, answer_in, answer_of, Gives}
+use Rattle.ssb_eval.specs.Evaluation.{facts_after, facts_of, answer_in, answer_of, Gives}
 use Rattle.ssb_eval.specs.BatchLoop.{AreTaken, FoldsFacts, IsBegun, LeavesFacts}
 use Rattle.batch_admission.proofs.CallerLemmas.{all_rows-last, in_range, known_both, passes, passes-found}
 
@@ -59,31 +59,31 @@ no_lines row number [] e = refl
 no_lines row number (line ∷ lines) e = absurd (no_row (row number line) (rows_of row (next_number number) lines) e)
 
 -- The outcome of the next batch: the end where it has no row
-pub facts-end : (dimensions : DimRows) (batches : List (List LineOrder)) (number : ℕ) (lines : List (List ℕ)) → rows_of lineorder_row number (take most_batch_rows lines) ≡ Ok [] → facts_behind dimensions batches number (parts_of most_batch_rows lines) ≡ Ok (all_rows batches)
+pub facts-end : (dimensions : DimRows) (batches : List (List LineOrder)) (number : ℕ) (lines : List (List ℕ)) → rows_of lineorder_row number (take most_batch_rows lines) ≡ Ok [] → facts_after dimensions batches number (parts_of most_batch_rows lines) ≡ Ok (all_rows batches)
 facts-end dimensions batches number [] e = refl
 facts-end dimensions batches number (line ∷ lines) e = absurd (no_row (lineorder_row number line) (rows_of lineorder_row (next_number number) (take 65535 lines)) e)
 
 -- the fault of its lines
-pub facts-fault : (dimensions : DimRows) (batches : List (List LineOrder)) (number : ℕ) (lines : List (List ℕ)) (fault : Fault) → rows_of lineorder_row number (take most_batch_rows lines) ≡ Err fault → facts_behind dimensions batches number (parts_of most_batch_rows lines) ≡ Err fault
+pub facts-fault : (dimensions : DimRows) (batches : List (List LineOrder)) (number : ℕ) (lines : List (List ℕ)) (fault : Fault) → rows_of lineorder_row number (take most_batch_rows lines) ≡ Err fault → facts_after dimensions batches number (parts_of most_batch_rows lines) ≡ Err fault
 facts-fault dimensions batches number [] fault e = cc
 facts-fault dimensions batches number (line ∷ lines) fault e =
-    ap (facts_behind dimensions batches number) (parts_of-first most_batch_rows line lines (omega arith))
-    ∙ ap (λ read. and_then read (λ rows. unless (refusal dimensions batches (length batches + 1) rows) (facts_behind dimensions (batches ++ rows ∷ []) (number_after (length rows) number) (parts_of most_batch_rows (drop most_batch_rows (line ∷ lines)))))) e
+    ap (facts_after dimensions batches number) (parts_of-first most_batch_rows line lines (omega arith))
+    ∙ ap (λ read. and_then read (λ rows. unless (refusal dimensions batches (length batches + 1) rows) (facts_after dimensions (batches ++ rows ∷ []) (number_after (length rows) number) (parts_of most_batch_rows (drop most_batch_rows (line ∷ lines)))))) e
 
 -- and else its check
 pub facts-more : (dimensions : DimRows) (batches : List (List LineOrder)) (number : ℕ) (lines : List (List ℕ)) (rows : List LineOrder) → 1 ≤ length rows → rows_of lineorder_row number (take most_batch_rows lines) ≡ Ok rows
-    → facts_behind dimensions batches number (parts_of most_batch_rows lines) ≡ unless (refusal dimensions batches (length batches + 1) rows) (facts_behind dimensions (batches ++ rows ∷ []) (number_after (length rows) number) (parts_of most_batch_rows (drop most_batch_rows lines)))
+    → facts_after dimensions batches number (parts_of most_batch_rows lines) ≡ unless (refusal dimensions batches (length batches + 1) rows) (facts_after dimensions (batches ++ rows ∷ []) (number_after (length rows) number) (parts_of most_batch_rows (drop most_batch_rows lines)))
 facts-more dimensions batches number [] [] some e = absurd (omega arith)
 facts-more dimensions batches number [] (row ∷ rows) some e = cc
 facts-more dimensions batches number (line ∷ lines) rows some e =
-    ap (facts_behind dimensions batches number) (parts_of-first most_batch_rows line lines (omega arith))
-    ∙ ap (λ read. and_then read (λ rows. unless (refusal dimensions batches (length batches + 1) rows) (facts_behind dimensions (batches ++ rows ∷ []) (number_after (length rows) number) (parts_of most_batch_rows (drop most_batch_rows (line ∷ lines)))))) e
+    ap (facts_after dimensions batches number) (parts_of-first most_batch_rows line lines (omega arith))
+    ∙ ap (λ read. and_then read (λ rows. unless (refusal dimensions batches (length batches + 1) rows) (facts_after dimensions (batches ++ rows ∷ []) (number_after (length rows) number) (parts_of most_batch_rows (drop most_batch_rows (line ∷ lines)))))) e
 
 -- a batch in which nothing was found is among those that were taken, once it is accepted
 pub taken_more : (dimensions : DimRows) (query : Query) (accepted next : Accepted) (fold more : FoldState) (batches : List (List LineOrder)) (rows : List LineOrder) (found : Found)
-    → AreTaken dimensions query accepted fold batches → refusal dimensions batches (length batches + 1) rows ≡ None → StandsBehind next (batches ++ rows ∷ [])
+    → AreTaken dimensions query accepted fold batches → refusal dimensions batches (length batches + 1) rows ≡ None → HasAccepted next (batches ++ rows ∷ [])
     → IsBegun dimensions query (all_rows batches) rows found more → AreTaken dimensions query next more (batches ++ rows ∷ [])
-taken_more dimensions query accepted next fold more batches rows found taken passed stands begun =
+taken_more dimensions query accepted next fold more batches rows found taken passed represents begun =
     let pass = passes dimensions batches (length batches + 1) rows passed in
     let nothing = passes-found dimensions batches (length batches + 1) rows passed in
     let joined : all_rows (batches ++ rows ∷ []) ≡ all_rows batches ++ rows = all_rows-last batches rows in
@@ -91,7 +91,7 @@ taken_more dimensions query accepted next fold more batches rows found taken pas
     let one_more : length (batches ++ rows ∷ []) ≡ length batches + 1 = length_push batches rows in
     let clean : cause_of found ≡ None = ap cause_of begun.found_is ∙ nothing in
     record {
-      stands = stands;
+      represents = represents;
       query_is = begun.query_is;
       folded = rw joined (begun.folded clean);
       few = rw (joined, longer, one_more) (omega (arith, taken.few, pass.few));
@@ -104,16 +104,16 @@ taken_more dimensions query accepted next fold more batches rows found taken pas
 
 -- what is left once a batch was accepted
 pub leaves_more : (dimensions : DimRows) (text : List ℕ) (batches : List (List LineOrder)) (number next : ℕ) (left rest : List ℕ) (rows : List LineOrder) → 1 ≤ length rows
-    → facts_of dimensions text ≡ facts_behind dimensions batches (next_number number) (parts_of most_batch_rows (lines_of left))
+    → facts_of dimensions text ≡ facts_after dimensions batches (next_number number) (parts_of most_batch_rows (lines_of left))
     → (rows_of lineorder_row (next_number number) (take most_batch_rows (lines_of left)) ≡ Ok rows) × (lines_of rest ≡ drop most_batch_rows (lines_of left))
     → next ≡ number_after (length rows) number
     → refusal dimensions batches (length batches + 1) rows ≡ None
-    → facts_of dimensions text ≡ facts_behind dimensions (batches ++ rows ∷ []) (next_number next) (parts_of most_batch_rows (lines_of rest))
+    → facts_of dimensions text ≡ facts_after dimensions (batches ++ rows ∷ []) (next_number next) (parts_of most_batch_rows (lines_of rest))
 leaves_more dimensions text batches number next left rest rows some before (read, others) counted accepted =
     before ∙ facts-more dimensions batches (next_number number) (lines_of left) rows some read
-    ∙ ap (λ cause. unless cause (facts_behind dimensions (batches ++ rows ∷ []) (number_after (length rows) (next_number number)) (parts_of most_batch_rows (drop most_batch_rows (lines_of left))))) accepted
-    ∙ ap (λ n. facts_behind dimensions (batches ++ rows ∷ []) n (parts_of most_batch_rows (drop most_batch_rows (lines_of left)))) (sym (next_number-after (length rows) number) ∙ ap next_number (sym counted))
-    ∙ ap (λ lines. facts_behind dimensions (batches ++ rows ∷ []) (next_number next) (parts_of most_batch_rows lines)) (sym others)
+    ∙ ap (λ cause. unless cause (facts_after dimensions (batches ++ rows ∷ []) (number_after (length rows) (next_number number)) (parts_of most_batch_rows (drop most_batch_rows (lines_of left))))) accepted
+    ∙ ap (λ n. facts_after dimensions (batches ++ rows ∷ []) n (parts_of most_batch_rows (drop most_batch_rows (lines_of left)))) (sym (next_number-after (length rows) number) ∙ ap next_number (sym counted))
+    ∙ ap (λ lines. facts_after dimensions (batches ++ rows ∷ []) (next_number next) (parts_of most_batch_rows lines)) (sym others)
 
 -- the same, where the bytes may be unknown
 pub leaves_on : (dimensions : DimRows) (text : List ℕ) (batches : List (List LineOrder)) (number next : ℕ) (left rest : Option (List ℕ)) (rows : List LineOrder) → 1 ≤ length rows → LeavesFacts dimensions text batches number left → TakesRows lineorder_row most_batch_rows number left rest rows → next ≡ number_after (length rows) number → refusal dimensions batches (length batches + 1) rows ≡ None → LeavesFacts dimensions text (batches ++ rows ∷ []) next rest
@@ -138,7 +138,7 @@ gives-refused query dimensions text batches number place (Some left) (Some rest)
     let cause : refusal dimensions batches (length batches + 1) rows ≡ Some fault = ap (λ n. refusal dimensions batches n rows) (sym next) ∙ sym refused in
     let found : facts_of dimensions text ≡ Err fault =
     before ∙ facts-more dimensions batches (next_number number) (lines_of left) rows some read
-    ∙ ap (λ one. unless one (facts_behind dimensions (batches ++ rows ∷ []) (number_after (length rows) (next_number number)) (parts_of most_batch_rows (drop most_batch_rows (lines_of left))))) cause in
+    ∙ ap (λ one. unless one (facts_after dimensions (batches ++ rows ∷ []) (number_after (length rows) (next_number number)) (parts_of most_batch_rows (drop most_batch_rows (lines_of left))))) cause in
     rw (stop.1, stop.2) (inr (inr (ap (λ facts. and_then facts (λ rows. Ok (answer query dimensions rows))) found)))
 
 -- and the end of the text
@@ -152,7 +152,7 @@ folds-stopped query dimensions text fold fault result stop gives = rw (stop.1, s
 
 -- the groups of a fold give the answer over the facts that it took
 pub gives-groups : (query : Query) (dimensions : DimRows) (text : List ℕ) (fold : FoldState) (result : Result Groups Fault) → fold.query ≡ query → FoldsFacts query dimensions text fold (Ok tt)
-    → IfOk result (λ groups. (rows : List LineOrder) → StandsFor dimensions fold rows → answer_over dimensions groups ≡ answer fold.query dimensions rows) → IfErr result (λ fault. fault ≡ Memory)
+    → IfOk result (λ groups. (rows : List LineOrder) → RepresentsRows dimensions fold rows → answer_over dimensions groups ≡ answer fold.query dimensions rows) → IfErr result (λ fault. fault ≡ Memory)
     → Gives (answer_of query dimensions text) (answer_in dimensions result)
 gives-groups query dimensions text fold (Err fault) same folded answers only = inl only
 gives-groups query dimensions text fold (Ok groups) same folded answers only =

@@ -10,12 +10,12 @@ use Rattle.cube_model.specs.declared.rows.DimRows.{DimRows}
 use Rattle.cube_model.specs.declared.rows.LineOrder.{LineOrder}
 use Rattle.cube_model.specs.Admission.{all_rows}
 use Rattle.cube_model.specs.Limits.{most_batch_rows, most_batches}
-use Rattle.batch_admission.specs.Accepted.{Accepted, StandsBehind}
+use Rattle.batch_admission.specs.Accepted.{Accepted, HasAccepted}
 use Rattle.batch_admission.specs.Found.{Found, cause_of, found_in}
 use Rattle.batch_admission.specs.Totals.{totals_of}
 use Rattle.batch_admission.specs.declared.totals.Totals.{Totals}
 use Rattle.batch_admission.proofs.CallerLemmas.{found-clean, found-earlier, known_both}
-use Rattle.cube_query.specs.Groups.{FoldState, CanTake, Takes, StandsFor}
+use Rattle.cube_query.specs.Groups.{FoldState, CanTake, Takes, RepresentsRows}
 use Rattle.ssb_eval.specs.BatchLoop.{AreTaken, IsBegun, IsUnderWay, LooksAtNext}
 
 no_cause_some : (cause : Option Fault) → is_some cause ≡ true → cause ≡ None → ⊥
@@ -55,7 +55,7 @@ module _ (dimensions : DimRows) (query : Query) (before earlier rows : List Line
   IsBegun-added next none takes = record {
     found_is = looked;
     query_is = takes.query ∙ begun.query_is;
-    folded = λ again. subst (StandsFor dimensions next) (append_assoc before earlier rows) (takes.stands (before ++ earlier) (begun.folded (clean_before none)));
+    folded = λ again. subst (RepresentsRows dimensions next) (append_assoc before earlier rows) (takes.represents (before ++ earlier) (begun.folded (clean_before none)));
     few = begun.few;
     known = begun.known;
     clean = begun.clean;
@@ -76,11 +76,11 @@ module _ (dimensions : DimRows) (query : Query) (before earlier rows : List Line
 pub IsBegun-start : (dimensions : DimRows) (query : Query) (accepted : Accepted) (fold : FoldState) (batches : List (List LineOrder)) (found : Found) → AreTaken dimensions query accepted fold batches
     → length batches ≤ most_batches → found ≡ found_in dimensions accepted.totals [] → cause_of found ≡ None → IsBegun dimensions query (all_rows batches) [] found fold
 IsBegun-start dimensions query accepted fold batches found taken few is none =
-    let found_is = is ∙ ap (λ totals. found_in dimensions totals []) taken.stands.totals in
+    let found_is = is ∙ ap (λ totals. found_in dimensions totals []) taken.represents.totals in
     record {
       found_is = found_is;
       query_is = taken.query_is;
-      folded = λ none. subst (StandsFor dimensions fold) (sym (append-nil (all_rows batches))) taken.folded;
+      folded = λ none. subst (RepresentsRows dimensions fold) (sym (append-nil (all_rows batches))) taken.folded;
       few = omega (arith, taken.few, few);
       known = taken.foldable.known;
       clean = ap cause_of (sym found_is) ∙ none;
@@ -91,9 +91,9 @@ pub AreTaken-none : (dimensions : DimRows) (query : Query) (accepted : Accepted)
     → IsBegun dimensions query (all_rows batches) rows found next → found.row_count ≡ 0 → AreTaken dimensions query accepted next batches
 AreTaken-none dimensions query accepted fold next batches (row ∷ rows) found taken begun none = absurd (omega (arith, none, ap (λ some. some.row_count) begun.found_is))
 AreTaken-none dimensions query accepted fold next batches [] found taken begun none = record {
-  stands = taken.stands;
+  represents = taken.represents;
   query_is = begun.query_is;
-  folded = subst (StandsFor dimensions next) (append-nil (all_rows batches)) (begun.folded (ap cause_of begun.found_is ∙ begun.clean));
+  folded = subst (RepresentsRows dimensions next) (append-nil (all_rows batches)) (begun.folded (ap cause_of begun.found_is ∙ begun.clean));
   few = taken.few;
   foldable = taken.foldable;
 }
@@ -103,9 +103,9 @@ pub counted : (dimensions : DimRows) (query : Query) (before rows : List LineOrd
 counted dimensions query before rows found fold begun = ap (λ some. some.row_count) begun.found_is
 
 -- what was found, after the batches that are there
-pub found-behind : (dimensions : DimRows) (query : Query) (accepted : Accepted) (batches : List (List LineOrder)) (rows : List LineOrder) (found : Found) (fold : FoldState) → StandsBehind accepted batches
+pub found-behind : (dimensions : DimRows) (query : Query) (accepted : Accepted) (batches : List (List LineOrder)) (rows : List LineOrder) (found : Found) (fold : FoldState) → HasAccepted accepted batches
     → IsBegun dimensions query (all_rows batches) rows found fold → found ≡ found_in dimensions accepted.totals rows
-found-behind dimensions query accepted batches rows found fold stands begun = begun.found_is ∙ ap (λ totals. found_in dimensions totals rows) (sym stands.totals)
+found-behind dimensions query accepted batches rows found fold represents begun = begun.found_is ∙ ap (λ totals. found_in dimensions totals rows) (sym represents.totals)
 
 -- what was begun, by the fold's own query, and back
 pub IsBegun-own : (dimensions : DimRows) (query : Query) (before earlier : List LineOrder) (found : Found) (fold : FoldState) → IsBegun dimensions query before earlier found fold → IsBegun dimensions fold.query before earlier found fold

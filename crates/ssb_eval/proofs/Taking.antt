@@ -21,7 +21,7 @@ use Rattle.ssb_eval.proofs.Batches.{gives-unread, gives-refused}
 -- what was taken, by the fold's own query, and back
 pub AreTaken-own : (dimensions : DimRows) (query : Query) (accepted : Accepted) (fold : FoldState) (batches : List (List LineOrder)) → AreTaken dimensions query accepted fold batches → AreTaken dimensions fold.query accepted fold batches
 AreTaken-own dimensions query accepted fold batches taken = record {
-  stands = taken.stands;
+  represents = taken.represents;
   query_is = refl;
   folded = taken.folded;
   few = taken.few;
@@ -66,4 +66,4 @@ pub count_more : (dimensions : DimRows) (query own : Query) (batches : List (Lis
     → AreTaken dimensions query accepted fold batches → IsNextBatch dimensions own batches old new next more rows → 4097 - next.count < 4097 - accepted.count
 count_more dimensions query own batches old new accepted next fold more rows taken batch =
     let pass = passes dimensions batches (length batches + 1) rows batch.passes in
-    omega (arith, taken.stands.count, batch.taken.stands.count, pass.batches_left, length_push batches rows)
+    omega (arith, taken.represents.count, batch.taken.represents.count, pass.batches_left, length_push batches rows)

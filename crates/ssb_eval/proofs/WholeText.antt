@@ -11,7 +11,7 @@ use Rattle.cube_model.specs.declared.rows.DimRows.{DimRows}
 use Rattle.cube_model.specs.declared.rows.LineOrder.{LineOrder}
 use Rattle.cube_model.specs.Admission.{all_rows, refusal}
 use Rattle.cube_model.specs.Limits.{most_batch_rows}
-use Rattle.ssb_eval.specs.Evaluation.{facts_behind, facts_of, table_rows}
+use Rattle.ssb_eval.specs.Evaluation.{facts_after, facts_of, table_rows}
 use Rattle.batch_admission.proofs.CallerLemmas.{all_rows-last}
 
 -- a row is in front of others
@@ -73,7 +73,7 @@ rows_behind : (batches : List (List LineOrder)) (found more rows : List LineOrde
 rows_behind batches found more rows is = is ∙ ap (λ earlier. earlier ++ more) (all_rows-last batches found) ∙ append_assoc (all_rows batches) found more
 
 behind : (dimensions : DimRows) (batches : List (List LineOrder)) (number steps size : ℕ) (lines : List (List ℕ)) (rows : List LineOrder) → 1 ≤ size → length lines ≤ steps
-    → facts_behind dimensions batches number (parts_in steps size lines) ≡ Ok rows → AreBehind number lines batches rows
+    → facts_after dimensions batches number (parts_in steps size lines) ≡ Ok rows → AreBehind number lines batches rows
 behind dimensions batches number steps size [] rows some enough e = record {
   more = [];
   more_are = refl;
@@ -83,9 +83,9 @@ behind dimensions batches number zero size (line ∷ lines) rows some enough e =
 behind dimensions batches number (suc steps) size (line ∷ lines) rows some enough e =
     let left = drop size (line ∷ lines) in
     let read = goes_on (rows_of lineorder_row number (take size (line ∷ lines)))
-    (λ found. unless (refusal dimensions batches (length batches + 1) found) (facts_behind dimensions (batches ++ found ∷ []) (number_after (length found) number) (parts_in steps size left))) rows e in
+    (λ found. unless (refusal dimensions batches (length batches + 1) found) (facts_after dimensions (batches ++ found ∷ []) (number_after (length found) number) (parts_in steps size left))) rows e in
     let accepted = not_refused (refusal dimensions batches (length batches + 1) read.found)
-    (facts_behind dimensions (batches ++ read.found ∷ []) (number_after (length read.found) number) (parts_in steps size left)) rows read.next_is in
+    (facts_after dimensions (batches ++ read.found ∷ []) (number_after (length read.found) number) (parts_in steps size left)) rows read.next_is in
     let later = behind dimensions (batches ++ read.found ∷ []) (number_after (length read.found) number) steps size left rows some (omega (arith, length-drop size (line ∷ lines))) accepted in
     record {
       more = read.found ++ later.more;

@@ -13,25 +13,25 @@ use Rattle.cube_model.specs.declared.rows.DimRows.{DimRows}
 use Rattle.cube_model.specs.declared.rows.LineOrder.{LineOrder}
 use Rattle.cube_model.specs.Admission.{all_rows, refusal, HaveKnownKeys}
 use Rattle.cube_model.specs.Limits.{most_batch_rows, most_batches}
-use Rattle.cube_query.specs.Groups.{FoldState, StandsFor}
+use Rattle.cube_query.specs.Groups.{FoldState, RepresentsRows}
 use Rattle.cube_query.specs.Limits.{AreFoldable}
-use Rattle.batch_admission.specs.Accepted.{Accepted, StandsBehind}
+use Rattle.batch_admission.specs.Accepted.{Accepted, HasAccepted}
 use Rattle.batch_admission.specs.Found.{Found, cause_of, found_in}
 use Rattle.batch_admission.specs.Totals.{totals_of}
-use Rattle.ssb_eval.specs.Evaluation.{Gives, answer_of, facts_of, facts_behind}
+use Rattle.ssb_eval.specs.Evaluation.{Gives, answer_of, facts_of, facts_after}
 
 -- batches were accepted, and their rows were folded
 pub record AreTaken (dimensions : DimRows) (query : Query) (accepted : Accepted) (fold : FoldState) (batches : List (List LineOrder)) : Type 0 where
-  pub stands : StandsBehind accepted batches
+  pub represents : HasAccepted accepted batches
   pub query_is : fold.query ≡ query
-  pub folded : StandsFor dimensions fold (all_rows batches)
+  pub folded : RepresentsRows dimensions fold (all_rows batches)
   pub few : length (all_rows batches) ≤ most_batch_rows * length batches
   pub foldable : AreFoldable dimensions (all_rows batches)
 
 -- what is left of a text decides the rest
 abbrev pub LeavesFacts : DimRows → List ℕ → List (List LineOrder) → ℕ → Option (List ℕ) → Type 0
 LeavesFacts dimensions text batches number None = ⊥
-LeavesFacts dimensions text batches number (Some left) = facts_of dimensions text ≡ facts_behind dimensions batches (next_number number) (parts_of most_batch_rows (lines_of left))
+LeavesFacts dimensions text batches number (Some left) = facts_of dimensions text ≡ facts_after dimensions batches (next_number number) (parts_of most_batch_rows (lines_of left))
 
 -- some batches were taken, and others may follow
 abbrev pub CanGoOn : DimRows → Accepted → FoldState → Type 0
@@ -42,7 +42,7 @@ CanGoOn dimensions accepted fold = (batches : List (List LineOrder)) × AreTaken
 pub record IsBegun (dimensions : DimRows) (query : Query) (before earlier : List LineOrder) (found : Found) (fold : FoldState) : Type 0 where
   pub found_is : found ≡ found_in dimensions (totals_of before) earlier
   pub query_is : fold.query ≡ query
-  pub folded : cause_of found ≡ None → StandsFor dimensions fold (before ++ earlier)
+  pub folded : cause_of found ≡ None → RepresentsRows dimensions fold (before ++ earlier)
   pub few : length before ≤ most_batch_rows * most_batches
   pub known : HaveKnownKeys dimensions before
   pub clean : cause_of (found_in dimensions (totals_of before) []) ≡ None
@@ -86,10 +86,10 @@ TakesNextBatch dimensions query batches old new accepted fold (Err fault) =
 pub record IsDone (dimensions : DimRows) (query : Query) (fold : FoldState) : Type 0 where
   pub query_is : fold.query ≡ query
   pub rows : List LineOrder
-  pub folded : StandsFor dimensions fold rows
+  pub folded : RepresentsRows dimensions fold rows
   pub foldable : AreFoldable dimensions rows
 
 -- All fact rows of a text were folded. Or memory was refused, a read failed, or the rows are refused
 abbrev pub FoldsFacts : Query → DimRows → List ℕ → FoldState → Result Unit Fault → Type 0
-FoldsFacts query dimensions text fold (Ok done) = (rows : List LineOrder) × (facts_of dimensions text ≡ Ok rows) × StandsFor dimensions fold rows
+FoldsFacts query dimensions text fold (Ok done) = (rows : List LineOrder) × (facts_of dimensions text ≡ Ok rows) × RepresentsRows dimensions fold rows
 FoldsFacts query dimensions text fold (Err fault) = Gives (answer_of query dimensions text) (Err fault)

@@ -54,16 +54,16 @@ dimensions_of texts = and_then (tables_of texts) valid_rows
 
 -- the fact rows of the lines of batches, after batches that were accepted: the lines of a batch are read, and then it is
 -- admitted. The number is that of the next line
-abbrev pub facts_behind : DimRows → List (List LineOrder) → ℕ → List (List (List ℕ)) → Result (List LineOrder) Fault
-facts_behind dimensions batches number [] = Ok (all_rows batches)
-facts_behind dimensions batches number (lines ∷ others) =
+abbrev pub facts_after : DimRows → List (List LineOrder) → ℕ → List (List (List ℕ)) → Result (List LineOrder) Fault
+facts_after dimensions batches number [] = Ok (all_rows batches)
+facts_after dimensions batches number (lines ∷ others) =
     and_then (rows_of lineorder_row number lines) (λ rows.
     unless (refusal dimensions batches (length batches + 1) rows)
-    (facts_behind dimensions (batches ++ rows ∷ []) (number_after (length rows) number) others))
+    (facts_after dimensions (batches ++ rows ∷ []) (number_after (length rows) number) others))
 
 -- the fact rows of a text, in batches of 65,536 lines
 abbrev pub facts_of : DimRows → List ℕ → Result (List LineOrder) Fault
-facts_of dimensions text = facts_behind dimensions [] 1 (parts_of most_batch_rows (lines_of text))
+facts_of dimensions text = facts_after dimensions [] 1 (parts_of most_batch_rows (lines_of text))
 
 -- where no batch of a text is refused, their rows put end to end are the rows of all its lines
 abbrev pub FactsAreRows : Type 0

@@ -10,13 +10,13 @@ use Rattle.object_store.specs.Content.{Content}
 use Rattle.lattice.specs.declared.view.View.{View}
 use Rattle.lattice.specs.Views.{index_of, mode_number}
 use Rattle.cuboid_cells.specs.Cells.{AreProper, PlainCells}
-use Rattle.cuboid_upkeep.specs.Grouping.{StandFor}
+use Rattle.cuboid_upkeep.specs.Grouping.{RepresentRows}
 use Rattle.cuboid_upkeep.specs.Lawful.{CellsAreTheOne}
 use Rattle.cuboid_upkeep.specs.Steps.{HaveTooMany}
 use Rattle.warehouse_root.specs.declared.cuboid.StoredCuboid.{StoredCuboid}
 use Rattle.warehouse_root.specs.Layouts.{views_of}
 use Rattle.warehouse_objects.proofs.CallerLemmas.{own_view}
-use Rattle.warehouse_objects.specs.Stands.{IsLaidOut, said_of}
+use Rattle.warehouse_objects.specs.Represents.{IsLaidOut, said_of}
 use Rattle.warehouse_objects.specs.Warehouse.{Cuboid, Warehouse, cuboid_at, modes_of}
 use Rattle.stored_cuboids.specs.Merged.{HasMerge, IsSound}
 use Rattle.stored_cuboids.proofs.Merging.{merged_one}
@@ -26,26 +26,26 @@ use Rattle.cuboid_cells.specs.Steps.{cells_of}
 -- ---- cells that group rows
 
 module _ (law : CellsAreTheOne) (rows : DimRows) (modes : List (List ℕ)) (facts : List LineOrder) (own cells : PlainCells) (same : own.view ≡ cells.view) where
-  pub is_grouping : StandFor rows modes facts own → (own.cells ≡ cells.cells) ↔ StandFor rows modes facts cells
-  is_grouping stand = (
-    λ list. let both : own ≡ cells = λ i. record { view = same i; cells = list i } in subst (StandFor rows modes facts) both stand,
-    λ also. ap (λ (p : PlainCells). p.cells) (law rows modes facts own cells same stand also),
+  pub is_grouping : RepresentRows rows modes facts own → (own.cells ≡ cells.cells) ↔ RepresentRows rows modes facts cells
+  is_grouping represent = (
+    λ list. let both : own ≡ cells = λ i. record { view = same i; cells = list i } in subst (RepresentRows rows modes facts) both represent,
+    λ also. ap (λ (p : PlainCells). p.cells) (law rows modes facts own cells same represent also),
   )
 
-pub not_too_many : CellsAreTheOne → (rows : DimRows) (modes : List (List ℕ)) (facts : List LineOrder) (cells : PlainCells) → AreProper cells → HaveTooMany rows modes cells.view facts → StandFor rows modes facts cells → ⊥
-not_too_many law rows modes facts cells proper large stand =
-    let same = law rows modes facts (cells_of cells.view large.cells) cells refl large.stand stand in
+pub not_too_many : CellsAreTheOne → (rows : DimRows) (modes : List (List ℕ)) (facts : List LineOrder) (cells : PlainCells) → AreProper cells → HaveTooMany rows modes cells.view facts → RepresentRows rows modes facts cells → ⊥
+not_too_many law rows modes facts cells proper large represent =
+    let same = law rows modes facts (cells_of cells.view large.cells) cells refl large.represent represent in
     absurd (omega (arith, proper.rules.few, large.many, ap (λ (p : PlainCells). length p.cells) same))
 
 -- ---- sound cuboids
 
-pub sound_by : (w : Warehouse) (stored : Cuboid) (mark : ℕ) (cells : PlainCells) → stored.mark ≡ mark → HasMerge stored cells → StandFor w.rows (modes_of w) (all_rows (take mark w.batches)) cells ↔ IsSound w stored
+pub sound_by : (w : Warehouse) (stored : Cuboid) (mark : ℕ) (cells : PlainCells) → stored.mark ≡ mark → HasMerge stored cells → RepresentRows w.rows (modes_of w) (all_rows (take mark w.batches)) cells ↔ IsSound w stored
 sound_by w stored mark cells ends merge = (
-  λ stand. record { cells = cells; merge = merge; grouping = subst (λ (n : ℕ). StandFor w.rows (modes_of w) (all_rows (take n w.batches)) cells) (sym ends) stand },
+  λ represent. record { cells = cells; merge = merge; grouping = subst (λ (n : ℕ). RepresentRows w.rows (modes_of w) (all_rows (take n w.batches)) cells) (sym ends) represent },
   λ sound.
       let same : sound.cells ≡ cells = merged_one (cells_of stored.view []) stored.runs sound.cells cells sound.merge merge in
-      subst (λ (n : ℕ). StandFor w.rows (modes_of w) (all_rows (take n w.batches)) cells) ends
-      (subst (λ (m : PlainCells). StandFor w.rows (modes_of w) (all_rows (take stored.mark w.batches)) m) same sound.grouping),
+      subst (λ (n : ℕ). RepresentRows w.rows (modes_of w) (all_rows (take n w.batches)) cells) ends
+      (subst (λ (m : PlainCells). RepresentRows w.rows (modes_of w) (all_rows (take stored.mark w.batches)) m) same sound.grouping),
 )
 
 -- the first 256 views do not group by ship mode

@@ -5,7 +5,7 @@ use Rattle.std.proofs.lemmas.Option.{get_or_from_slice_get, slice_get_within}
 use Rattle.cube_model.specs.Admission.{all_rows}
 use Rattle.cube_model.specs.declared.rows.DimRows.{DimRows}
 use Rattle.cube_model.specs.declared.rows.LineOrder.{LineOrder}
-use Rattle.cube_query.specs.Groups.{CanTake, FoldState, StandsFor}
+use Rattle.cube_query.specs.Groups.{CanTake, FoldState, RepresentsRows}
 use Rattle.cube_query.specs.Limits.{AreFoldable}
 use Rattle.cuboid_cells.specs.Cells.{PlainCells}
 use Rattle.cuboid_cells.specs.declared.cell.Cell.{Cell}
@@ -15,17 +15,17 @@ use Rattle.cuboid_cells.specs.Spelled.{IsSpan}
 use Rattle.cuboid_cells.specs.Steps.{cells_of}
 use Rattle.cuboid_cells.specs.declared.head.RunHead.{RunHead}
 use Rattle.cube_query.specs.CellRuns.{TakesRun}
-use Rattle.cuboid_upkeep.specs.Grouping.{StandFor}
+use Rattle.cuboid_upkeep.specs.Grouping.{RepresentRows}
 use Rattle.lattice.specs.declared.view.View.{View}
 use Rattle.object_store.specs.Content.{Content, bytes_of}
 use Rattle.warehouse_root.specs.Objects.{run_id}
 use Rattle.warehouse_objects.proofs.CallerLemmas.{foldable, laid_of}
-use Rattle.warehouse_objects.specs.Stands.{Follow, HoldsGroupings, IsLaidOut, Stands, rows_in}
+use Rattle.warehouse_objects.specs.Represents.{Follow, HoldsGroupings, IsLaidOut, Represents, rows_in}
 use Rattle.warehouse_objects.specs.Warehouse.{Cuboid, StoredRun, Warehouse, cuboid_at, modes_of}
 use Rattle.stored_cuboids.specs.Counted.{AreCounted, CountsRun}
 use Rattle.stored_cuboids.specs.Steps.{AreRead, GoesOn, HasRun, IsNextRun}
 use Rattle.stored_cuboids.specs.declared.reading.Progress.{Progress}
-use Rattle.stored_cuboids.proofs.Standing.{follow_up, rows_after}
+use Rattle.stored_cuboids.proofs.Represented.{follow_up, rows_after}
 use Rattle.stored_cuboids.proofs.StoredRuns.{IsAt, begins, has_run, is_at, is_proper, read_more, read_to}
 
 -- no run goes beyond the mark
@@ -37,15 +37,15 @@ ends_within from (first ∷ runs) zero run mark here follow spans =
 ends_within from (first ∷ runs) (suc r) run mark here follow spans =
     ends_within first.span.to runs r run mark here follow.1 (All-tail (λ (x : StoredRun). IsSpan x.span) first runs spans)
 
-module _ (c : Content) (w : Warehouse) (view : ℕ) (stored : Cuboid) (stands : Stands c w) (found : cuboid_at view w.cuboids ≡ Some stored) where
+module _ (c : Content) (w : Warehouse) (view : ℕ) (stored : Cuboid) (represents : Represents c w) (found : cuboid_at view w.cuboids ≡ Some stored) where
   abbrev at : IsAt w.cuboids view stored
   at = is_at w.cuboids view stored found
 
   abbrev laid : IsLaidOut c w
-  laid = laid_of c w stands
+  laid = laid_of c w represents
 
   holds : HoldsGroupings w stored
-  holds = subst (HoldsGroupings w) at.is (stands.cuboids at.place stored at.within)
+  holds = subst (HoldsGroupings w) at.is (represents.cuboids at.place stored at.within)
 
   module _ (r : ℕ) (run : StoredRun) (here : slice_get stored.runs r ≡ Some run) (dims : DimRows) (same : dims ≡ w.rows) (so_far : Progress) (read : AreRead stored r so_far) where
     inside : r < length stored.runs
@@ -58,10 +58,10 @@ module _ (c : Content) (w : Warehouse) (view : ℕ) (stored : Cuboid) (stands : 
     span = subst (λ (x : StoredRun). IsSpan x.span) (this run) (holds.laid.spans r run inside)
 
     -- the cells of the run represent the rows of its batches
-    pub grouping : StandFor dims [] (rows_in w.batches run.span) (cells_of stored.view run.cells)
+    pub grouping : RepresentRows dims [] (rows_in w.batches run.span) (cells_of stored.view run.cells)
     grouping =
-        subst (λ (rows : DimRows). StandFor rows [] (rows_in w.batches run.span) (cells_of stored.view run.cells)) (sym same)
-        (subst (λ (x : StoredRun). StandFor w.rows (modes_of w) (rows_in w.batches x.span) (cells_of stored.view x.cells)) (this run) (holds.groupings r run inside))
+        subst (λ (rows : DimRows). RepresentRows rows [] (rows_in w.batches run.span) (cells_of stored.view run.cells)) (sym same)
+        (subst (λ (x : StoredRun). RepresentRows w.rows (modes_of w) (rows_in w.batches x.span) (cells_of stored.view x.cells)) (this run) (holds.groupings r run inside))
 
     -- which come after those of the runs so far
     rows_next : all_rows (take so_far.end w.batches) ++ rows_in w.batches run.span ≡ all_rows (take run.span.to w.batches)
@@ -69,7 +69,7 @@ module _ (c : Content) (w : Warehouse) (view : ℕ) (stored : Cuboid) (stands : 
         ap (λ (n : ℕ). all_rows (take n w.batches) ++ rows_in w.batches run.span) (sym (begins c w view stored laid found r run here so_far read))
         ∙ rows_after w.batches run.span.from run.span.to (omega (arith, span.some))
 
-    module _ (fold : FoldState) (so_far_stands : StandsFor dims fold (all_rows (take so_far.end w.batches))) where
+    module _ (fold : FoldState) (so_far_represents : RepresentsRows dims fold (all_rows (take so_far.end w.batches))) where
       -- the run was counted
       pub counted_more : (own : View) (new : FoldState) (next : Progress) → CountsRun c (run_id view r) own so_far dims fold new next → AreCounted w stored dims (suc r) new next
       counted_more own new next counts =
@@ -87,8 +87,8 @@ module _ (c : Content) (w : Warehouse) (view : ℕ) (stored : Cuboid) (stands : 
           let takes = both.1 (rows_in w.batches run.span) grouping in
           record {
             read = read_more c w view stored laid found r run here so_far read own cells next goes;
-            stands = subst (λ (n : ℕ). StandsFor dims new (all_rows (take n w.batches))) (sym to)
-                (subst (λ (rows : List LineOrder). StandsFor dims new rows) rows_next (takes.stands (all_rows (take so_far.end w.batches)) so_far_stands));
+            represents = subst (λ (n : ℕ). RepresentsRows dims new (all_rows (take n w.batches))) (sym to)
+                (subst (λ (rows : List LineOrder). RepresentsRows dims new rows) rows_next (takes.represents (all_rows (take so_far.end w.batches)) so_far_represents));
           }
 
       -- the fold can take its rows
@@ -98,9 +98,9 @@ module _ (c : Content) (w : Warehouse) (view : ℕ) (stored : Cuboid) (stands : 
           let within : run.span.to ≤ length w.batches = omega (arith, ends, (is_proper c w view stored laid found).mark) in (
             all_rows (take so_far.end w.batches),
             (
-              so_far_stands,
+              so_far_represents,
               subst (λ (d : DimRows). AreFoldable d (all_rows (take so_far.end w.batches) ++ rows_in w.batches run.span)) (sym same)
-                  (subst (λ (rows : List LineOrder). AreFoldable w.rows rows) (sym rows_next) (foldable w.rows w.batches stands.batches run.span.to within)),
+                  (subst (λ (rows : List LineOrder). AreFoldable w.rows rows) (sym rows_next) (foldable w.rows w.batches represents.batches run.span.to within)),
             ),
           )
 
@@ -125,10 +125,10 @@ module _ (content now : Content) (same : now ≡ content) (id : ℕ) (view : Vie
       (first span cells is).1
 
   in_view : (span : Span) (cells : PlainCells) → HasRun content id span cells → (dims : DimRows) (rows : List LineOrder)
-      → StandFor dims [] rows cells → StandFor dims [] rows (cells_of run.head.view cells.cells)
-  in_view span cells is dims rows stand =
-      subst (λ (v : View). StandFor dims [] rows (cells_of v cells.cells))
-      (sym (ap (λ (head : RunHead). head.view) (first span cells is).0)) stand
+      → RepresentRows dims [] rows cells → RepresentRows dims [] rows (cells_of run.head.view cells.cells)
+  in_view span cells is dims rows represent =
+      subst (λ (v : View). RepresentRows dims [] rows (cells_of v cells.cells))
+      (sym (ap (λ (head : RunHead). head.view) (first span cells is).0)) represent
 
   pub counts_run : (next : Progress) → GoesOn view at run.head next → (dims : DimRows) (old new : FoldState)
       → TakesRun dims [] (bytes_of now run.id) run old new
@@ -138,14 +138,14 @@ module _ (content now : Content) (same : now ≡ content) (id : ℕ) (view : Vie
     goes_on = goes;
     takes = λ span cells is. (
       (first span cells is).0,
-      λ rows stand. takes cells.cells (all_left span cells is) rows (in_view span cells is dims rows stand),
+      λ rows represent. takes cells.cells (all_left span cells is) rows (in_view span cells is dims rows represent),
     );
   }
 
   pub not_counted : (dims : DimRows) (old : FoldState)
       → ((cells : List Cell) → AreLeft (bytes_of now run.id) run cells → (rows : List LineOrder)
-      → StandFor dims [] rows (cells_of run.head.view cells) → CanTake dims old rows → ⊥)
-      → (cells : PlainCells) (next : Progress) (rows : List LineOrder) → IsNextRun content id view at cells next → StandFor dims [] rows cells → CanTake dims old rows → ⊥
-  not_counted dims old refuses cells next rows goes stand can =
+      → RepresentRows dims [] rows (cells_of run.head.view cells) → CanTake dims old rows → ⊥)
+      → (cells : PlainCells) (next : Progress) (rows : List LineOrder) → IsNextRun content id view at cells next → RepresentRows dims [] rows cells → CanTake dims old rows → ⊥
+  not_counted dims old refuses cells next rows goes represent can =
       refuses cells.cells (all_left goes.span cells goes.there) rows
-      (in_view goes.span cells goes.there dims rows stand) can
+      (in_view goes.span cells goes.there dims rows represent) can

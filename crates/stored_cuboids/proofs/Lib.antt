@@ -2,5 +2,5 @@ pub mod Auditing
 pub mod CountedRuns
 pub mod Merging
 pub mod SameCells
-pub mod Standing
+pub mod Represented
 pub mod StoredRuns

@@ -9,7 +9,7 @@ use Rattle.cuboid_cells.specs.Cells.{AreProper, CellFits, PlainCells, cell_at, n
 use Rattle.cuboid_cells.specs.Merges.{IsMergeFault, IsMergeOf, PassesType, merged, merged_if_any}
 use Rattle.cuboid_cells.specs.Steps.{cells_of}
 use Rattle.cuboid_upkeep.proofs.CallerLemmas.{ascending_apart, one_list, only_one}
-use Rattle.warehouse_objects.specs.Stands.{Follow}
+use Rattle.warehouse_objects.specs.Represents.{Follow}
 use Rattle.warehouse_objects.specs.Warehouse.{StoredRun, cells_in}
 use Rattle.warehouse_objects.proofs.Batches.{take_next}
 use Rattle.stored_cuboids.specs.Merged.{AreMergedWith}

@@ -18,15 +18,15 @@ use Rattle.cuboid_cells.proofs.CallerLemmas.{IsRun-one}
 use Rattle.warehouse_root.specs.Objects.{run_id}
 use Rattle.warehouse_root.specs.Root.{IsProperCuboid}
 use Rattle.cube_model.specs.Admission.{all_rows}
-use Rattle.cuboid_upkeep.specs.Grouping.{StandFor}
-use Rattle.cuboid_upkeep.specs.Lawful.{MergesStandForBoth}
+use Rattle.cuboid_upkeep.specs.Grouping.{RepresentRows}
+use Rattle.cuboid_upkeep.specs.Lawful.{MergesRepresentBoth}
 use Rattle.warehouse_objects.specs.Warehouse.{Cuboid, StoredRun, Warehouse, cells_in, cuboid_at, modes_of}
-use Rattle.warehouse_objects.specs.Stands.{Follow, HoldsGroupings, IsLaid, IsLaidOut, Stands, object_of, run_bytes, said_of}
+use Rattle.warehouse_objects.specs.Represents.{Follow, HoldsGroupings, IsLaid, IsLaidOut, Represents, object_of, run_bytes, said_of}
 use Rattle.warehouse_objects.proofs.CallerLemmas.{object_run}
 use Rattle.stored_cuboids.specs.declared.reading.Progress.{Progress}
 use Rattle.stored_cuboids.specs.Merged.{AreMergedWith, HasMerge, IsSound}
 use Rattle.stored_cuboids.specs.Steps.{AreMerged, AreRead, GoesOn, HasRun, IsNextRun, TakesRun, head_of}
-use Rattle.stored_cuboids.proofs.Standing.{merge_stands}
+use Rattle.stored_cuboids.proofs.Represented.{merge_represents}
 use Rattle.stored_cuboids.proofs.Merging.{cells_least, cells_more, follow_more, follow_next, follow_one, merged_more, merged_next, merged_view}
 
 -- where the cuboid of a view is
@@ -55,12 +55,12 @@ sound_at w view stored found all =
     let at = is_at w.cuboids view stored found in subst (IsSound w) at.is (all at.place stored at.within)
 
 -- the merge of the runs of a cuboid is the grouping of its batches, where its runs are groupings
-pub grouping_there : MergesStandForBoth → (c : Content) (w : Warehouse) (view mark : ℕ) (stored : Cuboid) (cells : PlainCells) → Stands c w → cuboid_at view w.cuboids ≡ Some stored → stored.mark ≡ mark
-    → HasMerge stored cells → StandFor w.rows (modes_of w) (all_rows (take mark w.batches)) cells
-grouping_there law c w view mark stored cells stands found ends merge =
+pub grouping_there : MergesRepresentBoth → (c : Content) (w : Warehouse) (view mark : ℕ) (stored : Cuboid) (cells : PlainCells) → Represents c w → cuboid_at view w.cuboids ≡ Some stored → stored.mark ≡ mark
+    → HasMerge stored cells → RepresentRows w.rows (modes_of w) (all_rows (take mark w.batches)) cells
+grouping_there law c w view mark stored cells represents found ends merge =
     let at = is_at w.cuboids view stored found in
-    let holds : HoldsGroupings w stored = subst (HoldsGroupings w) at.is (stands.cuboids at.place stored at.within) in
-    subst (λ (n : ℕ). StandFor w.rows (modes_of w) (all_rows (take n w.batches)) cells) ends (merge_stands law w stored cells holds merge)
+    let holds : HoldsGroupings w stored = subst (HoldsGroupings w) at.is (represents.cuboids at.place stored at.within) in
+    subst (λ (n : ℕ). RepresentRows w.rows (modes_of w) (all_rows (take n w.batches)) cells) ends (merge_represents law w stored cells holds merge)
 
 -- what an object is said to be, by its bytes
 run_by : (P : List ℕ → Type 0) (found : Option (List ℕ)) (bytes : List ℕ) → found ≡ Some bytes → P bytes → IsSomeAnd found P

@@ -3,11 +3,11 @@ use Rattle.std.specs.Prelude.{◌≡◌, ℕ, List, [], take}
 use Rattle.cube_model.specs.Admission.{all_rows}
 use Rattle.cube_model.specs.declared.rows.DimRows.{DimRows}
 use Rattle.cube_model.specs.declared.rows.LineOrder.{LineOrder}
-use Rattle.cube_query.specs.Groups.{FoldState, StandsFor, Takes}
+use Rattle.cube_query.specs.Groups.{FoldState, RepresentsRows, Takes}
 use Rattle.cuboid_cells.specs.Cells.{PlainCells}
 use Rattle.cuboid_cells.specs.declared.head.RunHead.{RunHead}
 use Rattle.cuboid_cells.specs.declared.span.Span.{Span}
-use Rattle.cuboid_upkeep.specs.Grouping.{StandFor}
+use Rattle.cuboid_upkeep.specs.Grouping.{RepresentRows}
 use Rattle.lattice.specs.declared.view.View.{View}
 use Rattle.object_store.specs.Content.{Content}
 use Rattle.warehouse_objects.specs.Warehouse.{Cuboid, Warehouse}
@@ -21,9 +21,9 @@ pub record CountsRun (content : Content) (id : ℕ) (view : View) (at : Progress
   pub goes_on : GoesOn view at head next
   pub takes : (span : Span) (cells : PlainCells) → HasRun content id span cells
       → (head ≡ head_of span cells)
-      × ((rows : List LineOrder) → StandFor dimensions [] rows cells → Takes dimensions old rows new)
+      × ((rows : List LineOrder) → RepresentRows dimensions [] rows cells → Takes dimensions old rows new)
 
 -- so many runs of a cuboid are read, and a fold represents the rows of their batches
 pub record AreCounted (w : Warehouse) (cuboid : Cuboid) (dimensions : DimRows) (count : ℕ) (fold : FoldState) (at : Progress) : Type 0 where
   pub read : AreRead cuboid count at
-  pub stands : StandsFor dimensions fold (all_rows (take at.end w.batches))
+  pub represents : RepresentsRows dimensions fold (all_rows (take at.end w.batches))

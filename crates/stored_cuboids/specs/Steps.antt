@@ -10,7 +10,7 @@ use Rattle.cuboid_cells.specs.Merges.{IsMergeOf}
 use Rattle.cuboid_cells.specs.Spelled.{IsRun}
 use Rattle.cuboid_cells.specs.Steps.{cells_of}
 use Rattle.warehouse_objects.specs.Warehouse.{Cuboid, cells_in}
-use Rattle.warehouse_objects.specs.Stands.{Follow}
+use Rattle.warehouse_objects.specs.Represents.{Follow}
 use Rattle.stored_cuboids.specs.declared.reading.Progress.{Progress}
 use Rattle.stored_cuboids.specs.Merged.{AreMergedWith}
 

@@ -4,9 +4,9 @@ ghost use Rattle.cube_model.specs.declared.fault.Fault.TheVariants.{BadLayout, D
 ghost use Rattle.cube_model.specs.Admission.{all_rows};
 ghost use Rattle.object_store.specs.Disk.{Leaves};
 ghost use Rattle.object_store.specs.Store.{Breaks, IsStill, content_of, device_of, disk_of, has_failed};
-ghost use Rattle.cuboid_upkeep.specs.Grouping.{StandFor};
+ghost use Rattle.cuboid_upkeep.specs.Grouping.{RepresentRows};
 ghost use Rattle.warehouse_objects.specs.Warehouse.{Cuboid, Warehouse, cuboid_at, modes_of};
-ghost use Rattle.warehouse_objects.specs.Stands.{IsLaidOut, root_of, said_of};
+ghost use Rattle.warehouse_objects.specs.Represents.{IsLaidOut, root_of, said_of};
 ghost use Rattle.stored_cuboids.specs.Merged.{IsSound};
 
 use crate::runs::merged_runs;
@@ -94,7 +94,7 @@ fn are_grouping<D: Sectors>(
     requires within { mark ≤ length root.now.batches }
     ensures answer { IfOk result (λ yes. D.keeps_word (device_of store.new) → (w : Warehouse) → IsLaidOut (content_of D.Sectors store.old) w
         → root.now ≡ root_of w → dims.now ≡ w.rows → cells.now.view.ship_mode ≡ false
-        → IsTrue yes ↔ StandFor w.rows (modes_of w) (all_rows (take mark w.batches)) cells.now) }
+        → IsTrue yes ↔ RepresentRows w.rows (modes_of w) (all_rows (take mark w.batches)) cells.now) }
     ensures refused { IsErrOf result BadLayout → D.keeps_word (device_of store.new) → (w : Warehouse) → IsLaidOut (content_of D.Sectors store.old) w
         → root.now ≡ root_of w → dims.now ≡ w.rows → cells.now.view.ship_mode ≡ false → ⊥ }
     ensures leaves { Leaves (disk_of D.Sectors store.old) (disk_of D.Sectors store.new) (λ c. c ≡ content_of D.Sectors store.old) }

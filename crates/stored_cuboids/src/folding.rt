@@ -12,11 +12,11 @@ ghost use Rattle.cuboid_cells.specs.Cells.{PlainCells};
 ghost use Rattle.cuboid_cells.specs.Pieces.{AreLeft, size_of_run};
 ghost use Rattle.cuboid_cells.specs.Steps.{cells_of};
 ghost use Rattle.cuboid_cells.specs.declared.cell.Cell.{Cell};
-ghost use Rattle.cuboid_upkeep.specs.Grouping.{StandFor};
+ghost use Rattle.cuboid_upkeep.specs.Grouping.{RepresentRows};
 ghost use Rattle.cube_query.specs.CellRuns.{TakesRun};
-ghost use Rattle.cube_query.specs.Groups.{CanTake, IsOver, StandsFor};
+ghost use Rattle.cube_query.specs.Groups.{CanTake, IsOver, RepresentsRows};
 ghost use Rattle.warehouse_objects.specs.Warehouse.{Cuboid, Warehouse, cuboid_at};
-ghost use Rattle.warehouse_objects.specs.Stands.{Stands, said_of};
+ghost use Rattle.warehouse_objects.specs.Represents.{Represents, said_of};
 ghost use Rattle.stored_cuboids.specs.Counted.{CountsRun};
 ghost use Rattle.stored_cuboids.specs.Steps.{IsNextRun};
 ghost use Rattle.stored_cuboids.specs.declared.reading.Progress.{Progress};
@@ -48,17 +48,17 @@ pub fn fold_runs<D: Sectors>(
     view: View,
 ) -> Result<(), Fault>
     requires fine { has_failed store.old ≡ false }
-    requires begun { StandsFor dims.now fold.old [] }
+    requires begun { RepresentsRows dims.now fold.old [] }
     requires serves { Serves view fold.old.query }
     requires view { index_of view ≡ cuboid.view }
 
     // Then it represents the rows of the batches up to the mark.
-    ensures ok { OnOk result (D.keeps_word (device_of store.new) → (w : Warehouse) (stored : Cuboid) → Stands (content_of D.Sectors store.old) w
+    ensures ok { OnOk result (D.keeps_word (device_of store.new) → (w : Warehouse) (stored : Cuboid) → Represents (content_of D.Sectors store.old) w
         → dims.now ≡ w.rows → cuboid_at cuboid.view w.cuboids ≡ Some stored → said_of stored ≡ cuboid
-        → StandsFor dims.now fold.new (all_rows (take cuboid.mark w.batches))) }
+        → RepresentsRows dims.now fold.new (all_rows (take cuboid.mark w.batches))) }
     ensures over { IsOver dims.now fold.new }
     ensures query { fold.new.query ≡ fold.old.query }
-    ensures refused { IsErrOf result BadLayout → D.keeps_word (device_of store.new) → (w : Warehouse) (stored : Cuboid) → Stands (content_of D.Sectors store.old) w
+    ensures refused { IsErrOf result BadLayout → D.keeps_word (device_of store.new) → (w : Warehouse) (stored : Cuboid) → Represents (content_of D.Sectors store.old) w
         → dims.now ≡ w.rows → cuboid_at cuboid.view w.cuboids ≡ Some stored → said_of stored ≡ cuboid → ⊥ }
 
     // The content stays, at each moment.
@@ -99,7 +99,7 @@ fn fold_run<D: Sectors>(
     ensures over { IsOver dims.now fold.new }
     ensures query { fold.new.query ≡ fold.old.query }
     ensures refused { IsErrOf result BadLayout → D.keeps_word (device_of store.new) → (cells : PlainCells) (next : Progress) (rows : List LineOrder)
-        → IsNextRun (content_of D.Sectors store.old) id view at cells next → StandFor dims.now [] rows cells → CanTake dims.now fold.old rows → ⊥ }
+        → IsNextRun (content_of D.Sectors store.old) id view at cells next → RepresentRows dims.now [] rows cells → CanTake dims.now fold.old rows → ⊥ }
     ensures leaves { Leaves (disk_of D.Sectors store.old) (disk_of D.Sectors store.new) (λ c. c ≡ content_of D.Sectors store.old) }
     ensures stays { (IsErrOf result Device → ⊥) → IsStill D.Sectors store.old store.new }
     ensures device { IsErrOf result Device → Breaks D.Sectors store.old store.new }
@@ -127,7 +127,7 @@ fn fold_cells<D: Sectors>(
     ensures query { fold.new.query ≡ fold.old.query }
     ensures refused { IsErrOf result BadLayout → D.keeps_word (device_of store.new)
         → (cells : List Cell) → AreLeft (bytes_of (content_of D.Sectors store.old) run.old.id) run.old cells
-        → (rows : List LineOrder) → StandFor dims.now [] rows (cells_of run.old.head.view cells)
+        → (rows : List LineOrder) → RepresentRows dims.now [] rows (cells_of run.old.head.view cells)
         → CanTake dims.now fold.old rows → ⊥ }
     ensures leaves { Leaves (disk_of D.Sectors store.old) (disk_of D.Sectors store.new) (λ c. c ≡ content_of D.Sectors store.old) }
     ensures stays { (IsErrOf result Device → ⊥) → IsStill D.Sectors store.old store.new }

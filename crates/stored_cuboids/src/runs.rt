@@ -7,9 +7,9 @@ ghost use Rattle.object_store.specs.Store.{Breaks, IsStill, content_of, device_o
 ghost use Rattle.lattice.specs.Views.{index_of};
 ghost use Rattle.cuboid_cells.specs.Merges.{IsMergeOf};
 ghost use Rattle.cuboid_cells.specs.Cells.{AreProper, PlainCells};
-ghost use Rattle.cuboid_upkeep.specs.Grouping.{StandFor};
+ghost use Rattle.cuboid_upkeep.specs.Grouping.{RepresentRows};
 ghost use Rattle.warehouse_objects.specs.Warehouse.{Cuboid, Warehouse, cuboid_at, modes_of};
-ghost use Rattle.warehouse_objects.specs.Stands.{IsLaidOut, Stands, said_of};
+ghost use Rattle.warehouse_objects.specs.Represents.{IsLaidOut, Represents, said_of};
 ghost use Rattle.stored_cuboids.specs.Merged.{HasMerge, IsSound};
 ghost use Rattle.stored_cuboids.specs.Steps.{TakesRun};
 ghost use Rattle.stored_cuboids.specs.declared.reading.Progress.{Progress};
@@ -18,7 +18,7 @@ use crate::laws::kept_cuboids_are_sound;
 use crate::reading::{Progress, read_next};
 use cube_model::Fault;
 use cuboid_cells::Cells;
-use cuboid_upkeep::merges_stand_for_both;
+use cuboid_upkeep::merges_represent_both;
 use lattice::View;
 use object_store::Store;
 use sector_device::Sectors;
@@ -41,11 +41,11 @@ pub fn merged_runs<D: Sectors>(
     ensures view { IfOk result (λ cells. index_of cells.view ≡ cuboid.view) }
 
     // Then they are the grouping of the batches up to the mark.
-    ensures grouping { IfOk result (λ cells. D.keeps_word (device_of store.new) → (w : Warehouse) (stored : Cuboid) → Stands (content_of D.Sectors store.old) w
-        → cuboid_at cuboid.view w.cuboids ≡ Some stored → said_of stored ≡ cuboid → StandFor w.rows (modes_of w) (all_rows (take cuboid.mark w.batches)) cells) }
+    ensures grouping { IfOk result (λ cells. D.keeps_word (device_of store.new) → (w : Warehouse) (stored : Cuboid) → Represents (content_of D.Sectors store.old) w
+        → cuboid_at cuboid.view w.cuboids ≡ Some stored → said_of stored ≡ cuboid → RepresentRows w.rows (modes_of w) (all_rows (take cuboid.mark w.batches)) cells) }
     ensures unsound { IsErrOf result BadLayout → D.keeps_word (device_of store.new) → (w : Warehouse) (stored : Cuboid) → IsLaidOut (content_of D.Sectors store.old) w
         → cuboid_at cuboid.view w.cuboids ≡ Some stored → said_of stored ≡ cuboid → IsSound w stored → ⊥ }
-    ensures refused { IsErrOf result BadLayout → D.keeps_word (device_of store.new) → (w : Warehouse) (stored : Cuboid) → Stands (content_of D.Sectors store.old) w
+    ensures refused { IsErrOf result BadLayout → D.keeps_word (device_of store.new) → (w : Warehouse) (stored : Cuboid) → Represents (content_of D.Sectors store.old) w
         → cuboid_at cuboid.view w.cuboids ≡ Some stored → said_of stored ≡ cuboid → ⊥ }
 
     // The content stays, at each moment.
@@ -54,7 +54,7 @@ pub fn merged_runs<D: Sectors>(
     ensures device { IsErrOf result Device → Breaks D.Sectors store.old store.new }
     ensures causes { IfErr result (λ fault. (fault ≡ Memory) ⊎ ((fault ≡ Device) ⊎ (fault ≡ BadLayout))) }
 {
-    merges_stand_for_both();
+    merges_represent_both();
     kept_cuboids_are_sound();
     let _usable = store.is_broken();
     let Some(view) = View::new(cuboid.view) else {

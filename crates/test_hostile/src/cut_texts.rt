@@ -5,11 +5,11 @@ use sample_star::{FACTS, Fact, SECOND_FACT, in_pieces, line_orders};
 use std::alloc::Global;
 
 /// The rows of a text, or its first fault.
-type Told = Result<&'static [Fact<'static>], Fault>;
+type Wanted = Result<&'static [Fact<'static>], Fault>;
 
 /// Texts, and what they come to: with a last bar in each line and in none, with CR LF, without a last LF, with leading zeros and the
 /// greatest numbers, and with a fault in the last line after which further ones follow.
-static TEXTS: [(&[u8], Told); 9] = [
+static TEXTS: [(&[u8], Wanted); 9] = [
     (b"", Ok(&[])),
     (
         b"1|1|1|1|1|19930105|1-URGENT|0|17|1000|1000|2|980|600|0|19930201|AIR\n2|1|2|2|2|19971202|5-LOW|0|24|2000|2000|3|1940|2000|0|19980101|RAIL\n3|1|1|2|1|19971202|5-LOW|0|25|500|500|1|495|100|0|19980101|AIR\n",
@@ -75,12 +75,12 @@ fn rows_in(alloc: Global, text: &[u8], piece: usize) -> Result<Items<LineOrder>,
 }
 
 /// The first length of pieces in which a text comes to something else.
-fn first_wrong(alloc: Global, text: &[u8], told: Told) -> Result<Option<usize>, Fault> {
-    let rows = line_orders(alloc, told.unwrap_or(&[]))?;
+fn first_wrong(alloc: Global, text: &[u8], wanted: Wanted) -> Result<Option<usize>, Fault> {
+    let rows = line_orders(alloc, wanted.unwrap_or(&[]))?;
     for piece in 1..text.len().saturating_add(2) {
         let is_right = match rows_in(alloc, text, piece) {
-            Ok(found) => told.is_ok() && found.as_slice() == rows.as_slice(),
-            Err(fault) => told.err() == Some(fault),
+            Ok(found) => wanted.is_ok() && found.as_slice() == rows.as_slice(),
+            Err(fault) => wanted.err() == Some(fault),
         };
         if !is_right {
             return Ok(Some(piece));
@@ -91,9 +91,9 @@ fn first_wrong(alloc: Global, text: &[u8], told: Told) -> Result<Option<usize>, 
 
 #[test]
 fn a_text_is_the_same_in_pieces_of_each_length(rt: HostRuntime) {
-    for (place, (text, told)) in TEXTS.iter().enumerate() {
+    for (place, (text, wanted)) in TEXTS.iter().enumerate() {
         assert_eq!(rt;
-            first_wrong(rt.alloc(), text, *told),
+            first_wrong(rt.alloc(), text, *wanted),
             Ok(None),
             "text {place}"
         );

@@ -744,7 +744,7 @@ fn image(alloc: Global, added: bool) -> Result<MemDisk, Fault> {
 }
 
 /// What is found on that disk with changes.
-fn told(alloc: Global, added: bool, changes: &[Change]) -> Result<Found, Fault> {
+fn seen(alloc: Global, added: bool, changes: &[Change]) -> Result<Found, Fault> {
     let mut disk = image(alloc, added)?;
     for change in changes {
         make_change(&mut disk, *change)?;
@@ -770,7 +770,7 @@ fn each_rule_is_checked(rt: HostRuntime) {
     for (table, (added, rules)) in tables.iter().enumerate() {
         for (rule, changes, wanted) in rules.iter() {
             assert_eq!(rt;
-                told(rt.alloc(), *added, changes),
+                seen(rt.alloc(), *added, changes),
                 Ok(*wanted),
                 "table {table}: {rule}"
             );

@@ -1,7 +1,7 @@
 //! Cells of the sample star, worked out by hand and counted into folds. The answers were worked out by hand too.
 ghost use Rattle.std.specs.Prelude.{◌≡◌, ◌≤◌, [], length, IfOk, IsTrue, OnOk};
 ghost use Rattle.cube_model.specs.Limits.{most_batch_rows};
-ghost use Rattle.cube_query.specs.Groups.{IsOver, StandsFor};
+ghost use Rattle.cube_query.specs.Groups.{IsOver, RepresentsRows};
 ghost use Rattle.lattice.specs.Determined.{Serves};
 
 use super::cells_at_limits::{LIMITS, OTHER_LIMITS};
@@ -531,7 +531,7 @@ fn answer_behind(
     fold: &mut Fold,
     case: &Case,
 ) -> Result<Option<Answer>, Fault>
-    requires begins { StandsFor dims.now fold.old [] }
+    requires begins { RepresentsRows dims.now fold.old [] }
     requires query { fold.old.query ≡ query.now }
 {
     let before = batch_of(alloc, case.before)?;
@@ -587,7 +587,7 @@ fn cells_are_counted_in(rt: HostRuntime) -> Result<(), Fail> {
 }
 
 #[test]
-fn cells_are_counted_in_behind_others(rt: HostRuntime) -> Result<(), Fail> {
+fn cells_are_counted_in_after_others(rt: HostRuntime) -> Result<(), Fail> {
     all_are_as_worked(&rt, rt.alloc(), &TAKEN_BEHIND)
 }
 

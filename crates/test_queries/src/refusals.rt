@@ -1,6 +1,6 @@
 //! Batches that a fold refuses, and some that it takes.
 ghost use Rattle.std.specs.Prelude.{[], OnOk};
-ghost use Rattle.cube_query.specs.Groups.{IsOver, StandsFor};
+ghost use Rattle.cube_query.specs.Groups.{IsOver, RepresentsRows};
 
 use super::printing::has_lines;
 use super::running::{dims_of, segment_of};
@@ -238,7 +238,7 @@ fn are_taken(alloc: Global, dims: &Dims, fold: &mut Fold, batches: &[Batch]) -> 
 
 // Whether a fold that begins does so, and then has the lines of its case.
 fn is_as_worked_in(alloc: Global, dims: &Dims, fold: &mut Fold, case: &Case) -> Result<bool, Fault>
-    requires { StandsFor dims.now fold.old [] }
+    requires { RepresentsRows dims.now fold.old [] }
 {
     if !are_taken(alloc, dims, fold, case.batches)? {
         return Ok(false);

@@ -1,6 +1,6 @@
 //! Answers by the fold in one call, and over the columns of a batch.
 ghost use Rattle.std.specs.Prelude.{[]};
-ghost use Rattle.cube_query.specs.Groups.{StandsFor};
+ghost use Rattle.cube_query.specs.Groups.{RepresentsRows};
 
 use super::examples::Example;
 use super::printing::has_lines;
@@ -28,7 +28,7 @@ pub fn segment_of(alloc: Global, rows: &[LineOrder]) -> Result<Segment, Fault> {
 
 // The answer of a fold that begins, over the columns of a batch.
 fn finish_over(dims: &Dims, fold: &mut Fold, segment: &Segment) -> Result<Answer, Fault>
-    requires { StandsFor dims.now fold.old [] }
+    requires { RepresentsRows dims.now fold.old [] }
 {
     fold.add_segment(dims, segment)?;
     fold.finish(dims)

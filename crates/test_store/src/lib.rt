@@ -1,5 +1,5 @@
 //! Tests of `sector_device`, `sector_cache` and `file_device`: the memory disk, the cache, and the device over a file. And of
-//! `superblock`, `catalogue`, `extents` and `object_store`: bytes written down by hand, where the store puts what, stops at each
+//! `superblock`, `catalogue`, `extents` and `object_store`: bytes written down by hand, where the store puts what, crashes at each
 //! call, hostile images, and each refusal.
 #![tactic(auto)]
 
@@ -9,6 +9,8 @@ mod bytes;
 mod cache;
 #[cfg(test)]
 mod catalogues;
+#[cfg(test)]
+mod crashes;
 #[cfg(test)]
 mod fake_file;
 #[cfg(test)]
@@ -35,7 +37,5 @@ mod refusals;
 mod runs;
 #[cfg(test)]
 mod steps;
-#[cfg(test)]
-mod stops;
 #[cfg(test)]
 mod superblocks;

@@ -1,4 +1,4 @@
-// What a stop leaves of the memory disk.
+// What a crash leaves of the memory disk.
 use crate::bytes::{first_three, put};
 use sector_device::{MemDisk, Sectors};
 use std::test::Fail;
@@ -27,7 +27,7 @@ fn write_candidates(disk: &mut MemDisk) -> Result<(), Fail> {
     Ok(())
 }
 
-// The bytes that a stop then leaves.
+// The bytes that a crash then leaves.
 fn left(rt: &HostRuntime, picks: &[u32]) -> Result<[Option<u8>; 3], Fail> {
     let mut disk = MemDisk::new(rt.alloc(), 3)?;
     write_candidates(&mut disk)?;

@@ -63,7 +63,7 @@ static SPELLED: [(&[u8], Option<(&[u8], &[u8])>); 8] = [
 ];
 
 #[test]
-fn fields_stand_between_bars(rt: HostRuntime) -> Result<(), Fail> {
+fn fields_are_between_bars(rt: HostRuntime) -> Result<(), Fail> {
     for (line, want) in &SPELLED {
         let found = fields::<2>(line, 4).map(|found| (found.get(0), found.get(1)));
         assert!(rt; found == want.ok_or(Fault::FieldCount { line: 4 }));

@@ -13,7 +13,7 @@ use warehouse::{Session, Status, StoredCuboid};
 /// The calls of the commit of the target: the catalogue, a sync, the superblock, a sync.
 const AIM: u64 = 4;
 
-/// A disk after an opening and an upkeep that were stopped after so many calls.
+/// A disk after an opening and an upkeep that crashed after so many calls.
 fn cut_after(alloc: Global, disk: MemDisk, calls: u64) -> Result<MemDisk, Fault> {
     let fuse = Fuse::new(disk, calls.saturating_add(1), true, false);
     let mut session = opened(alloc, fuse)?;
@@ -28,7 +28,7 @@ fn with_views(alloc: Global) -> Result<Session<MemDisk>, Fault> {
     Ok(session)
 }
 
-/// The disk of it after an upkeep that was stopped right after the commit of the target.
+/// The disk of it after an upkeep that crashed right after the commit of the target.
 fn cut_off(alloc: Global) -> Result<MemDisk, Fault> {
     let disk = with_views(alloc)?.close();
     cut_after(alloc, disk, OPENING + AIM)
@@ -82,7 +82,7 @@ fn an_opening_finishes_an_upkeep(rt: HostRuntime) {
 /// the superblock, a sync.
 const FINISHING: u64 = OPENING + 18;
 
-/// How that opening is refused that is stopped after so many calls, if it is, how many batches are left then, the status after
+/// How that opening is refused that crashes after so many calls, if it is, how many batches are left then, the status after
 /// another opening, and what an audit answers.
 type Outcome = (Option<Fault>, u32, Status, bool);
 
@@ -95,7 +95,7 @@ fn outcome(alloc: Global, calls: u64, picks: &[u32]) -> Result<Outcome, Fault> {
     Ok((fault, batches, status, session.audit(alloc)?))
 }
 
-/// After how many calls the opening was stopped that first left something else, if any did.
+/// After how many calls the opening crashed that first left something else, if any did.
 fn first_wrong(alloc: Global, picks: &[u32]) -> Result<Option<u64>, Fault> {
     for calls in 0..=FINISHING {
         let wanted = (refusal(calls, FINISHING), 1, status_of_three(), true);
@@ -115,13 +115,13 @@ static PICKS: [&[u32]; 4] = [
 ];
 
 #[test]
-fn a_stopped_opening_is_finished_by_the_next(rt: HostRuntime) {
+fn a_crashed_opening_is_finished_by_the_next(rt: HostRuntime) {
     for picks in &PICKS {
         assert_eq!(rt; first_wrong(rt.alloc(), picks), Ok(None), "{picks:?}");
     }
 }
 
-/// The three cuboids over so many batches on 64 sectors, after an upkeep that was stopped right after the commit of
+/// The three cuboids over so many batches on 64 sectors, after an upkeep that crashed right after the commit of
 /// the target. A catalogue has three sectors then, two more than over one batch.
 fn crowded(alloc: Global, batches: u32) -> Result<MemDisk, Fault> {
     let mut session = with_views(alloc)?;
@@ -132,18 +132,18 @@ fn crowded(alloc: Global, batches: u32) -> Result<MemDisk, Fault> {
 }
 
 /// The status after an opening, and the first of the benchmark's queries that is answered otherwise then, if one is.
-type Told = (Status, Option<QNumber>);
+type Seen = (Status, Option<QNumber>);
 
-fn told(alloc: Global, disk: MemDisk) -> Result<Told, Fault> {
+fn seen(alloc: Global, disk: MemDisk) -> Result<Seen, Fault> {
     let mut session = opened(alloc, disk)?;
     let status = session.status()?;
     let other = first_other(alloc, &mut session, status.batches)?;
     Ok((status, other))
 }
 
-fn told_when_crowded(alloc: Global, batches: u32) -> Result<Told, Fault> {
+fn seen_when_crowded(alloc: Global, batches: u32) -> Result<Seen, Fault> {
     let disk = crowded(alloc, batches)?;
-    told(alloc, disk)
+    seen(alloc, disk)
 }
 
 /// How many batches there are, the generation that an opening reaches, and how many cuboids find an extent: first
@@ -154,7 +154,7 @@ static CROWDED: [(u32, u64, usize); 4] = [(47, 53, 3), (48, 53, 2), (49, 53, 1),
 fn a_full_device_is_opened_with_some_cuboids_left(rt: HostRuntime) {
     for (batches, generation, brought) in &CROWDED {
         assert_eq!(rt;
-            told_when_crowded(rt.alloc(), *batches),
+            seen_when_crowded(rt.alloc(), *batches),
             Ok((stage(*batches, *generation, *brought), None))
         );
     }
@@ -163,14 +163,14 @@ fn a_full_device_is_opened_with_some_cuboids_left(rt: HostRuntime) {
 /// The last generation but one, which is even, in the superblock of the generation that the upkeep reached.
 const LAST_BUT_ONE: Change = (0, 16, b"\xfe\xff\xff\xff\xff\xff\xff\xff");
 
-fn told_when_worn(alloc: Global) -> Result<Told, Fault> {
+fn seen_when_worn(alloc: Global) -> Result<Seen, Fault> {
     let mut disk = cut_off(alloc)?;
     make_change(&mut disk, LAST_BUT_ONE)?;
-    told(alloc, disk)
+    seen(alloc, disk)
 }
 
 #[test]
 fn the_last_generation_is_opened_with_some_cuboids_left(rt: HostRuntime) {
     let last = stage(1, 18_446_744_073_709_551_615, 1);
-    assert_eq!(rt; told_when_worn(rt.alloc()), Ok((last, None)));
+    assert_eq!(rt; seen_when_worn(rt.alloc()), Ok((last, None)));
 }

@@ -27,10 +27,10 @@ fn refused_by(alloc: Global, session: &mut Session<Fuse<MemDisk>>) -> [Option<Fa
 }
 
 /// How a session refuses later calls, whether it is broken, and how often its device failed, asked of both.
-type Told = ([Option<Fault>; 4], bool, (u64, u64));
+type Seen = ([Option<Fault>; 4], bool, (u64, u64));
 
 /// What is expected of a session that met a failure.
-fn told_later(alloc: Global) -> Result<Told, Fault> {
+fn seen_later(alloc: Global) -> Result<Seen, Fault> {
     let mut session = unsynced(alloc, false)?;
     let refused = refused_by(alloc, &mut session);
     let broken = session.is_broken();
@@ -41,7 +41,7 @@ fn told_later(alloc: Global) -> Result<Told, Fault> {
 #[test]
 fn each_later_call_is_failed(rt: HostRuntime) {
     assert_eq!(rt;
-        told_later(rt.alloc()),
+        seen_later(rt.alloc()),
         Ok(([Some(Fault::Failed); 4], true, (1, 1)))
     );
 }
@@ -52,8 +52,8 @@ fn reopened(alloc: Global) -> Result<Session<Fuse<MemDisk>>, Fault> {
     opened(alloc, device)
 }
 
-/// Whether it is broken, how many batches it has, and whether two are found when it is stopped.
-fn told_again(alloc: Global) -> Result<(bool, u32, bool), Fault> {
+/// Whether it is broken, how many batches it has, and whether two are found when it crashes.
+fn seen_again(alloc: Global) -> Result<(bool, u32, bool), Fault> {
     let session = reopened(alloc)?;
     let broken = session.is_broken();
     let batches = session.status()?.batches;
@@ -63,7 +63,7 @@ fn told_again(alloc: Global) -> Result<(bool, u32, bool), Fault> {
 
 #[test]
 fn an_opening_finds_what_was_not_synced_and_syncs_it(rt: HostRuntime) {
-    assert_eq!(rt; told_again(rt.alloc()), Ok((false, 2, true)));
+    assert_eq!(rt; seen_again(rt.alloc()), Ok((false, 2, true)));
 }
 
 #[test]

@@ -12,10 +12,10 @@ const MOST: u32 = 51;
 
 /// How a batch too many was refused, the first of the benchmark's queries that is answered otherwise then, and the
 /// status.
-type Told = (Option<Fault>, Option<QNumber>, Status);
+type Seen = (Option<Fault>, Option<QNumber>, Status);
 
 /// What is expected.
-fn wanted() -> Told {
+fn wanted() -> Seen {
     (Some(Fault::Full), None, status(MOST, 153))
 }
 
@@ -25,26 +25,26 @@ fn refusal(alloc: Global, session: &mut Session<MemDisk>) -> Option<Fault> {
 }
 
 /// What is expected of a session that refused a batch.
-fn told(
+fn seen(
     alloc: Global,
     session: &mut Session<MemDisk>,
     refused: Option<Fault>,
-) -> Result<Told, Fault> {
+) -> Result<Seen, Fault> {
     let other = first_other(alloc, session, MOST)?;
     Ok((refused, other, session.status()?))
 }
 
-/// What is found of a full session after a refusal, and once it was stopped and opened again.
-fn told_twice(alloc: Global) -> Result<(Told, Told), Fault> {
+/// What is found of a full session after a refusal, and once it crashed and was opened again.
+fn seen_twice(alloc: Global) -> Result<(Seen, Seen), Fault> {
     let mut session = loaded(alloc, MOST)?;
     let refused = refusal(alloc, &mut session);
-    let first = told(alloc, &mut session, refused)?;
+    let first = seen(alloc, &mut session, refused)?;
     let mut session = opened(alloc, session.close().crash(&[]))?;
     let refused = refusal(alloc, &mut session);
-    Ok((first, told(alloc, &mut session, refused)?))
+    Ok((first, seen(alloc, &mut session, refused)?))
 }
 
 #[test]
 fn one_batch_too_many_leaves_each_answer(rt: HostRuntime) {
-    assert_eq!(rt; told_twice(rt.alloc()), Ok((wanted(), wanted())));
+    assert_eq!(rt; seen_twice(rt.alloc()), Ok((wanted(), wanted())));
 }

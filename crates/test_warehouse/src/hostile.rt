@@ -105,7 +105,7 @@ fn has_no_line(alloc: Global, session: &mut Session<MemDisk>) -> Result<bool, Fa
 
 /// The status of a disk with a change, how a query over its first batch is refused, and whether one over none has no
 /// line.
-fn told(alloc: Global, change: Change) -> Result<(Status, Option<Fault>, bool), Fault> {
+fn seen(alloc: Global, change: Change) -> Result<(Status, Option<Fault>, bool), Fault> {
     let disk = changed(alloc, 1, change)?;
     let mut session = opened(alloc, disk)?;
     let refused = refusal_over_one(alloc, &mut session);
@@ -115,7 +115,7 @@ fn told(alloc: Global, change: Change) -> Result<(Status, Option<Fault>, bool), 
 
 /// The same with how many batches there are in place of the status.
 fn outcome(alloc: Global, change: Change) -> Result<(u32, Option<Fault>, bool), Fault> {
-    let (status, refused, empty) = told(alloc, change)?;
+    let (status, refused, empty) = seen(alloc, change)?;
     Ok((status.batches, refused, empty))
 }
 
@@ -260,7 +260,7 @@ fn findings_have_their_lines(rt: HostRuntime) {
 #[test]
 fn the_generation_before_is_found(rt: HostRuntime) {
     assert_eq!(rt;
-        told(rt.alloc(), (SUPERBLOCK, 32, b"\x01")),
+        seen(rt.alloc(), (SUPERBLOCK, 32, b"\x01")),
         Ok((status(0, 0), Some(Fault::NoSuchPrefix), true))
     );
 }

@@ -1,4 +1,4 @@
-//! Tests of warehouses: the root, creation and opening, runs of commands, plans, a submit and an addition that stop at each
+//! Tests of warehouses: the root, creation and opening, runs of commands, plans, a submit and an addition that crash at each
 //! device call, the bytes on the device, images that break a rule, memory that is refused, and warehouses of the greatest
 //! size.
 #![tactic(auto)]
@@ -9,6 +9,8 @@ mod additions;
 mod bytes;
 #[cfg(test)]
 mod calls;
+#[cfg(test)]
+mod crashes;
 #[cfg(test)]
 mod example;
 #[cfg(test)]
@@ -37,5 +39,3 @@ mod roots;
 mod scripts;
 #[cfg(test)]
 mod sparse;
-#[cfg(test)]
-mod stops;

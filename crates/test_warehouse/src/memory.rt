@@ -44,7 +44,7 @@ fn again(alloc: Global, disk: MemDisk, number: u32) -> Result<Session<MemDisk>, 
 }
 
 /// How many batches a session has, and what it answers over them at the first or the second try.
-fn told(alloc: Global, mut session: Session<MemDisk>) -> Result<(u32, Answer), Fault> {
+fn seen(alloc: Global, mut session: Session<MemDisk>) -> Result<(u32, Answer), Fault> {
     let batches = session.status()?.batches;
     match report(alloc, &mut session, batches, QNumber::Q11) {
         Ok(answer) => Ok((batches, answer)),
@@ -62,7 +62,7 @@ fn found_at_last(alloc: Global) -> Result<(u32, Answer), Fault> {
         session = with_batch(alloc, session, number)?;
     }
     let session = opened_again(alloc, session.close())?;
-    told(alloc, session)
+    seen(alloc, session)
 }
 
 #[test]

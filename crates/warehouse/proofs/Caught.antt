@@ -10,14 +10,14 @@ use Rattle.object_store.specs.Moments.{leaves_then, leaves_weaker}
 use Rattle.object_store.specs.declared.store.Store.{Store}
 use Rattle.object_store.specs.Store as stores
 use Rattle.warehouse_root.specs.Root.{PlainRoot}
-use Rattle.warehouse_objects.specs.Stands.{Stands}
+use Rattle.warehouse_objects.specs.Represents.{Represents}
 use Rattle.warehouse_objects.specs.Facts.{Adds, Change, Facts}
 use Rattle.warehouse_objects.specs.Warehouse.{Warehouse}
 use Rattle.cuboid_commits.specs.Keeping.{IsCaughtUp, IsDone, IsReachedOrLarge, StoreAt}
 use Rattle.cuboid_commits.specs.Nexts.{EndsBringing, RefusesLeast}
 use Rattle.cuboid_commits.proofs.CallerLemmas.{done_or_large, kept_then, leaves_if}
 use Rattle.warehouse.specs.declared.session.Session.{Session}
-use Rattle.warehouse.specs.Found.{IsSince, MayBeFound, MayStandSince}
+use Rattle.warehouse.specs.Found.{IsSince, MayBeFound, MayRepresentSince}
 use Rattle.warehouse.specs.Session.{IsAt, disk_of}
 
 -- the error of a result
@@ -78,7 +78,7 @@ module _ (start : Disk) (facts : Facts) (last : Option Change) where
     content = since.content;
     shown = since.shown;
     first = since.first;
-    stands = since.stands;
+    represents = since.represents;
     kept = kept_then since.first w v since.kept caught.kept;
     target = caught.target ∙ since.target;
   }
@@ -86,12 +86,12 @@ module _ (start : Disk) (facts : Facts) (last : Option Change) where
   -- an opening, and then the cuboids
   pub finish_leaves : {D : Type 0} (g : Ghosts D) (session : Session D g) (now : Disk)
       → ((disk_of g session).keeps_word → (w : Warehouse) × MayBeFound facts last w × IsSince start w × IsAt g session w)
-      → Leaves start (disk_of g session) (MayStandSince start facts last) → (now.keeps_word → (disk_of g session).keeps_word)
-      → ((w : Warehouse) → IsAt g session w → Leaves (disk_of g session) now (λ c. (v : Warehouse) × IsCaughtUp w v × Stands c v))
-      → Leaves start now (MayStandSince start facts last)
+      → Leaves start (disk_of g session) (MayRepresentSince start facts last) → (now.keeps_word → (disk_of g session).keeps_word)
+      → ((w : Warehouse) → IsAt g session w → Leaves (disk_of g session) now (λ c. (v : Warehouse) × IsCaughtUp w v × Represents c v))
+      → Leaves start now (MayRepresentSince start facts last)
   finish_leaves g session now found before word caught =
-      leaves_then (MayStandSince start facts last) start (disk_of g session) now before
-      (leaves_if (MayStandSince start facts last) (disk_of g session) now word (λ k.
+      leaves_then (MayRepresentSince start facts last) start (disk_of g session) now before
+      (leaves_if (MayRepresentSince start facts last) (disk_of g session) now word (λ k.
       let at = found k in
-      leaves_weaker (λ (c : Content). (v : Warehouse) × IsCaughtUp at.0 v × Stands c v) (MayStandSince start facts last) (disk_of g session) now
+      leaves_weaker (λ (c : Content). (v : Warehouse) × IsCaughtUp at.0 v × Represents c v) (MayRepresentSince start facts last) (disk_of g session) now
       (λ j c there. (there.0, found_caught at.0 there.0 there.1 at.1, since_caught at.0 there.0 there.1 at.2, there.2)) (caught at.0 at.3)))

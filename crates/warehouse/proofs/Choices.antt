@@ -11,7 +11,7 @@ use Rattle.object_store.specs.Content.{Content}
 use Rattle.object_store.specs.Disk.{Disk, Leaves}
 use Rattle.object_store.specs.Moments.{leaves_weaker}
 use Rattle.warehouse_objects.specs.Warehouse.{Warehouse, with_views}
-use Rattle.warehouse_objects.specs.Stands.{Stands}
+use Rattle.warehouse_objects.specs.Represents.{Represents}
 use Rattle.warehouse.specs.declared.chosen.Chosen.{Chosen}
 use Rattle.warehouse.specs.Choosing.{AreTooMany, views_of}
 
@@ -31,10 +31,10 @@ many_benefits lattice before (view ∷ views) = ap suc (many_benefits lattice (b
 
 -- where a choice of views is stored, a stop leaves the warehouse as it was, or with the views of the choice
 pub leaves_chosen : (w : Warehouse) (old new : Disk) (Is : List Chosen → Type 0) (chosen : List Chosen) (views : List View) → (old.keeps_word → Is chosen) → views ≡ views_of chosen
-    → Leaves old new (λ x. Stands x w ⊎ Stands x (with_views w views)) → Leaves old new (λ x. Stands x w ⊎ ((some : List Chosen) × Is some × Stands x (with_views w (views_of some))))
-leaves_chosen w old new Is chosen views is are = leaves_weaker (λ (x : Content). Stands x w ⊎ Stands x (with_views w views))
-    (λ (x : Content). Stands x w ⊎ ((some : List Chosen) × Is some × Stands x (with_views w (views_of some)))) old new
-    (λ k x. ⊎_elim (λ before. inl before) (λ after. inr (chosen, is k, subst (λ (vs : List View). Stands x (with_views w vs)) are after)))
+    → Leaves old new (λ x. Represents x w ⊎ Represents x (with_views w views)) → Leaves old new (λ x. Represents x w ⊎ ((some : List Chosen) × Is some × Represents x (with_views w (views_of some))))
+leaves_chosen w old new Is chosen views is are = leaves_weaker (λ (x : Content). Represents x w ⊎ Represents x (with_views w views))
+    (λ (x : Content). Represents x w ⊎ ((some : List Chosen) × Is some × Represents x (with_views w (views_of some)))) old new
+    (λ k x. ⊎_elim (λ before. inl before) (λ after. inr (chosen, is k, subst (λ (vs : List View). Represents x (with_views w vs)) are after)))
 
 -- where neither too many are chosen nor asked for, few enough are asked for
 pub few_asked : (k : ℕ) (demanded : List View) → (AreTooMany k (Some demanded) → ⊥) → length demanded ≤ most_demanded

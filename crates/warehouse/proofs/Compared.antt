@@ -12,7 +12,7 @@ use Rattle.batch_admission.proofs.CallerLemmas.{passes}
 use Rattle.object_store.specs.Content.{Content, bytes_of}
 use Rattle.warehouse_root.specs.Objects.{segment_id}
 use Rattle.warehouse_root.specs.Root.{PlainRoot}
-use Rattle.warehouse_objects.specs.Stands.{Stands, root_of}
+use Rattle.warehouse_objects.specs.Represents.{Represents, root_of}
 use Rattle.warehouse_objects.specs.Warehouse.{Warehouse}
 use Rattle.warehouse_objects.proofs.Folded.{batch_bytes, found_at}
 use Rattle.warehouse.specs.Comparing.{numbered}
@@ -65,23 +65,23 @@ pub other-count : (w : Warehouse) (root : PlainRoot) (number count : ℕ) (rows 
 other-count w root number count rows is many other here =
     other (ap (λ (r : PlainRoot). numbered r.batches number) is ∙ numbered-map length w.batches number ∙ ap (option_map length) here ∙ ap Some (sym many))
 
-module _ (c : Content) (w : Warehouse) (stands : Stands c w) where
+module _ (c : Content) (w : Warehouse) (represents : Represents c w) where
   -- no stored batch has a text that is too long
   pub never-long : (number : ℕ) (rows : List LineOrder) → (long_text 1 rows ≡ None → ⊥) → numbered w.batches number ≡ Some rows → ⊥
   never-long zero rows long here = cc
-  never-long (suc before) rows long here = long (passes w.rows (take before w.batches) (length (take before w.batches) + 1) rows (stands.batches before rows here).admissible).texts
+  never-long (suc before) rows long here = long (passes w.rows (take before w.batches) (length (take before w.batches) + 1) rows (represents.batches before rows here).admissible).texts
 
   -- the object of a number has the bytes of some rows exactly where its batch is these rows
   pub is-there : (number id : ℕ) (rows : List LineOrder) (bytes : List ℕ) → number ≤ most_batches → id ≡ segment_id number → IsBatch rows → FitColumns rows → bytes ≡ segment_of number rows
       → (bytes_of c id ≡ Some bytes) ↔ (numbered w.batches number ≡ Some rows)
   is-there zero id rows bytes few placed batch fits spelled = (
-    λ at. let none : None ≡ Some bytes = sym (stands.objects 65536) ∙ ap (bytes_of c) (sym placed) ∙ at in absurd cc,
+    λ at. let none : None ≡ Some bytes = sym (represents.objects 65536) ∙ ap (bytes_of c) (sym placed) ∙ at in absurd cc,
     λ here. absurd cc,
   )
   is-there (suc before) id rows bytes few placed batch fits spelled =
       let numbered_is : suc before ≡ before + 1 = omega arith in
       let place : id ≡ 65537 + before = omega (arith, placed) in
       let segment : IsSegment bytes (suc before) rows = record { spelled = spelled; number_fits = omega (arith, few); batch = batch; fits = fits } in (
-        λ at. found_at c w stands before (suc before) id numbered_is placed (omega (arith, few)) bytes rows at segment,
-        λ here. ap (bytes_of c) place ∙ batch_bytes c w stands before rows (omega (arith, few)) here ∙ ap (λ (n : ℕ). Some (segment_of n rows)) (sym numbered_is) ∙ ap Some (sym spelled),
+        λ at. found_at c w represents before (suc before) id numbered_is placed (omega (arith, few)) bytes rows at segment,
+        λ here. ap (bytes_of c) place ∙ batch_bytes c w represents before rows (omega (arith, few)) here ∙ ap (λ (n : ℕ). Some (segment_of n rows)) (sym numbered_is) ∙ ap Some (sym spelled),
       )

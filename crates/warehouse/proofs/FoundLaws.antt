@@ -9,38 +9,38 @@ use Rattle.object_store.specs.declared.store.Store.{Store}
 use Rattle.object_store.proofs.CallerLemmas.{shown_has}
 use Rattle.warehouse_objects.specs.Facts.{Change, Facts}
 use Rattle.warehouse_objects.specs.Warehouse.{Warehouse}
-use Rattle.warehouse_objects.specs.Stands.{Stands}
+use Rattle.warehouse_objects.specs.Represents.{Represents}
 use Rattle.warehouse.specs.declared.session.Session.{Session}
 use Rattle.cuboid_commits.proofs.CallerLemmas.{kept_same}
-use Rattle.warehouse.specs.Found.{IsSince, MayBeFound, MayStand, MayStandSince}
+use Rattle.warehouse.specs.Found.{IsSince, MayBeFound, MayRepresent, MayRepresentSince}
 use Rattle.warehouse.specs.Session.{IsAt, is_at, disk_of, content_of, has_failed}
 
 -- what is shown then is since then
-pub since_then : (start : Disk) (c : Content) (w : Warehouse) → IsShown start c → Stands c w → IsSince start w
-since_then start c w shown stands = record {
+pub since_then : (start : Disk) (c : Content) (w : Warehouse) → IsShown start c → Represents c w → IsSince start w
+since_then start c w shown represents = record {
   content = c;
   shown = shown;
   first = w;
-  stands = stands;
+  represents = represents;
   kept = kept_same w;
   target = refl;
 }
 
 -- each image then
-pub images_since : (start : Disk) (facts : Facts) (last : Option Change) → AllShow start (MayStand facts last) → AllShow start (MayStandSince start facts last)
+pub images_since : (start : Disk) (facts : Facts) (last : Option Change) → AllShow start (MayRepresent facts last) → AllShow start (MayRepresentSince start facts last)
 images_since start facts last all k image is =
     let shown = all k image is in
     let may = shown.2 in
     (shown.0, shown.1, (may.0, may.1, since_then start shown.0 may.0 (record { image = image; is = is; shows = shown.1 }) may.2, may.2))
 
 -- where nothing but reads was done
-pub only_since : (start now : Disk) (facts : Facts) (last : Option Change) → AllShow start (MayStand facts last) → OnlyImagesOf start now → Leaves start now (MayStandSince start facts last)
-only_since start now facts last all only = only_images (ShowsSome (MayStandSince start facts last)) start now only (images_since start facts last all)
+pub only_since : (start now : Disk) (facts : Facts) (last : Option Change) → AllShow start (MayRepresent facts last) → OnlyImagesOf start now → Leaves start now (MayRepresentSince start facts last)
+only_since start now facts last all only = only_images (ShowsSome (MayRepresentSince start facts last)) start now only (images_since start facts last all)
 
-module _ {D : Type 0} (g : Ghosts D) (device : D) (store : Store D g) (facts : Facts) (last : Option Change) (all : AllShow (disk g device) (MayStand facts last))
+module _ {D : Type 0} (g : Ghosts D) (device : D) (store : Store D g) (facts : Facts) (last : Option Change) (all : AllShow (disk g device) (MayRepresent facts last))
     (only : OnlyImagesOf (disk g device) (stores.disk_of g store)) (found : (stores.disk_of g store).keeps_word → IsShown (disk g device) (stores.content_of g store)) where
   abbrev Since : Content → Type 0
-  Since = MayStandSince (disk g device) facts last
+  Since = MayRepresentSince (disk g device) facts last
 
   all_since : AllShow (disk g device) Since
   all_since = images_since (disk g device) facts last all
@@ -60,10 +60,10 @@ module _ {D : Type 0} (g : Ghosts D) (device : D) (store : Store D g) (facts : F
       → (disk_of g session).keeps_word → (w : Warehouse) × MayBeFound facts last w × IsSince (disk g device) w × IsAt g session w
   session_may session fine same reads k =
       let may = content_may (reads.word k) in
-      (may.0, may.1, may.2, is_at g session may.0 fine (λ j. subst (λ (c : Content). Stands c may.0) (sym (same j)) may.3))
+      (may.0, may.1, may.2, is_at g session may.0 fine (λ j. subst (λ (c : Content). Represents c may.0) (sym (same j)) may.3))
 
   -- what was found represents something
-  pub never_loaded : (now : Disk) → Leaves (stores.disk_of g store) now (λ c. c ≡ stores.content_of g store) → now.keeps_word → ((w : Warehouse) → Stands (stores.content_of g store) w → ⊥) → ⊥
+  pub never_loaded : (now : Disk) → Leaves (stores.disk_of g store) now (λ c. c ≡ stores.content_of g store) → now.keeps_word → ((w : Warehouse) → Represents (stores.content_of g store) w → ⊥) → ⊥
   never_loaded now reads k none = let may = content_may (reads.word k) in none may.0 may.3
 
 -- where all images show something, none shows nothing

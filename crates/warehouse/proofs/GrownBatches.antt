@@ -20,7 +20,7 @@ use Rattle.batch_admission.proofs.CallerLemmas.{long_before}
 use Rattle.warehouse_root.specs.declared.totals.StoredTotals.{StoredTotals}
 use Rattle.warehouse_root.specs.Root.{PlainRoot, with_batch}
 use Rattle.warehouse_objects.proofs.CallerLemmas.{batch_of}
-use Rattle.warehouse_objects.specs.Stands.{root_of, said_of, stored}
+use Rattle.warehouse_objects.specs.Represents.{root_of, said_of, stored}
 use Rattle.warehouse_objects.specs.Warehouse.{Warehouse, loaded}
 use Rattle.warehouse.specs.Growing.{IsGrown, totals_in}
 use Rattle.warehouse.specs.Prepared.{Admitted, Prepares}

@@ -1,10 +1,10 @@
-mod LaterStops
+mod LaterCrashes
 mod Restarting
 mod Reopened
 pub mod Refusing
 pub mod Preparing
 pub mod GrownBatches
-pub mod Standing
+pub mod Represented
 pub mod Submitting
 pub mod Making
 pub mod FoundLaws

@@ -20,11 +20,11 @@ use Rattle.warehouse_root.specs.Layouts.{number_of}
 use Rattle.warehouse_root.specs.Root as roots
 use Rattle.warehouse_root.specs.Root.{PlainRoot}
 use Rattle.warehouse_objects.specs.Warehouse.{AreStorable, fresh}
-use Rattle.warehouse_objects.specs.Stands.{Stands, dimension_of, root_of}
+use Rattle.warehouse_objects.specs.Represents.{Represents, dimension_of, root_of}
 use Rattle.warehouse_objects.specs.Lawful.{dimension_puts}
 use Rattle.warehouse.specs.Creating.{MakesStore, RefusesToMake}
 use Rattle.warehouse_objects.specs.Loaded.{IsLoaded}
-use Rattle.warehouse_objects.proofs.CallerLemmas.{stands_created}
+use Rattle.warehouse_objects.proofs.CallerLemmas.{represents_created}
 
 -- the four that are put
 pub puts_are : (rows : DimRows) (customers suppliers parts dates : List ℕ) → customers ≡ dimension_of rows Customer → suppliers ≡ dimension_of rows Supplier → parts ≡ dimension_of rows Part → dates ≡ dimension_of rows Date
@@ -42,29 +42,29 @@ module _ (rows : DimRows) (puts : List (ℕ × List ℕ)) (bytes : List ℕ) (la
       let four : length puts ≡ 4 = ap (λ (p : List (ℕ × List ℕ)). length p) are in
       omega (arith, four, few_created puts bytes layout)
 
-  pub stands_at_first : Stands (created puts bytes layout) (fresh rows)
-  stands_at_first =
-      subst (λ (p : List (ℕ × List ℕ)). Stands (created p bytes layout) (fresh rows)) (sym are)
-      (subst (λ (b : List ℕ). Stands (created (dimension_puts rows) b layout) (fresh rows)) (sym (bytes_are ∙ ap roots.root_of root_is))
-      (subst (λ (l : ℕ). Stands (created (dimension_puts rows) (roots.root_of (roots.first_root First)) l) (fresh rows)) (sym layout_is)
-      (stands_created rows storable)))
+  pub represents_at_first : Represents (created puts bytes layout) (fresh rows)
+  represents_at_first =
+      subst (λ (p : List (ℕ × List ℕ)). Represents (created p bytes layout) (fresh rows)) (sym are)
+      (subst (λ (b : List ℕ). Represents (created (dimension_puts rows) b layout) (fresh rows)) (sym (bytes_are ∙ ap roots.root_of root_is))
+      (subst (λ (l : ℕ). Represents (created (dimension_puts rows) (roots.root_of (roots.first_root First)) l) (fresh rows)) (sym layout_is)
+      (represents_created rows storable)))
 
   pub loaded_at_first : IsLoaded (created puts bytes layout) rows root
   loaded_at_first =
-      let stands = stands_at_first in record {
-        layout = stands.layout;
-        has_rows = record { customers = stands.objects 1; suppliers = stands.objects 2; parts = stands.objects 3; dates = stands.objects 4 };
+      let represents = represents_at_first in record {
+        layout = represents.layout;
+        has_rows = record { customers = represents.objects 1; suppliers = represents.objects 2; parts = represents.objects 3; dates = represents.objects 4 };
         of_layout = ap (λ (r : PlainRoot). r.layout) root_is;
-        root_bytes = stands.root.spelled ∙ ap roots.root_of (same ∙ sym root_is);
+        root_bytes = represents.root.spelled ∙ ap roots.root_of (same ∙ sym root_is);
       } where
         same : root_of (fresh rows) ≡ roots.first_root First
         same = refl
 
   -- until the end an image has no valid superblock, or represents the warehouse
-  pub create_leaves : (old new : Disk) → LeavesOrNone old new (λ c. c ≡ created puts bytes layout) → LeavesOrNone old new (λ c. Stands c (fresh rows))
+  pub create_leaves : (old new : Disk) → LeavesOrNone old new (λ c. c ≡ created puts bytes layout) → LeavesOrNone old new (λ c. Represents c (fresh rows))
   create_leaves old new =
-      passes_also (ShowsSomeOrNone (λ (c : Content). c ≡ created puts bytes layout)) (ShowsSomeOrNone (λ (c : Content). Stands c (fresh rows))) old new
-      (λ k size image. ⊎_elim (λ none. inl none) (λ shown. inr (shown.0, shown.1, subst (λ (c : Content). Stands c (fresh rows)) (sym shown.2) stands_at_first)))
+      passes_also (ShowsSomeOrNone (λ (c : Content). c ≡ created puts bytes layout)) (ShowsSomeOrNone (λ (c : Content). Represents c (fresh rows))) old new
+      (λ k size image. ⊎_elim (λ none. inl none) (λ shown. inr (shown.0, shown.1, subst (λ (c : Content). Represents c (fresh rows)) (sym shown.2) represents_at_first)))
 
   module _ {D : Type 0} (g : Ghosts D) (device : D) where
     -- what a store was made of is the warehouse
@@ -74,7 +74,7 @@ module _ (rows : DimRows) (puts : List (ℕ × List ℕ)) (bytes : List ℕ) (la
     makes_store (Ok store) leaves fine content none = record {
       leaves = λ blank. create_leaves (disk g device) (disk_of g store) (leaves blank);
       fine = fine;
-      stands = λ k. subst (λ (c : Content). Stands c (fresh rows)) (sym (content k)) stands_at_first;
+      represents = λ k. subst (λ (c : Content). Represents c (fresh rows)) (sym (content k)) represents_at_first;
       loaded = λ k. subst (λ (c : Content). IsLoaded c rows root) (sym (content k)) loaded_at_first;
       unformatted = none;
     }
@@ -110,7 +110,7 @@ module _ (rows : DimRows) (puts : List (ℕ × List ℕ)) (bytes : List ℕ) (la
 pub no_memory : {D : Type 0} (g : Ghosts D) (device : D) (rows : DimRows) (fault : Fault)
     → (g.keeps_word device → (image : Image) → (g.state device).left_since (g.state device).moment image → IsImage (g.state device) image) → fault ≡ Memory → RefusesToMake g device rows fault device
 no_memory g device rows fault now memory = record {
-  leaves = λ blank. begins (ShowsSomeOrNone (λ (c : Content). Stands c (fresh rows))) (disk g device) now (λ k image is. inl (blank k image is));
+  leaves = λ blank. begins (ShowsSomeOrNone (λ (c : Content). Represents c (fresh rows))) (disk g device) now (λ k image is. inl (blank k image is));
   still_blank = λ other blank. blank;
   not_already = λ k blank already. let is : Memory ≡ AlreadyFormatted = sym memory ∙ already in absurd cc;
   only = λ already. begins (λ _ (image : Image). IsImage (g.state device) image) (disk g device) now (λ k image is. is);

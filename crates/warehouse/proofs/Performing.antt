@@ -13,7 +13,7 @@ use Rattle.object_store.specs.Disk.{Leaves}
 use Rattle.added_rows.specs.Added.{widened}
 use Rattle.warehouse_objects.specs.Facts.{AdmitsRows}
 use Rattle.warehouse_objects.specs.Warehouse.{Warehouse, loaded, with_views}
-use Rattle.warehouse_objects.specs.Stands.{Stands}
+use Rattle.warehouse_objects.specs.Represents.{Represents}
 use Rattle.cuboid_commits.specs.Keeping.{IsKeptUp}
 use Rattle.cuboid_commits.specs.Upkeep.{AreWhole}
 use Rattle.warehouse.specs.declared.chosen.Chosen.{Chosen}
@@ -46,7 +46,7 @@ module _ {D : Type 0} (g : Ghosts D) (w : Warehouse) (slots : Slots) (old new : 
       (device_or fault)
 
   abbrev SubmitLeaves : ℕ → List LineOrder → Type 0
-  SubmitLeaves number batch = Leaves (disk_of g old) (disk_of g new) (λ c. Stands c w ⊎ (IsAdmissible w.rows w.batches number batch × Stands c (loaded w batch)))
+  SubmitLeaves number batch = Leaves (disk_of g old) (disk_of g new) (λ c. Represents c w ⊎ (IsAdmissible w.rows w.batches number batch × Represents c (loaded w batch)))
 
   pub submit_done : (number : ℕ) (batch rows : List LineOrder) → rows ≡ batch
       → IsAdmissible w.rows w.batches number rows → CommitsOnce g old new → IsAt g new (loaded w rows) → SubmitLeaves number rows → Does g old w slots (Submit number batch) Done new
@@ -68,7 +68,7 @@ module _ {D : Type 0} (g : Ghosts D) (w : Warehouse) (slots : Slots) (old new : 
       (refused_at (Submit number rows) (λ f. SubmitRefuses g old w number rows f × KeepsContent g old new) fault (λ reply after r. inr r) failed causes leaves)
 
   abbrev AddLeaves : ℕ → DimRows → Type 0
-  AddLeaves number more = Leaves (disk_of g old) (disk_of g new) (λ c. Stands c w ⊎ (AdmitsRows w number more × Stands c (widened w more)))
+  AddLeaves number more = Leaves (disk_of g old) (disk_of g new) (λ c. Represents c w ⊎ (AdmitsRows w number more × Represents c (widened w more)))
 
   pub add_done : (number : ℕ) (more rows : DimRows) → rows ≡ more
       → AdmitsRows w number rows → CommitsOnce g old new → IsAt g new (widened w rows) → AddLeaves number rows → Does g old w slots (Add number more) Done new
@@ -85,22 +85,22 @@ module _ {D : Type 0} (g : Ghosts D) (w : Warehouse) (slots : Slots) (old new : 
 
   pub query_done : (as_of : ℕ) (query : queries.Query) (found : answers.Answer)
       → IsAsked w as_of query × (found ≡ answer_as_of query as_of w.rows w.batches) → KeepsContent g old new → IsAt g new w
-      → Leaves (disk_of g old) (disk_of g new) (λ c. Stands c w) → Does g old w slots (Query as_of query) (Answer found) new
+      → Leaves (disk_of g old) (disk_of g new) (λ c. Represents c w) → Does g old w slots (Query as_of query) (Answer found) new
   query_done as_of query found right keeps now leaves =
       (amid w slots, (inl (ap (λ (a : answers.Answer). Answer a) right.1, (right.0, keeps), refl), leaves, now), now)
 
   pub query_refused : (as_of : ℕ) (query : queries.Query) (fault : Fault)
       → (fault ≡ Device → has_failed new ≡ true) → ((fault ≡ Device → ⊥) → (QueryRefuses w as_of query fault × KeepsContent g old new) × IsAt g new w)
-      → Leaves (disk_of g old) (disk_of g new) (λ c. Stands c w) → Does g old w slots (Query as_of query) (Refused fault) new
+      → Leaves (disk_of g old) (disk_of g new) (λ c. Represents c w) → Does g old w slots (Query as_of query) (Refused fault) new
   query_refused as_of query fault failed causes leaves =
       refused_at (Query as_of query) (λ f. QueryRefuses w as_of query f × KeepsContent g old new) fault (λ reply after r. inr r) failed causes leaves
 
   pub status_done : (numbers : statuses.Status) → IsStatus w (content_of g old).generation numbers → KeepsContent g old new → IsAt g new w
-      → Leaves (disk_of g old) (disk_of g new) (λ c. Stands c w) → Does g old w slots Status (Numbers numbers) new
+      → Leaves (disk_of g old) (disk_of g new) (λ c. Represents c w) → Does g old w slots Status (Numbers numbers) new
   status_done numbers right keeps now leaves = (amid w slots, ((numbers, (refl, (right, keeps), refl)), leaves, now), now)
 
   abbrev ChooseLeaves : ℕ → Type 0
-  ChooseLeaves k = Leaves (disk_of g old) (disk_of g new) (λ c. Stands c w ⊎ ((chosen : List Chosen) × IsChoice w k chosen × Stands c (with_views w (views_of chosen))))
+  ChooseLeaves k = Leaves (disk_of g old) (disk_of g new) (λ c. Represents c w ⊎ ((chosen : List Chosen) × IsChoice w k chosen × Represents c (with_views w (views_of chosen))))
 
   pub choose_done : (k : ℕ) (chosen : List Chosen) → IsChoice w k chosen → CommitsOnce g old new → IsAt g new (with_views w (views_of chosen)) → ChooseLeaves k
       → Does g old w slots (Choose k) (replies.Chosen chosen) new
@@ -113,7 +113,7 @@ module _ {D : Type 0} (g : Ghosts D) (w : Warehouse) (slots : Slots) (old new : 
       refused_at (Choose k) (λ f. ChooseRefuses g old w k f × KeepsContent g old new) fault (λ reply after r. inr r) failed causes leaves
 
   abbrev UpkeepLeaves : Type 0
-  UpkeepLeaves = Leaves (disk_of g old) (disk_of g new) (λ c. (v : Warehouse) × IsKeptUp w v × Stands c v)
+  UpkeepLeaves = Leaves (disk_of g old) (disk_of g new) (λ c. (v : Warehouse) × IsKeptUp w v × Represents c v)
 
   pub upkeep_done : (v : Warehouse) → IsKeptUp w v → AreWhole v → IsAt g new v → UpkeepLeaves → Does g old w slots Upkeep Done new
   upkeep_done v kept whole now leaves = (amid v slots, ((v, kept, inl (refl, whole, refl)), leaves, now), now)
@@ -127,12 +127,12 @@ module _ {D : Type 0} (g : Ghosts D) (w : Warehouse) (slots : Slots) (old new : 
       (λ no. let then_is = causes no in (amid then_is.0 slots, ((then_is.0, then_is.1, inr (fault, refl, inr (then_is.3, refl))), leaves, then_is.2), then_is.2))
       (device_or fault)
 
-  pub audit_done : (said : Bool) → said ≡ true → KeepsContent g old new → IsAt g new w → Leaves (disk_of g old) (disk_of g new) (λ c. Stands c w) → Does g old w slots Audit (Audited said) new
+  pub audit_done : (said : Bool) → said ≡ true → KeepsContent g old new → IsAt g new w → Leaves (disk_of g old) (disk_of g new) (λ c. Represents c w) → Does g old w slots Audit (Audited said) new
   audit_done said is keeps now leaves = (amid w slots, (inl (ap (λ (b : Bool). Audited b) is, keeps, refl), leaves, now), now)
 
   pub audit_refused : (fault : Fault)
       → (fault ≡ Device → has_failed new ≡ true) → ((fault ≡ Device → ⊥) → ((fault ≡ Memory) × KeepsContent g old new) × IsAt g new w)
-      → Leaves (disk_of g old) (disk_of g new) (λ c. Stands c w) → Does g old w slots Audit (Refused fault) new
+      → Leaves (disk_of g old) (disk_of g new) (λ c. Represents c w) → Does g old w slots Audit (Refused fault) new
   audit_refused fault failed causes leaves =
       refused_at Audit (λ f. (f ≡ Memory) × KeepsContent g old new) fault (λ reply after r. inr r) failed causes leaves
 

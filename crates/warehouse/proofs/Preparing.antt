@@ -12,7 +12,7 @@ use Rattle.batch_admission.specs.Totals.{AreBelow, sum_limit}
 use Rattle.batch_admission.specs.declared.totals.Totals.{Totals}
 use Rattle.warehouse_root.specs.Root.{AreProperTotals}
 use Rattle.warehouse_root.specs.declared.totals.StoredTotals.{StoredTotals}
-use Rattle.warehouse_objects.specs.Stands.{stored}
+use Rattle.warehouse_objects.specs.Represents.{stored}
 use Rattle.warehouse.specs.Prepared.{MayFollow}
 use Rattle.warehouse_objects.proofs.CallerLemmas.{batch_of, is_batch, next_number}
 

@@ -12,21 +12,21 @@ use Rattle.object_store.proofs.CallerLemmas.{shows_one}
 use Rattle.object_store.proofs.Looking.{none_same}
 use Rattle.warehouse_objects.specs.Facts.{Adds, Change, Facts, a_batch, facts_in, some_rows, with_next, with_rows}
 use Rattle.warehouse_objects.specs.Warehouse.{Warehouse, fresh}
-use Rattle.warehouse_objects.specs.Stands.{Stands}
+use Rattle.warehouse_objects.specs.Represents.{Represents}
 use Rattle.warehouse_objects.specs.Lawful.{ContentIsOneWarehouse}
 use Rattle.warehouse.specs.declared.command.Command.{Command}
 use Rattle.warehouse.specs.declared.command.Reply.{Reply}
 use Rattle.warehouse.specs.declared.command.Command.TheVariants.{Submit, Query, Status, Choose, Upkeep, Audit, Add, Start, Step}
 use Rattle.warehouse.specs.declared.command.Reply.TheVariants.{Done, More, Answer, Numbers, Chosen, Audited, Refused}
 use Rattle.warehouse.specs.Found.{MayBeFound}
-use Rattle.warehouse.specs.Headline.{FewerIsNotFound, IsRestarted, RestartedShows, StoppedCreateIsFound, StoppedOpenIsFound, acknowledged_all, submitted}
+use Rattle.warehouse.specs.Headline.{FewerIsNotFound, IsRestarted, RestartedShows, CrashedCreateIsFound, CrashedOpenIsFound, acknowledged_all, submitted}
 use Rattle.warehouse.specs.Running.{acknowledged}
 use Rattle.warehouse.proofs.Headlining.{restarted_shows}
 
 pub shows_it : {D : Type 0} (g : Ghosts D) → RestartedShows g
 shows_it g size image device c restarted shows k other is = (c, restarted_shows g size image device c restarted shows other is, refl)
 
-pub open_again : {D : Type 0} (g : Ghosts D) → StoppedOpenIsFound g
+pub open_again : {D : Type 0} (g : Ghosts D) → CrashedOpenIsFound g
 open_again g start end facts leaves word image left device restarted k other is =
     let shown = (leaves.moments word).each image left in
     (shown.0, restarted_shows g (g.state start).size image device shown.0 restarted shown.1 other is, (shown.2.0, shown.2.1, shown.2.3))
@@ -34,9 +34,9 @@ open_again g start end facts leaves word image left device restarted k other is 
 none_again : {D : Type 0} (g : Ghosts D) (size : ℕ) (image : Image) (device : D) → IsRestarted g size image device → HasNone image → Each (disk g device) IsBlank
 none_again g size image device restarted none k other is = none_same image other (λ slot less. sym (restarted.one other is slot)) none
 
-pub create_again : {D : Type 0} (g : Ghosts D) → StoppedCreateIsFound g
+pub create_again : {D : Type 0} (g : Ghosts D) → CrashedCreateIsFound g
 create_again g start end rows leaves word image left device restarted =
-    ⊎_elim {C = Each (disk g device) IsBlank ⊎ AllShow (disk g device) (λ c. Stands c (fresh rows))}
+    ⊎_elim {C = Each (disk g device) IsBlank ⊎ AllShow (disk g device) (λ c. Represents c (fresh rows))}
     (λ none. inl (none_again g (g.state start).size image device restarted none))
     (λ shown. inr (λ k other is. (shown.0, restarted_shows g (g.state start).size image device shown.0 restarted shown.1 other is, shown.2)))
     ((leaves.moments word).each image left)
@@ -103,11 +103,11 @@ found_more facts last found =
 
 pub fewer_not_found : {D : Type 0} (g : Ghosts D) → ContentIsOneWarehouse → FewerIsNotFound g
 fewer_not_found g one w fewer commands replies device image k is found shown less =
-    let there = found.stands k image is in
+    let there = found.represents k image is in
     let other = shown k image is in
     let same : other.0 ≡ there.0 = shows_one (g.state device).size image other.0 there.0 other.1 there.1 in
     let v = there.2.0 in
-    let same_w : fewer ≡ v = one there.0 fewer v (subst (λ (c : Content). Stands c fewer) same other.2) there.2.2 in
+    let same_w : fewer ≡ v = one there.0 fewer v (subst (λ (c : Content). Represents c fewer) same other.2) there.2.2 in
     let batches : length fewer.batches ≡ length v.batches = ap (λ (x : Warehouse). length x.batches) same_w in
     let additions : fewer.additions ≡ v.additions = ap (λ (x : Warehouse). x.additions) same_w in
     let first = none_fewer (facts_in w) (take found.done commands) (take found.done replies) in

@@ -9,7 +9,7 @@ use Rattle.cube_model.specs.declared.rows.LineOrder.{LineOrder}
 use Rattle.object_store.specs.Disk.{Leaves}
 use Rattle.planned_queries.specs.Stepping.{Extends, IsRunning, RunningState, Started, Starts, stepped}
 use Rattle.warehouse_objects.specs.Facts.{Facts, facts_in}
-use Rattle.warehouse_objects.specs.Stands.{Stands}
+use Rattle.warehouse_objects.specs.Represents.{Represents}
 use Rattle.warehouse_objects.specs.Warehouse.{Warehouse}
 use Rattle.warehouse.specs.declared.command.Command.{Command}
 use Rattle.warehouse.specs.declared.command.Command.TheVariants.{Submit, Query, Status, Choose, Upkeep, Audit, Add, Start, Step}
@@ -146,7 +146,7 @@ with_slots {D} g old new w slots command reply running stay are of does =
 module _ {D : Type 0} (g : Ghosts D) (old new : Session D g) (w : Warehouse) (slots : Slots) (running : List (Option RunningState)) (slot : ℕ)
     (are : AreRunning running slots) (of : AreOf w slots) where
   abbrev StaysOne : Type 0
-  StaysOne = Leaves (disk_of g old) (disk_of g new) (λ c. Stands c w)
+  StaysOne = Leaves (disk_of g old) (disk_of g new) (λ c. Represents c w)
 
   -- all is as it was
   same_slots : IsAt g new w → HoldsWith g new running (amid w slots)

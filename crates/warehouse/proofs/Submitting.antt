@@ -19,10 +19,10 @@ use Rattle.warehouse_root.specs.Objects.{segment_id}
 use Rattle.warehouse_root.specs.Root as roots
 use Rattle.warehouse_root.specs.Root.{PlainRoot}
 use Rattle.warehouse_objects.specs.Warehouse.{Warehouse, loaded}
-use Rattle.warehouse_objects.specs.Stands.{Stands, root_of}
+use Rattle.warehouse_objects.specs.Represents.{Represents, root_of}
 use Rattle.warehouse_objects.specs.Lawful.{batch_put}
 use Rattle.warehouse_objects.specs.Loaded.{IsLoaded}
-use Rattle.warehouse_objects.proofs.CallerLemmas.{stands_loaded}
+use Rattle.warehouse_objects.proofs.CallerLemmas.{represents_loaded}
 
 -- the one put
 pub put_is : (id number : ℕ) (bytes : List ℕ) (batch : List LineOrder) → id ≡ segment_id number → bytes ≡ segment_of number batch → (id, bytes) ∷ [] ≡ batch_put number batch
@@ -58,22 +58,22 @@ module _ (c : Content) (puts : List (ℕ × List ℕ)) (bytes : List ℕ) (layou
   }
 
   -- what the content represents then
-  pub stands_after : (w : Warehouse) → Stands c w → IsAdmissible w.rows w.batches number batch → FitColumns batch → after ≡ root_of (loaded w batch)
-      → Stands (committed puts [] bytes layout c) (loaded w batch)
-  stands_after w stands admissible fits after_is =
-      subst (λ (p : List (ℕ × List ℕ)). Stands (committed p [] bytes layout c) (loaded w batch)) (sym puts_are)
-      (subst (λ (b : List ℕ). Stands (committed (batch_put number batch) [] b layout c) (loaded w batch)) (sym (bytes_are ∙ ap roots.root_of after_is))
-      (subst (λ (l : ℕ). Stands (committed (batch_put number batch) [] (roots.root_of (root_of (loaded w batch))) l c) (loaded w batch)) (sym layout_is)
-      (subst (λ (l : ℕ). Stands (committed (batch_put number batch) [] (roots.root_of (root_of (loaded w batch))) l c) (loaded w batch)) (ap number_of stands.first)
-      (stands_loaded c w number batch stands admissible fits))))
+  pub represents_after : (w : Warehouse) → Represents c w → IsAdmissible w.rows w.batches number batch → FitColumns batch → after ≡ root_of (loaded w batch)
+      → Represents (committed puts [] bytes layout c) (loaded w batch)
+  represents_after w represents admissible fits after_is =
+      subst (λ (p : List (ℕ × List ℕ)). Represents (committed p [] bytes layout c) (loaded w batch)) (sym puts_are)
+      (subst (λ (b : List ℕ). Represents (committed (batch_put number batch) [] b layout c) (loaded w batch)) (sym (bytes_are ∙ ap roots.root_of after_is))
+      (subst (λ (l : ℕ). Represents (committed (batch_put number batch) [] (roots.root_of (root_of (loaded w batch))) l c) (loaded w batch)) (sym layout_is)
+      (subst (λ (l : ℕ). Represents (committed (batch_put number batch) [] (roots.root_of (root_of (loaded w batch))) l c) (loaded w batch)) (ap number_of represents.first)
+      (represents_loaded c w number batch represents admissible fits))))
 
   -- at each moment it represents the warehouse before or after
-  pub submit_leaves : (w : Warehouse) (old new : Disk) → (old.keeps_word → Stands c w) → (old.keeps_word → IsAdmissible w.rows w.batches number batch × (after ≡ root_of (loaded w batch))) → FitColumns batch
-      → Leaves old new (IsOneOf c (committed puts [] bytes layout c)) → Leaves old new (λ x. Stands x w ⊎ (IsAdmissible w.rows w.batches number batch × Stands x (loaded w batch)))
-  submit_leaves w old new stands model fits leaves =
-      leaves_weaker (IsOneOf c (committed puts [] bytes layout c)) (λ x. Stands x w ⊎ (IsAdmissible w.rows w.batches number batch × Stands x (loaded w batch))) old new
-      (λ k x. ⊎_elim (λ e. inl (subst (λ (y : Content). Stands y w) (sym e) (stands k)))
-      (λ e. inr ((model k).0, subst (λ (y : Content). Stands y (loaded w batch)) (sym e) (stands_after w (stands k) (model k).0 fits (model k).1)))) leaves
+  pub submit_leaves : (w : Warehouse) (old new : Disk) → (old.keeps_word → Represents c w) → (old.keeps_word → IsAdmissible w.rows w.batches number batch × (after ≡ root_of (loaded w batch))) → FitColumns batch
+      → Leaves old new (IsOneOf c (committed puts [] bytes layout c)) → Leaves old new (λ x. Represents x w ⊎ (IsAdmissible w.rows w.batches number batch × Represents x (loaded w batch)))
+  submit_leaves w old new represents model fits leaves =
+      leaves_weaker (IsOneOf c (committed puts [] bytes layout c)) (λ x. Represents x w ⊎ (IsAdmissible w.rows w.batches number batch × Represents x (loaded w batch))) old new
+      (λ k x. ⊎_elim (λ e. inl (subst (λ (y : Content). Represents y w) (sym e) (represents k)))
+      (λ e. inr ((model k).0, subst (λ (y : Content). Represents y (loaded w batch)) (sym e) (represents_after w (represents k) (model k).0 fits (model k).1)))) leaves
 
   -- why the commit was refused
   pub submit_causes : (w : Warehouse) (room : Room) (fault : Fault) → after ≡ root_of (loaded w batch) → Refuses c room puts [] bytes fault

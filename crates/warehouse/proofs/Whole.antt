@@ -9,7 +9,7 @@ use Rattle.planned_queries.specs.Stepping.{Started, stepped}
 use Rattle.added_rows.specs.Added.{widened}
 use Rattle.warehouse_objects.specs.Facts.{facts_in}
 use Rattle.warehouse_objects.specs.Warehouse.{Warehouse, loaded, with_views}
-use Rattle.warehouse_objects.specs.Stands.{Stands}
+use Rattle.warehouse_objects.specs.Represents.{Represents}
 use Rattle.warehouse.specs.declared.command.Command.{Command}
 use Rattle.warehouse.specs.declared.command.Command.TheVariants.{Submit, Query, Status, Choose, Upkeep, Audit, Add, Start, Step}
 use Rattle.warehouse.specs.declared.command.Reply.{Reply}
@@ -144,8 +144,8 @@ run_leaves {D} g old new w slots after command reply (c ∷ commands) (r ∷ rep
     (phase_is g old all.0 w slots command reply all.1 all.2.0)
 
 pub whole : {D : Type 0} (g : Ghosts D) (old new : Session D g) (w : Warehouse) (slots : Slots) (after : Phase) (commands : List Command) (replies : List Reply)
-    → RanAll g old (amid w slots) commands replies new after → Leaves (disk_of g old) (disk_of g old) (λ c. Stands c w) → Leaves (disk_of g old) (disk_of g new) (FoundIn w commands replies)
-whole {D} g old new w slots after [] [] all now = subst (λ (s : Session D g). Leaves (disk_of g old) (disk_of g s) (λ c. Stands c w)) (sym all.0) now
+    → RanAll g old (amid w slots) commands replies new after → Leaves (disk_of g old) (disk_of g old) (λ c. Represents c w) → Leaves (disk_of g old) (disk_of g new) (FoundIn w commands replies)
+whole {D} g old new w slots after [] [] all now = subst (λ (s : Session D g). Leaves (disk_of g old) (disk_of g s) (λ c. Represents c w)) (sym all.0) now
 whole g old new w slots after [] (reply ∷ replies) all now = absurd all
 whole g old new w slots after (command ∷ commands) [] all now = absurd all
 whole g old new w slots after (command ∷ commands) (reply ∷ replies) all now = run_leaves g old new w slots after command reply commands replies all

@@ -4,7 +4,7 @@ use Rattle.cube_model.specs.declared.fault.Fault.{Fault}
 use Rattle.cube_model.specs.declared.rows.DimRows.{DimRows}
 use Rattle.dimensions.specs.Added.{addition_cause, joined}
 use Rattle.added_rows.specs.Added.{widened, widening_puts}
-use Rattle.added_rows.proofs.CallerLemmas.{length_of_puts, rows_widened, stands_widened}
+use Rattle.added_rows.proofs.CallerLemmas.{length_of_puts, rows_widened, represents_widened}
 use Rattle.object_store.specs.Content.{Content}
 use Rattle.object_store.specs.Commit.{committed, IsFew}
 use Rattle.object_store.specs.Disk.{Disk, Leaves}
@@ -18,7 +18,7 @@ use Rattle.warehouse_root.specs.Root as roots
 use Rattle.warehouse_root.specs.Root.{PlainRoot, with_addition}
 use Rattle.warehouse_objects.specs.Facts.{AdmitsRows, addition_refusal, number_refusal}
 use Rattle.warehouse_objects.specs.Warehouse.{AreStorable, Warehouse}
-use Rattle.warehouse_objects.specs.Stands.{HasRows, Stands, root_of}
+use Rattle.warehouse_objects.specs.Represents.{HasRows, Represents, root_of}
 use Rattle.warehouse_objects.specs.Loaded.{IsLoaded}
 use Rattle.warehouse.specs.Loaded.{Agrees}
 use Rattle.warehouse.specs.Widening.{WidenedOrNot}
@@ -61,21 +61,21 @@ module _ (c : Content) (puts : List (ℕ × List ℕ)) (bytes : List ℕ) (layou
     own_puts agrees = puts_are ∙ ap (λ (r : DimRows). widening_puts r more) (sym agrees.rows_are)
 
     -- what the content represents then
-    pub stands_wider : Stands c w → AdmitsRows w number more × Agrees w rows root → AreStorable (joined rows more) → Stands (committed puts [] bytes layout c) (widened w more)
-    stands_wider stands model storable =
+    pub represents_wider : Represents c w → AdmitsRows w number more × Agrees w rows root → AreStorable (joined rows more) → Represents (committed puts [] bytes layout c) (widened w more)
+    represents_wider represents model storable =
         let few = (next_of w.additions number (neither (number_refusal w.additions number) (addition_cause w.rows more) model.0).0).1 in
-        subst (λ (p : List (ℕ × List ℕ)). Stands (committed p [] bytes layout c) (widened w more)) (sym (own_puts model.1))
-        (subst (λ (b : List ℕ). Stands (committed (widening_puts w.rows more) [] b layout c) (widened w more)) (sym (bytes_are ∙ ap roots.root_of (root_wider model.1)))
-        (subst (λ (l : ℕ). Stands (committed (widening_puts w.rows more) [] (roots.root_of (root_of (widened w more))) l c) (widened w more)) (ap number_of stands.first ∙ sym layout_is)
-        (stands_widened c w more stands (subst (λ (r : DimRows). AreStorable (joined r more)) (sym model.1.rows_are) storable) few)))
+        subst (λ (p : List (ℕ × List ℕ)). Represents (committed p [] bytes layout c) (widened w more)) (sym (own_puts model.1))
+        (subst (λ (b : List ℕ). Represents (committed (widening_puts w.rows more) [] b layout c) (widened w more)) (sym (bytes_are ∙ ap roots.root_of (root_wider model.1)))
+        (subst (λ (l : ℕ). Represents (committed (widening_puts w.rows more) [] (roots.root_of (root_of (widened w more))) l c) (widened w more)) (ap number_of represents.first ∙ sym layout_is)
+        (represents_widened c w more represents (subst (λ (r : DimRows). AreStorable (joined r more)) (sym model.1.rows_are) storable) few)))
 
     -- at each moment it represents the warehouse before or after
-    pub wider_leaves : (old new : Disk) → (old.keeps_word → Stands c w) → (old.keeps_word → AdmitsRows w number more × Agrees w rows root) → AreStorable (joined rows more)
+    pub wider_leaves : (old new : Disk) → (old.keeps_word → Represents c w) → (old.keeps_word → AdmitsRows w number more × Agrees w rows root) → AreStorable (joined rows more)
         → Leaves old new (IsOneOf c (committed puts [] bytes layout c)) → Leaves old new (WidenedOrNot w number more)
-    wider_leaves old new stands model storable leaves =
+    wider_leaves old new represents model storable leaves =
         leaves_weaker (IsOneOf c (committed puts [] bytes layout c)) (WidenedOrNot w number more) old new
-        (λ k x. ⊎_elim (λ e. inl (subst (λ (y : Content). Stands y w) (sym e) (stands k)))
-        (λ e. inr ((model k).0, subst (λ (y : Content). Stands y (widened w more)) (sym e) (stands_wider (stands k) (model k) storable)))) leaves
+        (λ k x. ⊎_elim (λ e. inl (subst (λ (y : Content). Represents y w) (sym e) (represents k)))
+        (λ e. inr ((model k).0, subst (λ (y : Content). Represents y (widened w more)) (sym e) (represents_wider (represents k) (model k) storable)))) leaves
 
     -- why the commit was refused
     pub wider_causes : (room : Room) (fault : Fault) → Agrees w rows root → Refuses c room puts [] bytes fault

@@ -4,7 +4,7 @@ use Rattle.cube_model.specs.declared.attr.Axis.TheVariants.{Customer, Supplier, 
 use Rattle.cube_model.specs.declared.rows.DimRows.{DimRows}
 use Rattle.warehouse_root.specs.declared.layout.Layout.TheVariants.{First}
 use Rattle.warehouse_root.specs.Root.{IsRoot, first_root}
-use Rattle.warehouse_objects.specs.Stands.{dimension_of}
+use Rattle.warehouse_objects.specs.Represents.{dimension_of}
 use Rattle.warehouse.specs.declared.beginning.Beginning.{Beginning}
 
 -- the bytes of the four dimensions, and the root of no batch with its bytes

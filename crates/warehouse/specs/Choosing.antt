@@ -17,7 +17,7 @@ use Rattle.object_store.specs.Store as stores
 use Rattle.warehouse_root.specs.Limits.{most_cuboids}
 use Rattle.warehouse_root.specs.Root as roots
 use Rattle.warehouse_objects.specs.Warehouse.{Warehouse, dropped_ids, with_views}
-use Rattle.warehouse_objects.specs.Stands.{root_of}
+use Rattle.warehouse_objects.specs.Represents.{root_of}
 use Rattle.warehouse.specs.declared.chosen.Chosen.{Chosen}
 use Rattle.warehouse.specs.declared.session.Session.{Session}
 use Rattle.warehouse.specs.Session.{content_of, room_of}

@@ -13,22 +13,22 @@ use Rattle.warehouse_root.specs.declared.layout.Layout.TheVariants.{First}
 use Rattle.warehouse_root.specs.Root.{PlainRoot, first_root, root_of}
 use Rattle.warehouse_objects.specs.Lawful.{dimension_puts}
 use Rattle.warehouse_objects.specs.Warehouse.{fresh}
-use Rattle.warehouse_objects.specs.Stands.{Stands}
+use Rattle.warehouse_objects.specs.Represents.{Represents}
 use Rattle.warehouse_objects.specs.Loaded.{IsLoaded}
 
 -- the store represents the warehouse of no batch, and its root is that one
 pub record MakesStore {D : Type 0} (g : Ghosts D) (device : D) (rows : DimRows) (root : PlainRoot) (store : Store D g) : Type 0 where
   -- until the end an image has no valid superblock, or represents it
-  pub leaves : Each (disk g device) IsBlank → LeavesOrNone (disk g device) (disk_of g store) (λ c. Stands c (fresh rows))
+  pub leaves : Each (disk g device) IsBlank → LeavesOrNone (disk g device) (disk_of g store) (λ c. Represents c (fresh rows))
   pub fine : has_failed store ≡ false
-  pub stands : (disk_of g store).keeps_word → Stands (content_of g store) (fresh rows)
+  pub represents : (disk_of g store).keeps_word → Represents (content_of g store) (fresh rows)
   pub loaded : (disk_of g store).keeps_word → IsLoaded (content_of g store) rows root
   -- the reads at the start showed no valid superblock
   pub unformatted : (disk_of g store).keeps_word → HasNone (g.state device).reads
 
 -- no store was made: why, and what the device that is handed back is
 pub record RefusesToMake {D : Type 0} (g : Ghosts D) (device : D) (rows : DimRows) (fault : Fault) (back : D) : Type 0 where
-  pub leaves : Each (disk g device) IsBlank → LeavesOrNone (disk g device) (disk g back) (λ c. Stands c (fresh rows))
+  pub leaves : Each (disk g device) IsBlank → LeavesOrNone (disk g device) (disk g back) (λ c. Represents c (fresh rows))
   pub still_blank : fault ≢ Device → Each (disk g device) IsBlank → Each (disk g back) IsBlank
   pub not_already : g.keeps_word back → Each (disk g device) IsBlank → fault ≢ AlreadyFormatted
   pub only : fault ≡ AlreadyFormatted → OnlyImagesOf (disk g device) (disk g back)

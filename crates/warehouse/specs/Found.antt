@@ -9,7 +9,7 @@ use Rattle.warehouse_objects.specs.Facts.{Adds, Change, Facts, facts_in}
 use Rattle.warehouse_objects.specs.Warehouse.{Warehouse}
 use Rattle.cuboid_commits.specs.Keeping.{IsKeptUp, IsReachedOrLarge}
 use Rattle.cuboid_commits.specs.Nexts.{RefusesLeast}
-use Rattle.warehouse_objects.specs.Stands.{Stands}
+use Rattle.warehouse_objects.specs.Represents.{Represents}
 use Rattle.warehouse.specs.declared.session.Session.{Session}
 
 -- What a crash may have left: the facts that were acknowledged, or these with the change whose command was running.
@@ -18,21 +18,21 @@ MayBeFound facts last found =
     (facts_in found ≡ facts) ⊎ ((change : Change) × (last ≡ Some change) × Adds facts change (facts_in found))
 
 -- a content represents facts that may be found
-abbrev pub MayStand : Facts → Option Change → Content → Type 0
-MayStand facts last c = (w : Warehouse) × MayBeFound facts last w × Stands c w
+abbrev pub MayRepresent : Facts → Option Change → Content → Type 0
+MayRepresent facts last c = (w : Warehouse) × MayBeFound facts last w × Represents c w
 
 -- the views and the target are those of what an image of then shows, and no mark is below
 pub record IsSince (start : Disk) (w : Warehouse) : Type 0 where
   pub content : Content
   pub shown : IsShown start content
   pub first : Warehouse
-  pub stands : Stands content first
+  pub represents : Represents content first
   pub kept : IsKeptUp first w
   pub target : w.target ≡ first.target
 
 -- what an opening may leave, at any point of it
-abbrev pub MayStandSince : Disk → Facts → Option Change → Content → Type 0
-MayStandSince start facts last c = (w : Warehouse) × MayBeFound facts last w × IsSince start w × Stands c w
+abbrev pub MayRepresentSince : Disk → Facts → Option Change → Content → Type 0
+MayRepresentSince start facts last c = (w : Warehouse) × MayBeFound facts last w × IsSince start w × Represents c w
 
 -- Each stored cuboid holds the batches up to the target, or their grouping by its view has more cells than a cuboid can have. Or the
 -- commit that brings the least of the others on is refused now, for lack of room or at the last generation.

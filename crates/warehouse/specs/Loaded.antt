@@ -2,7 +2,7 @@
 use Rattle.std.specs.Prelude.{◌≡◌}
 use Rattle.cube_model.specs.declared.rows.DimRows.{DimRows}
 use Rattle.warehouse_root.specs.Root.{PlainRoot}
-use Rattle.warehouse_objects.specs.Stands.{root_of}
+use Rattle.warehouse_objects.specs.Represents.{root_of}
 use Rattle.warehouse_objects.specs.Warehouse.{Warehouse}
 
 -- what is kept in memory is what the warehouse is

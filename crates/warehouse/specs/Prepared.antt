@@ -9,7 +9,7 @@ use Rattle.column_segment.specs.Segment.{FitColumns, IsBatch, segment_of}
 use Rattle.batch_admission.specs.Totals.{totals_of}
 use Rattle.warehouse_root.specs.declared.totals.StoredTotals.{StoredTotals}
 use Rattle.warehouse_root.specs.Root.{IsRoot, PlainRoot}
-use Rattle.warehouse_objects.specs.Stands.{root_of, stored}
+use Rattle.warehouse_objects.specs.Represents.{root_of, stored}
 use Rattle.warehouse_objects.specs.Facts.{Admits, refusal_of}
 use Rattle.warehouse_objects.specs.Warehouse.{Warehouse, loaded}
 use Rattle.warehouse.specs.declared.prepared.Prepared.{Prepared}

@@ -7,7 +7,7 @@ use Rattle.object_store.specs.Content.{Content, bytes_of}
 use Rattle.object_store.specs.Room.{catalogue_bytes}
 use Rattle.warehouse_root.specs.Objects.{object_ids}
 use Rattle.warehouse_objects.specs.Warehouse.{Warehouse}
-use Rattle.warehouse_objects.specs.Stands.{root_of}
+use Rattle.warehouse_objects.specs.Represents.{root_of}
 
 -- how many sectors an object of so many bytes takes; what is not there takes none
 abbrev pub sectors_of_size : Option ℕ → ℕ

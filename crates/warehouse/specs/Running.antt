@@ -12,7 +12,7 @@ use Rattle.object_store.specs.Disk.{Leaves}
 use Rattle.added_rows.specs.Added.{widened}
 use Rattle.warehouse_objects.specs.Facts.{Admits, AdmitsRows, Facts, with_next, with_rows}
 use Rattle.warehouse_objects.specs.Warehouse.{Warehouse, loaded, with_views}
-use Rattle.warehouse_objects.specs.Stands.{Stands}
+use Rattle.warehouse_objects.specs.Represents.{Represents}
 use Rattle.cuboid_commits.specs.Keeping.{IsKeptUp}
 use Rattle.cuboid_commits.specs.Upkeep.{AreWhole}
 use Rattle.planned_queries.specs.Stepping.{Started, Starts, answer_of, stepped}
@@ -106,15 +106,15 @@ Replies g old w slots (asks.Step slot) reply new after = StepReplies g old w slo
 
 -- what an image may be of while a command runs
 abbrev pub During : Warehouse → Command → Content → Type 0
-During w (asks.Submit number batch) c = Stands c w ⊎ (Admits w number batch × Stands c (loaded w batch))
-During w (asks.Query as_of query) c = Stands c w
-During w asks.Status c = Stands c w
-During w (asks.Choose k) c = Stands c w ⊎ ((chosen : List Chosen) × IsChoice w k chosen × Stands c (with_views w (views_of chosen)))
-During w asks.Upkeep c = (v : Warehouse) × IsKeptUp w v × Stands c v
-During w asks.Audit c = Stands c w
-During w (asks.Add number more) c = Stands c w ⊎ (AdmitsRows w number more × Stands c (widened w more))
-During w (asks.Start slot as_of query) c = Stands c w
-During w (asks.Step slot) c = Stands c w
+During w (asks.Submit number batch) c = Represents c w ⊎ (Admits w number batch × Represents c (loaded w batch))
+During w (asks.Query as_of query) c = Represents c w
+During w asks.Status c = Represents c w
+During w (asks.Choose k) c = Represents c w ⊎ ((chosen : List Chosen) × IsChoice w k chosen × Represents c (with_views w (views_of chosen)))
+During w asks.Upkeep c = (v : Warehouse) × IsKeptUp w v × Represents c v
+During w asks.Audit c = Represents c w
+During w (asks.Add number more) c = Represents c w ⊎ (AdmitsRows w number more × Represents c (widened w more))
+During w (asks.Start slot as_of query) c = Represents c w
+During w (asks.Step slot) c = Represents c w
 
 -- One command: its reply, what a crash leaves at each moment of it, and what the session is at then. After a failure there is no
 -- device call.
@@ -176,7 +176,7 @@ Becomes w _ reply v = v ≡ w
 
 -- What a crash within a run may leave: what the commands before had made, or what one more may have made.
 abbrev pub FoundIn : Warehouse → List Command → List Reply → Content → Type 0
-FoundIn w [] replies c = Stands c w
+FoundIn w [] replies c = Represents c w
 FoundIn w (command ∷ commands) [] c = ⊥
 FoundIn w (command ∷ commands) (reply ∷ replies) c =
     During w command c ⊎ ((v : Warehouse) × Becomes w command reply v × FoundIn v commands replies c)

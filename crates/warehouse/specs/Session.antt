@@ -18,7 +18,7 @@ use Rattle.object_store.specs.Store as stores
 use Rattle.added_rows.specs.Added.{widened, widening_puts}
 use Rattle.warehouse_objects.specs.Facts.{Admits, AdmitsRows, number_refusal, refusal_of, rows_refusal_of}
 use Rattle.warehouse_objects.specs.Warehouse.{Warehouse, loaded}
-use Rattle.warehouse_objects.specs.Stands.{Stands, root_of}
+use Rattle.warehouse_objects.specs.Represents.{Represents, root_of}
 use Rattle.warehouse_objects.specs.Lawful.{loading_puts}
 use Rattle.warehouse.specs.declared.session.Session.{Session}
 
@@ -42,8 +42,8 @@ module _ {D : Type 0} where
 -- the session has not failed, and represents a warehouse: every image does
 pub record IsAt {D : Type 0} (g : Ghosts D) (session : Session D g) (w : Warehouse) : Type 0 where
   pub fine : has_failed session ≡ false
-  pub stands : (disk_of g session).keeps_word → Stands (content_of g session) w
-  pub all : AllShow (disk_of g session) (λ c. Stands c w)
+  pub represents : (disk_of g session).keeps_word → Represents (content_of g session) w
+  pub all : AllShow (disk_of g session) (λ c. Represents c w)
 
 -- the device failed in this call, and the session answers Failed from now on
 pub record Breaks {D : Type 0} (g : Ghosts D) (old new : Session D g) : Type 0 where
@@ -89,9 +89,9 @@ QueryRefuses w as_of query fault =
     ⊎ ((fault ≡ Memory) × IsAsked w as_of query))
 
 -- a session that has not failed is at what its content represents
-pub is_at : {D : Type 0} (g : Ghosts D) (session : Session D g) (w : Warehouse) → has_failed session ≡ false → ((disk_of g session).keeps_word → Stands (content_of g session) w) → IsAt g session w
-is_at g session w fine stands = record {
+pub is_at : {D : Type 0} (g : Ghosts D) (session : Session D g) (w : Warehouse) → has_failed session ≡ false → ((disk_of g session).keeps_word → Represents (content_of g session) w) → IsAt g session w
+is_at g session w fine represents = record {
   fine = fine;
-  stands = stands;
-  all = all_weaker (λ (c : Content). c ≡ content_of g session) (λ (c : Content). Stands c w) (disk_of g session) (λ k c e. subst (λ (x : Content). Stands x w) (sym e) (stands k)) (always_shows g session.store fine);
+  represents = represents;
+  all = all_weaker (λ (c : Content). c ≡ content_of g session) (λ (c : Content). Represents c w) (disk_of g session) (λ k c e. subst (λ (x : Content). Represents x w) (sym e) (represents k)) (always_shows g session.store fine);
 }

@@ -15,11 +15,11 @@ pub record IsSaidOf (cuboid : Cuboid) (said : StoredCuboid) : Type 0 where
   pub cells : said.cells ≡ cells_in cuboid.runs
 
 -- what is at the place of a cuboid, and that a place without one is empty
-abbrev pub StandsAt : Option Cuboid → Option StoredCuboid → Type 0
-StandsAt None None = Unit {0}
-StandsAt None (Some said) = ⊥
-StandsAt (Some cuboid) None = ⊥
-StandsAt (Some cuboid) (Some said) = IsSaidOf cuboid said
+abbrev pub IsSaidAt : Option Cuboid → Option StoredCuboid → Type 0
+IsSaidAt None None = Unit {0}
+IsSaidAt None (Some said) = ⊥
+IsSaidAt (Some cuboid) None = ⊥
+IsSaidAt (Some cuboid) (Some said) = IsSaidOf cuboid said
 
 pub record IsStatus (w : Warehouse) (generation : ℕ) (status : Status) : Type 0 where
   pub batches : status.batches ≡ length w.batches
@@ -27,4 +27,4 @@ pub record IsStatus (w : Warehouse) (generation : ℕ) (status : Status) : Type 
   pub additions : status.additions ≡ w.additions
   pub target : status.target ≡ w.target
   pub generation_is : status.generation ≡ generation
-  pub cuboids : (place : ℕ) → place < most_cuboids → StandsAt (slice_get w.cuboids place) (slice_index_or status.cuboids place None)
+  pub cuboids : (place : ℕ) → place < most_cuboids → IsSaidAt (slice_get w.cuboids place) (slice_index_or status.cuboids place None)

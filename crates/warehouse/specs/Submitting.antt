@@ -6,7 +6,7 @@ use Rattle.object_store.specs.Content.{Content}
 use Rattle.object_store.specs.Disk.{Leaves}
 use Rattle.warehouse_objects.specs.Facts.{Admits}
 use Rattle.warehouse_objects.specs.Warehouse.{Warehouse, loaded}
-use Rattle.warehouse_objects.specs.Stands.{Stands, root_of}
+use Rattle.warehouse_objects.specs.Represents.{Represents, root_of}
 use Rattle.warehouse.specs.Prepared.{IsPrepared}
 use Rattle.warehouse.specs.Session.{IsAt, device_of, disk_of}
 use Rattle.warehouse.specs.declared.prepared.Prepared.{Prepared}
@@ -17,8 +17,8 @@ pub record IsReady {D : Type 0} (g : Ghosts D) (session : Session D g) (w : Ware
   pub at : IsAt g session w
   pub prepared_is : IsPrepared session.root number rows prepared
   pub admissible : g.keeps_word (device_of session) → Admits w number rows × (prepared.root ≡ root_of (loaded w rows))
-  pub still : Leaves (disk_of g session) (disk_of g session) (λ c. Stands c w)
+  pub still : Leaves (disk_of g session) (disk_of g session) (λ c. Represents c w)
 
--- what a stop within its submit may leave: the warehouse as it was, or with the batch if that is admissible
+-- what a crash within its submit may leave: the warehouse as it was, or with the batch if that is admissible
 abbrev pub WithOrWithout : Warehouse → ℕ → List LineOrder → Content → Type 0
-WithOrWithout w number rows c = Stands c w ⊎ (Admits w number rows × Stands c (loaded w rows))
+WithOrWithout w number rows c = Represents c w ⊎ (Admits w number rows × Represents c (loaded w rows))

@@ -4,7 +4,7 @@ use Rattle.sector_device.specs.declared.device.Sectors.{Ghosts}
 use Rattle.cube_model.specs.declared.fault.Fault.{Fault}
 use Rattle.cube_model.specs.declared.fault.Fault.TheVariants.{TooManyCells}
 use Rattle.warehouse_objects.specs.Warehouse.{Warehouse}
-use Rattle.warehouse_objects.specs.Stands.{IsLaidOut}
+use Rattle.warehouse_objects.specs.Represents.{IsLaidOut}
 use Rattle.cuboid_commits.specs.Keeping.{IsLeastTooLarge}
 use Rattle.cuboid_commits.specs.Upkeep.{KeepUpRefuses}
 use Rattle.warehouse.specs.declared.session.Session.{Session}

@@ -10,7 +10,7 @@ use Rattle.object_store.specs.Disk.{Leaves}
 use Rattle.warehouse_root.specs.Root.{IsRoot, PlainRoot, with_addition}
 use Rattle.warehouse_objects.specs.Facts.{AdmitsRows}
 use Rattle.warehouse_objects.specs.Warehouse.{AreStorable, Warehouse}
-use Rattle.warehouse_objects.specs.Stands.{Stands}
+use Rattle.warehouse_objects.specs.Represents.{Represents}
 use Rattle.warehouse.specs.Loaded.{Agrees}
 use Rattle.warehouse.specs.Session.{IsAt, device_of, disk_of}
 use Rattle.warehouse.specs.declared.session.Session.{Session}
@@ -36,8 +36,8 @@ pub record IsReadyToWiden {D : Type 0} (g : Ghosts D) (session : Session D g) (w
   pub at : IsAt g session w
   pub widening_is : IsWidening session.dims.value session.root more wider
   pub admissible : g.keeps_word (device_of session) → AdmitsRows w number more × Agrees w session.dims.value session.root
-  pub still : Leaves (disk_of g session) (disk_of g session) (λ c. Stands c w)
+  pub still : Leaves (disk_of g session) (disk_of g session) (λ c. Represents c w)
 
 -- what a crash within its commit may leave: the warehouse as it was, or with the rows if they may be added
 abbrev pub WidenedOrNot : Warehouse → ℕ → DimRows → Content → Type 0
-WidenedOrNot w number more c = Stands c w ⊎ (AdmitsRows w number more × Stands c (widened w more))
+WidenedOrNot w number more c = Represents c w ⊎ (AdmitsRows w number more × Represents c (widened w more))

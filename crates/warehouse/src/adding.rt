@@ -10,7 +10,7 @@ ghost use Rattle.object_store.specs.Disk.{Leaves};
 ghost use Rattle.warehouse_root.specs.Limits.{most_additions};
 ghost use Rattle.warehouse_objects.specs.Facts.{AdmitsRows, number_refusal, rows_refusal_of};
 ghost use Rattle.warehouse_objects.specs.Warehouse.{Warehouse};
-ghost use Rattle.warehouse_objects.specs.Stands.{Stands};
+ghost use Rattle.warehouse_objects.specs.Represents.{Represents};
 ghost use Rattle.warehouse.specs.Refusing.{is_of_device};
 ghost use Rattle.warehouse.specs.Session.{has_failed, content_of, device_of, disk_of, IsAt, AddRefuses, Breaks, CommitsOnce, KeepsContent};
 ghost use Rattle.warehouse.specs.Widening.{IsReadyToWiden, IsWidening, WidenedOrNot};
@@ -35,7 +35,7 @@ impl<D: Sectors> Session<D> {
 
         // A crash at any point leaves the warehouse as it was, or with these rows if they may be added.
         ensures leaves { (w : Warehouse) → IsAt D.Sectors self.old w → Leaves (disk_of D.Sectors self.old) (disk_of D.Sectors self.new)
-            (λ c. Stands c w ⊎ (AdmitsRows w number rows.now × Stands c (widened w rows.now))) }
+            (λ c. Represents c w ⊎ (AdmitsRows w number rows.now × Represents c (widened w rows.now))) }
 
         // Then with them.
         ensures ok { OnOk result ((w : Warehouse) → IsAt D.Sectors self.old w → IsAt D.Sectors self.new (widened w rows.now)
@@ -43,7 +43,7 @@ impl<D: Sectors> Session<D> {
 
         // After a refusal, unless the device failed, as it was at each moment.
         ensures refused { IfErr result (λ fault. fault ≢ Device → (w : Warehouse) → IsAt D.Sectors self.old w →
-            IsAt D.Sectors self.new w × Leaves (disk_of D.Sectors self.old) (disk_of D.Sectors self.new) (λ c. Stands c w)) }
+            IsAt D.Sectors self.new w × Leaves (disk_of D.Sectors self.old) (disk_of D.Sectors self.new) (λ c. Represents c w)) }
 
         // One commit was made, or none.
         ensures once { OnOk result (CommitsOnce D.Sectors self.old self.new) }
@@ -77,7 +77,7 @@ impl<D: Sectors> Session<D> {
         ensures failed { IsErrOf result Failed ↔ (has_failed self.now ≡ true) }
         ensures device { IsErrOf result Device → ⊥ }
         ensures leaves { (w : Warehouse) → IsAt D.Sectors self.now w
-            → Leaves (disk_of D.Sectors self.now) (disk_of D.Sectors self.now) (λ c. Stands c w) }
+            → Leaves (disk_of D.Sectors self.now) (disk_of D.Sectors self.now) (λ c. Represents c w) }
     {
         self.can_put(MOST_PUTS)?;
         check_number(self.root.additions(), number)?;
@@ -94,7 +94,7 @@ impl<D: Sectors> Session<D> {
         ensures ok { OnOk result ((w : Warehouse) (number : ℕ) (more : dim_rows.DimRows) → IsReadyToWiden D.Sectors self.old w number more wider
             → IsAt D.Sectors self.new (widened w more) × (D.keeps_word (device_of self.new) → AdmitsRows w number more)) }
         ensures refused { IfErr result (λ fault. fault ≢ Device → (w : Warehouse) (number : ℕ) (more : dim_rows.DimRows) → IsReadyToWiden D.Sectors self.old w number more wider
-            → IsAt D.Sectors self.new w × Leaves (disk_of D.Sectors self.old) (disk_of D.Sectors self.new) (λ c. Stands c w)) }
+            → IsAt D.Sectors self.new w × Leaves (disk_of D.Sectors self.old) (disk_of D.Sectors self.new) (λ c. Represents c w)) }
         ensures once { OnOk result (CommitsOnce D.Sectors self.old self.new) }
         ensures kept { IfErr result (λ fault. fault ≢ Device → KeepsContent D.Sectors self.old self.new) }
         ensures causes { IfErr result (λ fault. fault ≢ Device → (w : Warehouse) (number : ℕ) (more : dim_rows.DimRows) → IsReadyToWiden D.Sectors self.old w number more wider

@@ -1,7 +1,7 @@
 //! What a warehouse is made of, made ready before the first device call.
 ghost use Rattle.std.specs.Prelude.{◌≡◌, IfOk, IfErr};
 ghost use Rattle.cube_model.specs.declared.fault.Fault.TheVariants.{Memory};
-ghost use Rattle.warehouse_objects.specs.Stands.{dimension_of};
+ghost use Rattle.warehouse_objects.specs.Represents.{dimension_of};
 
 use cube_model::{Axis, Fault};
 use dimension_objects::encode;

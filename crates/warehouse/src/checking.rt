@@ -3,13 +3,13 @@ ghost use Rattle.std.specs.Prelude.{◌≡◌, ◌≢◌, ◌↔◌, All, IsTrue
 ghost use Rattle.cube_model.specs.declared.fault.Fault.TheVariants.{Device, Failed, Memory};
 ghost use Rattle.object_store.specs.Disk.{Leaves};
 ghost use Rattle.warehouse_objects.specs.Warehouse.{Warehouse};
-ghost use Rattle.warehouse_objects.specs.Stands.{Stands};
+ghost use Rattle.warehouse_objects.specs.Represents.{Represents};
 ghost use Rattle.stored_cuboids.specs.Merged.{IsSound};
 ghost use Rattle.warehouse_check.specs.Checked.{IsChecked};
 ghost use Rattle.warehouse.specs.Session.{Breaks, IsAt, KeepsContent, content_of, device_of, disk_of, has_failed};
 ghost use Rattle.warehouse.specs.Upkeep.{IsLaidAt};
 
-use crate::prepared::kept_is_what_stands;
+use crate::prepared::kept_is_represented;
 use crate::session::Session;
 use cube_model::Fault;
 use sector_device::Sectors;
@@ -26,7 +26,7 @@ impl<D: Sectors> Session<D> {
     pub fn check(&mut self, alloc: Global) -> Result<Option<Finding>, Fault>
         // The warehouse stays as it is, at each moment.
         ensures leaves { (w : Warehouse) → IsAt D.Sectors self.old w
-            → Leaves (disk_of D.Sectors self.old) (disk_of D.Sectors self.new) (λ c. Stands c w) }
+            → Leaves (disk_of D.Sectors self.old) (disk_of D.Sectors self.new) (λ c. Represents c w) }
         ensures stays { (IsErrOf result Device → ⊥) → (w : Warehouse) → IsAt D.Sectors self.old w → IsAt D.Sectors self.new w }
         ensures reads { (IsErrOf result Device → ⊥) → KeepsContent D.Sectors self.old self.new }
 
@@ -38,7 +38,7 @@ impl<D: Sectors> Session<D> {
 
         // Something is found: then the content represents no warehouse. So nothing is found in a warehouse.
         ensures found { IfOk result (λ found. IsTrue (is_some found) → D.keeps_word (device_of self.new)
-            → (w : Warehouse) → Stands (content_of D.Sectors self.old) w → ⊥) }
+            → (w : Warehouse) → Represents (content_of D.Sectors self.old) w → ⊥) }
         ensures none { IfOk result (λ found. (w : Warehouse) → IsAt D.Sectors self.old w → D.keeps_word (device_of self.new) → found ≡ None) }
 
         // When each error comes.
@@ -51,7 +51,7 @@ impl<D: Sectors> Session<D> {
         if self.is_broken() {
             return Err(Fault::Failed);
         }
-        kept_is_what_stands(&self.dims, &self.root);
+        kept_is_represented(&self.dims, &self.root);
         match checked(alloc, &mut self.store, &self.root, &self.dims) {
             Ok(found) => Ok(found),
             Err(fault) => Err(fault),

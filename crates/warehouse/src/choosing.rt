@@ -8,13 +8,13 @@ ghost use Rattle.view_choice.specs.Cuboids.{most_demanded, most_fact_rows};
 ghost use Rattle.object_store.specs.Disk.{Leaves};
 ghost use Rattle.warehouse_root.specs.Limits.{most_cuboids};
 ghost use Rattle.warehouse_objects.specs.Warehouse.{Warehouse, with_views};
-ghost use Rattle.warehouse_objects.specs.Stands.{Stands};
+ghost use Rattle.warehouse_objects.specs.Represents.{Represents};
 ghost use Rattle.warehouse.specs.Choosing.{AreTooMany, ChooseForRefuses, ChooseRefuses, IsChoice, IsChoiceFor, IsChosenFrom, ViewsRefuse, choices_asked, counts_of, lattice_asked, members_on, views_of};
 ghost use Rattle.warehouse.specs.declared.chosen.Chosen.{Chosen};
 ghost use Rattle.warehouse.specs.Session.{Breaks, CommitsOnce, IsAt, KeepsContent, device_of, disk_of, has_failed};
 
 use crate::chosen::Chosen;
-use crate::prepared::kept_is_what_stands;
+use crate::prepared::kept_is_represented;
 use crate::session::Session;
 use crate::status::row_total;
 use cube_model::{Attr, Fault};
@@ -36,12 +36,12 @@ impl<D: Sectors> Session<D> {
 
         // A crash leaves the cuboids as they were, or these.
         ensures leaves { (w : Warehouse) → IsAt D.Sectors self.old w → Leaves (disk_of D.Sectors self.old) (disk_of D.Sectors self.new)
-            (λ c. Stands c w ⊎ Stands c (with_views w views.now)) }
+            (λ c. Represents c w ⊎ Represents c (with_views w views.now)) }
         ensures ok { OnOk result ((w : Warehouse) → IsAt D.Sectors self.old w → IsAt D.Sectors self.new (with_views w views.now) × CommitsOnce D.Sectors self.old self.new) }
 
         // After a refusal, unless the device failed, all is as it was, at each moment.
         ensures refused { IfErr result (λ fault. fault ≢ Device → (w : Warehouse) → IsAt D.Sectors self.old w →
-            IsAt D.Sectors self.new w × KeepsContent D.Sectors self.old self.new × Leaves (disk_of D.Sectors self.old) (disk_of D.Sectors self.new) (λ c. Stands c w)) }
+            IsAt D.Sectors self.new w × KeepsContent D.Sectors self.old self.new × Leaves (disk_of D.Sectors self.old) (disk_of D.Sectors self.new) (λ c. Represents c w)) }
 
         // When each error comes.
         ensures causes { IfErr result (λ fault. fault ≢ Device → (w : Warehouse) → IsAt D.Sectors self.old w → D.keeps_word (device_of self.new)
@@ -62,13 +62,13 @@ impl<D: Sectors> Session<D> {
     pub fn choose(&mut self, alloc: Global, k: u8) -> Result<Vec<Chosen>, Fault>
         // A crash leaves the cuboids as they were, or those of the choice.
         ensures leaves { (w : Warehouse) → IsAt D.Sectors self.old w → Leaves (disk_of D.Sectors self.old) (disk_of D.Sectors self.new)
-            (λ c. Stands c w ⊎ ((chosen : List Chosen) × IsChoice w k chosen × Stands c (with_views w (views_of chosen)))) }
+            (λ c. Represents c w ⊎ ((chosen : List Chosen) × IsChoice w k chosen × Represents c (with_views w (views_of chosen)))) }
         ensures ok { IfOk result (λ chosen. (w : Warehouse) → IsAt D.Sectors self.old w → IsAt D.Sectors self.new (with_views w (views_of chosen.items))
             × CommitsOnce D.Sectors self.old self.new × (D.keeps_word (device_of self.new) → IsChoice w k chosen.items)) }
 
         // After a refusal, unless the device failed, all is as it was, at each moment.
         ensures refused { IfErr result (λ fault. fault ≢ Device → (w : Warehouse) → IsAt D.Sectors self.old w →
-            IsAt D.Sectors self.new w × KeepsContent D.Sectors self.old self.new × Leaves (disk_of D.Sectors self.old) (disk_of D.Sectors self.new) (λ c. Stands c w)) }
+            IsAt D.Sectors self.new w × KeepsContent D.Sectors self.old self.new × Leaves (disk_of D.Sectors self.old) (disk_of D.Sectors self.new) (λ c. Represents c w)) }
 
         // When each error comes.
         ensures causes { IfErr result (λ fault. fault ≢ Device → (w : Warehouse) → IsAt D.Sectors self.old w → D.keeps_word (device_of self.new)
@@ -103,13 +103,13 @@ impl<D: Sectors> Session<D> {
     ) -> Result<Vec<Chosen>, Fault>
         // A crash leaves the cuboids as they were, or those of the choice.
         ensures leaves { (w : Warehouse) → IsAt D.Sectors self.old w → Leaves (disk_of D.Sectors self.old) (disk_of D.Sectors self.new)
-            (λ c. Stands c w ⊎ ((chosen : List Chosen) × IsChoiceFor w demanded.now k chosen × Stands c (with_views w (views_of chosen)))) }
+            (λ c. Represents c w ⊎ ((chosen : List Chosen) × IsChoiceFor w demanded.now k chosen × Represents c (with_views w (views_of chosen)))) }
         ensures ok { IfOk result (λ chosen. (w : Warehouse) → IsAt D.Sectors self.old w → IsAt D.Sectors self.new (with_views w (views_of chosen.items))
             × CommitsOnce D.Sectors self.old self.new × (D.keeps_word (device_of self.new) → IsChoiceFor w demanded.now k chosen.items)) }
 
         // After a refusal, unless the device failed, all is as it was, at each moment.
         ensures refused { IfErr result (λ fault. fault ≢ Device → (w : Warehouse) → IsAt D.Sectors self.old w →
-            IsAt D.Sectors self.new w × KeepsContent D.Sectors self.old self.new × Leaves (disk_of D.Sectors self.old) (disk_of D.Sectors self.new) (λ c. Stands c w)) }
+            IsAt D.Sectors self.new w × KeepsContent D.Sectors self.old self.new × Leaves (disk_of D.Sectors self.old) (disk_of D.Sectors self.new) (λ c. Represents c w)) }
 
         // When each error comes.
         ensures causes { IfErr result (λ fault. fault ≢ Device → (w : Warehouse) → IsAt D.Sectors self.old w → D.keeps_word (device_of self.new)
@@ -134,10 +134,10 @@ impl<D: Sectors> Session<D> {
     fn store_views(&mut self, alloc: Global, views: &[View]) -> Result<(), Fault>
         requires few { length views.now ≤ most_cuboids }
         ensures leaves { (w : Warehouse) → IsAt D.Sectors self.old w → Leaves (disk_of D.Sectors self.old) (disk_of D.Sectors self.new)
-            (λ c. Stands c w ⊎ Stands c (with_views w views.now)) }
+            (λ c. Represents c w ⊎ Represents c (with_views w views.now)) }
         ensures ok { OnOk result ((w : Warehouse) → IsAt D.Sectors self.old w → IsAt D.Sectors self.new (with_views w views.now) × CommitsOnce D.Sectors self.old self.new) }
         ensures refused { IfErr result (λ fault. fault ≢ Device → (w : Warehouse) → IsAt D.Sectors self.old w →
-            IsAt D.Sectors self.new w × KeepsContent D.Sectors self.old self.new × Leaves (disk_of D.Sectors self.old) (disk_of D.Sectors self.new) (λ c. Stands c w)) }
+            IsAt D.Sectors self.new w × KeepsContent D.Sectors self.old self.new × Leaves (disk_of D.Sectors self.old) (disk_of D.Sectors self.new) (λ c. Represents c w)) }
         ensures causes { IfErr result (λ fault. fault ≢ Device → (w : Warehouse) → IsAt D.Sectors self.old w → D.keeps_word (device_of self.new)
             → ViewsRefuse D.Sectors self.old w views.now fault) }
         ensures failed { IsErrOf result Failed ↔ (has_failed self.old ≡ true) }
@@ -148,7 +148,7 @@ impl<D: Sectors> Session<D> {
         if self.is_broken() {
             return Err(Fault::Failed);
         }
-        kept_is_what_stands(&self.dims, &self.root);
+        kept_is_represented(&self.dims, &self.root);
         match cuboid_commits::set_views(alloc, &mut self.store, &mut self.root, views) {
             Ok(()) => Ok(()),
             Err(fault) => Err(fault),
@@ -167,7 +167,7 @@ impl<D: Sectors> Session<D> {
         ensures failed { IsErrOf result Failed ↔ (has_failed self.now ≡ true) }
         ensures causes { IfErr result (λ fault. (fault ≡ Failed)
             ⊎ (((fault ≡ BadQuery) × AreTooMany k (option_map (λ views. views.now) asked.entry)) ⊎ (fault ≡ Memory))) }
-        ensures leaves { (w : Warehouse) → IsAt D.Sectors self.now w → Leaves (disk_of D.Sectors self.now) (disk_of D.Sectors self.now) (λ c. Stands c w) }
+        ensures leaves { (w : Warehouse) → IsAt D.Sectors self.now w → Leaves (disk_of D.Sectors self.now) (disk_of D.Sectors self.now) (λ c. Represents c w) }
     {
         if self.is_broken() {
             return Err(Fault::Failed);
@@ -175,7 +175,7 @@ impl<D: Sectors> Session<D> {
         if are_too_many(k, asked) {
             return Err(Fault::BadQuery);
         }
-        kept_is_what_stands(&self.dims, &self.root);
+        kept_is_represented(&self.dims, &self.root);
         let rows = row_total(self.root.batches());
         match Choice::of(alloc, rows, &counts_of(&self.dims), k, asked) {
             Ok(choice) => Ok(choice),

@@ -10,12 +10,12 @@ ghost use Rattle.object_store.specs.Store as stores;
 ghost use Rattle.warehouse.specs.Comparing.{numbered};
 ghost use Rattle.warehouse.specs.Growing.{Grows, IsGrown, IsOfSession};
 ghost use Rattle.warehouse.specs.Session.{Breaks, IsAt, KeepsContent, device_of, disk_of, has_failed};
-ghost use Rattle.warehouse_objects.specs.Stands.{Stands, root_of};
+ghost use Rattle.warehouse_objects.specs.Represents.{Represents, root_of};
 ghost use Rattle.warehouse_objects.specs.Warehouse.{Warehouse};
 ghost use Rattle.wire.specs.Runs.{HasRead, IsRefused};
 
 use crate::growing::GrowingBatch;
-use crate::prepared::kept_is_what_stands;
+use crate::prepared::kept_is_represented;
 use crate::session::Session;
 use cube_model::Fault;
 use object_store::Store;
@@ -32,7 +32,7 @@ impl<D: Sectors> Session<D> {
     pub fn batch_rows(&self, number: u32) -> Option<u32>
         ensures { (w : Warehouse) → IsAt D.Sectors self.now w → D.keeps_word (device_of self.now) → result ≡ option_map length (numbered w.batches number) }
     {
-        kept_is_what_stands(&self.dims, &self.root);
+        kept_is_represented(&self.dims, &self.root);
         rows_of(&self.root, number)
     }
 
@@ -50,7 +50,7 @@ impl<D: Sectors> Session<D> {
 
         // The warehouse stays as it is, at each moment.
         ensures leaves { (w : Warehouse) → IsAt D.Sectors self.old w
-            → Leaves (disk_of D.Sectors self.old) (disk_of D.Sectors self.new) (λ c. Stands c w) }
+            → Leaves (disk_of D.Sectors self.old) (disk_of D.Sectors self.new) (λ c. Represents c w) }
         ensures stays { (IsErrOf result Device → ⊥) → (w : Warehouse) → IsAt D.Sectors self.old w → IsAt D.Sectors self.new w }
 
         // Nothing was put on the device, and after a failure nothing is done.
@@ -70,7 +70,7 @@ impl<D: Sectors> Session<D> {
         if self.is_broken() {
             return Err(Fault::Failed);
         }
-        kept_is_what_stands(&self.dims, &self.root);
+        kept_is_represented(&self.dims, &self.root);
         match is_stored(alloc, &mut self.store, &self.root, number, batch) {
             Ok(yes) => Ok(yes),
             Err(fault) => Err(fault),
@@ -100,7 +100,7 @@ fn is_stored<D: Sectors>(
     requires fine { stores.has_failed store.old ≡ false }
     requires batch { (dimensions : DimRows) × (rows : List LineOrder) × IsGrown dimensions root.now rows batch.now }
     ensures answer { IfOk result (λ yes. D.keeps_word (stores.device_of store.new) → (w : Warehouse) (dimensions : DimRows) (rows : List LineOrder)
-        → Stands (stores.content_of D.Sectors store.old) w → root.now ≡ root_of w → IsGrown dimensions root.now rows batch.now
+        → Represents (stores.content_of D.Sectors store.old) w → root.now ≡ root_of w → IsGrown dimensions root.now rows batch.now
         → IsTrue yes ↔ (numbered w.batches number ≡ Some rows)) }
     ensures leaves { Leaves (stores.disk_of D.Sectors store.old) (stores.disk_of D.Sectors store.new) (λ c. c ≡ stores.content_of D.Sectors store.old) }
     ensures stays { (IsErrOf result Device → ⊥) → stores.IsStill D.Sectors store.old store.new }

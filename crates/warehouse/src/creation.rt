@@ -8,13 +8,13 @@ ghost use Rattle.warehouse_root.specs.declared.layout.Layout.TheVariants.{First}
 ghost use Rattle.warehouse_root.specs.Root as roots;
 ghost use Rattle.warehouse_objects.specs.Lawful.{dimension_puts};
 ghost use Rattle.warehouse_objects.specs.Warehouse.{fresh};
-ghost use Rattle.warehouse_objects.specs.Stands.{Stands};
+ghost use Rattle.warehouse_objects.specs.Represents.{Represents};
 ghost use Rattle.warehouse.specs.Beginning.{IsBeginning};
 ghost use Rattle.warehouse.specs.Creating.{MakesStore, RefusesToMake};
 ghost use Rattle.warehouse.specs.Session.{disk_of, IsAt};
 
 use crate::beginning::Beginning;
-use crate::prepared::kept_is_what_stands;
+use crate::prepared::kept_is_represented;
 use crate::session::{Session, shared};
 use cube_model::Fault;
 use dimensions::Dims;
@@ -28,9 +28,9 @@ use warehouse_root::Layout;
 pub fn create<D: Sectors>(alloc: Global, device: D, dims: Dims) -> Result<Session<D>, (Fault, D)>
     // Where no image at the start has a valid superblock: until the end an image has none, or represents the warehouse.
     ensures leaves { IfOk result (λ session. Each (disk D.Sectors device) IsBlank →
-        LeavesOrNone (disk D.Sectors device) (disk_of D.Sectors session) (λ c. Stands c (fresh dims))) }
+        LeavesOrNone (disk D.Sectors device) (disk_of D.Sectors session) (λ c. Represents c (fresh dims))) }
     ensures leaves_err { IfErr result (λ e. Each (disk D.Sectors device) IsBlank →
-        LeavesOrNone (disk D.Sectors device) (disk D.Sectors e.1) (λ c. Stands c (fresh dims))) }
+        LeavesOrNone (disk D.Sectors device) (disk D.Sectors e.1) (λ c. Represents c (fresh dims))) }
     ensures still_blank { IfErr result (λ e. e.0 ≢ Device → Each (disk D.Sectors device) IsBlank → Each (disk D.Sectors e.1) IsBlank) }
     ensures not_already { IfErr result (λ e. D.keeps_word e.1 → Each (disk D.Sectors device) IsBlank → e.0 ≢ AlreadyFormatted) }
 
@@ -77,7 +77,7 @@ fn make_store<D: Sectors>(
     ensures ok { IfOk result (MakesStore D.Sectors device dims.now.value beginning.now.root) }
     ensures refused { IfErr result (λ e. RefusesToMake D.Sectors device dims.now.value e.0 e.1) }
 {
-    kept_is_what_stands(dims, &beginning.root);
+    kept_is_represented(dims, &beginning.root);
     let puts = [
         (1, beginning.customers.as_slice()),
         (2, beginning.suppliers.as_slice()),

@@ -3,12 +3,12 @@ ghost use Rattle.std.specs.Prelude.{◌≡◌, ◌≢◌, ◌⊎◌, false, IfEr
 ghost use Rattle.cube_model.specs.declared.fault.Fault.TheVariants.{BadLayout, Device, Full, Memory, Worn};
 ghost use Rattle.object_store.specs.Disk.{Leaves};
 ghost use Rattle.warehouse_objects.specs.Warehouse.{Warehouse};
-ghost use Rattle.warehouse_objects.specs.Stands.{Stands};
+ghost use Rattle.warehouse_objects.specs.Represents.{Represents};
 ghost use Rattle.cuboid_commits.specs.Keeping.{IsCaughtUp};
 ghost use Rattle.warehouse.specs.Found.{IsFinished};
 ghost use Rattle.warehouse.specs.Session.{Breaks, IsAt, device_of, disk_of, has_failed};
 
-use crate::prepared::kept_is_what_stands;
+use crate::prepared::kept_is_represented;
 use crate::session::Session;
 use cube_model::Fault;
 use cuboid_commits::catch_up;
@@ -22,7 +22,7 @@ impl<D: Sectors> Session<D> {
     pub(crate) fn finish(&mut self, alloc: Global) -> Result<(), Fault>
         requires fine { has_failed self.old ≡ false }
         ensures leaves { (w : Warehouse) → IsAt D.Sectors self.old w → Leaves (disk_of D.Sectors self.old) (disk_of D.Sectors self.new)
-            (λ c. (v : Warehouse) × IsCaughtUp w v × Stands c v) }
+            (λ c. (v : Warehouse) × IsCaughtUp w v × Represents c v) }
         ensures ok { OnOk result ((w : Warehouse) → IsAt D.Sectors self.old w → (v : Warehouse) × IsCaughtUp w v × IsAt D.Sectors self.new v
             × (D.keeps_word (device_of self.new) → IsFinished D.Sectors self.new v)) }
         ensures readable { IsErrOf result BadLayout → D.keeps_word (device_of self.new) → (w : Warehouse) → IsAt D.Sectors self.old w → ⊥ }
@@ -31,7 +31,7 @@ impl<D: Sectors> Session<D> {
         ensures word { D.keeps_word (device_of self.new) → D.keeps_word (device_of self.old) }
     {
         let _broken = self.is_broken();
-        kept_is_what_stands(&self.dims, &self.root);
+        kept_is_represented(&self.dims, &self.root);
         let caught = catch_up(alloc, &mut self.store, &self.dims, &mut self.root);
         unless_no_room(caught)
     }

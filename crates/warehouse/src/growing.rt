@@ -14,7 +14,7 @@ ghost use Rattle.warehouse.specs.Refusing.{is_of_device};
 ghost use Rattle.warehouse.specs.Session.{Breaks, CommitsOnce, IsAt, KeepsContent, SubmitRefuses, content_of, device_of, disk_of, has_failed};
 ghost use Rattle.warehouse.specs.Submitting.{WithOrWithout};
 ghost use Rattle.warehouse_objects.specs.Facts.{Admits};
-ghost use Rattle.warehouse_objects.specs.Stands.{Stands, root_of};
+ghost use Rattle.warehouse_objects.specs.Represents.{Represents, root_of};
 ghost use Rattle.warehouse_objects.specs.Warehouse.{Warehouse, loaded};
 ghost use Rattle.warehouse_root.specs.Root.{AreProperTotals, PlainRoot};
 ghost use Rattle.wire.specs.Limits.{most_objects};
@@ -148,7 +148,7 @@ impl<D: Sectors> Session<D> {
 
         // After a refusal, unless the device failed, as it was at each moment.
         ensures refused { IfErr result (λ fault. fault ≢ Device → (w : Warehouse) → IsAt D.Sectors self.old w →
-            IsAt D.Sectors self.new w × Leaves (disk_of D.Sectors self.old) (disk_of D.Sectors self.new) (λ c. Stands c w)) }
+            IsAt D.Sectors self.new w × Leaves (disk_of D.Sectors self.old) (disk_of D.Sectors self.new) (λ c. Represents c w)) }
 
         // One commit was made, or none.
         ensures once { OnOk result (CommitsOnce D.Sectors self.old self.new) }
@@ -185,7 +185,7 @@ impl<D: Sectors> Session<D> {
         ensures failed { IsErrOf result Failed ↔ (has_failed self.now ≡ true) }
         ensures device { IsErrOf result Device → ⊥ }
         ensures leaves { (w : Warehouse) → IsAt D.Sectors self.now w
-            → Leaves (disk_of D.Sectors self.now) (disk_of D.Sectors self.now) (λ c. Stands c w) }
+            → Leaves (disk_of D.Sectors self.now) (disk_of D.Sectors self.now) (λ c. Represents c w) }
     {
         self.can_put(1)?;
         batch.prepared(alloc, &self.root, number)

@@ -10,8 +10,8 @@ ghost use Rattle.warehouse_root.specs.Layouts.{number_of};
 ghost use Rattle.warehouse_root.specs.Root.{IsRootOf};
 ghost use Rattle.warehouse_objects.specs.Facts.{Change, Facts};
 ghost use Rattle.warehouse_objects.specs.Warehouse.{Warehouse};
-ghost use Rattle.warehouse_objects.specs.Stands.{Stands};
-ghost use Rattle.warehouse.specs.Found.{IsFinished, IsSince, MayBeFound, MayStand, MayStandSince};
+ghost use Rattle.warehouse_objects.specs.Represents.{Represents};
+ghost use Rattle.warehouse.specs.Found.{IsFinished, IsSince, MayBeFound, MayRepresent, MayRepresentSince};
 ghost use Rattle.warehouse_objects.specs.Loaded.{IsLoaded};
 ghost use Rattle.warehouse.specs.Session.{content_of, device_of, disk_of, has_failed, IsAt};
 
@@ -35,18 +35,18 @@ use warehouse_root::Root;
 pub fn open<D: Sectors>(alloc: Global, device: D) -> Result<Session<D>, (Fault, D)>
     // Where every image at the start represents batches that may be found, each at any point represents such.
     ensures leaves { IfOk result (λ session. (facts : Facts) (last : Option Change) →
-        AllShow (disk D.Sectors device) (MayStand facts last) → Leaves (disk D.Sectors device) (disk_of D.Sectors session) (MayStandSince (disk D.Sectors device) facts last)) }
+        AllShow (disk D.Sectors device) (MayRepresent facts last) → Leaves (disk D.Sectors device) (disk_of D.Sectors session) (MayRepresentSince (disk D.Sectors device) facts last)) }
     ensures leaves_err { IfErr result (λ e. (facts : Facts) (last : Option Change) →
-        AllShow (disk D.Sectors device) (MayStand facts last) → Leaves (disk D.Sectors device) (disk D.Sectors e.1) (MayStandSince (disk D.Sectors device) facts last)) }
+        AllShow (disk D.Sectors device) (MayRepresent facts last) → Leaves (disk D.Sectors device) (disk D.Sectors e.1) (MayRepresentSince (disk D.Sectors device) facts last)) }
 
     // Then it is at one of them, and every image represents that one. Its cuboids hold the batches up to the target.
     ensures ok { IfOk result (λ session. (facts : Facts) (last : Option Change) →
-        AllShow (disk D.Sectors device) (MayStand facts last) → D.keeps_word (device_of session)
+        AllShow (disk D.Sectors device) (MayRepresent facts last) → D.keeps_word (device_of session)
         → (w : Warehouse) × MayBeFound facts last w × IsSince (disk D.Sectors device) w × IsAt D.Sectors session w × IsFinished D.Sectors session w) }
 
     // Where every image at the start represents a warehouse, it never finds none: it refuses for memory or the device.
     ensures never { IfErr result (λ e. (facts : Facts) (last : Option Change) →
-        AllShow (disk D.Sectors device) (MayStand facts last) → D.keeps_word e.1 → (e.0 ≡ Memory) ⊎ (e.0 ≡ Device)) }
+        AllShow (disk D.Sectors device) (MayRepresent facts last) → D.keeps_word e.1 → (e.0 ≡ Memory) ⊎ (e.0 ≡ Device)) }
     ensures device { IfErr result (λ e. e.0 ≡ Device → D.failed e.1 ≡ min (D.failed device + 1) (2 ^ 64 - 1)) }
     ensures unformatted { IfErr result (λ e. e.0 ≡ NotFormatted → D.keeps_word e.1 → HasNone (D.state device).reads) }
     ensures explained { IfErr result (λ e. e.0 ≢ BadLayout → D.keeps_word e.1 → Explains e.0 (D.state device).size (D.state device).reads) }
@@ -70,13 +70,13 @@ pub fn open<D: Sectors>(alloc: Global, device: D) -> Result<Session<D>, (Fault, 
 pub fn open_as_is<D: Sectors>(alloc: Global, device: D) -> Result<Session<D>, (Fault, D)>
     // Where every image at the start represents batches that may be found, each at any point represents such.
     ensures leaves { IfOk result (λ session. (facts : Facts) (last : Option Change) →
-        AllShow (disk D.Sectors device) (MayStand facts last) → Leaves (disk D.Sectors device) (disk_of D.Sectors session) (MayStandSince (disk D.Sectors device) facts last)) }
+        AllShow (disk D.Sectors device) (MayRepresent facts last) → Leaves (disk D.Sectors device) (disk_of D.Sectors session) (MayRepresentSince (disk D.Sectors device) facts last)) }
     ensures leaves_err { IfErr result (λ e. (facts : Facts) (last : Option Change) →
-        AllShow (disk D.Sectors device) (MayStand facts last) → Leaves (disk D.Sectors device) (disk D.Sectors e.1) (MayStandSince (disk D.Sectors device) facts last)) }
+        AllShow (disk D.Sectors device) (MayRepresent facts last) → Leaves (disk D.Sectors device) (disk D.Sectors e.1) (MayRepresentSince (disk D.Sectors device) facts last)) }
 
     // Then it is at one of them, and every image represents that one.
     ensures ok { IfOk result (λ session. (facts : Facts) (last : Option Change) →
-        AllShow (disk D.Sectors device) (MayStand facts last) → D.keeps_word (device_of session)
+        AllShow (disk D.Sectors device) (MayRepresent facts last) → D.keeps_word (device_of session)
         → (w : Warehouse) × MayBeFound facts last w × IsSince (disk D.Sectors device) w × IsAt D.Sectors session w) }
 
     // It holds what an image at the start showed.
@@ -87,7 +87,7 @@ pub fn open_as_is<D: Sectors>(alloc: Global, device: D) -> Result<Session<D>, (F
 
     // Where every image at the start represents a warehouse, it never finds none: it refuses for memory or the device.
     ensures never { IfErr result (λ e. (facts : Facts) (last : Option Change) →
-        AllShow (disk D.Sectors device) (MayStand facts last) → D.keeps_word e.1 → (e.0 ≡ Memory) ⊎ (e.0 ≡ Device)) }
+        AllShow (disk D.Sectors device) (MayRepresent facts last) → D.keeps_word e.1 → (e.0 ≡ Memory) ⊎ (e.0 ≡ Device)) }
     ensures device { IfErr result (λ e. e.0 ≡ Device → D.failed e.1 ≡ min (D.failed device + 1) (2 ^ 64 - 1)) }
     ensures unformatted { IfErr result (λ e. e.0 ≡ NotFormatted → D.keeps_word e.1 → HasNone (D.state device).reads) }
     ensures explained { IfErr result (λ e. e.0 ≢ BadLayout → D.keeps_word e.1 → Explains e.0 (D.state device).size (D.state device).reads) }
@@ -112,7 +112,7 @@ fn load<D: Sectors>(alloc: Global, mut store: Store<D>) -> Result<Session<D>, (F
     ensures failures { IfOk result (λ session. (disk_of D.Sectors session).failures ≡ (stores.disk_of D.Sectors store).failures) }
     ensures leaves { IfOk result (λ session. Leaves (stores.disk_of D.Sectors store) (disk_of D.Sectors session) (λ c. c ≡ stores.content_of D.Sectors store)) }
     ensures leaves_err { IfErr result (λ e. Leaves (stores.disk_of D.Sectors store) (disk D.Sectors e.1) (λ c. c ≡ stores.content_of D.Sectors store)) }
-    ensures readable { IfErr result (λ e. e.0 ≡ BadLayout → D.keeps_word e.1 → (w : Warehouse) → Stands (stores.content_of D.Sectors store) w → ⊥) }
+    ensures readable { IfErr result (λ e. e.0 ≡ BadLayout → D.keeps_word e.1 → (w : Warehouse) → Represents (stores.content_of D.Sectors store) w → ⊥) }
     ensures device { IfErr result (λ e. e.0 ≡ Device → D.failed e.1 ≡ min ((stores.disk_of D.Sectors store).failures + 1) (2 ^ 64 - 1)) }
     ensures causes { IfErr result (λ e. (e.0 ≡ Memory) ⊎ ((e.0 ≡ Device) ⊎ (e.0 ≡ BadLayout))) }
 {
@@ -127,7 +127,7 @@ fn read<D: Sectors>(alloc: Global, store: &mut Store<D>) -> Result<(Rc<Dims>, Ro
     requires fine { stores.has_failed store.old ≡ false }
     ensures loaded { IfOk result (λ parts. D.keeps_word (stores.device_of store.new) → IsLoaded (stores.content_of D.Sectors store.old) parts.0.value parts.1) }
     ensures readable { IsErrOf result BadLayout → D.keeps_word (stores.device_of store.new)
-        → (w : Warehouse) → Stands (stores.content_of D.Sectors store.old) w → ⊥ }
+        → (w : Warehouse) → Represents (stores.content_of D.Sectors store.old) w → ⊥ }
     ensures leaves { Leaves (stores.disk_of D.Sectors store.old) (stores.disk_of D.Sectors store.new) (λ c. c ≡ stores.content_of D.Sectors store.old) }
     ensures stays { OnOk result (stores.IsStill D.Sectors store.old store.new) }
     ensures device { IsErrOf result Device → stores.Breaks D.Sectors store.old store.new }
@@ -145,7 +145,7 @@ fn known_root<D: Sectors>(alloc: Global, store: &Store<D>) -> Result<Root, Fault
     ensures ok { IfOk result (IsRootOf First (stores.content_of D.Sectors store.now).root) }
     ensures layout { OnOk result ((stores.content_of D.Sectors store.now).layout ≡ number_of First) }
     ensures readable { IsErrOf result BadLayout → D.keeps_word (stores.device_of store.now)
-        → (w : Warehouse) → Stands (stores.content_of D.Sectors store.now) w → ⊥ }
+        → (w : Warehouse) → Represents (stores.content_of D.Sectors store.now) w → ⊥ }
     ensures causes { IfErr result (λ fault. (fault ≡ Memory) ⊎ (fault ≡ BadLayout)) }
 {
     let root = read_root(alloc, store)?;

@@ -6,7 +6,7 @@ ghost use Rattle.planned_queries.specs.Planned.{ArePlansOf, IsPlanOf};
 ghost use Rattle.warehouse_objects.specs.Warehouse.{Warehouse};
 ghost use Rattle.warehouse.specs.Session.{has_failed, device_of, IsAt, IsAsked, QueryRefuses};
 
-use crate::prepared::kept_is_what_stands;
+use crate::prepared::kept_is_represented;
 use crate::querying::check;
 use crate::session::Session;
 use cube_model::{Fault, Query};
@@ -35,7 +35,7 @@ impl<D: Sectors> Session<D> {
         if self.store.is_broken() {
             return Err(Fault::Failed);
         }
-        kept_is_what_stands(&self.dims, &self.root);
+        kept_is_represented(&self.dims, &self.root);
         if let Err(fault) = check(query, as_of, self.root.batches().len() as u32) {
             return Err(fault);
         }
@@ -59,7 +59,7 @@ impl<D: Sectors> Session<D> {
         if self.store.is_broken() {
             return Err(Fault::Failed);
         }
-        kept_is_what_stands(&self.dims, &self.root);
+        kept_is_represented(&self.dims, &self.root);
         if let Err(fault) = check(query, as_of, self.root.batches().len() as u32) {
             return Err(fault);
         }

@@ -2,12 +2,12 @@
 ghost use Rattle.std.specs.Prelude.{◌≡◌, ◌<◌, ◌≤◌, false, length, IfOk, IfErr};
 ghost use Rattle.cube_model.specs.declared.fault.Fault.TheVariants.{Memory};
 ghost use Rattle.cube_model.specs.Limits.{most_batch_rows, most_batches};
-ghost use Rattle.batch_admission.specs.Accepted.{StandsBehind};
+ghost use Rattle.batch_admission.specs.Accepted.{HasAccepted};
 ghost use Rattle.warehouse_root.specs.Root.{AreProperTotals, IsProper};
 ghost use Rattle.object_store.specs.Commit.{ArePuts};
 ghost use Rattle.object_store.specs.Content.{Content};
 ghost use Rattle.warehouse_objects.specs.Lawful.{dimension_puts};
-ghost use Rattle.warehouse_objects.specs.Stands.{IsLaidOut, Stands, root_of, stored};
+ghost use Rattle.warehouse_objects.specs.Represents.{IsLaidOut, Represents, root_of, stored};
 ghost use Rattle.warehouse_objects.specs.Warehouse.{Warehouse, AreStorable};
 ghost use Rattle.warehouse.specs.Growing.{totals_in};
 ghost use Rattle.warehouse_objects.specs.Loaded.{IsLoaded};
@@ -64,7 +64,7 @@ impl Prepared {
 pub(crate) fn admission_of(root: &Root) -> Admission
     ensures count { result.count ≡ length root.now.batches }
     ensures totals { result.totals ≡ totals_in root.now }
-    ensures stands { (w : Warehouse) → root_of w ≡ root.now → StandsBehind result w.batches }
+    ensures represents { (w : Warehouse) → root_of w ≡ root.now → HasAccepted result w.batches }
 {
     let _layout = root.layout();
     let totals = root.totals();
@@ -108,11 +108,11 @@ pub(crate) fn cause_of(fault: Fault) -> Fault
 }
 
 /// What is kept in memory is what the content represents. It does nothing.
-pub(crate) fn kept_is_what_stands(dims: &Rc<Dims>, root: &Root)
+pub(crate) fn kept_is_represented(dims: &Rc<Dims>, root: &Root)
     ensures dims { AreStorable dims.now.value }
     ensures puts { ArePuts (dimension_puts dims.now.value) }
     ensures root { IsProper root.now }
-    ensures agrees { (c : Content) (w : Warehouse) → IsLoaded c dims.now.value root.now → Stands c w → Agrees w dims.now.value root.now }
+    ensures agrees { (c : Content) (w : Warehouse) → IsLoaded c dims.now.value root.now → Represents c w → Agrees w dims.now.value root.now }
     ensures laid { (c : Content) (w : Warehouse) → IsLoaded c dims.now.value root.now → IsLaidOut c w → Agrees w dims.now.value root.now }
 {
     rows_are_one();

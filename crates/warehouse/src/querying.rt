@@ -5,10 +5,10 @@ ghost use Rattle.cube_model.specs.Answers.{answer_as_of};
 ghost use Rattle.cube_model.specs.Proper.{IsProper};
 ghost use Rattle.object_store.specs.Disk.{Leaves};
 ghost use Rattle.warehouse_objects.specs.Warehouse.{Warehouse};
-ghost use Rattle.warehouse_objects.specs.Stands.{Stands};
+ghost use Rattle.warehouse_objects.specs.Represents.{Represents};
 ghost use Rattle.warehouse.specs.Session.{has_failed, device_of, disk_of, IsAt, Breaks, KeepsContent, IsAsked, QueryRefuses};
 
-use crate::prepared::kept_is_what_stands;
+use crate::prepared::kept_is_represented;
 use crate::session::Session;
 use cube_model::{Answer, Fault, Query};
 use planned_queries::{Found, groups_by_plan};
@@ -23,7 +23,7 @@ impl<D: Sectors> Session<D> {
     pub fn query(&mut self, alloc: Global, as_of: u32, query: &Query) -> Result<Answer, Fault>
         // The warehouse stays as it is, at each moment.
         ensures leaves { (w : Warehouse) → IsAt D.Sectors self.old w
-            → Leaves (disk_of D.Sectors self.old) (disk_of D.Sectors self.new) (λ c. Stands c w) }
+            → Leaves (disk_of D.Sectors self.old) (disk_of D.Sectors self.new) (λ c. Represents c w) }
         ensures stays { (IsErrOf result Device → ⊥) → (w : Warehouse) → IsAt D.Sectors self.old w → IsAt D.Sectors self.new w }
 
         // Nothing was put on the device, and after a failure nothing is done.
@@ -59,7 +59,7 @@ impl<D: Sectors> Session<D> {
     pub fn query_groups(&mut self, alloc: Global, as_of: u32, query: &Query) -> Result<Found, Fault>
         // The warehouse stays as it is, at each moment.
         ensures leaves { (w : Warehouse) → IsAt D.Sectors self.old w
-            → Leaves (disk_of D.Sectors self.old) (disk_of D.Sectors self.new) (λ c. Stands c w) }
+            → Leaves (disk_of D.Sectors self.old) (disk_of D.Sectors self.new) (λ c. Represents c w) }
         ensures stays { (IsErrOf result Device → ⊥) → (w : Warehouse) → IsAt D.Sectors self.old w → IsAt D.Sectors self.new w }
 
         // Nothing was put on the device, and after a failure nothing is done.
@@ -83,7 +83,7 @@ impl<D: Sectors> Session<D> {
         if self.is_broken() {
             return Err(Fault::Failed);
         }
-        kept_is_what_stands(&self.dims, &self.root);
+        kept_is_represented(&self.dims, &self.root);
         if let Err(fault) = check(query, as_of, self.root.batches().len() as u32) {
             return Err(fault);
         }

@@ -9,7 +9,7 @@ ghost use Rattle.warehouse.specs.Headline.{IsCrashed, IsLeftByCrash};
 ghost use Rattle.warehouse.specs.Running.{Slots};
 ghost use Rattle.warehouse.specs.Session.{IsAsked, QueryRefuses, device_of};
 
-use crate::laws::later_stop_is_found;
+use crate::laws::later_crash_is_found;
 use crate::opening::open;
 use crate::session::Session;
 use cube_model::{Answer, Fault, Query};
@@ -35,7 +35,7 @@ pub fn open_and_query<D: Sectors>(
         → IsCrashed D.Sectors w v slots earlier later replies others device → D.keeps_word e.1
         → (e.0 ≡ Memory) ⊎ ((e.0 ≡ Device) ⊎ ((now : Warehouse) × IsLeftByCrash w earlier later replies others now × QueryRefuses now as_of query.now e.0))) }
 {
-    later_stop_is_found::<D>();
+    later_crash_is_found::<D>();
     let mut session = match open(alloc, device) {
         Ok(session) => session,
         Err(e) => return Err(e),

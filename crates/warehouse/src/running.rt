@@ -17,7 +17,7 @@ use cube_model::{Fault, Items, LineOrder, Query};
 use sector_device::Sectors;
 use std::alloc::Global;
 
-/// Does commands in order. The replies are those of the plain model, and while a command runs a stop leaves what that
+/// Does commands in order. The replies are those of the plain model, and while a command runs a crash leaves what that
 /// command may leave. Up to sixteen queries run step by step between the other commands, each in a slot: all slots are empty
 /// where the run begins, and what runs at its end is dropped. `NotRunning` is refused above the last slot, and at a step of an
 /// empty one. Room for the replies is taken first: `Memory` comes before any command is done.

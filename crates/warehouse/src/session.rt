@@ -5,7 +5,7 @@ ghost use Rattle.cube_model.specs.declared.fault.Fault.TheVariants.{Memory};
 ghost use Rattle.object_store.specs.Disk.{Leaves};
 ghost use Rattle.object_store.specs.Store as stores;
 ghost use Rattle.warehouse_objects.specs.Warehouse.{Warehouse};
-ghost use Rattle.warehouse_objects.specs.Stands.{Stands};
+ghost use Rattle.warehouse_objects.specs.Represents.{Represents};
 ghost use Rattle.warehouse_objects.specs.Loaded.{IsLoaded};
 
 use cube_model::Fault;
@@ -50,7 +50,7 @@ impl<D: Sectors> Session<D> {
     pub fn is_broken(&self) -> bool
         ensures broken { result ≡ has_failed self.now }
         ensures leaves { (w : Warehouse) → IsAt D.Sectors self.now w
-            → Leaves (disk_of D.Sectors self.now) (disk_of D.Sectors self.now) (λ c. Stands c w) }
+            → Leaves (disk_of D.Sectors self.now) (disk_of D.Sectors self.now) (λ c. Represents c w) }
     {
         self.store.is_broken()
     }

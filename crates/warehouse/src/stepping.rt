@@ -6,11 +6,11 @@ ghost use Rattle.cube_model.specs.Proper.{IsProper};
 ghost use Rattle.object_store.specs.Disk.{Leaves};
 ghost use Rattle.planned_queries.specs.Stepping.{Extends, IsRunning, RunningState, Started, Starts};
 ghost use Rattle.warehouse_objects.specs.Warehouse.{Warehouse};
-ghost use Rattle.warehouse_objects.specs.Stands.{Stands};
+ghost use Rattle.warehouse_objects.specs.Represents.{Represents};
 ghost use Rattle.warehouse.specs.Session.{has_failed, device_of, disk_of, IsAt, Breaks, KeepsContent, IsAsked, QueryRefuses};
 ghost use Rattle.warehouse.specs.Stepping.{StepsTo, refused_by};
 
-use crate::prepared::kept_is_what_stands;
+use crate::prepared::kept_is_represented;
 use crate::querying::check;
 use crate::session::Session;
 use cube_model::{Answer, Fault, Query};
@@ -37,7 +37,7 @@ impl<D: Sectors> Session<D> {
     pub fn start(&mut self, alloc: Global, as_of: u32, query: &Query) -> Result<Running, Fault>
         // The warehouse stays as it is, at each moment.
         ensures leaves { (w : Warehouse) → IsAt D.Sectors self.old w
-            → Leaves (disk_of D.Sectors self.old) (disk_of D.Sectors self.new) (λ c. Stands c w) }
+            → Leaves (disk_of D.Sectors self.old) (disk_of D.Sectors self.new) (λ c. Represents c w) }
         ensures stays { (IsErrOf result Device → ⊥) → (w : Warehouse) → IsAt D.Sectors self.old w → IsAt D.Sectors self.new w }
 
         // Nothing was put on the device, and after a failure nothing is done.
@@ -61,7 +61,7 @@ impl<D: Sectors> Session<D> {
         if self.is_broken() {
             return Err(Fault::Failed);
         }
-        kept_is_what_stands(&self.dims, &self.root);
+        kept_is_represented(&self.dims, &self.root);
         if let Err(fault) = check(query, as_of, self.root.batches().len() as u32) {
             return Err(fault);
         }
@@ -78,7 +78,7 @@ impl<D: Sectors> Session<D> {
     pub fn step(&mut self, alloc: Global, mut running: Running) -> Stepped
         // The warehouse stays as it is, at each moment.
         ensures leaves { (w : Warehouse) → IsAt D.Sectors self.old w
-            → Leaves (disk_of D.Sectors self.old) (disk_of D.Sectors self.new) (λ c. Stands c w) }
+            → Leaves (disk_of D.Sectors self.old) (disk_of D.Sectors self.new) (λ c. Represents c w) }
         ensures stays { (refused_by result ≡ Some Device → ⊥) → (w : Warehouse) → IsAt D.Sectors self.old w → IsAt D.Sectors self.new w }
 
         // Nothing was put on the device, and after a failure nothing is done.
@@ -100,7 +100,7 @@ impl<D: Sectors> Session<D> {
         if self.is_broken() {
             return Stepped::Refused(running, Fault::Failed);
         }
-        kept_is_what_stands(&self.dims, &self.root);
+        kept_is_represented(&self.dims, &self.root);
         match running.advance(alloc, &mut self.store, &self.root) {
             Ok(found) => match found {
                 None => Stepped::More(running),

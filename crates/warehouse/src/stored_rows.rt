@@ -5,10 +5,10 @@ ghost use Rattle.object_store.specs.Disk.{Leaves};
 ghost use Rattle.object_store.specs.Store as stores;
 ghost use Rattle.warehouse.specs.Comparing.{numbered};
 ghost use Rattle.warehouse.specs.Session.{Breaks, IsAt, KeepsContent, device_of, disk_of, has_failed};
-ghost use Rattle.warehouse_objects.specs.Stands.{Stands, root_of};
+ghost use Rattle.warehouse_objects.specs.Represents.{Represents, root_of};
 ghost use Rattle.warehouse_objects.specs.Warehouse.{Warehouse};
 
-use crate::prepared::kept_is_what_stands;
+use crate::prepared::kept_is_represented;
 use crate::session::Session;
 use batch_rows::read_rows;
 use cube_model::{Fault, Items, LineOrder};
@@ -29,7 +29,7 @@ impl<D: Sectors> Session<D> {
     ) -> Result<Option<Items<LineOrder>>, Fault>
         // The warehouse stays as it is, at each moment.
         ensures leaves { (w : Warehouse) → IsAt D.Sectors self.old w
-            → Leaves (disk_of D.Sectors self.old) (disk_of D.Sectors self.new) (λ c. Stands c w) }
+            → Leaves (disk_of D.Sectors self.old) (disk_of D.Sectors self.new) (λ c. Represents c w) }
         ensures stays { (IsErrOf result Device → ⊥) → (w : Warehouse) → IsAt D.Sectors self.old w → IsAt D.Sectors self.new w }
 
         // Nothing was put on the device, and after a failure nothing is done.
@@ -48,7 +48,7 @@ impl<D: Sectors> Session<D> {
         if self.is_broken() {
             return Err(Fault::Failed);
         }
-        kept_is_what_stands(&self.dims, &self.root);
+        kept_is_represented(&self.dims, &self.root);
         match read_numbered(alloc, &mut self.store, &self.root, number) {
             Ok(found) => Ok(found),
             Err(fault) => Err(fault),
@@ -64,9 +64,9 @@ fn read_numbered<D: Sectors>(
     number: u32,
 ) -> Result<Option<Items<LineOrder>>, Fault>
     requires fine { stores.has_failed store.old ≡ false }
-    ensures rows { IfOk result (λ found. D.keeps_word (stores.device_of store.new) → (w : Warehouse) → Stands (stores.content_of D.Sectors store.old) w
+    ensures rows { IfOk result (λ found. D.keeps_word (stores.device_of store.new) → (w : Warehouse) → Represents (stores.content_of D.Sectors store.old) w
         → root.now ≡ root_of w → found ≡ numbered w.batches number) }
-    ensures refused { IsErrOf result BadLayout → D.keeps_word (stores.device_of store.new) → (w : Warehouse) → Stands (stores.content_of D.Sectors store.old) w
+    ensures refused { IsErrOf result BadLayout → D.keeps_word (stores.device_of store.new) → (w : Warehouse) → Represents (stores.content_of D.Sectors store.old) w
         → root.now ≡ root_of w → ⊥ }
     ensures leaves { Leaves (stores.disk_of D.Sectors store.old) (stores.disk_of D.Sectors store.new) (λ c. c ≡ stores.content_of D.Sectors store.old) }
     ensures stays { (IsErrOf result Device → ⊥) → stores.IsStill D.Sectors store.old store.new }

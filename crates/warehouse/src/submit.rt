@@ -6,7 +6,7 @@ ghost use Rattle.wire.specs.Limits.{most_objects};
 ghost use Rattle.object_store.specs.Disk.{Leaves};
 ghost use Rattle.warehouse_objects.specs.Facts.{Admits, refusal_of};
 ghost use Rattle.warehouse_objects.specs.Warehouse.{Warehouse, loaded};
-ghost use Rattle.warehouse_objects.specs.Stands.{Stands, root_of};
+ghost use Rattle.warehouse_objects.specs.Represents.{Represents, root_of};
 ghost use Rattle.warehouse.specs.Growing.{Grows};
 ghost use Rattle.warehouse.specs.Loaded.{Agrees};
 ghost use Rattle.warehouse.specs.Prepared.{IsPrepared, MayFollow};
@@ -15,7 +15,7 @@ ghost use Rattle.warehouse.specs.Session.{has_failed, content_of, device_of, dis
 ghost use Rattle.warehouse.specs.Submitting.{IsReady, WithOrWithout};
 
 use crate::growing::GrowingBatch;
-use crate::prepared::{Prepared, admission_of, cause_of, kept_is_what_stands};
+use crate::prepared::{Prepared, admission_of, cause_of, kept_is_represented};
 use crate::session::Session;
 use cube_model::{Fault, LineOrder};
 use dimensions::Dims;
@@ -31,7 +31,7 @@ impl<D: Sectors> Session<D> {
     pub fn submit(&mut self, alloc: Global, number: u32, rows: &[LineOrder]) -> Result<(), Fault>
         // A crash at any point leaves the warehouse as it was, or with this batch if it is admissible.
         ensures leaves { (w : Warehouse) → IsAt D.Sectors self.old w → Leaves (disk_of D.Sectors self.old) (disk_of D.Sectors self.new)
-            (λ c. Stands c w ⊎ (Admits w number rows.now × Stands c (loaded w rows.now))) }
+            (λ c. Represents c w ⊎ (Admits w number rows.now × Represents c (loaded w rows.now))) }
 
         // Then with it.
         ensures ok { OnOk result ((w : Warehouse) → IsAt D.Sectors self.old w → IsAt D.Sectors self.new (loaded w rows.now)
@@ -39,7 +39,7 @@ impl<D: Sectors> Session<D> {
 
         // After a refusal, unless the device failed, as it was at each moment.
         ensures refused { IfErr result (λ fault. fault ≢ Device → (w : Warehouse) → IsAt D.Sectors self.old w →
-            IsAt D.Sectors self.new w × Leaves (disk_of D.Sectors self.old) (disk_of D.Sectors self.new) (λ c. Stands c w)) }
+            IsAt D.Sectors self.new w × Leaves (disk_of D.Sectors self.old) (disk_of D.Sectors self.new) (λ c. Represents c w)) }
 
         // One commit was made, or none.
         ensures once { OnOk result (CommitsOnce D.Sectors self.old self.new) }
@@ -75,7 +75,7 @@ impl<D: Sectors> Session<D> {
         ensures ok { OnOk result ((w : Warehouse) (rows : List LineOrder) → IsReady D.Sectors self.old w number rows prepared
             → IsAt D.Sectors self.new (loaded w rows) × (D.keeps_word (device_of self.new) → Admits w number rows)) }
         ensures refused { IfErr result (λ fault. fault ≢ Device → (w : Warehouse) (rows : List LineOrder) → IsReady D.Sectors self.old w number rows prepared
-            → IsAt D.Sectors self.new w × Leaves (disk_of D.Sectors self.old) (disk_of D.Sectors self.new) (λ c. Stands c w)) }
+            → IsAt D.Sectors self.new w × Leaves (disk_of D.Sectors self.old) (disk_of D.Sectors self.new) (λ c. Represents c w)) }
         ensures once { OnOk result (CommitsOnce D.Sectors self.old self.new) }
         ensures kept { IfErr result (λ fault. fault ≢ Device → KeepsContent D.Sectors self.old self.new) }
         ensures causes { IfErr result (λ fault. fault ≢ Device → (w : Warehouse) (rows : List LineOrder) → IsReady D.Sectors self.old w number rows prepared
@@ -110,7 +110,7 @@ impl<D: Sectors> Session<D> {
         ensures failed { IsErrOf result Failed ↔ (has_failed self.now ≡ true) }
         ensures device { IsErrOf result Device → ⊥ }
         ensures leaves { (w : Warehouse) → IsAt D.Sectors self.now w
-            → Leaves (disk_of D.Sectors self.now) (disk_of D.Sectors self.now) (λ c. Stands c w) }
+            → Leaves (disk_of D.Sectors self.now) (disk_of D.Sectors self.now) (λ c. Represents c w) }
     {
         self.can_put(1)?;
         check(&self.dims, &self.root, number, rows)?;
@@ -125,13 +125,13 @@ impl<D: Sectors> Session<D> {
         ensures fine { OnOk result (has_failed self.now ≡ false) }
         ensures few { OnOk result (length (content_of D.Sectors self.now).objects + puts ≤ most_objects) }
         ensures agrees { (w : Warehouse) → IsAt D.Sectors self.now w → D.keeps_word (device_of self.now) → Agrees w self.now.dims.value self.now.root }
-        ensures stands { IfErr result (λ _. (w : Warehouse) → IsAt D.Sectors self.now w → D.keeps_word (device_of self.now) → ⊥) }
+        ensures represents { IfErr result (λ _. (w : Warehouse) → IsAt D.Sectors self.now w → D.keeps_word (device_of self.now) → ⊥) }
         ensures failed { IsErrOf result Failed ↔ (has_failed self.now ≡ true) }
         ensures device { IsErrOf result Device → ⊥ }
         ensures leaves { (w : Warehouse) → IsAt D.Sectors self.now w
-            → Leaves (disk_of D.Sectors self.now) (disk_of D.Sectors self.now) (λ c. Stands c w) }
+            → Leaves (disk_of D.Sectors self.now) (disk_of D.Sectors self.now) (λ c. Represents c w) }
     {
-        kept_is_what_stands(&self.dims, &self.root);
+        kept_is_represented(&self.dims, &self.root);
         if self.is_broken() {
             return Err(Fault::Failed);
         }

@@ -3,7 +3,7 @@ ghost use Rattle.std.specs.Prelude.{◌≡◌};
 ghost use Rattle.warehouse_objects.specs.Warehouse.{Warehouse};
 ghost use Rattle.warehouse.specs.Session.{device_of, IsAt};
 
-use crate::prepared::kept_is_what_stands;
+use crate::prepared::kept_is_represented;
 use crate::session::Session;
 use dimensions::Dims;
 use sector_device::Sectors;
@@ -13,7 +13,7 @@ impl<D: Sectors> Session<D> {
     pub fn dims(&self) -> &Dims
         ensures { (w : Warehouse) → IsAt D.Sectors self.now w → D.keeps_word (device_of self.now) → result.now ≡ w.rows }
     {
-        kept_is_what_stands(&self.dims, &self.root);
+        kept_is_represented(&self.dims, &self.root);
         &self.dims
     }
 }

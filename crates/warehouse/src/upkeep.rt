@@ -3,14 +3,14 @@ ghost use Rattle.std.specs.Prelude.{◌≡◌, ◌≢◌, ◌↔◌, All, IsTrue
 ghost use Rattle.cube_model.specs.declared.fault.Fault.TheVariants.{Device, Failed, Memory};
 ghost use Rattle.object_store.specs.Disk.{Leaves};
 ghost use Rattle.warehouse_objects.specs.Warehouse.{Warehouse};
-ghost use Rattle.warehouse_objects.specs.Stands.{Stands};
+ghost use Rattle.warehouse_objects.specs.Represents.{Represents};
 ghost use Rattle.stored_cuboids.specs.Merged.{IsSound};
 ghost use Rattle.cuboid_commits.specs.Keeping.{IsKeptUp};
 ghost use Rattle.cuboid_commits.specs.Upkeep.{AreWhole};
 ghost use Rattle.warehouse.specs.Session.{Breaks, IsAt, KeepsContent, device_of, disk_of, has_failed};
 ghost use Rattle.warehouse.specs.Upkeep.{IsLaidAt, UpkeepRefuses};
 
-use crate::prepared::kept_is_what_stands;
+use crate::prepared::kept_is_represented;
 use crate::session::Session;
 use cube_model::Fault;
 use cuboid_commits::keep_up;
@@ -29,7 +29,7 @@ impl<D: Sectors> Session<D> {
     pub fn upkeep(&mut self, alloc: Global) -> Result<(), Fault>
         // A crash leaves the same rows, batches and views, and no mark lower.
         ensures leaves { (w : Warehouse) → IsAt D.Sectors self.old w → Leaves (disk_of D.Sectors self.old) (disk_of D.Sectors self.new)
-            (λ c. (v : Warehouse) × IsKeptUp w v × Stands c v) }
+            (λ c. (v : Warehouse) × IsKeptUp w v × Represents c v) }
         ensures stays { (IsErrOf result Device → ⊥) → (w : Warehouse) → IsAt D.Sectors self.old w → (v : Warehouse) × IsKeptUp w v × IsAt D.Sectors self.new v }
 
         // Then each stored cuboid holds all batches.
@@ -47,7 +47,7 @@ impl<D: Sectors> Session<D> {
         if self.is_broken() {
             return Err(Fault::Failed);
         }
-        kept_is_what_stands(&self.dims, &self.root);
+        kept_is_represented(&self.dims, &self.root);
         match keep_up(alloc, &mut self.store, &self.dims, &mut self.root) {
             Ok(passed) => match passed {
                 None => Ok(()),
@@ -64,7 +64,7 @@ impl<D: Sectors> Session<D> {
     pub fn audit(&mut self, alloc: Global) -> Result<bool, Fault>
         // The warehouse stays as it is, at each moment.
         ensures leaves { (w : Warehouse) → IsAt D.Sectors self.old w
-            → Leaves (disk_of D.Sectors self.old) (disk_of D.Sectors self.new) (λ c. Stands c w) }
+            → Leaves (disk_of D.Sectors self.old) (disk_of D.Sectors self.new) (λ c. Represents c w) }
         ensures stays { (IsErrOf result Device → ⊥) → (w : Warehouse) → IsAt D.Sectors self.old w → IsAt D.Sectors self.new w }
         ensures reads { (IsErrOf result Device → ⊥) → KeepsContent D.Sectors self.old self.new }
 
@@ -83,7 +83,7 @@ impl<D: Sectors> Session<D> {
         if self.is_broken() {
             return Err(Fault::Failed);
         }
-        kept_is_what_stands(&self.dims, &self.root);
+        kept_is_represented(&self.dims, &self.root);
         kept_cuboids_are_sound();
         match audited(alloc, &mut self.store, &self.root, &self.dims) {
             Ok(yes) => Ok(yes),

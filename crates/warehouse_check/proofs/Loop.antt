@@ -7,9 +7,9 @@ use Rattle.std.proofs.lemmas.Option.{slice_get-map}
 use Rattle.cube_model.specs.declared.rows.DimRows.{DimRows}
 use Rattle.cube_model.specs.declared.rows.LineOrder.{LineOrder}
 use Rattle.object_store.specs.Content.{Content}
-use Rattle.batch_admission.specs.Accepted.{Accepted, StandsBehind}
+use Rattle.batch_admission.specs.Accepted.{Accepted, HasAccepted}
 use Rattle.warehouse_root.specs.Objects.{segment_id}
-use Rattle.warehouse_objects.specs.Stands.{IsLaidOut}
+use Rattle.warehouse_objects.specs.Represents.{IsLaidOut}
 use Rattle.warehouse_objects.specs.Warehouse.{Warehouse}
 use Rattle.warehouse_objects.proofs.Batches.{get_within, in_order_more, in_order_none, slice_get_snoc, some_one, take_next}
 use Rattle.warehouse_check.specs.Checked.{AreBatches, IsNextBatch, IsSegmentAt, IsTakenIn}
@@ -18,14 +18,14 @@ use Rattle.warehouse_check.proofs.Segments.{own_rows}
 -- so many batches were taken in; where the device keeps its word they are those of the content
 pub record AreSoFar (keeps : Type 0) (c : Content) (dimensions : DimRows) (counts : List ℕ) (index : ℕ) (admission : Accepted) : Type 0 where
   pub batches : List (List LineOrder)
-  pub stand : StandsBehind admission batches
+  pub represent : HasAccepted admission batches
   pub many : length batches ≡ index
   pub are : keeps → AreBatches c dimensions (take index counts) batches
 
-pub so_far_none : (keeps : Type 0) (c : Content) (dimensions : DimRows) (counts : List ℕ) (admission : Accepted) → StandsBehind admission [] → AreSoFar keeps c dimensions counts 0 admission
-so_far_none keeps c dimensions counts admission stand = record {
+pub so_far_none : (keeps : Type 0) (c : Content) (dimensions : DimRows) (counts : List ℕ) (admission : Accepted) → HasAccepted admission [] → AreSoFar keeps c dimensions counts 0 admission
+so_far_none keeps c dimensions counts admission represent = record {
   batches = [];
-  stand = stand;
+  represent = represent;
   many = refl;
   are = λ k. record { counted = refl; segments = λ before batch is. absurd cc; in_order = in_order_none dimensions };
 }
@@ -49,7 +49,7 @@ so_far_next keeps after c now dimensions counts index said old new word same her
     let rows = next.rows in
     let one : take (index + 1) counts ≡ take index counts ++ said ∷ [] = ap (λ (n : ℕ). take n counts) (add-one index) ∙ take_next counts index said here in record {
       batches = so_far.batches ++ rows ∷ [];
-      stand = next.taken.stands;
+      represent = next.taken.represents;
       many = length-append so_far.batches (rows ∷ []) ∙ ap (λ n. n + 1) so_far.many;
       are = λ k.
           let before = so_far.are (word k) in record {
@@ -62,7 +62,7 @@ so_far_next keeps after c now dimensions counts index said old new word same her
 
 -- and it is that of the warehouse of the content
 pub own_next : (after : Type 0) (c now : Content) (w : Warehouse) (dimensions : DimRows) (index said : ℕ) (new : Accepted) → IsLaidOut c w → now ≡ c → after → index < length w.batches
-    → IsNextBatch after now dimensions (take index w.batches) said new → StandsBehind new (take (index + 1) w.batches)
+    → IsNextBatch after now dimensions (take index w.batches) said new → HasAccepted new (take (index + 1) w.batches)
 own_next after c now w dimensions index said new laid same k within next =
     let got = get_within w.batches index within in
     let length_is : length (take index w.batches) ≡ index = length-take-le index w.batches (omega (arith, within)) in
@@ -72,7 +72,7 @@ own_next after c now w dimensions index said new laid same k within next =
     let is : next.rows ≡ got.0 = (own_rows c w laid index got.0 got.1 (index + 1) next.rows there).1 in
     let more : take (index + 1) w.batches ≡ take index w.batches ++ next.rows ∷ [] =
     ap (λ (n : ℕ). take n w.batches) (add-one index) ∙ take_next w.batches index got.0 got.1 ∙ ap (λ (b : List LineOrder). take index w.batches ++ b ∷ []) (sym is) in
-    subst (StandsBehind new) (sym more) next.taken.stands
+    subst (HasAccepted new) (sym more) next.taken.represents
 
 -- what is said at a place
 pub here_at : (counts : List ℕ) (n d : ℕ) → n < length counts → slice_get counts n ≡ Some (get_or counts n d)

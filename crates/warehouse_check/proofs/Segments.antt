@@ -8,9 +8,9 @@ use Rattle.cube_model.specs.declared.rows.LineOrder.{LineOrder}
 use Rattle.object_store.specs.Content.{Content, bytes_of}
 use Rattle.column_segment.specs.Segment.{IsSegment, segment_of}
 use Rattle.column_segment.proofs.CallerLemmas.{IsSegment-one}
-use Rattle.batch_admission.specs.Accepted.{Accepted, StandsBehind}
+use Rattle.batch_admission.specs.Accepted.{Accepted, HasAccepted}
 use Rattle.warehouse_root.specs.Objects.{segment_id}
-use Rattle.warehouse_objects.specs.Stands.{IsLaidOut}
+use Rattle.warehouse_objects.specs.Represents.{IsLaidOut}
 use Rattle.warehouse_objects.specs.Warehouse.{IsNext, Warehouse}
 use Rattle.warehouse_objects.proofs.CallerLemmas.{few_batches, object_batch, segment_at}
 use Rattle.warehouse_objects.proofs.Batches.{some_one, take_next}

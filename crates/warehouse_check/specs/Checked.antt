@@ -6,12 +6,12 @@ use Rattle.cube_model.specs.declared.rows.LineOrder.{LineOrder}
 use Rattle.cube_model.specs.Admission.{all_rows}
 use Rattle.object_store.specs.Content.{Content, bytes_of}
 use Rattle.column_segment.specs.Segment.{IsSegment}
-use Rattle.batch_admission.specs.Accepted.{Accepted, StandsBehind}
+use Rattle.batch_admission.specs.Accepted.{Accepted, HasAccepted}
 use Rattle.batch_admission.specs.Totals.{totals_of}
 use Rattle.warehouse_root.specs.Objects.{segment_id}
 use Rattle.warehouse_root.specs.Root.{IsProper, PlainRoot}
 use Rattle.warehouse_objects.specs.Warehouse.{AreInOrder, AreStorable, IsNext}
-use Rattle.warehouse_objects.specs.Stands.{HasItsObjects, stored}
+use Rattle.warehouse_objects.specs.Represents.{HasItsObjects, stored}
 use Rattle.warehouse_objects.specs.Loaded.{IsLoaded}
 
 -- an object of a content is the segment of a number with these rows
@@ -35,7 +35,7 @@ pub record IsTakenIn (dimensions : DimRows) (batches : List (List LineOrder)) (n
   pub numbered : number ≡ length batches + 1
   pub count : length rows ≡ said
   pub next : IsNext dimensions batches rows
-  pub stands : StandsBehind new (batches ++ rows ∷ [])
+  pub represents : HasAccepted new (batches ++ rows ∷ [])
 
 -- and where the device keeps its word, they are the segment of their number
 pub record IsNextBatch (keeps : Type 0) (c : Content) (dimensions : DimRows) (batches : List (List LineOrder)) (said : ℕ) (new : Accepted) : Type 0 where

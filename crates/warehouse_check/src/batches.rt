@@ -6,9 +6,9 @@ ghost use Rattle.cube_model.specs.Limits.{most_batches};
 ghost use Rattle.object_store.specs.Disk.{Leaves};
 ghost use Rattle.object_store.specs.Store.{Breaks, IsStill, content_of, device_of, disk_of, has_failed};
 ghost use Rattle.column_segment.specs.Segment.{IsSegment};
-ghost use Rattle.batch_admission.specs.Accepted.{StandsBehind};
+ghost use Rattle.batch_admission.specs.Accepted.{HasAccepted};
 ghost use Rattle.warehouse_objects.specs.Warehouse.{Warehouse};
-ghost use Rattle.warehouse_objects.specs.Stands.{IsLaidOut, root_of, stored};
+ghost use Rattle.warehouse_objects.specs.Represents.{IsLaidOut, root_of, stored};
 ghost use Rattle.warehouse_check.specs.Checked.{HasBatches, IsNextBatch, IsSegmentAt};
 
 use crate::finding::Finding;
@@ -63,11 +63,11 @@ fn check_batch<D: Sectors>(
 ) -> Result<Option<Finding>, Fault>
     requires fine { has_failed store.old ≡ false }
     requires few { admission.old.count < most_batches }
-    ensures sound { IfOk result (λ found. found ≡ None → (batches : List (List LineOrder)) → StandsBehind admission.old batches
+    ensures sound { IfOk result (λ found. found ≡ None → (batches : List (List LineOrder)) → HasAccepted admission.old batches
         → IsNextBatch (D.keeps_word (device_of store.new)) (content_of D.Sectors store.old) dims.now batches said admission.new) }
     ensures found { IfOk result (λ found. IsTrue (is_some found) → D.keeps_word (device_of store.new) → (w : Warehouse) (before : ℕ) (batch : List LineOrder)
         → IsLaidOut (content_of D.Sectors store.old) w → dims.now ≡ w.rows → slice_get w.batches before ≡ Some batch → said ≡ length batch
-        → StandsBehind admission.old (take before w.batches) → ⊥) }
+        → HasAccepted admission.old (take before w.batches) → ⊥) }
     ensures leaves { Leaves (disk_of D.Sectors store.old) (disk_of D.Sectors store.new) (λ c. c ≡ content_of D.Sectors store.old) }
     ensures stays { (IsErrOf result Device → ⊥) → IsStill D.Sectors store.old store.new }
     ensures device { IsErrOf result Device → Breaks D.Sectors store.old store.new }

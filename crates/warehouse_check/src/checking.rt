@@ -4,7 +4,7 @@ ghost use Rattle.cube_model.specs.declared.fault.Fault.TheVariants.{BadLayout, D
 ghost use Rattle.object_store.specs.Disk.{Leaves};
 ghost use Rattle.object_store.specs.Store.{Breaks, IsStill, content_of, device_of, disk_of, has_failed};
 ghost use Rattle.warehouse_objects.specs.Warehouse.{Warehouse};
-ghost use Rattle.warehouse_objects.specs.Stands.{HasItsObjects, IsLaidOut, Stands, root_of};
+ghost use Rattle.warehouse_objects.specs.Represents.{HasItsObjects, IsLaidOut, Represents, root_of};
 ghost use Rattle.stored_cuboids.specs.Merged.{IsSound};
 ghost use Rattle.warehouse_check.specs.Checked.{HasBatches};
 
@@ -43,9 +43,9 @@ pub fn checked<D: Sectors>(
         → root.now ≡ root_of w → dims.now ≡ w.rows → All (IsSound w) w.cuboids) }
 
     // Something is found, or it is refused: then the content represents no warehouse.
-    ensures found { IfOk result (λ found. IsTrue (is_some found) → D.keeps_word (device_of store.new) → (w : Warehouse) → Stands (content_of D.Sectors store.old) w
+    ensures found { IfOk result (λ found. IsTrue (is_some found) → D.keeps_word (device_of store.new) → (w : Warehouse) → Represents (content_of D.Sectors store.old) w
         → root.now ≡ root_of w → dims.now ≡ w.rows → ⊥) }
-    ensures refused { IsErrOf result BadLayout → D.keeps_word (device_of store.new) → (w : Warehouse) → Stands (content_of D.Sectors store.old) w
+    ensures refused { IsErrOf result BadLayout → D.keeps_word (device_of store.new) → (w : Warehouse) → Represents (content_of D.Sectors store.old) w
         → root.now ≡ root_of w → dims.now ≡ w.rows → ⊥ }
 
     // The content stays, at each moment.

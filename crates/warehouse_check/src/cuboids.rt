@@ -4,7 +4,7 @@ ghost use Rattle.cube_model.specs.declared.fault.Fault.TheVariants.{BadLayout, D
 ghost use Rattle.object_store.specs.Disk.{Leaves};
 ghost use Rattle.object_store.specs.Store.{Breaks, IsStill, content_of, device_of, disk_of, has_failed};
 ghost use Rattle.warehouse_objects.specs.Warehouse.{Warehouse};
-ghost use Rattle.warehouse_objects.specs.Stands.{IsLaidOut, root_of};
+ghost use Rattle.warehouse_objects.specs.Represents.{IsLaidOut, root_of};
 ghost use Rattle.stored_cuboids.specs.Merged.{IsSound};
 
 use crate::finding::Finding;

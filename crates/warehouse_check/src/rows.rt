@@ -2,7 +2,7 @@
 ghost use Rattle.std.specs.Prelude.{◌≡◌, ◌+◌, None, is_some, [], ◌∷◌, ◌++◌, List, length, IfErr, IfOk, IsTrue};
 ghost use Rattle.cube_model.specs.declared.fault.Fault.TheVariants.{Memory};
 ghost use Rattle.cube_model.specs.declared.rows.LineOrder.{LineOrder};
-ghost use Rattle.batch_admission.specs.Accepted.{StandsBehind};
+ghost use Rattle.batch_admission.specs.Accepted.{HasAccepted};
 ghost use Rattle.warehouse_objects.specs.Warehouse.{IsNext};
 ghost use Rattle.warehouse_check.specs.Checked.{IsTakenIn};
 
@@ -21,9 +21,9 @@ pub(crate) fn take_in(
     segment: &Segment,
     said: u32,
 ) -> Result<Option<Finding>, Fault>
-    ensures sound { IfOk result (λ found. found ≡ None → (batches : List (List LineOrder)) → StandsBehind admission.old batches
+    ensures sound { IfOk result (λ found. found ≡ None → (batches : List (List LineOrder)) → HasAccepted admission.old batches
         → IsTakenIn dims.now batches segment.now.number segment.now.rows said admission.new) }
-    ensures found { IfOk result (λ found. IsTrue (is_some found) → (batches : List (List LineOrder)) → StandsBehind admission.old batches
+    ensures found { IfOk result (λ found. IsTrue (is_some found) → (batches : List (List LineOrder)) → HasAccepted admission.old batches
         → segment.now.number ≡ length batches + 1 → length segment.now.rows ≡ said → IsNext dims.now batches segment.now.rows → ⊥) }
     ensures memory { IfErr result (λ fault. fault ≡ Memory) }
 {
@@ -48,11 +48,11 @@ fn admit(
     segment: &Segment,
     batch: u32,
 ) -> Result<Option<Finding>, Fault>
-    ensures sound { IfOk result (λ found. found ≡ None → (batches : List (List LineOrder)) → StandsBehind admission.old batches → batch ≡ length batches + 1
+    ensures sound { IfOk result (λ found. found ≡ None → (batches : List (List LineOrder)) → HasAccepted admission.old batches → batch ≡ length batches + 1
         → IsNext dims.now batches segment.now.rows) }
-    ensures taken { IfOk result (λ found. found ≡ None → (batches : List (List LineOrder)) → StandsBehind admission.old batches → batch ≡ length batches + 1
-        → StandsBehind admission.new (batches ++ segment.now.rows ∷ [])) }
-    ensures found { IfOk result (λ found. IsTrue (is_some found) → (batches : List (List LineOrder)) → StandsBehind admission.old batches → batch ≡ length batches + 1
+    ensures taken { IfOk result (λ found. found ≡ None → (batches : List (List LineOrder)) → HasAccepted admission.old batches → batch ≡ length batches + 1
+        → HasAccepted admission.new (batches ++ segment.now.rows ∷ [])) }
+    ensures found { IfOk result (λ found. IsTrue (is_some found) → (batches : List (List LineOrder)) → HasAccepted admission.old batches → batch ≡ length batches + 1
         → IsNext dims.now batches segment.now.rows → ⊥) }
     ensures memory { IfErr result (λ fault. fault ≡ Memory) }
 {

@@ -6,7 +6,7 @@ use Rattle.object_store.specs.Content.{Content}
 use Rattle.object_store.specs.Disk.{Disk, Leaves, LeavesOrNone, OnlyImagesOf, ShowsSome, ShowsSomeOrNone, disk}
 use Rattle.object_store.specs.Moments.{passes_also, passes_then}
 use Rattle.object_store.specs.Shows.{HasNone}
-use Rattle.warehouse_objects.specs.Stands.{Stands}
+use Rattle.warehouse_objects.specs.Represents.{Represents}
 use Rattle.warehouse_objects.specs.Warehouse.{Warehouse, fresh}
 use Rattle.warehouse_copy.specs.Copied.{HoldsPart, with_first}
 use Rattle.warehouse_copy.proofs.Parts.{holds_first}
@@ -16,17 +16,17 @@ pub fresh_first : (w : Warehouse) (rows : DimRows) → rows ≡ w.rows → fresh
 fresh_first w rows same = ap fresh same
 
 module _ (w : Warehouse) (rows : DimRows) (same : rows ≡ w.rows) where
-  holds_fresh : (c : Content) → Stands c (fresh rows) → HoldsPart w c
-  holds_fresh c stands = holds_first w 0 c (subst (λ (v : Warehouse). Stands c v) (fresh_first w rows same) stands)
+  holds_fresh : (c : Content) → Represents c (fresh rows) → HoldsPart w c
+  holds_fresh c represents = holds_first w 0 c (subst (λ (v : Warehouse). Represents c v) (fresh_first w rows same) represents)
 
   -- what a crash leaves while the store is made
-  pub making_leaves : (old new : Disk) → LeavesOrNone old new (λ c. Stands c (fresh rows)) → LeavesOrNone old new (HoldsPart w)
+  pub making_leaves : (old new : Disk) → LeavesOrNone old new (λ c. Represents c (fresh rows)) → LeavesOrNone old new (HoldsPart w)
   making_leaves old new leaves =
-      passes_also (ShowsSomeOrNone (λ (c : Content). Stands c (fresh rows))) (ShowsSomeOrNone (HoldsPart w)) old new
+      passes_also (ShowsSomeOrNone (λ (c : Content). Represents c (fresh rows))) (ShowsSomeOrNone (HoldsPart w)) old new
       (λ k size image one. ⊎_elim (λ none. inl none) (λ shown. inr (shown.0, shown.1, holds_fresh shown.0 shown.2)) one) leaves
 
   -- and while it is filled
-  pub filling_leaves : (old mid new : Disk) → LeavesOrNone old mid (λ c. Stands c (fresh rows)) → Leaves mid new (HoldsPart w) → LeavesOrNone old new (HoldsPart w)
+  pub filling_leaves : (old mid new : Disk) → LeavesOrNone old mid (λ c. Represents c (fresh rows)) → Leaves mid new (HoldsPart w) → LeavesOrNone old new (HoldsPart w)
   filling_leaves old mid new first second =
       passes_then (ShowsSomeOrNone (HoldsPart w)) old mid new (making_leaves old mid first)
       (passes_also (ShowsSome (HoldsPart w)) (ShowsSomeOrNone (HoldsPart w)) mid new (λ k size image shown. inr shown) second)

@@ -9,7 +9,7 @@ use Rattle.object_store.specs.Content.{Content}
 use Rattle.object_store.specs.Disk.{Disk, Leaves}
 use Rattle.object_store.specs.Moments.{leaves_then, leaves_weaker}
 use Rattle.warehouse_objects.specs.Facts.{Facts, facts_in}
-use Rattle.warehouse_objects.specs.Stands.{Stands, said_of}
+use Rattle.warehouse_objects.specs.Represents.{Represents, said_of}
 use Rattle.warehouse_objects.specs.Warehouse.{Cuboid, Warehouse, in_order, with_views}
 use Rattle.cuboid_commits.specs.Keeping.{AreKeptOn, IsKeptUp}
 use Rattle.cuboid_commits.proofs.CallerLemmas.{kept_same}
@@ -49,35 +49,35 @@ module _ (w : Warehouse) (views : List View) (v : Warehouse) (kept : IsKeptUp (w
 
 -- what a crash leaves while the views are put
 pub views_leave : (w : Warehouse) (views : List View) (old new : Disk)
-    → Leaves old new (λ c. Stands c (with_first w (length w.batches)) ⊎ ((v : Warehouse) × IsKeptUp (with_views (with_first w (length w.batches)) views) v × Stands c v)) → Leaves old new (HoldsPart w)
+    → Leaves old new (λ c. Represents c (with_first w (length w.batches)) ⊎ ((v : Warehouse) × IsKeptUp (with_views (with_first w (length w.batches)) views) v × Represents c v)) → Leaves old new (HoldsPart w)
 views_leave w views old new leaves =
-    leaves_weaker (λ (c : Content). Stands c (with_first w (length w.batches)) ⊎ ((v : Warehouse) × IsKeptUp (with_views (with_first w (length w.batches)) views) v × Stands c v)) (HoldsPart w) old new
-    (λ k c one. ⊎_elim (λ stands. holds_first w (length w.batches) c stands) (λ more. (more.0, is_part w views more.0 more.1, more.2)) one) leaves
+    leaves_weaker (λ (c : Content). Represents c (with_first w (length w.batches)) ⊎ ((v : Warehouse) × IsKeptUp (with_views (with_first w (length w.batches)) views) v × Represents c v)) (HoldsPart w) old new
+    (λ k c one. ⊎_elim (λ represents. holds_first w (length w.batches) c represents) (λ more. (more.0, is_part w views more.0 more.1, more.2)) one) leaves
 
 -- what a crash leaves in the commit of views, and then in upkeep
 abbrev pub Later : Warehouse → List View → Content → Type 0
-Later w views c = Stands c w ⊎ ((v : Warehouse) × IsKeptUp (with_views w views) v × Stands c v)
+Later w views c = Represents c w ⊎ ((v : Warehouse) × IsKeptUp (with_views w views) v × Represents c v)
 
-pub commit_leaves : (w : Warehouse) (views : List View) (old new : Disk) → Leaves old new (λ c. Stands c w ⊎ Stands c (with_views w views)) → Leaves old new (Later w views)
+pub commit_leaves : (w : Warehouse) (views : List View) (old new : Disk) → Leaves old new (λ c. Represents c w ⊎ Represents c (with_views w views)) → Leaves old new (Later w views)
 commit_leaves w views old new leaves =
-    leaves_weaker (λ (c : Content). Stands c w ⊎ Stands c (with_views w views)) (Later w views) old new
-    (λ k c one. ⊎_elim (λ (stands : Stands c w). inl stands) (λ (stands : Stands c (with_views w views)). inr (with_views w views, kept_same (with_views w views), stands)) one) leaves
+    leaves_weaker (λ (c : Content). Represents c w ⊎ Represents c (with_views w views)) (Later w views) old new
+    (λ k c one. ⊎_elim (λ (represents : Represents c w). inl represents) (λ (represents : Represents c (with_views w views)). inr (with_views w views, kept_same (with_views w views), represents)) one) leaves
 
-pub upkeep_leaves : (w : Warehouse) (views : List View) (old mid new : Disk) → Leaves old mid (λ c. Stands c w ⊎ Stands c (with_views w views))
-    → Leaves mid new (λ c. (v : Warehouse) × IsKeptUp (with_views w views) v × Stands c v) → Leaves old new (Later w views)
+pub upkeep_leaves : (w : Warehouse) (views : List View) (old mid new : Disk) → Leaves old mid (λ c. Represents c w ⊎ Represents c (with_views w views))
+    → Leaves mid new (λ c. (v : Warehouse) × IsKeptUp (with_views w views) v × Represents c v) → Leaves old new (Later w views)
 upkeep_leaves w views old mid new first second =
     leaves_then (Later w views) old mid new (commit_leaves w views old mid first)
-    (leaves_weaker (λ (c : Content). (v : Warehouse) × IsKeptUp (with_views w views) v × Stands c v) (Later w views) mid new (λ k c more. inr more) second)
+    (leaves_weaker (λ (c : Content). (v : Warehouse) × IsKeptUp (with_views w views) v × Represents c v) (Later w views) mid new (λ k c more. inr more) second)
 
 -- what a session says of its stored cuboids, of which none groups by ship mode
-pub said_are : (w : Warehouse) (c : Content) → Stands c w → (generation : ℕ) (status : Status) → IsStatus w generation status
+pub said_are : (w : Warehouse) (c : Content) → Represents c w → (generation : ℕ) (status : Status) → IsStatus w generation status
     → AreSaidOf w.cuboids status.cuboids × All (λ cuboid. index_of cuboid.view < 256) w.cuboids
-said_are w c stands generation status is =
-    let first : layouts.views_of w.layout ≡ 256 = ap layouts.views_of stands.first in (
-      record { few = omega (arith, stands.root.proper.most_cuboids, length-map w.cuboids said_of); each = is.cuboids },
+said_are w c represents generation status is =
+    let first : layouts.views_of w.layout ≡ 256 = ap layouts.views_of represents.first in (
+      record { few = omega (arith, represents.root.proper.most_cuboids, length-map w.cuboids said_of); each = is.cuboids },
       λ k d within.
           let proper : IsProperCuboid w.layout (length (map length w.batches)) (said_of (get_or w.cuboids k d)) =
           subst (IsProperCuboid w.layout (length (map length w.batches))) (get_or-map said_of w.cuboids k d (said_of d) within)
-          (stands.root.proper.each k (said_of d) (omega (arith, within, length-map w.cuboids said_of))) in
+          (represents.root.proper.each k (said_of d) (omega (arith, within, length-map w.cuboids said_of))) in
           omega (arith, proper.view, first),
     )

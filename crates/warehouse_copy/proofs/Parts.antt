@@ -11,7 +11,7 @@ use Rattle.object_store.specs.Content.{Content}
 use Rattle.object_store.specs.Disk.{Disk, Leaves}
 use Rattle.object_store.specs.Moments.{leaves_weaker}
 use Rattle.warehouse_objects.specs.Facts.{Admits, refusal_of}
-use Rattle.warehouse_objects.specs.Stands.{Stands}
+use Rattle.warehouse_objects.specs.Represents.{Represents}
 use Rattle.warehouse_objects.specs.Warehouse.{Warehouse, fresh, loaded}
 use Rattle.warehouse_objects.proofs.Batches.{get_within, some_one, take_next}
 use Rattle.warehouse.specs.declared.session.Session.{Session}
@@ -24,11 +24,11 @@ module _ (w : Warehouse) where
   pub part_first : (count : ℕ) → IsPart w (with_first w count)
   part_first count = record { rows = refl; count = count; batches = refl }
 
-  pub holds_first : (count : ℕ) (c : Content) → Stands c (with_first w count) → HoldsPart w c
-  holds_first count c stands = (with_first w count, part_first count, stands)
+  pub holds_first : (count : ℕ) (c : Content) → Represents c (with_first w count) → HoldsPart w c
+  holds_first count c represents = (with_first w count, part_first count, represents)
 
-  pub leaves_part : (count : ℕ) (old new : Disk) → Leaves old new (λ c. Stands c (with_first w count)) → Leaves old new (HoldsPart w)
-  leaves_part count old new leaves = leaves_weaker (λ (c : Content). Stands c (with_first w count)) (HoldsPart w) old new (λ k c stands. holds_first count c stands) leaves
+  pub leaves_part : (count : ℕ) (old new : Disk) → Leaves old new (λ c. Represents c (with_first w count)) → Leaves old new (HoldsPart w)
+  leaves_part count old new leaves = leaves_weaker (λ (c : Content). Represents c (with_first w count)) (HoldsPart w) old new (λ k c represents. holds_first count c represents) leaves
 
   -- with the next batch
   pub next_first : (before : ℕ) (rows : List LineOrder) → slice_get w.batches before ≡ Some rows → loaded (with_first w before) rows ≡ with_first w (before + 1)
@@ -49,22 +49,22 @@ module _ (w : Warehouse) where
 
   -- a submit of the next batch leaves first batches
   module _ (before : ℕ) (rows : List LineOrder) (here : slice_get w.batches before ≡ Some rows) where
-    pub submit_leaves : (old new : Disk) → Leaves old new (λ c. Stands c (with_first w before) ⊎ (Admits (with_first w before) (before + 1) rows × Stands c (loaded (with_first w before) rows)))
+    pub submit_leaves : (old new : Disk) → Leaves old new (λ c. Represents c (with_first w before) ⊎ (Admits (with_first w before) (before + 1) rows × Represents c (loaded (with_first w before) rows)))
         → Leaves old new (HoldsPart w)
     submit_leaves old new leaves =
-        leaves_weaker (λ (c : Content). Stands c (with_first w before) ⊎ (Admits (with_first w before) (before + 1) rows × Stands c (loaded (with_first w before) rows))) (HoldsPart w) old new
-        (λ k c one. ⊎_elim (λ stands. holds_first before c stands)
-        (λ both. holds_first (before + 1) c (subst (λ (v : Warehouse). Stands c v) (next_first before rows here) both.1)) one) leaves
+        leaves_weaker (λ (c : Content). Represents c (with_first w before) ⊎ (Admits (with_first w before) (before + 1) rows × Represents c (loaded (with_first w before) rows))) (HoldsPart w) old new
+        (λ k c one. ⊎_elim (λ represents. holds_first before c represents)
+        (λ both. holds_first (before + 1) c (subst (λ (v : Warehouse). Represents c v) (next_first before rows here) both.1)) one) leaves
 
     -- and it is refused for no cause of the model
-    pub never_refused : (c : Content) → Stands c w → (fault : Fault) → refusal_of (with_first w before) (before + 1) rows ≡ Some fault → ⊥
-    never_refused c stands fault is =
+    pub never_refused : (c : Content) → Represents c w → (fault : Fault) → refusal_of (with_first w before) (before + 1) rows ≡ Some fault → ⊥
+    never_refused c represents fault is =
         let lt : before < length w.batches = slice_get_within w.batches before rows here in
         let many : length (take before w.batches) ≡ before = length-take-le before w.batches (omega (arith, lt)) in
-        let admits : refusal w.rows (take before w.batches) (before + 1) rows ≡ None = subst (λ (n : ℕ). refusal w.rows (take before w.batches) (n + 1) rows ≡ None) many (stands.batches before rows here).admissible in
+        let admits : refusal w.rows (take before w.batches) (before + 1) rows ≡ None = subst (λ (n : ℕ). refusal w.rows (take before w.batches) (n + 1) rows ≡ None) many (represents.batches before rows here).admissible in
         let both : None ≡ Some fault = sym admits ∙ is in cc
 
-    pub submit_fault : {E : Type 0} (g : Ghosts E) (session : Session E g) (c : Content) → Stands c w → (fault : Fault)
+    pub submit_fault : {E : Type 0} (g : Ghosts E) (session : Session E g) (c : Content) → Represents c w → (fault : Fault)
         → ((fault ≡ Device → ⊥) → SubmitRefuses g session (with_first w before) (before + 1) rows fault) → IsCopyFault fault
-    submit_fault g session c stands fault why =
-        or_device fault (λ no. ⊎_elim (λ refused. absurd (never_refused c stands fault refused)) (λ commit. of_commit fault commit.1) (why no))
+    submit_fault g session c represents fault why =
+        or_device fault (λ no. ⊎_elim (λ refused. absurd (never_refused c represents fault refused)) (λ commit. of_commit fault commit.1) (why no))

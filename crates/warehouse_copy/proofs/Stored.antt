@@ -10,21 +10,21 @@ use Rattle.lattice.specs.Views.{index_of}
 use Rattle.warehouse_root.specs.declared.cuboid.StoredCuboid.{StoredCuboid}
 use Rattle.warehouse_objects.specs.Warehouse.{Cuboid}
 use Rattle.warehouse_objects.proofs.Batches.{get_within, some_one, take_next}
-use Rattle.warehouse.specs.Status.{IsSaidOf, StandsAt}
+use Rattle.warehouse.specs.Status.{IsSaidOf, IsSaidAt}
 use Rattle.warehouse_copy.specs.Copied.{AreSaidOf}
 
 -- what is at a place that is not empty
-said_there : (stored : Option Cuboid) (place : Option StoredCuboid) (said : StoredCuboid) → place ≡ Some said → StandsAt stored place → (cuboid : Cuboid) × (stored ≡ Some cuboid) × IsSaidOf cuboid said
-said_there None None said is stands = absurd cc
-said_there None (Some other) said is stands = absurd stands
-said_there (Some cuboid) None said is stands = absurd stands
-said_there (Some cuboid) (Some other) said is stands = (cuboid, refl, subst (IsSaidOf cuboid) (some_one other said is) stands)
+said_there : (stored : Option Cuboid) (place : Option StoredCuboid) (said : StoredCuboid) → place ≡ Some said → IsSaidAt stored place → (cuboid : Cuboid) × (stored ≡ Some cuboid) × IsSaidOf cuboid said
+said_there None None said is represents = absurd cc
+said_there None (Some other) said is represents = absurd represents
+said_there (Some cuboid) None said is represents = absurd represents
+said_there (Some cuboid) (Some other) said is represents = (cuboid, refl, subst (IsSaidOf cuboid) (some_one other said is) represents)
 
 -- and at one that is
-none_there : (stored : Option Cuboid) (place : Option StoredCuboid) → place ≡ None → StandsAt stored place → stored ≡ None
-none_there None place is stands = refl
-none_there (Some cuboid) None is stands = absurd stands
-none_there (Some cuboid) (Some other) is stands = absurd cc
+none_there : (stored : Option Cuboid) (place : Option StoredCuboid) → place ≡ None → IsSaidAt stored place → stored ≡ None
+none_there None place is represents = refl
+none_there (Some cuboid) None is represents = absurd represents
+none_there (Some cuboid) (Some other) is represents = absurd cc
 
 past : {A : Type 0} (xs : List A) (n : ℕ) → slice_get xs n ≡ None → length xs ≤ n
 past xs n none = by (cases_lt n (length xs))

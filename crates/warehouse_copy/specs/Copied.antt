@@ -4,13 +4,13 @@ use Rattle.cube_model.specs.declared.fault.Fault.{Fault}
 use Rattle.cube_model.specs.declared.fault.Fault.TheVariants.{AlreadyFormatted, Device, DeviceSize, Full, Memory, Worn}
 use Rattle.lattice.specs.declared.view.View.{View}
 use Rattle.object_store.specs.Content.{Content}
-use Rattle.warehouse_objects.specs.Stands.{Stands}
+use Rattle.warehouse_objects.specs.Represents.{Represents}
 use Rattle.warehouse_objects.specs.Warehouse.{Cuboid, Warehouse, fresh, in_order}
 use Rattle.warehouse_root.specs.Limits.{most_cuboids}
 use Rattle.warehouse_root.specs.declared.cuboid.StoredCuboid.{StoredCuboid}
 use Rattle.cuboid_commits.specs.Keeping.{IsLeastTooLarge}
 use Rattle.cuboid_commits.specs.Upkeep.{AreWhole}
-use Rattle.warehouse.specs.Status.{StandsAt}
+use Rattle.warehouse.specs.Status.{IsSaidAt}
 
 -- the views of the stored cuboids
 abbrev pub views_of : Warehouse → List View
@@ -30,7 +30,7 @@ pub record IsPart (w part : Warehouse) : Type 0 where
 
 -- a content represents the dimension rows of a warehouse, and some first batches of it
 abbrev pub HoldsPart : Warehouse → Content → Type 0
-HoldsPart w c = (part : Warehouse) × IsPart w part × Stands c part
+HoldsPart w c = (part : Warehouse) × IsPart w part × Represents c part
 
 -- the warehouse of its dimension rows and its first so many batches, without cuboids
 abbrev pub with_first : Warehouse → ℕ → Warehouse
@@ -50,7 +50,7 @@ IsCopyFault _ = ⊥
 -- places have what is said of stored cuboids, one after the other, and those after the last are empty
 pub record AreSaidOf (stored : List Cuboid) (places : List (Option StoredCuboid)) : Type 0 where
   pub few : length stored ≤ most_cuboids
-  pub each : (place : ℕ) → place < most_cuboids → StandsAt (slice_get stored place) (slice_index_or places place None)
+  pub each : (place : ℕ) → place < most_cuboids → IsSaidAt (slice_get stored place) (slice_index_or places place None)
 
 -- each stored cuboid holds all batches, or the grouping by its view has too many cells
 abbrev pub AreBroughtOn : Warehouse → Type 0

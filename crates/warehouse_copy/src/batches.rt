@@ -2,7 +2,7 @@
 ghost use Rattle.std.specs.Prelude.{◌≡◌, ◌<◌, ◌+◌, ◌^◌, length, IfErr, IsErrOf, OnOk};
 ghost use Rattle.cube_model.specs.declared.fault.Fault.TheVariants.{Device};
 ghost use Rattle.object_store.specs.Disk.{Leaves};
-ghost use Rattle.warehouse_objects.specs.Stands.{Stands};
+ghost use Rattle.warehouse_objects.specs.Represents.{Represents};
 ghost use Rattle.warehouse_objects.specs.Warehouse.{Warehouse};
 ghost use Rattle.warehouse.specs.Session.{IsAt, device_of, disk_of};
 ghost use Rattle.warehouse_copy.specs.Copied.{HoldsPart, IsCopyFault, with_first};
@@ -19,7 +19,7 @@ pub(crate) fn copy_batches<D: Sectors, E: Sectors>(
     to: &mut Session<E>,
 ) -> Result<(), Fault>
     // The first warehouse stays as it is, at each moment.
-    ensures from_leaves { (w : Warehouse) → IsAt D.Sectors from.old w → Leaves (disk_of D.Sectors from.old) (disk_of D.Sectors from.new) (λ c. Stands c w) }
+    ensures from_leaves { (w : Warehouse) → IsAt D.Sectors from.old w → Leaves (disk_of D.Sectors from.old) (disk_of D.Sectors from.new) (λ c. Represents c w) }
     ensures from_stays { (IsErrOf result Device → ⊥) → (w : Warehouse) → IsAt D.Sectors from.old w → IsAt D.Sectors from.new w }
 
     // Then the other one has all its batches, and until then the first ones.
@@ -49,7 +49,7 @@ fn copy_batch<D: Sectors, E: Sectors>(
     before: u32,
 ) -> Result<(), Fault>
     requires fits { before + 1 < 2 ^ 32 }
-    ensures from_leaves { (w : Warehouse) → IsAt D.Sectors from.old w → Leaves (disk_of D.Sectors from.old) (disk_of D.Sectors from.new) (λ c. Stands c w) }
+    ensures from_leaves { (w : Warehouse) → IsAt D.Sectors from.old w → Leaves (disk_of D.Sectors from.old) (disk_of D.Sectors from.new) (λ c. Represents c w) }
     ensures from_stays { (IsErrOf result Device → ⊥) → (w : Warehouse) → IsAt D.Sectors from.old w → IsAt D.Sectors from.new w }
     ensures ok { OnOk result ((w : Warehouse) → IsAt D.Sectors from.old w → IsAt E.Sectors to.old (with_first w before) → D.keeps_word (device_of from.new)
         → IsAt E.Sectors to.new (with_first w (before + 1))) }

@@ -3,7 +3,7 @@ ghost use Rattle.std.specs.Prelude.{◌≡◌, ◌≢◌, ◌⊎◌, true, IfErr
 ghost use Rattle.cube_model.specs.declared.fault.Fault.TheVariants.{Device, Failed, Memory};
 ghost use Rattle.object_store.specs.Disk.{disk, Each, IsBlank, Leaves, LeavesOrNone, OnlyImagesOf};
 ghost use Rattle.object_store.specs.Shows.{HasNone};
-ghost use Rattle.warehouse_objects.specs.Stands.{Stands};
+ghost use Rattle.warehouse_objects.specs.Represents.{Represents};
 ghost use Rattle.warehouse_objects.specs.Warehouse.{Warehouse};
 ghost use Rattle.warehouse.specs.Session.{IsAt, device_of, disk_of, has_failed};
 ghost use Rattle.warehouse_copy.specs.Copied.{AreBroughtOn, HoldsPart, IsCopy, IsCopyFault, with_first};
@@ -33,7 +33,7 @@ pub fn copy<D: Sectors, E: Sectors>(
     device: E,
 ) -> Result<Session<E>, (Fault, E)>
     // The first warehouse stays as it is, at each moment.
-    ensures from_leaves { (w : Warehouse) → IsAt D.Sectors from.old w → Leaves (disk_of D.Sectors from.old) (disk_of D.Sectors from.new) (λ c. Stands c w) }
+    ensures from_leaves { (w : Warehouse) → IsAt D.Sectors from.old w → Leaves (disk_of D.Sectors from.old) (disk_of D.Sectors from.new) (λ c. Represents c w) }
     ensures from_stays { IfOk result (λ _. (w : Warehouse) → IsAt D.Sectors from.old w → IsAt D.Sectors from.new w) }
     ensures from_stays_err { IfErr result (λ e. e.0 ≢ Device → (w : Warehouse) → IsAt D.Sectors from.old w → IsAt D.Sectors from.new w) }
     ensures from_word { D.keeps_word (device_of from.new) → D.keeps_word (device_of from.old) }
@@ -73,7 +73,7 @@ pub fn copy<D: Sectors, E: Sectors>(
 fn tables_of<D: Sectors>(alloc: Global, from: &Session<D>) -> Result<Dims, Fault>
     ensures ok { IfOk result (λ dims. (w : Warehouse) → IsAt D.Sectors from.now w → D.keeps_word (device_of from.now) → dims ≡ w.rows) }
     ensures refused { IfErr result (λ fault. (fault ≡ Memory) ⊎ ((fault ≡ Failed) × (has_failed from.now ≡ true))) }
-    ensures leaves { (w : Warehouse) → IsAt D.Sectors from.now w → Leaves (disk_of D.Sectors from.now) (disk_of D.Sectors from.now) (λ c. Stands c w) }
+    ensures leaves { (w : Warehouse) → IsAt D.Sectors from.now w → Leaves (disk_of D.Sectors from.now) (disk_of D.Sectors from.now) (λ c. Represents c w) }
 {
     if from.is_broken() {
         return Err(Fault::Failed);
@@ -87,7 +87,7 @@ fn copy_into<D: Sectors, E: Sectors>(
     from: &mut Session<D>,
     to: &mut Session<E>,
 ) -> Result<(), Fault>
-    ensures from_leaves { (w : Warehouse) → IsAt D.Sectors from.old w → Leaves (disk_of D.Sectors from.old) (disk_of D.Sectors from.new) (λ c. Stands c w) }
+    ensures from_leaves { (w : Warehouse) → IsAt D.Sectors from.old w → Leaves (disk_of D.Sectors from.old) (disk_of D.Sectors from.new) (λ c. Represents c w) }
     ensures from_stays { (IsErrOf result Device → ⊥) → (w : Warehouse) → IsAt D.Sectors from.old w → IsAt D.Sectors from.new w }
     ensures ok { OnOk result ((w : Warehouse) → IsAt D.Sectors from.old w → IsAt E.Sectors to.old (with_first w 0) → D.keeps_word (device_of from.new)
         → (copy : Warehouse) × IsCopy w copy × IsAt E.Sectors to.new copy × (E.keeps_word (device_of to.new) → AreBroughtOn copy)) }

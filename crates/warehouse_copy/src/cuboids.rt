@@ -4,7 +4,7 @@ ghost use Rattle.cube_model.specs.declared.fault.Fault.TheVariants.{BadLayout, M
 ghost use Rattle.lattice.specs.Views.{index_of};
 ghost use Rattle.object_store.specs.Disk.{Leaves};
 ghost use Rattle.warehouse_root.specs.Limits.{most_cuboids};
-ghost use Rattle.warehouse_objects.specs.Stands.{Stands};
+ghost use Rattle.warehouse_objects.specs.Represents.{Represents};
 ghost use Rattle.warehouse_objects.specs.Warehouse.{Cuboid, Warehouse, with_views};
 ghost use Rattle.cuboid_commits.specs.Keeping.{IsKeptUp};
 ghost use Rattle.warehouse.specs.Session.{IsAt, device_of, disk_of};
@@ -86,7 +86,7 @@ fn put_views<E: Sectors>(alloc: Global, to: &mut Session<E>, views: &[View]) -> 
     ensures ok { OnOk result ((w : Warehouse) → IsAt E.Sectors to.old w
         → (v : Warehouse) × IsKeptUp (with_views w views.now) v × IsAt E.Sectors to.new v × (E.keeps_word (device_of to.new) → AreBroughtOn v)) }
     ensures leaves { (w : Warehouse) → IsAt E.Sectors to.old w → Leaves (disk_of E.Sectors to.old) (disk_of E.Sectors to.new)
-        (λ c. Stands c w ⊎ ((v : Warehouse) × IsKeptUp (with_views w views.now) v × Stands c v)) }
+        (λ c. Represents c w ⊎ ((v : Warehouse) × IsKeptUp (with_views w views.now) v × Represents c v)) }
     ensures refused { IfErr result (λ fault. (w : Warehouse) → IsAt E.Sectors to.old w → E.keeps_word (device_of to.new) → IsCopyFault fault) }
     ensures word { E.keeps_word (device_of to.new) → E.keeps_word (device_of to.old) }
 {
@@ -99,7 +99,7 @@ fn bring_on<E: Sectors>(alloc: Global, to: &mut Session<E>) -> Result<(), Fault>
     ensures ok { OnOk result ((w : Warehouse) → IsAt E.Sectors to.old w
         → (v : Warehouse) × IsKeptUp w v × IsAt E.Sectors to.new v × (E.keeps_word (device_of to.new) → AreBroughtOn v)) }
     ensures leaves { (w : Warehouse) → IsAt E.Sectors to.old w → Leaves (disk_of E.Sectors to.old) (disk_of E.Sectors to.new)
-        (λ c. (v : Warehouse) × IsKeptUp w v × Stands c v) }
+        (λ c. (v : Warehouse) × IsKeptUp w v × Represents c v) }
     ensures refused { IfErr result (λ fault. (w : Warehouse) → IsAt E.Sectors to.old w → E.keeps_word (device_of to.new) → IsCopyFault fault) }
     ensures word { E.keeps_word (device_of to.new) → E.keeps_word (device_of to.old) }
 {

@@ -5,7 +5,7 @@ ghost use Rattle.cube_model.specs.declared.fault.Fault.TheVariants.{Device, Fail
 ghost use Rattle.cube_model.specs.declared.rows.LineOrder.{LineOrder};
 ghost use Rattle.cube_model.specs.Admission.{all_rows};
 ghost use Rattle.object_store.specs.Disk.{Leaves};
-ghost use Rattle.warehouse_objects.specs.Stands.{Stands};
+ghost use Rattle.warehouse_objects.specs.Represents.{Represents};
 ghost use Rattle.warehouse_objects.specs.Warehouse.{Warehouse};
 ghost use Rattle.warehouse.specs.Comparing.{numbered};
 ghost use Rattle.warehouse.specs.Session.{Breaks, IsAt, device_of, disk_of, has_failed};
@@ -31,7 +31,7 @@ pub fn write_batches<D: Sectors, W: Write>(
 ) -> Result<(), Fault>
     // The warehouse stays as it is, at each moment.
     ensures leaves { (w : Warehouse) → IsAt D.Sectors session.old w
-        → Leaves (disk_of D.Sectors session.old) (disk_of D.Sectors session.new) (λ c. Stands c w) }
+        → Leaves (disk_of D.Sectors session.old) (disk_of D.Sectors session.new) (λ c. Represents c w) }
     ensures stays { (IsErrOf result Device → ⊥) → (w : Warehouse) → IsAt D.Sectors session.old w
         → IsAt D.Sectors session.new w }
 
@@ -71,7 +71,7 @@ pub fn write_batch<D: Sectors, W: Write>(
 ) -> Result<(), Fault>
     // The warehouse stays as it is, at each moment.
     ensures leaves { (w : Warehouse) → IsAt D.Sectors session.old w
-        → Leaves (disk_of D.Sectors session.old) (disk_of D.Sectors session.new) (λ c. Stands c w) }
+        → Leaves (disk_of D.Sectors session.old) (disk_of D.Sectors session.new) (λ c. Represents c w) }
     ensures stays { (IsErrOf result Device → ⊥) → (w : Warehouse) → IsAt D.Sectors session.old w
         → IsAt D.Sectors session.new w }
 

@@ -17,19 +17,19 @@ use Rattle.cube_model.specs.Limits.{most_batch_rows}
 use Rattle.object_store.specs.Content.{Content}
 use Rattle.object_store.specs.Disk.{disk, Leaves}
 use Rattle.object_store.specs.Moments.{all_weaker}
-use Rattle.ssb_eval.specs.Evaluation.{facts_behind, facts_of}
-use Rattle.warehouse_objects.specs.Stands.{Stands}
+use Rattle.ssb_eval.specs.Evaluation.{facts_after, facts_of}
+use Rattle.warehouse_objects.specs.Represents.{Represents}
 use Rattle.warehouse_objects.proofs.Batches.{get_within, some_one, take_next}
 use Rattle.warehouse_objects.specs.Facts.{facts_in}
 use Rattle.warehouse_objects.specs.Warehouse.{AreInOrder, Warehouse, loaded}
 use Rattle.warehouse.specs.declared.session.Session.{Session}
 use Rattle.warehouse.specs.Comparing.{numbered}
-use Rattle.warehouse.specs.Found.{MayStand}
+use Rattle.warehouse.specs.Found.{MayRepresent}
 use Rattle.warehouse.specs.Headline.{RestartedShows}
 use Rattle.warehouse.specs.Session.{IsAt, device_of, disk_of}
 use Rattle.warehouse.proofs.Preparing.{follows}
 use Rattle.warehouse_jobs.specs.Cutting.{AreCut}
-use Rattle.warehouse_jobs.specs.Lawful.{LoadAddsTheOthers, LoadHoldsItsBatches, LoadedIsEvaluated, StoppedLoadIsFound}
+use Rattle.warehouse_jobs.specs.Lawful.{LoadAddsTheOthers, LoadHoldsItsBatches, LoadedIsEvaluated, CrashedLoadIsFound}
 use Rattle.warehouse_jobs.specs.Loading.{Done, DoesAll, Loads, MayHold, TakesIn, batches_of, session_after, taken_of, with_batch, with_batches}
 use Rattle.warehouse_jobs.specs.declared.taken.Taken.{Taken}
 use Rattle.warehouse_jobs.proofs.Turns.{trace-count, trace-session, with-added, with-skipped}
@@ -134,7 +134,7 @@ leaves_after {D} g w first size text old new before after result loads (suc plac
     subst (λ n. Leaves (disk_of g (session_after old (take (suc place) loads.trace))) (disk_of g new) (MayHold w first size text n)) next
     (subst (λ (s : Session D g). Leaves (disk_of g s) (disk_of g new) (MayHold w first size text (place + 1))) (sym last) (loads.stay place got.0 got.1))
 
-pub stopped_load : {D : Type 0} (g : Ghosts D) → RestartedShows g → StoppedLoadIsFound g
+pub stopped_load : {D : Type 0} (g : Ghosts D) → RestartedShows g → CrashedLoadIsFound g
 stopped_load {D} g shows_it w first size text old mid new before after result loads k lines within mid_is image left device restarted =
     let leaves = subst (λ (s : Session D g). Leaves (disk_of g s) (disk_of g new) (MayHold w first size text lines)) (sym mid_is) (leaves_after g w first size text old new before after result loads lines within) in
     let shown = (leaves.moments k).each image left in
@@ -146,8 +146,8 @@ stopped_load {D} g shows_it w first size text old mid new before after result lo
       left = may.left;
       cut = may.cut;
       no_fewer = may.no_fewer;
-      stands = all_weaker (λ (c : Content). c ≡ shown.0) (MayStand (facts_in v) None) (disk g device)
-          (λ word c is. (v, inl refl, subst (λ (x : Content). Stands x v) (sym is) may.stands)) one;
+      represents = all_weaker (λ (c : Content). c ≡ shown.0) (MayRepresent (facts_in v) None) (disk g device)
+          (λ word c is. (v, inl refl, subst (λ (x : Content). Represents x v) (sym is) may.represents)) one;
     }
 
 -- ---- a whole text
@@ -191,13 +191,13 @@ same_rows w number (rows ∷ batches) =
 
 -- and are what an evaluation cuts
 facts_cut : (dimensions : DimRows) (batches : List (List LineOrder)) (number : ℕ) (parts : List (List (List ℕ))) (done : List (List LineOrder)) (next : ℕ)
-    → AreCut number parts done next [] → AreAdmitted dimensions batches done → facts_behind dimensions batches number parts ≡ Ok (all_rows (batches ++ done))
+    → AreCut number parts done next [] → AreAdmitted dimensions batches done → facts_after dimensions batches number parts ≡ Ok (all_rows (batches ++ done))
 facts_cut dimensions batches number parts [] next cut admitted =
-    ap (facts_behind dimensions batches number) (sym cut.1) ∙ ap (λ l. Ok (all_rows l)) (sym (append-nil batches))
+    ap (facts_after dimensions batches number) (sym cut.1) ∙ ap (λ l. Ok (all_rows l)) (sym (append-nil batches))
 facts_cut dimensions batches number [] (rows ∷ done) next cut admitted = absurd cut
 facts_cut dimensions batches number (lines ∷ parts) (rows ∷ done) next cut admitted =
-    ap (λ read. and_then read (λ found. unless (refusal dimensions batches (length batches + 1) found) (facts_behind dimensions (batches ++ found ∷ []) (number_after (length found) number) parts))) cut.0
-    ∙ ap (λ cause. unless cause (facts_behind dimensions (batches ++ rows ∷ []) (number_after (length rows) number) parts)) admitted.0
+    ap (λ read. and_then read (λ found. unless (refusal dimensions batches (length batches + 1) found) (facts_after dimensions (batches ++ found ∷ []) (number_after (length found) number) parts))) cut.0
+    ∙ ap (λ cause. unless cause (facts_after dimensions (batches ++ rows ∷ []) (number_after (length rows) number) parts)) admitted.0
     ∙ facts_cut dimensions (batches ++ rows ∷ []) (number_after (length rows) number) parts done next cut.1 admitted.1
     ∙ ap (λ l. Ok (all_rows l)) (append_assoc batches (rows ∷ []) done)
 
@@ -224,7 +224,7 @@ is_evaluated {D} g w text old new before after query loads no_more k =
     let number : 1 + place ≡ suc place = omega arith in
     ap (numbered v.batches) (sym number) ∙ holds_its_batches g w 1 most_batch_rows (Some text) old new before after (Ok true) loads place one.0 one.1 ∙ ap Some one.2) in
     let rows : v.rows ≡ w.rows = same_rows w 1 done in
-    let order : AreInOrder w.rows done = subst (λ (bs : List (List LineOrder)). AreInOrder w.rows bs) same (subst (λ (r : DimRows). AreInOrder r v.batches) rows (at.stands k).batches) in
+    let order : AreInOrder w.rows done = subst (λ (bs : List (List LineOrder)). AreInOrder w.rows bs) same (subst (λ (r : DimRows). AreInOrder r v.batches) rows (at.represents k).batches) in
     let cut : AreCut 1 parts done loads.next [] = subst (λ l. AreCut 1 parts done loads.next l) loads.ends.none loads.cut in
     let facts : facts_of w.rows text ≡ Ok (all_rows done) = facts_cut w.rows [] 1 parts done loads.next cut (are_admitted w.rows [] done order) in
     let whole : take (length done) done ≡ done = take_all (length done) done (omega arith) in (

@@ -14,7 +14,7 @@ use Rattle.object_store.specs.Moments.{leaves_weaker}
 use Rattle.ssb_reports.specs.Writing.{AppendsBeginning, Writes}
 use Rattle.warehouse_objects.specs.Facts.{AdmitsRows}
 use Rattle.warehouse_objects.specs.Warehouse.{Warehouse}
-use Rattle.warehouse_objects.specs.Stands.{Stands}
+use Rattle.warehouse_objects.specs.Represents.{Represents}
 use Rattle.added_rows.specs.Added.{widened}
 use Rattle.added_rows.specs.Among.{HasRows}
 use Rattle.warehouse.specs.declared.session.Session.{Session}
@@ -41,40 +41,40 @@ above_or_at a b le = grind (arith, nat_tests)
 module _ {D : Type 0} (g : Ghosts D) (w : Warehouse) (number : ℕ) (rows : DimRows) (old new : Session D g) where
   -- the rows were added
   pub takes-added : w.additions < number → AdmitsRows w number rows → IsAt g new (widened w rows)
-      → Leaves (disk_of g old) (disk_of g new) (λ c. Stands c w ⊎ (AdmitsRows w number rows × Stands c (widened w rows))) → TakesRows g w number rows old new Added
+      → Leaves (disk_of g old) (disk_of g new) (λ c. Represents c w ⊎ (AdmitsRows w number rows × Represents c (widened w rows))) → TakesRows g w number rows old new Added
   takes-added lt admissible at leaves =
       let with_them : with_addition w number rows ≡ widened w rows = ap (λ b. if b then w else widened w rows) (above number w.additions lt) in record {
         taken_is = sym (ap (λ b. if b then Skipped else Added) (above number w.additions lt));
         follows = λ _. admissible;
         same = λ le. absurd (omega (arith, lt, le));
         at = subst (λ (v : Warehouse). IsAt g new v) (sym with_them) at;
-        leaves = leaves_weaker (λ (c : Content). Stands c w ⊎ (AdmitsRows w number rows × Stands c (widened w rows))) (λ (c : Content). Stands c w ⊎ Stands c (with_addition w number rows)) (disk_of g old) (disk_of g new)
-            (λ k c here. ⊎_elim (λ s. inl s) (λ s. inr (subst (λ (v : Warehouse). Stands c v) (sym with_them) s.1)) here) leaves;
+        leaves = leaves_weaker (λ (c : Content). Represents c w ⊎ (AdmitsRows w number rows × Represents c (widened w rows))) (λ (c : Content). Represents c w ⊎ Represents c (with_addition w number rows)) (disk_of g old) (disk_of g new)
+            (λ k c here. ⊎_elim (λ s. inl s) (λ s. inr (subst (λ (v : Warehouse). Represents c v) (sym with_them) s.1)) here) leaves;
       }
 
   -- they are there, and nothing was done
-  pub takes-skipped : number ≤ w.additions → HasRows w.rows rows → IsAt g new w → Leaves (disk_of g old) (disk_of g new) (λ c. Stands c w) → TakesRows g w number rows old new Skipped
+  pub takes-skipped : number ≤ w.additions → HasRows w.rows rows → IsAt g new w → Leaves (disk_of g old) (disk_of g new) (λ c. Represents c w) → TakesRows g w number rows old new Skipped
   takes-skipped le same at leaves =
       let as_before : with_addition w number rows ≡ w = ap (λ b. if b then w else widened w rows) (above_or_at number w.additions le) in record {
         taken_is = sym (ap (λ b. if b then Skipped else Added) (above_or_at number w.additions le));
         follows = λ lt. absurd (omega (arith, lt, le));
         same = λ _. same;
         at = subst (λ (v : Warehouse). IsAt g new v) (sym as_before) at;
-        leaves = leaves_weaker (λ (c : Content). Stands c w) (λ (c : Content). Stands c w ⊎ Stands c (with_addition w number rows)) (disk_of g old) (disk_of g new) (λ k c here. inl here) leaves;
+        leaves = leaves_weaker (λ (c : Content). Represents c w) (λ (c : Content). Represents c w ⊎ Represents c (with_addition w number rows)) (disk_of g old) (disk_of g new) (λ k c here. inl here) leaves;
       }
 
   -- the addition is refused
   pub refuses-rows : (fault : Fault) → (fault ≡ Device → has_failed new ≡ true) → ((fault ≡ Device → ⊥) → AdditionRefuses g old w number rows fault × IsAt g new w)
-      → Leaves (disk_of g old) (disk_of g new) (λ c. Stands c w ⊎ (AdmitsRows w number rows × Stands c (widened w rows))) → RefusesRows g w number rows old new fault
+      → Leaves (disk_of g old) (disk_of g new) (λ c. Represents c w ⊎ (AdmitsRows w number rows × Represents c (widened w rows))) → RefusesRows g w number rows old new fault
   refuses-rows fault failed causes leaves = record {
     cause = ⊎_elim (λ e. inl (e, failed e)) (λ no. inr (causes no)) (device_or fault);
     leaves = leaves;
   }
 
   -- no device call was made
-  pub only-looked : Leaves (disk_of g old) (disk_of g new) (λ c. Stands c w) → Leaves (disk_of g old) (disk_of g new) (λ c. Stands c w ⊎ (AdmitsRows w number rows × Stands c (widened w rows)))
+  pub only-looked : Leaves (disk_of g old) (disk_of g new) (λ c. Represents c w) → Leaves (disk_of g old) (disk_of g new) (λ c. Represents c w ⊎ (AdmitsRows w number rows × Represents c (widened w rows)))
   only-looked leaves =
-      leaves_weaker (λ (c : Content). Stands c w) (λ (c : Content). Stands c w ⊎ (AdmitsRows w number rows × Stands c (widened w rows))) (disk_of g old) (disk_of g new) (λ k c here. inl here) leaves
+      leaves_weaker (λ (c : Content). Represents c w) (λ (c : Content). Represents c w ⊎ (AdmitsRows w number rows × Represents c (widened w rows))) (disk_of g old) (disk_of g new) (λ k c here. inl here) leaves
 
   pub adds-refused : (before : Option (List ℕ)) (fault : Fault) (result : Result Unit Fault) → RefusesRows g w number rows old new fault → (other : Fault) × (result ≡ Err other) × (other ≡ fault)
       → AddsRows g w number rows old new before before result

@@ -16,7 +16,7 @@ use Rattle.object_store.specs.Disk.{Leaves}
 use Rattle.object_store.specs.Moments.{leaves_then, leaves_weaker}
 use Rattle.ssb_reports.specs.Writing.{Writes}
 use Rattle.warehouse_objects.specs.Warehouse.{Warehouse, loaded}
-use Rattle.warehouse_objects.specs.Stands.{Stands}
+use Rattle.warehouse_objects.specs.Represents.{Represents}
 use Rattle.warehouse.specs.declared.session.Session.{Session}
 use Rattle.warehouse.specs.Session.{IsAt, disk_of}
 use Rattle.warehouse.proofs.Preparing.{follows}
@@ -61,14 +61,14 @@ module _ {D : Type 0} (g : Ghosts D) (w : Warehouse) (first size : ℕ) (text : 
 
   -- what a crash in a batch that did not end well leaves
   failed_leaves : (new : Session D g) (after : Option (List ℕ)) (rows : List LineOrder) (fault : Fault) → FailsInBatch g now (first + length trace) rows mid new told after fault
-      → Leaves (disk_of g mid) (disk_of g new) (λ c. Stands c now ⊎ Stands c (with_batch now (first + length trace) rows))
+      → Leaves (disk_of g mid) (disk_of g new) (λ c. Represents c now ⊎ Represents c (with_batch now (first + length trace) rows))
   failed_leaves new after rows fault (inl (refused, nothing)) =
       let number = first + length trace in
-      leaves_weaker (λ (c : Content). Stands c now ⊎ (IsAdmissible now.rows now.batches number rows × Stands c (loaded now rows))) (λ (c : Content). Stands c now ⊎ Stands c (with_batch now number rows)) (disk_of g mid) (disk_of g new)
+      leaves_weaker (λ (c : Content). Represents c now ⊎ (IsAdmissible now.rows now.batches number rows × Represents c (loaded now rows))) (λ (c : Content). Represents c now ⊎ Represents c (with_batch now number rows)) (disk_of g mid) (disk_of g new)
       (λ k c here. ⊎_elim (λ s. inl s)
       (λ s.
       let next : number ≡ length now.batches + 1 = (follows now.rows now.batches number rows s.0).next in
-      inr (subst (λ (v : Warehouse). Stands c v) (sym (with-added now number rows (omega (arith, next)))) s.1)) here) refused.leaves
+      inr (subst (λ (v : Warehouse). Represents c v) (sym (with-added now number rows (omega (arith, next)))) s.1)) here) refused.leaves
   failed_leaves new after rows fault (inr (is, takes, written)) = takes.leaves
 
   -- the next batch was read, and did not end well
@@ -82,8 +82,8 @@ module _ {D : Type 0} (g : Ghosts D) (w : Warehouse) (first size : ℕ) (text : 
       let batch = left.batch others rows any takes in
       let between : Leaves (disk_of g mid) (disk_of g new) (MayHold w first size text (length trace)) =
       subst (λ n. Leaves (disk_of g mid) (disk_of g new) (MayHold w first size text n)) count
-      (leaves_weaker (λ (c : Content). Stands c now ⊎ Stands c (with_batch now (first + length trace) rows)) (MayHold w first size text (length done)) (disk_of g mid) (disk_of g new)
-      (λ k c here. holds-next w first size text left.next left.left done rows c left.cut batch (subst (λ n. Stands c now ⊎ Stands c (with_batch now n rows)) place here))
+      (leaves_weaker (λ (c : Content). Represents c now ⊎ Represents c (with_batch now (first + length trace) rows)) (MayHold w first size text (length done)) (disk_of g mid) (disk_of g new)
+      (λ k c here. holds-next w first size text left.next left.left done rows c left.cut batch (subst (λ n. Represents c now ⊎ Represents c (with_batch now n rows)) place here))
       (failed_leaves new after rows fault fails)) in
       rw (stop.1, stop.2) (ended new after (Err fault) (inr (inl (record { rows = rows; read = batch; ends = fails })))
       (stay-on g w first size text trace mid new through.stay between)
@@ -112,7 +112,7 @@ module _ {D : Type 0} (g : Ghosts D) (w : Warehouse) (first size : ℕ) (text : 
 
 -- no line could be read
 pub loads-none : {D : Type 0} (g : Ghosts D) (w : Warehouse) (first size : ℕ) (text : Option (List ℕ)) (now : Session D g) (before : Option (List ℕ)) (fault : Fault) (result : Result Unit Fault)
-    → 1 ≤ size → fault ≡ Memory → IsAt g now w → Leaves (disk_of g now) (disk_of g now) (λ c. Stands c w) → (other : Fault) × (result ≡ Err other) × (other ≡ fault)
+    → 1 ≤ size → fault ≡ Memory → IsAt g now w → Leaves (disk_of g now) (disk_of g now) (λ c. Represents c w) → (other : Fault) × (result ≡ Err other) × (other ≡ fault)
     → Loads g w first size text now now before before result
 loads-none g w first size text now before fault result some memory at leaves stop =
     let lines : Unread = record { left = text; line = []; number = 0; fault = None } in

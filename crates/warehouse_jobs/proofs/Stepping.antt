@@ -10,7 +10,7 @@ use Rattle.cube_model.specs.declared.rows.LineOrder.{LineOrder}
 use Rattle.object_store.specs.Disk.{Leaves}
 use Rattle.ssb_reports.specs.Writing.{Writes}
 use Rattle.warehouse_objects.specs.Warehouse.{Warehouse}
-use Rattle.warehouse_objects.specs.Stands.{Stands}
+use Rattle.warehouse_objects.specs.Represents.{Represents}
 use Rattle.warehouse.specs.declared.session.Session.{Session}
 use Rattle.warehouse.specs.Session.{IsAt, disk_of}
 use Rattle.warehouse_jobs.specs.Loading.{Done, DoesBatch, Loads, batches_of, with_batches}
@@ -45,7 +45,7 @@ module _ {D : Type 0} (g : Ghosts D) (w : Warehouse) (first size : ℕ) (text : 
 
   -- one batch more is done
   pub stepped : (found : Bool) → step ≡ Ok found → found ≡ true → (count : ℕ) → length trace ≡ count
-      → ((v : Warehouse) → IsAt g new v → Leaves (disk_of g new) (disk_of g new) (λ c. Stands c v))
+      → ((v : Warehouse) → IsAt g new v → Leaves (disk_of g new) (disk_of g new) (λ c. Represents c v))
       → (more : List (Done g)) × (length more ≡ count + 1) × IsThrough g w first size text old new before between rest more
   stepped found is test count counted still_here =
       let next = numbered_step (Ok true) (is ∙ ap Ok test) in

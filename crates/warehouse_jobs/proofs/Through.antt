@@ -17,7 +17,7 @@ use Rattle.object_store.specs.Content.{Content}
 use Rattle.object_store.specs.Disk.{Leaves}
 use Rattle.object_store.specs.Moments.{leaves_then, leaves_weaker}
 use Rattle.warehouse_objects.specs.Warehouse.{Warehouse}
-use Rattle.warehouse_objects.specs.Stands.{Stands}
+use Rattle.warehouse_objects.specs.Represents.{Represents}
 use Rattle.warehouse.specs.declared.session.Session.{Session}
 use Rattle.warehouse.specs.Session.{IsAt, disk_of}
 use Rattle.warehouse.proofs.Preparing.{follows}
@@ -39,14 +39,14 @@ pub record IsThrough {D : Type 0} (g : Ghosts D) (w : Warehouse) (first size : �
   pub reached : (length trace ≡ 0) ⊎ (first + length trace ≤ length (with_batches w first (batches_of trace)).batches + 1)
 
 -- what is left where none were done
-none_held : (w : Warehouse) (first size : ℕ) (text : Option (List ℕ)) (lines : Unread) (c : Content) → 1 ≤ size → CutSoFar size text lines [] → Stands c w → MayHold w first size text 0 c
+none_held : (w : Warehouse) (first size : ℕ) (text : Option (List ℕ)) (lines : Unread) (c : Content) → 1 ≤ size → CutSoFar size text lines [] → Represents c w → MayHold w first size text 0 c
 none_held w first size text lines c some cut here =
     let left = remains size text lines [] some cut in
-    record { some = []; next = left.next; left = left.left; cut = left.cut; no_fewer = omega arith; stands = here }
+    record { some = []; next = left.next; left = left.left; cut = left.cut; no_fewer = omega arith; represents = here }
 
 -- none at first
 pub through-none : {D : Type 0} (g : Ghosts D) (w : Warehouse) (first size : ℕ) (text : Option (List ℕ)) (now : Session D g) (before : Option (List ℕ)) (lines : Unread)
-    → 1 ≤ size → Keeps text lines.left → lines.number ≡ 0 → IsAt g now w → Leaves (disk_of g now) (disk_of g now) (λ c. Stands c w)
+    → 1 ≤ size → Keeps text lines.left → lines.number ≡ 0 → IsAt g now w → Leaves (disk_of g now) (disk_of g now) (λ c. Represents c w)
     → IsThrough g w first size text now now before before lines []
 through-none g w first size text now before lines some keeps number at leaves =
     let cut = cut-none size text lines keeps number in
@@ -58,7 +58,7 @@ through-none g w first size text now before lines some keeps number at leaves =
       written_is = refl;
       at = at;
       written = Appends-nil before;
-      leaves = leaves_weaker (λ (c : Content). Stands c w) (MayHold w first size text 0) (disk_of g now) (disk_of g now) (λ k c here. none_held w first size text lines c some cut here) leaves;
+      leaves = leaves_weaker (λ (c : Content). Represents c w) (MayHold w first size text 0) (disk_of g now) (disk_of g now) (λ k c here. none_held w first size text lines c some cut here) leaves;
       reached = inl refl;
     }
 
@@ -70,27 +70,27 @@ holds-fewer w first size text fewer many c le may = record {
   left = may.left;
   cut = may.cut;
   no_fewer = omega (arith, le, may.no_fewer);
-  stands = may.stands;
+  represents = may.represents;
 }
 
 -- what is held once a batch more was done
 holds-with : (w : Warehouse) (first size : ℕ) (text : Option (List ℕ)) (next : ℕ) (left : List (List (List ℕ))) (done : List (List LineOrder)) (rows : List LineOrder) (c : Content)
     → AreCutFrom text size done next left → IfSome text (λ _. IsNextBatch next left rows)
-    → Stands c (with_batch (with_batches w first done) (first + length done) rows) → MayHold w first size text (length done + 1) c
+    → Represents c (with_batch (with_batches w first done) (first + length done) rows) → MayHold w first size text (length done + 1) c
 holds-with w first size text next left done rows c cut batch here = let more = cut-from size next text left done rows cut batch in record {
   some = done ++ rows ∷ [];
   next = more.0;
   left = more.1;
   cut = more.2;
   no_fewer = let longer : length (done ++ rows ∷ []) ≡ length done + 1 = length_push done rows in omega (arith, longer);
-  stands = subst (λ (v : Warehouse). Stands c v) (sym (with-last w first done rows)) here;
+  represents = subst (λ (v : Warehouse). Represents c v) (sym (with-last w first done rows)) here;
 }
 
 -- what a crash within a batch leaves
 pub holds-next : (w : Warehouse) (first size : ℕ) (text : Option (List ℕ)) (next : ℕ) (left : List (List (List ℕ))) (done : List (List LineOrder)) (rows : List LineOrder) (c : Content)
     → AreCutFrom text size done next left → IfSome text (λ _. IsNextBatch next left rows)
-    → Stands c (with_batches w first done) ⊎ Stands c (with_batch (with_batches w first done) (first + length done) rows) → MayHold w first size text (length done) c
-holds-next w first size text next left done rows c cut batch (inl here) = record { some = done; next = next; left = left; cut = cut; no_fewer = omega arith; stands = here }
+    → Represents c (with_batches w first done) ⊎ Represents c (with_batch (with_batches w first done) (first + length done) rows) → MayHold w first size text (length done) c
+holds-next w first size text next left done rows c cut batch (inl here) = record { some = done; next = next; left = left; cut = cut; no_fewer = omega arith; represents = here }
 holds-next w first size text next left done rows c cut batch (inr here) =
     holds-fewer w first size text (length done) (length done + 1) c (omega arith) (holds-with w first size text next left done rows c cut batch here)
 
@@ -123,7 +123,7 @@ reaches w number rows may =
 -- a warehouse has no more batches than it may
 pub few_batches : {D : Type 0} (g : Ghosts D) (session : Session D g) (w : Warehouse) → IsAt g session w → (disk_of g session).keeps_word → length w.batches ≤ most_batches
 few_batches g session w at k =
-    let few = (at.stands k).root.proper.most_batches in
+    let few = (at.represents k).root.proper.most_batches in
     let same : length (map (λ (batch : List LineOrder). length batch) w.batches) ≡ length w.batches = length-map w.batches (λ (batch : List LineOrder). length batch) in
     omega (arith, few, same)
 
@@ -131,7 +131,7 @@ few_batches g session w at k =
 pub through-more : {D : Type 0} (g : Ghosts D) (w : Warehouse) (first size : ℕ) (text : Option (List ℕ)) (old mid : Session D g) (before told : Option (List ℕ)) (lines others : Unread) (trace : List (Done g)) (one : Done g)
     → 1 ≤ size → 1 ≤ length one.rows → IsThrough g w first size text old mid before told lines trace → TakesBatch lineorder_row size lines others one.rows
     → TakesIn g (with_batches w first (batches_of trace)) (first + length trace) one.rows mid one.session (taken_of (with_batches w first (batches_of trace)) (first + length trace))
-    → Leaves (disk_of g one.session) (disk_of g one.session) (λ c. Stands c (with_batch (with_batches w first (batches_of trace)) (first + length trace) one.rows))
+    → Leaves (disk_of g one.session) (disk_of g one.session) (λ c. Represents c (with_batch (with_batches w first (batches_of trace)) (first + length trace) one.rows))
     → Appends told one.written (line_in (with_batches w first (batches_of trace)) (first + length trace) one.rows)
     → IsThrough g w first size text old one.session before one.written others (trace ++ one ∷ [])
 through-more {D} g w first size text old mid before told lines others trace one some any through takes is here line =
@@ -152,12 +152,12 @@ through-more {D} g w first size text old mid before told lines others trace one 
     let at_most : number + 1 ≤ length (with_batches w first (batches_of (trace ++ one ∷ []))).batches + 1 = subst (λ (v : Warehouse). number + 1 ≤ length v.batches + 1) (sym back) (omega (arith, reached)) in
     let between : Leaves (disk_of g mid) (disk_of g new) (MayHold w first size text (length trace)) =
     subst (λ n. Leaves (disk_of g mid) (disk_of g new) (MayHold w first size text n)) count
-    (leaves_weaker (λ (c : Content). Stands c now ⊎ Stands c (with_batch now number rows)) (MayHold w first size text (length done)) (disk_of g mid) (disk_of g new)
-    (λ k c holds. holds-next w first size text left.next left.left done rows c left.cut batch (subst (λ n. Stands c now ⊎ Stands c (with_batch now n rows)) place holds)) is.leaves) in
+    (leaves_weaker (λ (c : Content). Represents c now ⊎ Represents c (with_batch now number rows)) (MayHold w first size text (length done)) (disk_of g mid) (disk_of g new)
+    (λ k c holds. holds-next w first size text left.next left.left done rows c left.cut batch (subst (λ n. Represents c now ⊎ Represents c (with_batch now n rows)) place holds)) is.leaves) in
     let then : Leaves (disk_of g new) (disk_of g new) (MayHold w first size text (length trace + 1)) =
     subst (λ n. Leaves (disk_of g new) (disk_of g new) (MayHold w first size text (n + 1))) count
-    (leaves_weaker (λ (c : Content). Stands c (with_batch now number rows)) (MayHold w first size text (length done + 1)) (disk_of g new) (disk_of g new)
-    (λ k c stands. holds-with w first size text left.next left.left done rows c left.cut batch (subst (λ n. Stands c (with_batch now n rows)) place stands)) here) in
+    (leaves_weaker (λ (c : Content). Represents c (with_batch now number rows)) (MayHold w first size text (length done + 1)) (disk_of g new) (disk_of g new)
+    (λ k c represents. holds-with w first size text left.next left.left done rows c left.cut batch (subst (λ n. Represents c (with_batch now n rows)) place represents)) here) in
     record {
       cut = subst (λ (bs : List (List LineOrder)). CutSoFar size text others bs) (sym all) (cut-on size text lines others done rows some any through.cut takes);
       does = does-more g old before w first trace one through.does

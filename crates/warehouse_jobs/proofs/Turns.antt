@@ -15,14 +15,14 @@ use Rattle.object_store.specs.Disk.{Leaves, ShowsSome}
 use Rattle.object_store.specs.Moments.{begins, leaves_weaker}
 use Rattle.ssb_reports.specs.Writing.{AppendsBeginning, Writes}
 use Rattle.warehouse_objects.specs.Warehouse.{Warehouse, loaded}
-use Rattle.warehouse_objects.specs.Stands.{Stands}
+use Rattle.warehouse_objects.specs.Represents.{Represents}
 use Rattle.warehouse.specs.declared.session.Session.{Session}
 use Rattle.warehouse.specs.Comparing.{numbered}
 use Rattle.warehouse.specs.Session.{IsAt, device_of, disk_of, has_failed}
 use Rattle.warehouse.proofs.Refusing.{device_or}
 use Rattle.warehouse_jobs.specs.declared.taken.Taken.{Taken}
 use Rattle.warehouse_jobs.specs.declared.taken.Taken.TheVariants.{Added, Skipped}
-use Rattle.warehouse_jobs.specs.Loading.{BatchRefuses, Done, DoesAll, DoesBatch, Refuses, TakesIn, batches_of, behind, lines_in, line_in, session_after, taken_of, with_batch, with_batches, written_after}
+use Rattle.warehouse_jobs.specs.Loading.{BatchRefuses, Done, DoesAll, DoesBatch, Refuses, TakesIn, batches_of, after_taking, lines_in, line_in, session_after, taken_of, with_batch, with_batches, written_after}
 use Rattle.warehouse_jobs.specs.Printed.{batch_line}
 
 -- which batch is passed over
@@ -34,7 +34,7 @@ pub is_added : (w : Warehouse) (number : ℕ) → length w.batches < number → 
 is_added w number lt = ap (λ b. if b then Skipped else Added) (above number (length w.batches) lt)
 
 pub with-added : (w : Warehouse) (number : ℕ) (rows : List LineOrder) → length w.batches < number → with_batch w number rows ≡ loaded w rows
-with-added w number rows lt = ap (λ taken. behind taken w rows) (is_added w number lt)
+with-added w number rows lt = ap (λ taken. after_taking taken w rows) (is_added w number lt)
 
 above_or_at : (a b : ℕ) → a ≤ b → nat_le a b ≡ true
 above_or_at a b le = grind (arith, nat_tests)
@@ -43,7 +43,7 @@ pub is_skipped : (w : Warehouse) (number : ℕ) → number ≤ length w.batches 
 is_skipped w number le = ap (λ b. if b then Skipped else Added) (above_or_at number (length w.batches) le)
 
 pub with-skipped : (w : Warehouse) (number : ℕ) (rows : List LineOrder) → number ≤ length w.batches → with_batch w number rows ≡ w
-with-skipped w number rows le = ap (λ taken. behind taken w rows) (is_skipped w number le)
+with-skipped w number rows le = ap (λ taken. after_taking taken w rows) (is_skipped w number le)
 
 -- one batch more
 
@@ -114,25 +114,25 @@ places-more P (first ∷ items) last all one (suc place) item is = places-more (
 -- at this moment a stop leaves what the session represents
 pub still : {D : Type 0} (g : Ghosts D) (session : Session D g) (w : Warehouse)
     → ((device : D) (image : Image) → g.keeps_word device → (g.state device).left_since (g.state device).moment image → IsImage (g.state device) image)
-    → IsAt g session w → Leaves (disk_of g session) (disk_of g session) (λ c. Stands c w)
-still g session w only at = begins (ShowsSome (λ (c : Content). Stands c w)) (disk_of g session) (λ k image. only (device_of session) image k) at.all
+    → IsAt g session w → Leaves (disk_of g session) (disk_of g session) (λ c. Represents c w)
+still g session w only at = begins (ShowsSome (λ (c : Content). Represents c w)) (disk_of g session) (λ k image. only (device_of session) image k) at.all
 
 -- what became of one batch
 
 module _ {D : Type 0} (g : Ghosts D) (w : Warehouse) (number : ℕ) (rows : List LineOrder) (old new : Session D g) where
   pub takes-added : length w.batches < number → IsAdmissible w.rows w.batches number rows → IsAt g new (loaded w rows)
-      → Leaves (disk_of g old) (disk_of g new) (λ c. Stands c w ⊎ (IsAdmissible w.rows w.batches number rows × Stands c (loaded w rows))) → TakesIn g w number rows old new Added
+      → Leaves (disk_of g old) (disk_of g new) (λ c. Represents c w ⊎ (IsAdmissible w.rows w.batches number rows × Represents c (loaded w rows))) → TakesIn g w number rows old new Added
   takes-added lt admissible at leaves = record {
     taken_is = sym (is_added w number lt);
     follows = λ _. admissible;
     same = λ le. absurd (omega (arith, lt, le));
     at = subst (λ (v : Warehouse). IsAt g new v) (sym (with-added w number rows lt)) at;
-    leaves = leaves_weaker (λ (c : Content). Stands c w ⊎ (IsAdmissible w.rows w.batches number rows × Stands c (loaded w rows))) (λ (c : Content). Stands c w ⊎ Stands c (with_batch w number rows)) (disk_of g old) (disk_of g new)
-        (λ k c here. ⊎_elim (λ s. inl s) (λ s. inr (subst (λ (v : Warehouse). Stands c v) (sym (with-added w number rows lt)) s.1)) here) leaves;
+    leaves = leaves_weaker (λ (c : Content). Represents c w ⊎ (IsAdmissible w.rows w.batches number rows × Represents c (loaded w rows))) (λ (c : Content). Represents c w ⊎ Represents c (with_batch w number rows)) (disk_of g old) (disk_of g new)
+        (λ k c here. ⊎_elim (λ s. inl s) (λ s. inr (subst (λ (v : Warehouse). Represents c v) (sym (with-added w number rows lt)) s.1)) here) leaves;
   }
 
   pub refuses : (fault : Fault) → (fault ≡ Device → has_failed new ≡ true) → ((fault ≡ Device → ⊥) → BatchRefuses g old w number rows fault × IsAt g new w)
-      → Leaves (disk_of g old) (disk_of g new) (λ c. Stands c w ⊎ (IsAdmissible w.rows w.batches number rows × Stands c (loaded w rows))) → Refuses g w number rows old new fault
+      → Leaves (disk_of g old) (disk_of g new) (λ c. Represents c w ⊎ (IsAdmissible w.rows w.batches number rows × Represents c (loaded w rows))) → Refuses g w number rows old new fault
   refuses fault failed causes leaves = record {
     cause = ⊎_elim (λ e. inl (e, failed e)) (λ no. inr (causes no)) (device_or fault);
     leaves = leaves;
@@ -155,15 +155,15 @@ module _ {D : Type 0} (g : Ghosts D) (w : Warehouse) (number : ℕ) (rows : List
   )
 
   -- the batch there was read, and nothing else was done
-  pub takes-skipped : number ≤ length w.batches → numbered w.batches number ≡ Some rows → IsAt g new w → Leaves (disk_of g old) (disk_of g new) (λ c. Stands c w) → TakesIn g w number rows old new Skipped
+  pub takes-skipped : number ≤ length w.batches → numbered w.batches number ≡ Some rows → IsAt g new w → Leaves (disk_of g old) (disk_of g new) (λ c. Represents c w) → TakesIn g w number rows old new Skipped
   takes-skipped le same at leaves = record {
     taken_is = sym (is_skipped w number le);
     follows = λ lt. absurd (omega (arith, lt, le));
     same = λ _. same;
     at = subst (λ (v : Warehouse). IsAt g new v) (sym (with-skipped w number rows le)) at;
-    leaves = leaves_weaker (λ (c : Content). Stands c w) (λ (c : Content). Stands c w ⊎ Stands c (with_batch w number rows)) (disk_of g old) (disk_of g new) (λ k c here. inl here) leaves;
+    leaves = leaves_weaker (λ (c : Content). Represents c w) (λ (c : Content). Represents c w ⊎ Represents c (with_batch w number rows)) (disk_of g old) (disk_of g new) (λ k c here. inl here) leaves;
   }
 
-  pub only-read : Leaves (disk_of g old) (disk_of g new) (λ c. Stands c w) → Leaves (disk_of g old) (disk_of g new) (λ c. Stands c w ⊎ (IsAdmissible w.rows w.batches number rows × Stands c (loaded w rows)))
+  pub only-read : Leaves (disk_of g old) (disk_of g new) (λ c. Represents c w) → Leaves (disk_of g old) (disk_of g new) (λ c. Represents c w ⊎ (IsAdmissible w.rows w.batches number rows × Represents c (loaded w rows)))
   only-read leaves =
-      leaves_weaker (λ (c : Content). Stands c w) (λ (c : Content). Stands c w ⊎ (IsAdmissible w.rows w.batches number rows × Stands c (loaded w rows))) (disk_of g old) (disk_of g new) (λ k c here. inl here) leaves
+      leaves_weaker (λ (c : Content). Represents c w) (λ (c : Content). Represents c w ⊎ (IsAdmissible w.rows w.batches number rows × Represents c (loaded w rows))) (disk_of g old) (disk_of g new) (λ k c here. inl here) leaves

@@ -9,7 +9,7 @@ use Rattle.object_store.specs.Disk.{Leaves}
 use Rattle.ssb_reports.specs.Writing.{AppendsBeginning}
 use Rattle.warehouse_objects.specs.Facts.{AdmitsRows}
 use Rattle.warehouse_objects.specs.Warehouse.{Warehouse}
-use Rattle.warehouse_objects.specs.Stands.{Stands}
+use Rattle.warehouse_objects.specs.Represents.{Represents}
 use Rattle.added_rows.specs.Added.{widened}
 use Rattle.added_rows.specs.Among.{HasRows}
 use Rattle.warehouse.specs.declared.session.Session.{Session}
@@ -41,7 +41,7 @@ pub record TakesRows {D : Type 0} (g : Ghosts D) (w : Warehouse) (number : ℕ) 
   pub follows : w.additions < number → AdmitsRows w number rows
   pub same : number ≤ w.additions → HasRows w.rows rows
   pub at : IsAt g new (with_addition w number rows)
-  pub leaves : Leaves (disk_of g old) (disk_of g new) (λ c. Stands c w ⊎ Stands c (with_addition w number rows))
+  pub leaves : Leaves (disk_of g old) (disk_of g new) (λ c. Represents c w ⊎ Represents c (with_addition w number rows))
 
 -- Why an addition is refused where the device has not failed: its number is there already, and one of its rows is not in the
 -- dimensions so; or its number is not there, and the warehouse refuses it
@@ -53,7 +53,7 @@ AdditionRefuses g session w number rows fault =
 -- An addition is refused. The warehouse stays, unless the device failed: it may then have the rows, where they are admissible
 pub record RefusesRows {D : Type 0} (g : Ghosts D) (w : Warehouse) (number : ℕ) (rows : DimRows) (old new : Session D g) (fault : Fault) : Type 0 where
   pub cause : ((fault ≡ Device) × (has_failed new ≡ true)) ⊎ (AdditionRefuses g old w number rows fault × IsAt g new w)
-  pub leaves : Leaves (disk_of g old) (disk_of g new) (λ c. Stands c w ⊎ (AdmitsRows w number rows × Stands c (widened w rows)))
+  pub leaves : Leaves (disk_of g old) (disk_of g new) (λ c. Represents c w ⊎ (AdmitsRows w number rows × Represents c (widened w rows)))
 
 -- An addition: once the device has it, its lines are written. Or it is refused, and nothing is written. Or the device has it, and the
 -- writer failed, after a beginning of its lines

@@ -9,7 +9,7 @@ use Rattle.object_store.specs.Disk.{Leaves}
 use Rattle.ssb_reports.specs.Writing.{AppendsBeginning}
 use Rattle.warehouse_root.specs.declared.cuboid.StoredCuboid.{StoredCuboid}
 use Rattle.warehouse_objects.specs.Warehouse.{Warehouse}
-use Rattle.warehouse_objects.specs.Stands.{Stands}
+use Rattle.warehouse_objects.specs.Represents.{Represents}
 use Rattle.warehouse.specs.declared.session.Session.{Session}
 use Rattle.warehouse.specs.declared.status.Status.{Status}
 use Rattle.warehouse.specs.Session.{IsAt, content_of, disk_of, has_failed}
@@ -41,4 +41,4 @@ CheckEnds g w new before after (Err fault) =
 -- a check of a warehouse, which leaves it as it is at each moment
 pub record Checks {D : Type 0} (g : Ghosts D) (w : Warehouse) (old new : Session D g) (before after : Option (List ℕ)) (result : Result Bool Fault) : Type 0 where
   pub ends : CheckEnds g w new before after result
-  pub leaves : Leaves (disk_of g old) (disk_of g new) (λ c. Stands c w)
+  pub leaves : Leaves (disk_of g old) (disk_of g new) (λ c. Represents c w)

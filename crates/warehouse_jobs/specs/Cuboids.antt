@@ -8,7 +8,7 @@ use Rattle.lattice.specs.declared.view.View.{View}
 use Rattle.object_store.specs.Disk.{Leaves}
 use Rattle.ssb_reports.specs.Writing.{AppendsBeginning}
 use Rattle.warehouse_objects.specs.Warehouse.{Warehouse, with_views}
-use Rattle.warehouse_objects.specs.Stands.{Stands}
+use Rattle.warehouse_objects.specs.Represents.{Represents}
 use Rattle.cuboid_commits.specs.Keeping.{IsKeptUp}
 use Rattle.cuboid_commits.specs.Upkeep.{AreWhole}
 use Rattle.warehouse.specs.declared.chosen.Chosen.{Chosen}
@@ -34,7 +34,7 @@ ChoiceEnds g w IsIt refuses new before after (Err fault) =
 -- a choice of cuboids, and why it is refused. A crash leaves the cuboids as they were, or those of the choice
 pub record StoresChoice {D A : Type 0} (g : Ghosts D) (w : Warehouse) (IsIt : List Chosen → Type 0) (refuses : Fault → Type 0) (old new : Session D g) (before after : Option (List ℕ)) (result : Result A Fault) : Type 0 where
   pub ends : ChoiceEnds g w IsIt refuses new before after result
-  pub leaves : Leaves (disk_of g old) (disk_of g new) (λ c. Stands c w ⊎ ((chosen : List Chosen) × IsIt chosen × Stands c (with_views w (views_of chosen))))
+  pub leaves : Leaves (disk_of g old) (disk_of g new) (λ c. Represents c w ⊎ ((chosen : List Chosen) × IsIt chosen × Represents c (with_views w (views_of chosen))))
 
 -- that of k views where all views are asked for
 abbrev pub Chooses : {D A : Type 0} (g : Ghosts D) → Warehouse → ℕ → (old new : Session D g) → (before after : Option (List ℕ)) → Result A Fault → Type 0
@@ -63,7 +63,7 @@ UpkeepEnds g w new before after (Err fault) =
 -- upkeep. A crash leaves the same rows, batches and views, and no mark lower
 pub record KeepsUp {D A : Type 0} (g : Ghosts D) (w : Warehouse) (old new : Session D g) (before after : Option (List ℕ)) (result : Result A Fault) : Type 0 where
   pub ends : UpkeepEnds g w new before after result
-  pub leaves : Leaves (disk_of g old) (disk_of g new) (λ c. (v : Warehouse) × IsKeptUp w v × Stands c v)
+  pub leaves : Leaves (disk_of g old) (disk_of g new) (λ c. (v : Warehouse) × IsKeptUp w v × Represents c v)
 
 -- each stored cuboid is what it is to be, and that is written. Or the writer failed. Or nothing was written: the device failed, or
 -- there is no memory
@@ -76,4 +76,4 @@ AuditEnds g w new before after (Err fault) =
 -- an audit, which leaves the warehouse as it is at each moment
 pub record Audits {D A : Type 0} (g : Ghosts D) (w : Warehouse) (old new : Session D g) (before after : Option (List ℕ)) (result : Result A Fault) : Type 0 where
   pub ends : AuditEnds g w new before after result
-  pub leaves : Leaves (disk_of g old) (disk_of g new) (λ c. Stands c w)
+  pub leaves : Leaves (disk_of g old) (disk_of g new) (λ c. Represents c w)

@@ -13,7 +13,7 @@ use Rattle.warehouse_objects.specs.Facts.{facts_in}
 use Rattle.warehouse_objects.specs.Warehouse.{Warehouse}
 use Rattle.warehouse.specs.declared.session.Session.{Session}
 use Rattle.warehouse.specs.Comparing.{numbered}
-use Rattle.warehouse.specs.Found.{MayStand}
+use Rattle.warehouse.specs.Found.{MayRepresent}
 use Rattle.warehouse.specs.Headline.{IsRestarted}
 use Rattle.warehouse.specs.Session.{IsAt, device_of, disk_of}
 use Rattle.warehouse_jobs.specs.Cutting.{AreCutFrom}
@@ -38,12 +38,12 @@ pub record IsFoundWith {D : Type 0} (g : Ghosts D) (w : Warehouse) (first size :
   pub cut : AreCutFrom text size batches next left
   pub no_fewer : count ≤ length batches
   -- so the contract of opening holds of this one warehouse
-  pub stands : AllShow (disk g device) (MayStand (facts_in (with_batches w first batches)) None)
+  pub represents : AllShow (disk g device) (MayRepresent (facts_in (with_batches w first batches)) None)
 
 -- Whatever a crash leaves within a load after some of its lines were written: the restarted device has a warehouse with the batches of
 -- these lines, and maybe with more of the load's.
-abbrev pub StoppedLoadIsFound : {D : Type 0} → Ghosts D → Type 0
-StoppedLoadIsFound {D} g = (w : Warehouse) (first size : ℕ) (text : Option (List ℕ)) (old mid new : Session D g) (before after : Option (List ℕ)) (result : Result Bool Fault)
+abbrev pub CrashedLoadIsFound : {D : Type 0} → Ghosts D → Type 0
+CrashedLoadIsFound {D} g = (w : Warehouse) (first size : ℕ) (text : Option (List ℕ)) (old mid new : Session D g) (before after : Option (List ℕ)) (result : Result Bool Fault)
     → (loads : Loads g w first size text old new before after result) → (disk_of g new).keeps_word
     → (lines : ℕ) → lines ≤ length loads.trace → mid ≡ session_after old (take lines loads.trace)
     → (image : Image) → (g.state (device_of new)).left_since (g.state (device_of mid)).moment image

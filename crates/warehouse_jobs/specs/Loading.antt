@@ -10,7 +10,7 @@ use Rattle.object_store.specs.Disk.{Leaves}
 use Rattle.ssb_reports.specs.Writing.{AppendsBeginning}
 use Rattle.warehouse_objects.specs.Facts.{Admits}
 use Rattle.warehouse_objects.specs.Warehouse.{Warehouse, loaded}
-use Rattle.warehouse_objects.specs.Stands.{Stands}
+use Rattle.warehouse_objects.specs.Represents.{Represents}
 use Rattle.warehouse.specs.declared.session.Session.{Session}
 use Rattle.warehouse.specs.Comparing.{numbered}
 use Rattle.warehouse.specs.Session.{IsAt, disk_of, has_failed, SubmitRefuses}
@@ -24,12 +24,12 @@ abbrev pub taken_of : Warehouse → ℕ → Taken
 taken_of w number = if nat_le number (length w.batches) then Skipped else Added
 
 -- the warehouse after it
-abbrev pub behind : Taken → Warehouse → List LineOrder → Warehouse
-behind Added w rows = loaded w rows
-behind Skipped w rows = w
+abbrev pub after_taking : Taken → Warehouse → List LineOrder → Warehouse
+after_taking Added w rows = loaded w rows
+after_taking Skipped w rows = w
 
 abbrev pub with_batch : Warehouse → ℕ → List LineOrder → Warehouse
-with_batch w number rows = behind (taken_of w number) w rows
+with_batch w number rows = after_taking (taken_of w number) w rows
 
 -- the warehouse after some batches, the first of them with a number
 abbrev pub with_batches : Warehouse → ℕ → List (List LineOrder) → Warehouse
@@ -52,7 +52,7 @@ pub record TakesIn {D : Type 0} (g : Ghosts D) (w : Warehouse) (number : ℕ) (r
   pub follows : length w.batches < number → Admits w number rows
   pub same : number ≤ length w.batches → numbered w.batches number ≡ Some rows
   pub at : IsAt g new (with_batch w number rows)
-  pub leaves : Leaves (disk_of g old) (disk_of g new) (λ c. Stands c w ⊎ Stands c (with_batch w number rows))
+  pub leaves : Leaves (disk_of g old) (disk_of g new) (λ c. Represents c w ⊎ Represents c (with_batch w number rows))
 
 -- Why a batch is refused where the device has not failed: the batch of its number is another one; or there is no memory to compare
 -- the two; or there is none of its number, and a submit is refused
@@ -64,7 +64,7 @@ BatchRefuses g session w number rows fault =
 -- A batch is refused. The warehouse stays, unless the device failed: it may then have the batch, where that is admissible
 pub record Refuses {D : Type 0} (g : Ghosts D) (w : Warehouse) (number : ℕ) (rows : List LineOrder) (old new : Session D g) (fault : Fault) : Type 0 where
   pub cause : ((fault ≡ Device) × (has_failed new ≡ true)) ⊎ (BatchRefuses g old w number rows fault × IsAt g new w)
-  pub leaves : Leaves (disk_of g old) (disk_of g new) (λ c. Stands c w ⊎ (Admits w number rows × Stands c (loaded w rows)))
+  pub leaves : Leaves (disk_of g old) (disk_of g new) (λ c. Represents c w ⊎ (Admits w number rows × Represents c (loaded w rows)))
 
 -- One batch of a load did not end well: it is refused, and nothing is written. Or the device has it, and the writer fails
 -- in its line
@@ -144,7 +144,7 @@ pub record MayHold (w : Warehouse) (first size : ℕ) (text : Option (List ℕ))
   pub left : List (List (List ℕ))
   pub cut : AreCutFrom text size some next left
   pub no_fewer : count ≤ length some
-  pub stands : Stands c (with_batches w first some)
+  pub represents : Represents c (with_batches w first some)
 
 -- A load in batches of so many lines, the first of them with a number. What the reader holds is a text, or it is not known, as that
 -- of a file: then all is said but which rows those of the batches are

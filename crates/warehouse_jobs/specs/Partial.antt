@@ -9,7 +9,7 @@ use Rattle.partial_reports.specs.declared.asked.PartAsked.{PartAsked}
 use Rattle.partial_reports.specs.Members.{member_cause}
 use Rattle.partial_reports.specs.Partial.{partial_text}
 use Rattle.warehouse_objects.specs.Warehouse.{Warehouse}
-use Rattle.warehouse_objects.specs.Stands.{Stands}
+use Rattle.warehouse_objects.specs.Represents.{Represents}
 use Rattle.warehouse.specs.declared.session.Session.{Session}
 use Rattle.warehouse.specs.Session.{IsAt, IsAsked, disk_of}
 use Rattle.warehouse_jobs.specs.Reporting.{Answers, asked_for}
@@ -36,4 +36,4 @@ AnswersInPart g w count asked new before after (Err fault) =
 -- a partial report leaves the warehouse as it is at each moment
 pub record ReportsInPart {D A : Type 0} (g : Ghosts D) (w : Warehouse) (as_of : Option ℕ) (asked : PartAsked) (old new : Session D g) (before after : Option (List ℕ)) (result : Result A Fault) : Type 0 where
   pub ends : AnswersInPart g w (asked_for w as_of) asked new before after result
-  pub leaves : Leaves (disk_of g old) (disk_of g new) (λ c. Stands c w)
+  pub leaves : Leaves (disk_of g old) (disk_of g new) (λ c. Represents c w)

@@ -13,7 +13,7 @@ use Rattle.report_formats.specs.Fields.{formatted}
 use Rattle.ssb_reports.specs.Report.{report_of}
 use Rattle.ssb_reports.specs.Writing.{AppendsBeginning}
 use Rattle.warehouse_objects.specs.Warehouse.{Warehouse}
-use Rattle.warehouse_objects.specs.Stands.{Stands}
+use Rattle.warehouse_objects.specs.Represents.{Represents}
 use Rattle.warehouse.specs.declared.session.Session.{Session}
 use Rattle.warehouse.specs.declared.status.Status.{Status}
 use Rattle.warehouse.specs.Session.{IsAt, IsAsked, QueryRefuses, content_of, disk_of, has_failed}
@@ -40,12 +40,12 @@ Answers text g w count query new before after (Err fault) =
 -- a report, which leaves the warehouse as it is at each moment
 pub record Reports {D A : Type 0} (g : Ghosts D) (w : Warehouse) (as_of : Option ℕ) (query : Query) (old new : Session D g) (before after : Option (List ℕ)) (result : Result A Fault) : Type 0 where
   pub ends : Answers (report_of query) g w (asked_for w as_of) query new before after result
-  pub leaves : Leaves (disk_of g old) (disk_of g new) (λ c. Stands c w)
+  pub leaves : Leaves (disk_of g old) (disk_of g new) (λ c. Represents c w)
 
 -- a report in a layout, which leaves the warehouse as it is at each moment
 pub record ReportsIn {D A : Type 0} (g : Ghosts D) (w : Warehouse) (as_of : Option ℕ) (asked : Asked) (old new : Session D g) (before after : Option (List ℕ)) (result : Result A Fault) : Type 0 where
   pub ends : Answers (formatted asked) g w (asked_for w as_of) asked.query new before after result
-  pub leaves : Leaves (disk_of g old) (disk_of g new) (λ c. Stands c w)
+  pub leaves : Leaves (disk_of g old) (disk_of g new) (λ c. Represents c w)
 
 -- the numbers of the warehouse are written, or the writer fails after a beginning of them
 abbrev pub Tells : {D A : Type 0} (g : Ghosts D) → Warehouse → (old new : Session D g) → (before after : Option (List ℕ)) → Result A Fault → Type 0

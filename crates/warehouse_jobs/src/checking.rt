@@ -4,7 +4,7 @@ ghost use Rattle.std.specs.Io.KnownBytes.{Keeps};
 ghost use Rattle.cube_model.specs.declared.fault.Fault.TheVariants.{Failed};
 ghost use Rattle.ssb_reports.specs.Writing.{Writes};
 ghost use Rattle.warehouse_objects.specs.Warehouse.{Warehouse};
-ghost use Rattle.warehouse_objects.specs.Stands.{Stands};
+ghost use Rattle.warehouse_objects.specs.Represents.{Represents};
 ghost use Rattle.warehouse_check.specs.Checked.{IsChecked};
 ghost use Rattle.warehouse.specs.Session.{IsAt, content_of, device_of, has_failed};
 ghost use Rattle.warehouse_jobs.specs.Checking.{Checks, count_stored, sound_line, sound_text};
@@ -33,7 +33,7 @@ pub fn check<D: Sectors, W: Write>(
 
     // Yes says that the content has its objects and batches, whatever it is, and no that it represents no warehouse.
     ensures yes { IfOk result (λ sound. IsTrue sound → D.keeps_word (device_of session.new) → IsChecked (content_of D.Sectors session.old)) }
-    ensures no { IfOk result (λ sound. sound ≡ false → D.keeps_word (device_of session.new) → (w : Warehouse) → Stands (content_of D.Sectors session.old) w → ⊥) }
+    ensures no { IfOk result (λ sound. sound ≡ false → D.keeps_word (device_of session.new) → (w : Warehouse) → Represents (content_of D.Sectors session.old) w → ⊥) }
 
     // Where the device failed in an earlier call, nothing is done.
     ensures failed { has_failed session.old ≡ true → (result ≡ Err Failed) × (session.new ≡ session.old) × Keeps (W.contents out.old) (W.contents out.new) }

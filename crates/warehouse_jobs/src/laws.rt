@@ -1,5 +1,5 @@
 //! Laws of loads: each function proves the statement that its contract names, and does nothing.
-ghost use Rattle.warehouse_jobs.specs.Lawful.{LoadAddsTheOthers, LoadHoldsItsBatches, LoadedIsEvaluated, StoppedLoadIsFound};
+ghost use Rattle.warehouse_jobs.specs.Lawful.{LoadAddsTheOthers, LoadHoldsItsBatches, LoadedIsEvaluated, CrashedLoadIsFound};
 
 use sector_device::Sectors;
 use warehouse::laws::restarted_shows;
@@ -14,10 +14,10 @@ pub fn load_holds_its_batches<D: Sectors>()
     ensures { LoadHoldsItsBatches D.Sectors }
 {}
 
-/// However a load is stopped after some of its lines were written: the restarted device has the batches of these lines, and by its
+/// However a load crashes after some of its lines were written: the restarted device has the batches of these lines, and by its
 /// contract opening finds them.
-pub fn stopped_load_is_found<D: Sectors>()
-    ensures { StoppedLoadIsFound D.Sectors }
+pub fn crashed_load_is_found<D: Sectors>()
+    ensures { CrashedLoadIsFound D.Sectors }
 {
     restarted_shows::<D>();
 }

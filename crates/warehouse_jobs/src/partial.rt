@@ -4,7 +4,7 @@ ghost use Rattle.std.specs.Io.KnownBytes.{Keeps};
 ghost use Rattle.cube_model.specs.declared.fault.Fault.TheVariants.{Failed};
 ghost use Rattle.object_store.specs.Disk.{Leaves};
 ghost use Rattle.warehouse_objects.specs.Warehouse.{Warehouse};
-ghost use Rattle.warehouse_objects.specs.Stands.{Stands};
+ghost use Rattle.warehouse_objects.specs.Represents.{Represents};
 ghost use Rattle.warehouse.specs.Session.{device_of, disk_of, has_failed, IsAt};
 ghost use Rattle.warehouse_jobs.specs.Partial.{AnswersInPart, ReportsInPart};
 
@@ -52,7 +52,7 @@ fn partial_over<D: Sectors, W: Write>(
 ) -> Result<(), Fault>
     ensures ends { (w : Warehouse) → IsAt D.Sectors session.old w → D.keeps_word (device_of session.new)
         → AnswersInPart D.Sectors w count asked.now session.new (W.contents out.old) (W.contents out.new) result }
-    ensures leaves { (w : Warehouse) → IsAt D.Sectors session.old w → Leaves (disk_of D.Sectors session.old) (disk_of D.Sectors session.new) (λ c. Stands c w) }
+    ensures leaves { (w : Warehouse) → IsAt D.Sectors session.old w → Leaves (disk_of D.Sectors session.old) (disk_of D.Sectors session.new) (λ c. Represents c w) }
     ensures word { D.keeps_word (device_of session.new) → D.keeps_word (device_of session.old) }
 {
     let found = session.query_groups(alloc, count, &asked.query)?;

@@ -48,7 +48,7 @@ pub fn perform<D: Sectors, R: Read + Drop, W: Write>(
     // That of an audit is yes exactly where each stored cuboid is what it is to be, whatever its cells are.
     ensures sound { MayAnswerNo job → IfOk result (λ answer. (w : Warehouse) → IsLaidAt D.Sectors session.old w → D.keeps_word (device_of session.new)
         → IsTrue answer ↔ All (IsSound w) w.cuboids) }
-    ensures told { MayAnswerNo job → IfOk result (λ answer. Appends (W.contents out.old) (W.contents out.new) (audit_text answer)) }
+    ensures printed { MayAnswerNo job → IfOk result (λ answer. Appends (W.contents out.old) (W.contents out.new) (audit_text answer)) }
 
     // Where the device failed in an earlier call, nothing is done.
     ensures failed { has_failed session.old ≡ true → (result ≡ Err Failed) × (session.new ≡ session.old) × Keeps (W.contents out.old) (W.contents out.new) }
@@ -73,7 +73,7 @@ fn do_job<D: Sectors, R: Read + Drop, W: Write>(
     ensures yes { (MayAnswerNo job → ⊥) → IfOk result (λ answer. answer ≡ true) }
     ensures sound { MayAnswerNo job → IfOk result (λ answer. (w : Warehouse) → IsLaidAt D.Sectors session.old w → D.keeps_word (device_of session.new)
         → IsTrue answer ↔ All (IsSound w) w.cuboids) }
-    ensures told { MayAnswerNo job → IfOk result (λ answer. Appends (W.contents out.old) (W.contents out.new) (audit_text answer)) }
+    ensures printed { MayAnswerNo job → IfOk result (λ answer. Appends (W.contents out.old) (W.contents out.new) (audit_text answer)) }
     ensures word { D.keeps_word (device_of session.new) → D.keeps_word (device_of session.old) }
 {
     match job {

@@ -20,7 +20,7 @@ use Rattle.warehouse_root.specs.declared.layout.Layout.TheVariants.{First}
 use Rattle.warehouse_root.specs.Objects.{object_ids, run_id, run_ids}
 use Rattle.warehouse_root.specs.Root.{PlainRoot}
 use Rattle.warehouse_objects.specs.Warehouse.{Cuboid, Warehouse, cuboid_at}
-use Rattle.warehouse_objects.specs.Stands.{HasItsObjects, Stands, dimension_of, root_of, run_behind, run_bytes, run_in, said_of}
+use Rattle.warehouse_objects.specs.Represents.{HasItsObjects, Represents, dimension_of, root_of, run_behind, run_bytes, run_in, said_of}
 use Rattle.warehouse_objects.proofs.Batches.{few_batches, get_within}
 use Rattle.warehouse_objects.proofs.Contents.{object_batch}
 use Rattle.warehouse_objects.proofs.OneWarehouse.{object_run}
@@ -147,34 +147,34 @@ module _ (a b c d : List ℕ) (seg : ℕ → List LineOrder → List ℕ) (batch
               let parts : 16 * q + m ≡ id - 131072 = div-add-mod (id - 131072) 16 in
               asks_both (range_with_len 65537 (length (map (λ (l : List LineOrder). length l) batches))) _ id (inr (asks_run cuboids q m id (omega (arith, parts, least)) (ap is_some (sym is) ∙ some)))
 
-module _ (c : Content) (w : Warehouse) (stands : Stands c w) where
+module _ (c : Content) (w : Warehouse) (represents : Represents c w) where
   abbrev IsThere : ℕ → Type 0
   IsThere id = IsTrue (is_some (bytes_of c id))
 
   dimensions : All IsThere (1 ∷ 2 ∷ 3 ∷ 4 ∷ [])
   dimensions =
-      All-cons IsThere 1 (2 ∷ 3 ∷ 4 ∷ []) (ap is_some (stands.objects 1)) (All-cons IsThere 2 (3 ∷ 4 ∷ []) (ap is_some (stands.objects 2))
-      (All-cons IsThere 3 (4 ∷ []) (ap is_some (stands.objects 3)) (All-cons IsThere 4 [] (ap is_some (stands.objects 4)) (All-nil IsThere))))
+      All-cons IsThere 1 (2 ∷ 3 ∷ 4 ∷ []) (ap is_some (represents.objects 1)) (All-cons IsThere 2 (3 ∷ 4 ∷ []) (ap is_some (represents.objects 2))
+      (All-cons IsThere 3 (4 ∷ []) (ap is_some (represents.objects 3)) (All-cons IsThere 4 [] (ap is_some (represents.objects 4)) (All-nil IsThere))))
 
   segments : All IsThere (range_with_len 65537 (length (map length w.batches)))
   segments = all_range IsThere 65537 (length (map length w.batches)) (λ k lt.
       let within : k < length w.batches = omega (arith, lt, length-map w.batches length) in
       let got = get_within w.batches k within in
-      ap is_some (stands.objects (65537 + k) ∙ object_batch w k (omega (arith, within, few_batches w.rows w.batches stands.batches)) ∙ ap (option_map (segment_of (k + 1))) got.1))
+      ap is_some (represents.objects (65537 + k) ∙ object_batch w k (omega (arith, within, few_batches w.rows w.batches represents.batches)) ∙ ap (option_map (segment_of (k + 1))) got.1))
 
   runs : All IsThere (flat_map run_ids (map said_of w.cuboids))
   runs = all_flat IsThere run_ids (map said_of w.cuboids) (λ k said within.
       let inside : k < length w.cuboids = omega (arith, within, length-map w.cuboids said_of) in
       let got = get_within w.cuboids k inside in
       let entry = get_or-map said_of w.cuboids k got.0 said inside in
-      let proper = stands.root.proper.each k said within in
+      let proper = represents.root.proper.each k said within in
       let few : length (get_or w.cuboids k got.0).runs ≤ 8 = omega (arith, proper.most_runs, ap (λ (s : StoredCuboid). s.runs) entry) in
       subst (λ (s : StoredCuboid). All IsThere (run_ids s)) (sym entry)
       (all_range IsThere (run_id (index_of (get_or w.cuboids k got.0).view) 0) (length (get_or w.cuboids k got.0).runs) (λ r lt.
       let run = get_within (get_or w.cuboids k got.0).runs r lt in
       let id : run_id (index_of (get_or w.cuboids k got.0).view) 0 + r ≡ run_id (index_of (get_or w.cuboids k got.0).view) r = omega arith in
       ap (λ (n : ℕ). is_some (bytes_of c n)) id
-      ∙ ap is_some (stands.objects (run_id (index_of (get_or w.cuboids k got.0).view) r) ∙ object_run w k r got.0 stands.root.proper.ascending inside (omega (arith, lt, few)) ∙ ap (option_map (run_bytes (get_or w.cuboids k got.0))) run.1))))
+      ∙ ap is_some (represents.objects (run_id (index_of (get_or w.cuboids k got.0).view) r) ∙ object_run w k r got.0 represents.root.proper.ascending inside (omega (arith, lt, few)) ∙ ap (option_map (run_bytes (get_or w.cuboids k got.0))) run.1))))
 
   each_there : All IsThere (object_ids (root_of w))
   each_there =
@@ -183,14 +183,14 @@ module _ (c : Content) (w : Warehouse) (stands : Stands c w) where
       (All-append IsThere (range_with_len 65537 (length (map length w.batches))) (flat_map run_ids (map said_of w.cuboids)) segments runs))
     where
       of_first : record (root_of w) { layout = First } ≡ root_of w
-      of_first = λ i. record (root_of w) { layout = sym stands.first i }
+      of_first = λ i. record (root_of w) { layout = sym represents.first i }
 
   few_there : length c.objects ≤ length (object_ids (root_of w))
   few_there =
-      let most = length-le_from_is_member nat_eq_laws (map (λ (o : ℕ × List ℕ). o.0) c.objects) (object_ids (record (root_of w) { layout = First })) (once_distinct c.objects stands.once) (λ id there.
+      let most = length-le_from_is_member nat_eq_laws (map (λ (o : ℕ × List ℕ). o.0) c.objects) (object_ids (record (root_of w) { layout = First })) (once_distinct c.objects represents.once) (λ id there.
       asked_for (dimension_of w.rows Customer) (dimension_of w.rows Supplier) (dimension_of w.rows Part) (dimension_of w.rows Date) segment_of w.batches w.cuboids id
-      (ap is_some (sym (stands.objects id)) ∙ sym (looked_up c.objects id) ∙ there)) in
-      let same : object_ids (record (root_of w) { layout = First }) ≡ object_ids (root_of w) = λ i. object_ids (record (root_of w) { layout = sym stands.first i }) in
+      (ap is_some (sym (represents.objects id)) ∙ sym (looked_up c.objects id) ∙ there)) in
+      let same : object_ids (record (root_of w) { layout = First }) ≡ object_ids (root_of w) = λ i. object_ids (record (root_of w) { layout = sym represents.first i }) in
       omega (arith, most, length-map c.objects (λ (o : ℕ × List ℕ). o.0), ap (λ (l : List ℕ). length l) same)
 
   pub has_objects : HasItsObjects c (root_of w)
@@ -206,15 +206,15 @@ module _ (c : Content) (w : Warehouse) (stands : Stands c w) where
 
   pub few_objects : length c.objects ≤ 4228
   few_objects =
-      let runs_few = few_runs (map said_of w.cuboids) (λ k d within. (stands.root.proper.each k d within).most_runs) in
+      let runs_few = few_runs (map said_of w.cuboids) (λ k d within. (represents.root.proper.each k d within).most_runs) in
       let first : length (object_ids (record (root_of w) { layout = First })) ≤ 4228 = omega (
         arith,
         length-append (1 ∷ 2 ∷ 3 ∷ 4 ∷ []) (range_with_len 65537 (length (map length w.batches)) ++ flat_map run_ids (map said_of w.cuboids)),
         length-append (range_with_len 65537 (length (map length w.batches))) (flat_map run_ids (map said_of w.cuboids)),
         length-range_with_len 65537 (length (map length w.batches)),
         runs_few,
-        stands.root.proper.most_batches,
-        stands.root.proper.most_cuboids,
+        represents.root.proper.most_batches,
+        represents.root.proper.most_cuboids,
       ) in
-      let same : object_ids (record (root_of w) { layout = First }) ≡ object_ids (root_of w) = λ i. object_ids (record (root_of w) { layout = sym stands.first i }) in
+      let same : object_ids (record (root_of w) { layout = First }) ≡ object_ids (root_of w) = λ i. object_ids (record (root_of w) { layout = sym represents.first i }) in
       omega (arith, few_there, first, ap (λ (l : List ℕ). length l) same)

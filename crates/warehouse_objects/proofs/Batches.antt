@@ -22,7 +22,7 @@ use Rattle.batch_admission.specs.Totals.{totals_of}
 use Rattle.cube_model.specs.declared.measure.Measure.TheVariants.{Discounted, ExtendedPrice, Profit, Quantity, Revenue, SupplyCost}
 use Rattle.warehouse_root.specs.Limits.{most_additions, most_cuboids}
 use Rattle.warehouse_root.specs.Root.{AreAscending, AreProperTotals, IsProper, IsProperCuboid}
-use Rattle.warehouse_objects.specs.Stands.{root_of, said_of, stored}
+use Rattle.warehouse_objects.specs.Represents.{root_of, said_of, stored}
 use Rattle.warehouse_objects.specs.Warehouse.{AreInOrder, IsNext, Warehouse}
 
 -- ---- an admissible batch

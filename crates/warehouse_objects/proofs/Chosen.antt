@@ -28,7 +28,7 @@ use Rattle.warehouse_root.specs.Objects.{run_id, run_ids}
 use Rattle.warehouse_root.specs.Root as roots
 use Rattle.warehouse_root.specs.Root.{AreAscending, IsProperCuboid}
 use Rattle.warehouse_objects.specs.Warehouse.{Cuboid, Warehouse, cuboid_at, dropped_ids, in_order, is_among, kept_of, with_views}
-use Rattle.warehouse_objects.specs.Stands.{HoldsGroupings, Stands, dimension_of, numbers_among, object_of, root_of, run_behind, run_bytes, run_in, said_below, said_of, said_or_new, said_with}
+use Rattle.warehouse_objects.specs.Represents.{HoldsGroupings, Represents, dimension_of, numbers_among, object_of, root_of, run_behind, run_bytes, run_in, said_below, said_of, said_or_new, said_with}
 use Rattle.warehouse_objects.proofs.Asked.{asks, asks_range, nat_eq_laws}
 use Rattle.warehouse_objects.proofs.Batches.{AreProperCuboids, root_proper}
 use Rattle.warehouse_objects.proofs.Contents.{objects_high, objects_low}
@@ -441,19 +441,19 @@ not_dropped views (c ∷ cs) id was lt =
 
 -- ---- the content then
 
-module _ (c : Content) (w : Warehouse) (views : List View) (stands : Stands c w) (few : length views ≤ most_cuboids) where
+module _ (c : Content) (w : Warehouse) (views : List View) (represents : Represents c w) (few : length views ≤ most_cuboids) where
   abbrev bytes : List ℕ
   bytes = roots.root_of (root_of (with_views w views))
 
   first_views : views_of w.layout ≡ 256
-  first_views = ap views_of stands.first
+  first_views = ap views_of represents.first
 
   abbrev Proper : StoredCuboid → Type 0
   Proper = IsProperCuboid w.layout (length (map length w.batches))
 
   proper_each : All (λ cuboid. Proper (said_of cuboid)) w.cuboids
   proper_each = λ k d within.
-      subst Proper (get_or-map said_of w.cuboids k d (said_of d) within) (stands.root.proper.each k (said_of d) (omega (arith, within, length-map w.cuboids said_of)))
+      subst Proper (get_or-map said_of w.cuboids k d (said_of d) within) (represents.root.proper.each k (said_of d) (omega (arith, within, length-map w.cuboids said_of)))
 
   object_chosen : (id : ℕ) → without (dropped_ids w views) id (object_of w id) ≡ object_of (with_views w views) id
   object_chosen id = by (cases_lt id 131072)
@@ -470,7 +470,7 @@ module _ (c : Content) (w : Warehouse) (views : List View) (stands : Stands c w)
   proper_chosen =
       let same : map said_of (map (kept_at w.cuboids) (in_order views)) ≡ said_with views (map said_of w.cuboids) = said_of_views views w.cuboids in record {
         most = subst (λ (l : List StoredCuboid). length l ≤ most_cuboids) (sym same) (said_few views (map said_of w.cuboids) few);
-        each = subst (λ (l : List StoredCuboid). All Proper l) (sym same) (said_each views (map said_of w.cuboids) w.layout (length (map length w.batches)) (omega (arith, first_views)) stands.root.proper.each);
+        each = subst (λ (l : List StoredCuboid). All Proper l) (sym same) (said_each views (map said_of w.cuboids) w.layout (length (map length w.batches)) (omega (arith, first_views)) represents.root.proper.each);
         ascending = subst (λ (l : List StoredCuboid). AreAscending l) (sym same) (said_ascend views (map said_of w.cuboids));
       }
 
@@ -491,20 +491,20 @@ module _ (c : Content) (w : Warehouse) (views : List View) (stands : Stands c w)
             laid = record { follow = refl; spans = λ k d within. absurd (omega (arith, within)); proper = λ k d within. absurd (omega (arith, within)) };
             groupings = λ k d within. absurd (omega (arith, within));
           }
-          by (Some cuboid) e = still cuboid (found_in (HoldsGroupings w) w.cuboids (index_of view) cuboid stands.cuboids e)
+          by (Some cuboid) e = still cuboid (found_in (HoldsGroupings w) w.cuboids (index_of view) cuboid represents.cuboids e)
 
-  pub stands_chosen : Stands (committed [] (dropped_ids w views) bytes (number_of w.layout) c) (with_views w views)
-  stands_chosen = record {
-    objects = λ id. bytes_after [] (dropped_ids w views) bytes (number_of w.layout) c id ∙ ap (without (dropped_ids w views) id) (stands.objects id) ∙ object_chosen id;
-    once = once_after [] (dropped_ids w views) bytes (number_of w.layout) c stands.once;
+  pub represents_chosen : Represents (committed [] (dropped_ids w views) bytes (number_of w.layout) c) (with_views w views)
+  represents_chosen = record {
+    objects = λ id. bytes_after [] (dropped_ids w views) bytes (number_of w.layout) c id ∙ ap (without (dropped_ids w views) id) (represents.objects id) ∙ object_chosen id;
+    once = once_after [] (dropped_ids w views) bytes (number_of w.layout) c represents.once;
     layout = layout_after [] (dropped_ids w views) bytes (number_of w.layout) c;
-    first = stands.first;
+    first = represents.first;
     root = record {
       spelled = root_after [] (dropped_ids w views) bytes (number_of w.layout) c;
-      proper = root_proper (with_views w views) stands.batches (omega arith) stands.root.proper.additions proper_chosen;
+      proper = root_proper (with_views w views) represents.batches (omega arith) represents.root.proper.additions proper_chosen;
     };
-    rows = stands.rows;
-    batches = stands.batches;
+    rows = represents.rows;
+    batches = represents.batches;
     cuboids = hold_chosen;
   }
 

@@ -28,9 +28,9 @@ use Rattle.warehouse_root.specs.declared.cuboid.StoredCuboid.{StoredCuboid}
 use Rattle.cuboid_cells.specs.declared.span.Span.{Span}
 use Rattle.cuboid_cells.specs.Spelled.{IsSpan}
 use Rattle.cuboid_cells.specs.Steps.{cells_of}
-use Rattle.cuboid_upkeep.specs.Grouping.{StandFor}
+use Rattle.cuboid_upkeep.specs.Grouping.{RepresentRows}
 use Rattle.warehouse_objects.specs.Warehouse.{AreInOrder, AreStorable, Cuboid, IsNext, StoredRun, Warehouse, aimed, fresh, loaded, modes_of}
-use Rattle.warehouse_objects.specs.Stands.{Follow, HasRows, HoldsGroupings, Stands, dimension_of, object_of, root_of, rows_in, run_behind, said_of, segment_behind, stored}
+use Rattle.warehouse_objects.specs.Represents.{Follow, HasRows, HoldsGroupings, Represents, dimension_of, object_of, root_of, rows_in, run_behind, said_of, segment_behind, stored}
 use Rattle.warehouse_objects.specs.Lawful.{batch_put, dimension_puts}
 use Rattle.warehouse_objects.proofs.Batches.{few_batches, in_order_more, in_order_none, next_number, root_proper, slice_get_snoc, some_one}
 use Rattle.warehouse_objects.proofs.Lengths.{dimension_least, dimension_most, segment_least, segment_most}
@@ -89,8 +89,8 @@ object_batch w before low =
 abbrev first_bytes : List ℕ
 first_bytes = roots.root_of (roots.first_root First)
 
-pub stands_created : (rows : DimRows) → AreStorable rows → Stands (created (dimension_puts rows) first_bytes (number_of First)) (fresh rows)
-stands_created rows storable = record {
+pub represents_created : (rows : DimRows) → AreStorable rows → Represents (created (dimension_puts rows) first_bytes (number_of First)) (fresh rows)
+represents_created rows storable = record {
   objects = λ id.
       bytes_created (dimension_puts rows) first_bytes (number_of First) id
       ∙ four_objects (dimension_of rows Customer) (dimension_of rows Supplier) (dimension_of rows Part) (dimension_of rows Date) segment_of id;
@@ -130,7 +130,7 @@ groupings_more w batch cuboid low holds = record {
   laid = record { follow = holds.laid.follow; spans = holds.laid.spans; proper = holds.laid.proper };
   groupings = λ k d within.
       let ends = (ends_within 0 cuboid.mark cuboid.runs holds.laid.follow holds.laid.spans).1 k d within in
-      subst (λ (l : List LineOrder). StandFor w.rows (modes_of w) l (cells_of cuboid.view (get_or cuboid.runs k d).cells)) (sym (run_in_more w batch (get_or cuboid.runs k d).span (omega (arith, ends, low)))) (holds.groupings k d within);
+      subst (λ (l : List LineOrder). RepresentRows w.rows (modes_of w) l (cells_of cuboid.view (get_or cuboid.runs k d).cells)) (sym (run_in_more w batch (get_or cuboid.runs k d).span (omega (arith, ends, low)))) (holds.groupings k d within);
 }
 
 -- the marks of stored cuboids, by the root
@@ -140,7 +140,7 @@ mark_within w proper = λ k d within.
     let same : get_or (map said_of w.cuboids) k (said_of d) ≡ said_of (get_or w.cuboids k d) = get_or-map said_of w.cuboids k d (said_of d) within in
     omega (arith, said.mark, ap (λ (s : StoredCuboid). s.mark) same, length-map w.batches length)
 
-module _ (c : Content) (w : Warehouse) (number : ℕ) (batch : List LineOrder) (stands : Stands c w) (admissible : IsAdmissible w.rows w.batches number batch) (fits : FitColumns batch) where
+module _ (c : Content) (w : Warehouse) (number : ℕ) (batch : List LineOrder) (represents : Represents c w) (admissible : IsAdmissible w.rows w.batches number batch) (fits : FitColumns batch) where
   abbrev bytes : List ℕ
   bytes = roots.root_of (root_of (loaded w batch))
 
@@ -154,16 +154,16 @@ module _ (c : Content) (w : Warehouse) (number : ℕ) (batch : List LineOrder) (
   many = length-append w.batches (batch ∷ [])
 
   in_order : AreInOrder w.rows (w.batches ++ batch ∷ [])
-  in_order = in_order_more w.rows w.batches batch stands.batches next
+  in_order = in_order_more w.rows w.batches batch represents.batches next
 
   target : w.target ≤ length (w.batches ++ batch ∷ [])
-  target = omega (arith, stands.root.proper.target, length-map w.batches length, many)
+  target = omega (arith, represents.root.proper.target, length-map w.batches length, many)
 
   few : number ≤ 65535
   few = omega (arith, is_next, many, few_batches w.rows (w.batches ++ batch ∷ []) in_order)
 
   marks : All (λ cuboid. cuboid.mark ≤ length w.batches) w.cuboids
-  marks = mark_within w stands.root.proper
+  marks = mark_within w represents.root.proper
 
   proper_more : (cuboid : StoredCuboid) → IsProperCuboid w.layout (length (map length w.batches)) cuboid → IsProperCuboid w.layout (length (map length (w.batches ++ batch ∷ []))) cuboid
   proper_more cuboid is = record {
@@ -174,48 +174,48 @@ module _ (c : Content) (w : Warehouse) (number : ℕ) (batch : List LineOrder) (
     most_cells = is.most_cells;
   }
 
-  pub stands_loaded : Stands (committed (batch_put number batch) [] bytes (number_of w.layout) c) (loaded w batch)
-  stands_loaded = record {
+  pub represents_loaded : Represents (committed (batch_put number batch) [] bytes (number_of w.layout) c) (loaded w batch)
+  represents_loaded = record {
     objects = λ id.
         bytes_after (batch_put number batch) [] bytes (number_of w.layout) c id
-        ∙ ap (λ (o : Option (List ℕ)). if 65536 + number == id then Some (segment_of number batch) else o) (stands.objects id)
+        ∙ ap (λ (o : Option (List ℕ)). if 65536 + number == id then Some (segment_of number batch) else o) (represents.objects id)
         ∙ one_more (dimension_of w.rows Customer) (dimension_of w.rows Supplier) (dimension_of w.rows Part) (dimension_of w.rows Date) segment_of (λ place. run_behind place w.cuboids) w.batches batch number id is_next few;
-    once = once_after (batch_put number batch) [] bytes (number_of w.layout) c stands.once;
+    once = once_after (batch_put number batch) [] bytes (number_of w.layout) c represents.once;
     layout = layout_after (batch_put number batch) [] bytes (number_of w.layout) c;
-    first = stands.first;
+    first = represents.first;
     root = record {
       spelled = root_after (batch_put number batch) [] bytes (number_of w.layout) c;
-      proper = root_proper (loaded w batch) in_order target stands.root.proper.additions (record {
-        most = stands.root.proper.most_cuboids;
-        each = λ k d within. proper_more (get_or (map said_of w.cuboids) k d) (stands.root.proper.each k d within);
-        ascending = stands.root.proper.ascending;
+      proper = root_proper (loaded w batch) in_order target represents.root.proper.additions (record {
+        most = represents.root.proper.most_cuboids;
+        each = λ k d within. proper_more (get_or (map said_of w.cuboids) k d) (represents.root.proper.each k d within);
+        ascending = represents.root.proper.ascending;
       });
     };
-    rows = stands.rows;
+    rows = represents.rows;
     batches = in_order;
-    cuboids = λ k d within. groupings_more w batch (get_or w.cuboids k d) (marks k d within) (stands.cuboids k d within);
+    cuboids = λ k d within. groupings_more w batch (get_or w.cuboids k d) (marks k d within) (represents.cuboids k d within);
   }
 
 -- ---- a new target
 
-pub stands_aimed : (c : Content) (w : Warehouse) → Stands c w → Stands (committed [] [] (roots.root_of (root_of (aimed w))) (number_of w.layout) c) (aimed w)
-stands_aimed c w stands =
+pub represents_aimed : (c : Content) (w : Warehouse) → Represents c w → Represents (committed [] [] (roots.root_of (root_of (aimed w))) (number_of w.layout) c) (aimed w)
+represents_aimed c w represents =
     let bytes : List ℕ = roots.root_of (root_of (aimed w)) in record {
-      objects = λ id. bytes_after [] [] bytes (number_of w.layout) c id ∙ stands.objects id;
-      once = once_after [] [] bytes (number_of w.layout) c stands.once;
+      objects = λ id. bytes_after [] [] bytes (number_of w.layout) c id ∙ represents.objects id;
+      once = once_after [] [] bytes (number_of w.layout) c represents.once;
       layout = layout_after [] [] bytes (number_of w.layout) c;
-      first = stands.first;
+      first = represents.first;
       root = record {
         spelled = root_after [] [] bytes (number_of w.layout) c;
-        proper = root_proper (aimed w) stands.batches (omega arith) stands.root.proper.additions (record {
-          most = stands.root.proper.most_cuboids;
-          each = stands.root.proper.each;
-          ascending = stands.root.proper.ascending;
+        proper = root_proper (aimed w) represents.batches (omega arith) represents.root.proper.additions (record {
+          most = represents.root.proper.most_cuboids;
+          each = represents.root.proper.each;
+          ascending = represents.root.proper.ascending;
         });
       };
-      rows = stands.rows;
-      batches = stands.batches;
-      cuboids = λ k d within. let holds = stands.cuboids k d within in record {
+      rows = represents.rows;
+      batches = represents.batches;
+      cuboids = λ k d within. let holds = represents.cuboids k d within in record {
         laid = record { follow = holds.laid.follow; spans = holds.laid.spans; proper = holds.laid.proper };
         groupings = holds.groupings;
       };
@@ -278,8 +278,8 @@ batch_is_put number batch is = one_put (segment_id number) (segment_of number ba
 
 -- ---- what a content says
 
-pub has_rows : (c : Content) (w : Warehouse) → Stands c w → HasRows c w.rows
-has_rows c w stands = record { customers = stands.objects 1; suppliers = stands.objects 2; parts = stands.objects 3; dates = stands.objects 4 }
+pub has_rows : (c : Content) (w : Warehouse) → Represents c w → HasRows c w.rows
+has_rows c w represents = record { customers = represents.objects 1; suppliers = represents.objects 2; parts = represents.objects 3; dates = represents.objects 4 }
 
 pub rows_one : ValidRowsKeepTheRules → (c : Content) (rows others : DimRows) → AreStorable rows → AreStorable others → HasRows c rows → HasRows c others → rows ≡ others
 rows_one law c rows others storable also has have =

@@ -12,7 +12,7 @@ use Rattle.object_store.specs.declared.store.Store.{Store}
 use Rattle.dimension_objects.specs.Spelled.{AreDimensionObjects}
 use Rattle.warehouse_objects.specs.Lawful.{RowsAreOne}
 use Rattle.warehouse_objects.specs.Warehouse.{AreStorable, Warehouse}
-use Rattle.warehouse_objects.specs.Stands.{HasRows, Stands, dimension_of}
+use Rattle.warehouse_objects.specs.Represents.{HasRows, Represents, dimension_of}
 use Rattle.warehouse_objects.proofs.Batches.{some_one}
 use Rattle.warehouse_objects.proofs.Contents.{has_rows}
 use Rattle.warehouse_objects.proofs.Folded.{bad_one, of_fault}
@@ -46,15 +46,15 @@ module _ (a b c d : List ℕ) where
 there : (bytes : List ℕ) (o : Option (List ℕ)) → o ≡ Some bytes → o ≡ None → ⊥
 there bytes o some none = let both : None ≡ Some bytes = sym none ∙ some in cc
 
-module _ (content : Content) (w : Warehouse) (stands : Stands content w) where
+module _ (content : Content) (w : Warehouse) (represents : Represents content w) where
   pub first_two_there : (bytes_of content 1 ≡ None) ⊎ (bytes_of content 2 ≡ None) → ⊥
   first_two_there =
-      let has = has_rows content w stands in
+      let has = has_rows content w represents in
       ⊎_elim (there (dimension_of w.rows Customer) (bytes_of content 1) has.customers) (there (dimension_of w.rows Supplier) (bytes_of content 2) has.suppliers)
 
   pub last_two_there : (bytes_of content 3 ≡ None) ⊎ (bytes_of content 4 ≡ None) → ⊥
   last_two_there =
-      let has = has_rows content w stands in
+      let has = has_rows content w represents in
       ⊎_elim (there (dimension_of w.rows Part) (bytes_of content 3) has.parts) (there (dimension_of w.rows Date) (bytes_of content 4) has.dates)
 
 -- the four objects, decoded together
@@ -70,11 +70,11 @@ module _ (content : Content) (keeps : Type 0) (a b c d : List ℕ) (others : kee
 
   pub four_refused : IfErr result (λ fault. (fault ≡ Memory) ⊎ ((fault ≡ BadLayout) × ((rows : DimRows) → AreStorable rows
       → a ≡ dimension_of rows Customer → b ≡ dimension_of rows Supplier → c ≡ dimension_of rows Part → d ≡ dimension_of rows Date → ⊥)))
-      → IsErrOf result BadLayout → keeps → bytes_of content 1 ≡ Some a → bytes_of content 2 ≡ Some b → (w : Warehouse) → ¬ Stands content w
-  four_refused refused is k one two w stands =
+      → IsErrOf result BadLayout → keeps → bytes_of content 1 ≡ Some a → bytes_of content 2 ≡ Some b → (w : Warehouse) → ¬ Represents content w
+  four_refused refused is k one two w represents =
       let rest = others k in
-      let has = has_rows content w stands in
-      bad_one ⊥ _ (of_fault _ result BadLayout refused is) (λ none. none w.rows stands.rows (some_one a (dimension_of w.rows Customer) (sym one ∙ has.customers)) (some_one b (dimension_of w.rows Supplier) (sym two ∙ has.suppliers))
+      let has = has_rows content w represents in
+      bad_one ⊥ _ (of_fault _ result BadLayout refused is) (λ none. none w.rows represents.rows (some_one a (dimension_of w.rows Customer) (sym one ∙ has.customers)) (some_one b (dimension_of w.rows Supplier) (sym two ∙ has.suppliers))
       (some_one c (dimension_of w.rows Part) (sym rest.0 ∙ has.parts)) (some_one d (dimension_of w.rows Date) (sym rest.1 ∙ has.dates)))
 
 -- objects 1 and 2 were read, and then the others over the content that stayed
@@ -96,12 +96,12 @@ module _ {D : Type 0} (g : Ghosts D) (old mid new : Store D g) (a b : List ℕ) 
       subst (λ (x : Content). HasRows x dims) (still.content (word k)) (has k two.0 two.1)
 
   pub rows_found : RowsAreOne → (result : Result DimRows Fault) → IfOk result AreThere → IfOk result AreStorable
-      → IfOk result (λ dims. (disk_of g new).keeps_word → (w : Warehouse) → Stands (content_of g old) w → dims ≡ w.rows)
-  rows_found law (Ok dims) has storable = λ k w stands. law (content_of g old) dims w.rows storable stands.rows (rows_there dims has k) (has_rows (content_of g old) w stands)
+      → IfOk result (λ dims. (disk_of g new).keeps_word → (w : Warehouse) → Represents (content_of g old) w → dims ≡ w.rows)
+  rows_found law (Ok dims) has storable = λ k w represents. law (content_of g old) dims w.rows storable represents.rows (rows_there dims has k) (has_rows (content_of g old) w represents)
   rows_found law (Err fault) has storable = tt
 
-  pub rows_refused : ((disk_of g new).keeps_word → bytes_of (content_of g mid) 1 ≡ Some a → bytes_of (content_of g mid) 2 ≡ Some b → (w : Warehouse) → ¬ Stands (content_of g mid) w)
-      → (disk_of g new).keeps_word → (w : Warehouse) → ¬ Stands (content_of g old) w
-  rows_refused none k w stands =
+  pub rows_refused : ((disk_of g new).keeps_word → bytes_of (content_of g mid) 1 ≡ Some a → bytes_of (content_of g mid) 2 ≡ Some b → (w : Warehouse) → ¬ Represents (content_of g mid) w)
+      → (disk_of g new).keeps_word → (w : Warehouse) → ¬ Represents (content_of g old) w
+  rows_refused none k w represents =
       let two = both k in
-      none k two.0 two.1 w (subst (λ (x : Content). Stands x w) (sym (still.content (word k))) stands)
+      none k two.0 two.1 w (subst (λ (x : Content). Represents x w) (sym (still.content (word k))) represents)

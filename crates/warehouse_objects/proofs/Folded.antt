@@ -12,23 +12,23 @@ use Rattle.column_segment.specs.declared.columns.FactColumn.{FactColumn}
 use Rattle.column_segment.specs.Projected.{AgreeOn, HoldsNoneOf}
 use Rattle.column_segment.specs.Segment.{IsSegment, segment_of}
 use Rattle.column_segment.proofs.CallerLemmas.{IsSegment-one}
-use Rattle.cube_query.specs.Groups.{CanTake, FoldState, StandsFor}
+use Rattle.cube_query.specs.Groups.{CanTake, FoldState, RepresentsRows}
 use Rattle.cube_query.specs.Limits.{AreFoldable}
-use Rattle.warehouse_objects.specs.Stands.{Stands}
+use Rattle.warehouse_objects.specs.Represents.{Represents}
 use Rattle.warehouse_objects.specs.Warehouse.{Warehouse}
 use Rattle.warehouse_objects.proofs.Batches.{foldable, rows_next, segment_at, some_one}
 use Rattle.warehouse_objects.proofs.Contents.{object_batch}
 
 -- ---- the batches of a warehouse
 
-module _ (c : Content) (w : Warehouse) (stands : Stands c w) where
+module _ (c : Content) (w : Warehouse) (represents : Represents c w) where
   pub batch_bytes : (before : ℕ) (batch : List LineOrder) → before < 65535 → slice_get w.batches before ≡ Some batch → bytes_of c (65537 + before) ≡ Some (segment_of (before + 1) batch)
-  batch_bytes before batch low is = stands.objects (65537 + before) ∙ object_batch w before low ∙ ap (option_map (segment_of (before + 1))) is
+  batch_bytes before batch low is = represents.objects (65537 + before) ∙ object_batch w before low ∙ ap (option_map (segment_of (before + 1))) is
 
   pub same_batch : (before : ℕ) (batch : List LineOrder) (bytes : List ℕ) (number : ℕ) (rows : List LineOrder) → before < 65535 → slice_get w.batches before ≡ Some batch → bytes_of c (65537 + before) ≡ Some bytes
       → IsSegment bytes number rows → (number ≡ before + 1) × (rows ≡ batch)
   same_batch before batch bytes number rows low is at segment =
-      let own = segment_at w.rows w.batches stands.batches before batch is in
+      let own = segment_at w.rows w.batches represents.batches before batch is in
       IsSegment-one bytes number (before + 1) rows batch segment
       (record { spelled = some_one _ _ (sym at ∙ batch_bytes before batch low is); number_fits = own.number_fits; batch = own.batch; fits = own.fits })
 
@@ -36,7 +36,7 @@ module _ (c : Content) (w : Warehouse) (stands : Stands c w) where
   batch_found before bytes number rows low at segment = by (slice_get w.batches before) refl
     where
       by : (o : Option (List LineOrder)) → slice_get w.batches before ≡ o → slice_get w.batches before ≡ Some rows
-      by None e = let none : None ≡ Some bytes = sym (stands.objects (65537 + before) ∙ object_batch w before low ∙ ap (option_map (segment_of (before + 1))) e) ∙ at in absurd cc
+      by None e = let none : None ≡ Some bytes = sym (represents.objects (65537 + before) ∙ object_batch w before low ∙ ap (option_map (segment_of (before + 1))) e) ∙ at in absurd cc
       by (Some x) e = e ∙ ap (λ (l : List LineOrder). Some l) (sym (same_batch before x bytes number rows low e at segment).1)
 
   -- the batch after so many, at the id of its number
@@ -50,7 +50,7 @@ module _ (c : Content) (w : Warehouse) (stands : Stands c w) where
     module _ (batch : List LineOrder) (here : slice_get w.batches before ≡ Some batch) where
       segment_there : (bytes : List ℕ) → bytes_of c id ≡ Some bytes → IsSegment bytes number batch
       segment_there bytes at =
-          let own = segment_at w.rows w.batches stands.batches before batch here in
+          let own = segment_at w.rows w.batches represents.batches before batch here in
           let bytes_are : bytes ≡ segment_of (before + 1) batch = some_one bytes (segment_of (before + 1) batch) (sym at ∙ sym at_id ∙ batch_bytes before batch low here) in
           subst (λ (n : ℕ). IsSegment bytes n batch) (sym numbered) (record { spelled = bytes_are; number_fits = own.number_fits; batch = own.batch; fits = own.fits })
 
@@ -66,7 +66,7 @@ module _ (c : Content) (w : Warehouse) (stands : Stands c w) where
       where
         none_there : (bytes : List ℕ) → bytes_of c id ≡ Some bytes → slice_get w.batches before ≡ None → ⊥
         none_there bytes at none =
-            let both : None ≡ Some bytes = sym (stands.objects (65537 + before) ∙ object_batch w before low ∙ ap (option_map (segment_of (before + 1))) none) ∙ at_id ∙ at in cc
+            let both : None ≡ Some bytes = sym (represents.objects (65537 + before) ∙ object_batch w before low ∙ ap (option_map (segment_of (before + 1))) none) ∙ at_id ∙ at in cc
 
         by_batch : (bytes : List ℕ) → bytes_of c id ≡ Some bytes → ((other : ℕ) (others : List LineOrder) → IsSegment bytes other others → (other ≡ number) × AgreeOn columns rows others)
             → (o : Option (List LineOrder)) → slice_get w.batches before ≡ o → (batch : List LineOrder) × (slice_get w.batches before ≡ Some batch) × AgreeOn columns rows batch
@@ -80,7 +80,7 @@ module _ (c : Content) (w : Warehouse) (stands : Stands c w) where
 
   -- a batch can be taken after those before it
   pub can_take_there : (dims : DimRows) (fold : FoldState) (before : ℕ) (batch : List LineOrder) → slice_get w.batches before ≡ Some batch
-      → AreFoldable dims (all_rows (take (before + 1) w.batches)) → StandsFor dims fold (all_rows (take before w.batches)) → CanTake dims fold batch
+      → AreFoldable dims (all_rows (take (before + 1) w.batches)) → RepresentsRows dims fold (all_rows (take before w.batches)) → CanTake dims fold batch
   can_take_there dims fold before batch here all so_far =
       let more : all_rows (take (before + 1) w.batches) ≡ all_rows (take before w.batches) ++ batch =
       ap (λ (n : ℕ). all_rows (take n w.batches)) (add-one before) ∙ rows_next w.batches before batch here in
@@ -89,7 +89,7 @@ module _ (c : Content) (w : Warehouse) (stands : Stands c w) where
   -- the dimensions of the warehouse have the keys of its batches
   pub own_foldable : (dims : DimRows) (before : ℕ) → dims ≡ w.rows → before < length w.batches → AreFoldable dims (all_rows (take (before + 1) w.batches))
   own_foldable dims before same less =
-      subst (λ (d : DimRows). AreFoldable d (all_rows (take (before + 1) w.batches))) (sym same) (foldable w.rows w.batches stands.batches (before + 1) (omega (arith, less)))
+      subst (λ (d : DimRows). AreFoldable d (all_rows (take (before + 1) w.batches))) (sym same) (foldable w.rows w.batches represents.batches (before + 1) (omega (arith, less)))
 
   -- how many rows the root says it has
   pub count_there : (before : ℕ) (batch : List LineOrder) → slice_get w.batches before ≡ Some batch → get_or (map length w.batches) before 0 ≡ length batch

@@ -21,7 +21,7 @@ use Rattle.warehouse_root.specs.Objects.{run_id}
 use Rattle.warehouse_root.specs.Root as roots
 use Rattle.warehouse_root.specs.Root.{AreAscending, IsProperCuboid}
 use Rattle.warehouse_objects.specs.Warehouse.{Cuboid, StoredRun, Warehouse, cuboid_at, kept, put_cuboid}
-use Rattle.warehouse_objects.specs.Stands.{Follow, HoldsGroupings, Stands, dimension_of, object_of, root_of, run_behind, run_bytes, run_in, said_of}
+use Rattle.warehouse_objects.specs.Represents.{Follow, HoldsGroupings, Represents, dimension_of, object_of, root_of, run_behind, run_bytes, run_in, said_of}
 use Rattle.warehouse_objects.specs.Lawful.{MayReplace, later_runs, run_put}
 use Rattle.warehouse_objects.proofs.Batches.{AreProperCuboids, root_proper, slice_get_snoc}
 use Rattle.warehouse_objects.proofs.Contents.{objects_high, objects_low}
@@ -199,7 +199,7 @@ one_of P new (c ∷ cs) own all =
 not_put : (v n id : ℕ) (o : Option (List ℕ)) (bytes : List ℕ) → id < 131072 → (if run_id v n == id then Some bytes else o) ≡ o
 not_put v n id o bytes lt = grind (arith, nat_tests, lt)
 
-module _ (c : Content) (w : Warehouse) (old new : Cuboid) (stands : Stands c w) (may : MayReplace w old new) where
+module _ (c : Content) (w : Warehouse) (old new : Cuboid) (represents : Represents c w) (may : MayReplace w old new) where
   abbrev root_bytes : List ℕ
   root_bytes = roots.root_of (root_of (kept w new))
 
@@ -211,7 +211,7 @@ module _ (c : Content) (w : Warehouse) (old new : Cuboid) (stands : Stands c w) 
 
   proper_old : All (λ cuboid. Proper (said_of cuboid)) w.cuboids
   proper_old = λ k d within.
-      subst Proper (get_or-map said_of w.cuboids k d (said_of d) within) (stands.root.proper.each k (said_of d) (omega (arith, within, length-map w.cuboids said_of)))
+      subst Proper (get_or-map said_of w.cuboids k d (said_of d) within) (represents.root.proper.each k (said_of d) (omega (arith, within, length-map w.cuboids said_of)))
 
   proper_new : Proper (said_of new)
   proper_new = record {
@@ -242,21 +242,21 @@ module _ (c : Content) (w : Warehouse) (old new : Cuboid) (stands : Stands c w) 
 
   proper_after : AreProperCuboids (kept w new)
   proper_after = record {
-    most = omega (arith, many, stands.root.proper.most_cuboids);
+    most = omega (arith, many, represents.root.proper.most_cuboids);
     each = λ k d within.
         let inside : k < length (put_cuboid new w.cuboids) = omega (arith, within, length-map (put_cuboid new w.cuboids) said_of) in
         subst Proper (sym (get_or-map said_of (put_cuboid new w.cuboids) k new d inside)) (one_of (λ cuboid. Proper (said_of cuboid)) new w.cuboids proper_new proper_old k new inside);
     ascending = λ i j d before within.
         let inside : j < length (put_cuboid new w.cuboids) = omega (arith, within, length-map (put_cuboid new w.cuboids) said_of) in
         let was : j < length w.cuboids = omega (arith, inside, length-map w.cuboids (λ other. if index_of other.view == index_of new.view then new else other)) in
-        let up = stands.root.proper.ascending i j d before (omega (arith, within, many)) in
+        let up = represents.root.proper.ascending i j d before (omega (arith, within, many)) in
         let at_i = ap (λ (s : StoredCuboid). s.view) (get_or-map said_of (put_cuboid new w.cuboids) i new d (omega (arith, before, inside))) ∙ view_put new w.cuboids i new ∙ ap (λ (s : StoredCuboid). s.view) (sym (get_or-map said_of w.cuboids i new d (omega (arith, before, was)))) in
         let at_j = ap (λ (s : StoredCuboid). s.view) (get_or-map said_of (put_cuboid new w.cuboids) j new d inside) ∙ view_put new w.cuboids j new ∙ ap (λ (s : StoredCuboid). s.view) (sym (get_or-map said_of w.cuboids j new d was)) in
         omega (arith, up, at_i, at_j);
   }
 
   hold_after : All (HoldsGroupings (kept w new)) (put_cuboid new w.cuboids)
-  hold_after = one_of (HoldsGroupings (kept w new)) new w.cuboids (still new may.holds) (λ k d within. still (get_or w.cuboids k d) (stands.cuboids k d within))
+  hold_after = one_of (HoldsGroupings (kept w new)) new w.cuboids (still new may.holds) (λ k d within. still (get_or w.cuboids k d) (represents.cuboids k d within))
     where
       still : (cuboid : Cuboid) → HoldsGroupings w cuboid → HoldsGroupings (kept w new) cuboid
       still cuboid holds = record {
@@ -265,19 +265,19 @@ module _ (c : Content) (w : Warehouse) (old new : Cuboid) (stands : Stands c w) 
       }
 
   -- of any commit that makes the runs of the cuboid so
-  stands_kept : (puts : List (ℕ × List ℕ)) (drops : List ℕ) → ((id : ℕ) → among puts id (without drops id (object_of w id)) ≡ object_of (kept w new) id)
-      → Stands (committed puts drops root_bytes (number_of w.layout) c) (kept w new)
-  stands_kept puts drops objects = record {
-    objects = λ id. bytes_after puts drops root_bytes (number_of w.layout) c id ∙ ap (λ (o : Option (List ℕ)). among puts id (without drops id o)) (stands.objects id) ∙ objects id;
-    once = once_after puts drops root_bytes (number_of w.layout) c stands.once;
+  represents_kept : (puts : List (ℕ × List ℕ)) (drops : List ℕ) → ((id : ℕ) → among puts id (without drops id (object_of w id)) ≡ object_of (kept w new) id)
+      → Represents (committed puts drops root_bytes (number_of w.layout) c) (kept w new)
+  represents_kept puts drops objects = record {
+    objects = λ id. bytes_after puts drops root_bytes (number_of w.layout) c id ∙ ap (λ (o : Option (List ℕ)). among puts id (without drops id o)) (represents.objects id) ∙ objects id;
+    once = once_after puts drops root_bytes (number_of w.layout) c represents.once;
     layout = layout_after puts drops root_bytes (number_of w.layout) c;
-    first = stands.first;
+    first = represents.first;
     root = record {
       spelled = root_after puts drops root_bytes (number_of w.layout) c;
-      proper = root_proper (kept w new) stands.batches (omega (arith, stands.root.proper.target, length-map w.batches length)) stands.root.proper.additions proper_after;
+      proper = root_proper (kept w new) represents.batches (omega (arith, represents.root.proper.target, length-map w.batches length)) represents.root.proper.additions proper_after;
     };
-    rows = stands.rows;
-    batches = stands.batches;
+    rows = represents.rows;
+    batches = represents.batches;
     cuboids = hold_after;
   }
 
@@ -306,16 +306,16 @@ module _ (c : Content) (w : Warehouse) (old new : Cuboid) (stands : Stands c w) 
             | false ↦ λ e. found xs (All-tail (λ cuboid. Proper (said_of cuboid)) x xs all) e
           ]) is
 
-  pub stands_appended : (run : StoredRun) → new.runs ≡ old.runs ++ run ∷ [] → Stands (committed (run_put new (length old.runs) run) [] root_bytes (number_of w.layout) c) (kept w new)
-  stands_appended run more =
-      stands_kept (run_put new (length old.runs) run) []
+  pub represents_appended : (run : StoredRun) → new.runs ≡ old.runs ++ run ∷ [] → Represents (committed (run_put new (length old.runs) run) [] root_bytes (number_of w.layout) c) (kept w new)
+  represents_appended run more =
+      represents_kept (run_put new (length old.runs) run) []
       (object_kept (run_put new (length old.runs) run) []
       (λ id o lt. not_put (index_of new.view) (length old.runs) id o (run_bytes new run) lt)
       (λ id le. appended w.cuboids old new run id may.stored may.view le more (omega (arith, old_few))))
 
-  pub stands_merged : (run : StoredRun) → new.runs ≡ run ∷ [] → Stands (committed (run_put new 0 run) (later_runs old) root_bytes (number_of w.layout) c) (kept w new)
-  stands_merged run one =
-      stands_kept (run_put new 0 run) (later_runs old)
+  pub represents_merged : (run : StoredRun) → new.runs ≡ run ∷ [] → Represents (committed (run_put new 0 run) (later_runs old) root_bytes (number_of w.layout) c) (kept w new)
+  represents_merged run one =
+      represents_kept (run_put new 0 run) (later_runs old)
       (object_kept (run_put new 0 run) (later_runs old)
       (λ id o lt. not_put (index_of new.view) 0 id (without (later_runs old) id o) (run_bytes new run) lt ∙ without_range (run_id (index_of old.view) 1) (length old.runs - 1) id o ∙ not_dropped (index_of old.view) (length old.runs - 1) id o lt)
       (λ id le. merged_in w.cuboids old new run id may.stored may.view le one (omega (arith, old_few))))

@@ -24,7 +24,7 @@ use Rattle.warehouse_root.specs.Objects.{run_id}
 use Rattle.warehouse_root.specs.Root.{AreAscending}
 use Rattle.warehouse_root.proofs.CallerLemmas.{root_fits, root_of-one}
 use Rattle.warehouse_objects.specs.Warehouse.{Cuboid, Warehouse, cuboid_at}
-use Rattle.warehouse_objects.specs.Stands.{IsLaid, Stands, StandsWith, dimension_of, object_of, root_of, run_behind, run_bytes, run_in, said_of}
+use Rattle.warehouse_objects.specs.Represents.{IsLaid, Represents, RepresentsWith, dimension_of, object_of, root_of, run_behind, run_bytes, run_in, said_of}
 use Rattle.warehouse_objects.proofs.Batches.{few_batches, segment_at, some_one}
 use Rattle.warehouse_objects.proofs.Contents.{object_batch, objects_high, rows_one}
 
@@ -88,7 +88,7 @@ one_layout Second Second same = refl
 
 -- ---- one warehouse
 
-module _ (law : ValidRowsKeepTheRules) (c : Content) (w v : Warehouse) (is : StandsWith IsLaid c w) (also : StandsWith IsLaid c v) where
+module _ (law : ValidRowsKeepTheRules) (c : Content) (w v : Warehouse) (is : RepresentsWith IsLaid c w) (also : RepresentsWith IsLaid c v) where
   same_root : root_of w ≡ root_of v
   same_root = root_of-one (root_of w) (root_of v) (root_fits (root_of w) is.root.proper) (root_fits (root_of v) also.root.proper) (one_layout w.layout v.layout (sym is.layout ∙ also.layout)) (sym is.root.spelled ∙ also.root.spelled)
 
@@ -163,17 +163,17 @@ module _ (law : ValidRowsKeepTheRules) (c : Content) (w v : Warehouse) (is : Sta
       }
 
 -- a warehouse that is represented is laid out
-pub laid_of : (c : Content) (w : Warehouse) → Stands c w → StandsWith IsLaid c w
-laid_of c w stands = record {
-  objects = stands.objects;
-  once = stands.once;
-  layout = stands.layout;
-  first = stands.first;
-  root = stands.root;
-  rows = stands.rows;
-  batches = stands.batches;
-  cuboids = λ k d within. (stands.cuboids k d within).laid;
+pub laid_of : (c : Content) (w : Warehouse) → Represents c w → RepresentsWith IsLaid c w
+laid_of c w represents = record {
+  objects = represents.objects;
+  once = represents.once;
+  layout = represents.layout;
+  first = represents.first;
+  root = represents.root;
+  rows = represents.rows;
+  batches = represents.batches;
+  cuboids = λ k d within. (represents.cuboids k d within).laid;
 }
 
-pub one_warehouse : ValidRowsKeepTheRules → (c : Content) (w v : Warehouse) → Stands c w → Stands c v → w ≡ v
+pub one_warehouse : ValidRowsKeepTheRules → (c : Content) (w v : Warehouse) → Represents c w → Represents c v → w ≡ v
 one_warehouse law c w v is also = laid_one law c w v (laid_of c w is) (laid_of c v also)

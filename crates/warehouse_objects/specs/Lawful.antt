@@ -17,7 +17,7 @@ use Rattle.warehouse_root.specs.Objects.{run_id, segment_id}
 use Rattle.warehouse_root.specs.Root as roots
 use Rattle.warehouse_objects.specs.Facts.{Admits}
 use Rattle.warehouse_objects.specs.Warehouse.{Warehouse, AreStorable, Cuboid, StoredRun, aimed, cells_in, cuboid_at, dropped_ids, fresh, kept, loaded, with_views}
-use Rattle.warehouse_objects.specs.Stands.{HasRows, HoldsGroupings, Stands, dimension_of, root_of, run_bytes}
+use Rattle.warehouse_objects.specs.Represents.{HasRows, HoldsGroupings, Represents, dimension_of, root_of, run_bytes}
 
 -- the four objects of dimensions, in the order in which a warehouse is made of them
 abbrev pub dimension_puts : DimRows → List (ℕ × List ℕ)
@@ -33,20 +33,20 @@ abbrev pub loading_puts : Warehouse → ℕ → List LineOrder → List (ℕ × 
 loading_puts w number batch = batch_put number batch
 
 -- a content that was made of storable rows and the first root represents the warehouse of no batch
-abbrev pub CreatingStands : Type 0
-CreatingStands = (rows : DimRows) → AreStorable rows
-    → Stands (created (dimension_puts rows) (roots.root_of (roots.first_root First)) (number_of First)) (fresh rows)
+abbrev pub CreatingRepresents : Type 0
+CreatingRepresents = (rows : DimRows) → AreStorable rows
+    → Represents (created (dimension_puts rows) (roots.root_of (roots.first_root First)) (number_of First)) (fresh rows)
 
 -- a commit of an admissible batch and of the root with it makes a content that represents one batch more
-abbrev pub LoadingStands : Type 0
-LoadingStands = (c : Content) (w : Warehouse) (number : ℕ) (batch : List LineOrder)
-    → Stands c w → Admits w number batch → FitColumns batch
-    → Stands (committed (loading_puts w number batch) [] (roots.root_of (root_of (loaded w batch))) (number_of w.layout) c) (loaded w batch)
+abbrev pub LoadingRepresents : Type 0
+LoadingRepresents = (c : Content) (w : Warehouse) (number : ℕ) (batch : List LineOrder)
+    → Represents c w → Admits w number batch → FitColumns batch
+    → Represents (committed (loading_puts w number batch) [] (roots.root_of (root_of (loaded w batch))) (number_of w.layout) c) (loaded w batch)
 
 -- a commit of the root with another target makes a content whose cuboids are to hold all batches
-abbrev pub AimingStands : Type 0
-AimingStands = (c : Content) (w : Warehouse) → Stands c w
-    → Stands (committed [] [] (roots.root_of (root_of (aimed w))) (number_of w.layout) c) (aimed w)
+abbrev pub AimingRepresents : Type 0
+AimingRepresents = (c : Content) (w : Warehouse) → Represents c w
+    → Represents (committed [] [] (roots.root_of (root_of (aimed w))) (number_of w.layout) c) (aimed w)
 
 -- the object of a run of a cuboid
 abbrev pub run_put : Cuboid → ℕ → StoredRun → List (ℕ × List ℕ)
@@ -67,20 +67,20 @@ pub record MayReplace (w : Warehouse) (old new : Cuboid) : Type 0 where
   pub cells : cells_in new.runs ≤ most_cells
 
 -- a commit of one run more, after those of its cuboid, or in the place of all of them
-abbrev pub AppendingStands : Type 0
-AppendingStands = (c : Content) (w : Warehouse) (old new : Cuboid) (run : StoredRun) → Stands c w → MayReplace w old new
+abbrev pub AppendingRepresents : Type 0
+AppendingRepresents = (c : Content) (w : Warehouse) (old new : Cuboid) (run : StoredRun) → Represents c w → MayReplace w old new
     → new.runs ≡ old.runs ++ run ∷ []
-    → Stands (committed (run_put new (length old.runs) run) [] (roots.root_of (root_of (kept w new))) (number_of w.layout) c) (kept w new)
+    → Represents (committed (run_put new (length old.runs) run) [] (roots.root_of (root_of (kept w new))) (number_of w.layout) c) (kept w new)
 
-abbrev pub MergingStands : Type 0
-MergingStands = (c : Content) (w : Warehouse) (old new : Cuboid) (run : StoredRun) → Stands c w → MayReplace w old new
+abbrev pub MergingRepresents : Type 0
+MergingRepresents = (c : Content) (w : Warehouse) (old new : Cuboid) (run : StoredRun) → Represents c w → MayReplace w old new
     → new.runs ≡ run ∷ []
-    → Stands (committed (run_put new 0 run) (later_runs old) (roots.root_of (root_of (kept w new))) (number_of w.layout) c) (kept w new)
+    → Represents (committed (run_put new 0 run) (later_runs old) (roots.root_of (root_of (kept w new))) (number_of w.layout) c) (kept w new)
 
 -- a commit of the root with the cuboids of some views, that drops the runs of the others
-abbrev pub ChoosingStands : Type 0
-ChoosingStands = (c : Content) (w : Warehouse) (views : List View) → Stands c w → length views ≤ most_cuboids
-    → Stands (committed [] (dropped_ids w views) (roots.root_of (root_of (with_views w views))) (number_of w.layout) c) (with_views w views)
+abbrev pub ChoosingRepresents : Type 0
+ChoosingRepresents = (c : Content) (w : Warehouse) (views : List View) → Represents c w → length views ≤ most_cuboids
+    → Represents (committed [] (dropped_ids w views) (roots.root_of (root_of (with_views w views))) (number_of w.layout) c) (with_views w views)
 
 -- the objects of storable rows, and that of an admissible batch, are such as a store takes
 abbrev pub ObjectsAreStorable : Type 0
@@ -94,4 +94,4 @@ RowsAreOne = (c : Content) (rows others : DimRows) → AreStorable rows → AreS
 
 -- a content represents one warehouse at most
 abbrev pub ContentIsOneWarehouse : Type 0
-ContentIsOneWarehouse = (c : Content) (w v : Warehouse) → Stands c w → Stands c v → w ≡ v
+ContentIsOneWarehouse = (c : Content) (w v : Warehouse) → Represents c w → Represents c v → w ≡ v

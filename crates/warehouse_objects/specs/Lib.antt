@@ -1,6 +1,6 @@
 pub mod Counted
 pub mod Warehouse
 pub mod Facts
-pub mod Stands
+pub mod Represents
 pub mod Lawful
 pub mod Loaded

@@ -5,7 +5,7 @@ use Rattle.warehouse_root.specs.declared.layout.Layout.TheVariants.{First}
 use Rattle.warehouse_root.specs.Layouts.{number_of}
 use Rattle.warehouse_root.specs.Root.{PlainRoot, root_of}
 use Rattle.object_store.specs.Content.{Content}
-use Rattle.warehouse_objects.specs.Stands.{HasRows}
+use Rattle.warehouse_objects.specs.Represents.{HasRows}
 
 -- the dimensions and the root that are kept are those of the content
 pub record IsLoaded (c : Content) (rows : DimRows) (root : PlainRoot) : Type 0 where

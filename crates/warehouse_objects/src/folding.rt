@@ -8,12 +8,12 @@ ghost use Rattle.object_store.specs.Disk.{Leaves};
 ghost use Rattle.object_store.specs.Store.{Breaks, IsStill, content_of, device_of, disk_of, has_failed};
 ghost use Rattle.column_segment.specs.Segment.{IsSegment};
 ghost use Rattle.cube_query.specs.Asked.{asked_columns};
-ghost use Rattle.cube_query.specs.Groups.{IsOver, StandsFor};
+ghost use Rattle.cube_query.specs.Groups.{IsOver, RepresentsRows};
 ghost use Rattle.cube_query.specs.Limits.{AreFoldable};
 ghost use Rattle.warehouse_root.specs.Objects.{segment_id};
 ghost use Rattle.warehouse_objects.specs.Counted.{CountsBatch};
 ghost use Rattle.warehouse_objects.specs.Warehouse.{Warehouse};
-ghost use Rattle.warehouse_objects.specs.Stands.{Stands, root_of};
+ghost use Rattle.warehouse_objects.specs.Represents.{Represents, root_of};
 
 use column_segment::{ColumnBuffer, FactColumn, Segment, decode};
 use cube_model::Fault;
@@ -44,12 +44,12 @@ pub fn fold_batches<D: Sectors>(
     requires few { as_of ≤ length root.now.batches }
 
     // A fold that represents the rows of the batches up to the first of them then represents those up to the last.
-    ensures ok { OnOk result (D.keeps_word (device_of store.new) → (w : Warehouse) → Stands (content_of D.Sectors store.old) w
-        → StandsFor dims.now fold.old (all_rows (take from w.batches)) → StandsFor dims.now fold.new (all_rows (take as_of w.batches))) }
+    ensures ok { OnOk result (D.keeps_word (device_of store.new) → (w : Warehouse) → Represents (content_of D.Sectors store.old) w
+        → RepresentsRows dims.now fold.old (all_rows (take from w.batches)) → RepresentsRows dims.now fold.new (all_rows (take as_of w.batches))) }
     ensures over { IsOver dims.now fold.new }
     ensures query { fold.new.query ≡ fold.old.query }
-    ensures refused { IsErrOf result BadLayout → D.keeps_word (device_of store.new) → (w : Warehouse) → Stands (content_of D.Sectors store.old) w
-        → root.now ≡ root_of w → dims.now ≡ w.rows → StandsFor dims.now fold.old (all_rows (take from w.batches)) → ⊥ }
+    ensures refused { IsErrOf result BadLayout → D.keeps_word (device_of store.new) → (w : Warehouse) → Represents (content_of D.Sectors store.old) w
+        → root.now ≡ root_of w → dims.now ≡ w.rows → RepresentsRows dims.now fold.old (all_rows (take from w.batches)) → ⊥ }
 
     // The content stays, at each moment.
     ensures leaves { Leaves (disk_of D.Sectors store.old) (disk_of D.Sectors store.new) (λ c. c ≡ content_of D.Sectors store.old) }
@@ -84,14 +84,14 @@ pub fn fold_batch<D: Sectors>(
 ) -> Result<(), Fault>
     requires fine { has_failed store.old ≡ false }
     requires over { IsOver dims.now fold.old }
-    ensures ok { OnOk result (D.keeps_word (device_of store.new) → (w : Warehouse) → Stands (content_of D.Sectors store.old) w
-        → StandsFor dims.now fold.old (all_rows (take before w.batches)) → StandsFor dims.now fold.new (all_rows (take (before + 1) w.batches))) }
+    ensures ok { OnOk result (D.keeps_word (device_of store.new) → (w : Warehouse) → Represents (content_of D.Sectors store.old) w
+        → RepresentsRows dims.now fold.old (all_rows (take before w.batches)) → RepresentsRows dims.now fold.new (all_rows (take (before + 1) w.batches))) }
     ensures err { OnErr result (fold.new ≡ fold.old) }
     ensures over { IsOver dims.now fold.new }
     ensures query { fold.new.query ≡ fold.old.query }
-    ensures refused { IsErrOf result BadLayout → D.keeps_word (device_of store.new) → (w : Warehouse) → Stands (content_of D.Sectors store.old) w
+    ensures refused { IsErrOf result BadLayout → D.keeps_word (device_of store.new) → (w : Warehouse) → Represents (content_of D.Sectors store.old) w
         → root.now ≡ root_of w → before < length w.batches → AreFoldable dims.now (all_rows (take (before + 1) w.batches))
-        → StandsFor dims.now fold.old (all_rows (take before w.batches)) → ⊥ }
+        → RepresentsRows dims.now fold.old (all_rows (take before w.batches)) → ⊥ }
 
     // The content stays, at each moment.
     ensures leaves { Leaves (disk_of D.Sectors store.old) (disk_of D.Sectors store.new) (λ c. c ≡ content_of D.Sectors store.old) }
@@ -130,9 +130,9 @@ fn add_batch<D: Sectors>(
     ensures err { OnErr result (fold.new ≡ fold.old) }
     ensures over { IsOver dims.now fold.new }
     ensures query { fold.new.query ≡ fold.old.query }
-    ensures refused { IsErrOf result BadLayout → D.keeps_word (device_of store.new) → (w : Warehouse) → Stands (content_of D.Sectors store.old) w
+    ensures refused { IsErrOf result BadLayout → D.keeps_word (device_of store.new) → (w : Warehouse) → Represents (content_of D.Sectors store.old) w
         → (batch : List LineOrder) → slice_get w.batches before ≡ Some batch → count ≡ length batch
-        → AreFoldable dims.now (all_rows (take (before + 1) w.batches)) → StandsFor dims.now fold.old (all_rows (take before w.batches)) → ⊥ }
+        → AreFoldable dims.now (all_rows (take (before + 1) w.batches)) → RepresentsRows dims.now fold.old (all_rows (take before w.batches)) → ⊥ }
     ensures leaves { Leaves (disk_of D.Sectors store.old) (disk_of D.Sectors store.new) (λ c. c ≡ content_of D.Sectors store.old) }
     ensures stays { (IsErrOf result Device → ⊥) → IsStill D.Sectors store.old store.new }
     ensures device { IsErrOf result Device → Breaks D.Sectors store.old store.new }

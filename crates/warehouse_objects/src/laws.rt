@@ -1,16 +1,16 @@
 //! Laws of the definitions: each function proves the statement that its contract names, and does nothing.
-ghost use Rattle.warehouse_objects.specs.Lawful.{AimingStands, AppendingStands, ChoosingStands, ContentIsOneWarehouse, CreatingStands, LoadingStands, MergingStands, ObjectsAreStorable, RowsAreOne};
+ghost use Rattle.warehouse_objects.specs.Lawful.{AimingRepresents, AppendingRepresents, ChoosingRepresents, ContentIsOneWarehouse, CreatingRepresents, LoadingRepresents, MergingRepresents, ObjectsAreStorable, RowsAreOne};
 
 use cube_model::valid_rows_keep_the_rules;
 
 /// A content that is made of storable dimension rows and the first root represents the warehouse of no batch.
-pub fn creating_stands()
-    ensures { CreatingStands }
+pub fn creating_represents()
+    ensures { CreatingRepresents }
 {}
 
 /// A commit of an admissible batch, with the root that says so, makes a content that represents one batch more.
-pub fn loading_stands()
-    ensures { LoadingStands }
+pub fn loading_represents()
+    ensures { LoadingRepresents }
 {}
 
 /// The objects of storable dimension rows and of an admissible batch are such as a store takes.
@@ -35,22 +35,22 @@ pub fn content_is_one_warehouse()
 }
 
 /// A commit of the root with the count of batches as its target makes a content whose cuboids are to hold all of them.
-pub fn aiming_stands()
-    ensures { AimingStands }
+pub fn aiming_represents()
+    ensures { AimingRepresents }
 {}
 
 /// A commit of one run more makes a content that represents the warehouse with it.
-pub fn appending_stands()
-    ensures { AppendingStands }
+pub fn appending_represents()
+    ensures { AppendingRepresents }
 {}
 
 /// And so does a commit of one run in the place of all of its cuboid.
-pub fn merging_stands()
-    ensures { MergingStands }
+pub fn merging_represents()
+    ensures { MergingRepresents }
 {}
 
 /// A commit of the root with the cuboids of some views, at most 16, that drops the runs of the others, makes a content that
 /// represents the warehouse with these views.
-pub fn choosing_stands()
-    ensures { ChoosingStands }
+pub fn choosing_represents()
+    ensures { ChoosingRepresents }
 {}

@@ -10,7 +10,7 @@ ghost use Rattle.warehouse_root.specs.declared.layout.Layout.TheVariants.{First}
 ghost use Rattle.warehouse_root.specs.Layouts.{number_of};
 ghost use Rattle.warehouse_root.specs.Root.{IsRootOf};
 ghost use Rattle.warehouse_objects.specs.Warehouse.{AreStorable, Warehouse};
-ghost use Rattle.warehouse_objects.specs.Stands.{HasRows, Stands, dimension_of, root_of};
+ghost use Rattle.warehouse_objects.specs.Represents.{HasRows, Represents, dimension_of, root_of};
 
 use crate::laws::rows_are_one;
 use cube_model::Fault;
@@ -26,9 +26,9 @@ use warehouse_root::{Layout, Root};
 pub fn read_root<D: Sectors>(alloc: Global, store: &Store<D>) -> Result<Root, Fault>
     ensures ok { IfOk result (IsRootOf First (content_of D.Sectors store.now).root) }
     ensures layout { OnOk result ((content_of D.Sectors store.now).layout ≡ number_of First) }
-    ensures found { IfOk result (λ root. (w : Warehouse) → Stands (content_of D.Sectors store.now) w → root ≡ root_of w) }
+    ensures found { IfOk result (λ root. (w : Warehouse) → Represents (content_of D.Sectors store.now) w → root ≡ root_of w) }
     ensures refused { IfErr result (λ fault. (fault ≡ Memory)
-        ⊎ ((fault ≡ BadLayout) × ((w : Warehouse) → ¬ Stands (content_of D.Sectors store.now) w))) }
+        ⊎ ((fault ≡ BadLayout) × ((w : Warehouse) → ¬ Represents (content_of D.Sectors store.now) w))) }
 {
     if store.layout() != Layout::First.number() {
         return Err(Fault::BadLayout);
@@ -43,9 +43,9 @@ pub fn read_dims<D: Sectors>(alloc: Global, store: &mut Store<D>) -> Result<Dims
     ensures ok { IfOk result (λ dims. D.keeps_word (device_of store.new) → HasRows (content_of D.Sectors store.old) dims) }
     ensures storable { IfOk result AreStorable }
     ensures found { IfOk result (λ dims. D.keeps_word (device_of store.new)
-        → (w : Warehouse) → Stands (content_of D.Sectors store.old) w → dims ≡ w.rows) }
+        → (w : Warehouse) → Represents (content_of D.Sectors store.old) w → dims ≡ w.rows) }
     ensures refused { IsErrOf result BadLayout → D.keeps_word (device_of store.new)
-        → (w : Warehouse) → ¬ Stands (content_of D.Sectors store.old) w }
+        → (w : Warehouse) → ¬ Represents (content_of D.Sectors store.old) w }
 
     // The content stays, at each moment.
     ensures leaves { Leaves (disk_of D.Sectors store.old) (disk_of D.Sectors store.new) (λ c. c ≡ content_of D.Sectors store.old) }
@@ -71,7 +71,7 @@ fn read_others<D: Sectors>(
         → bytes_of (content_of D.Sectors store.old) 2 ≡ Some suppliers.now → HasRows (content_of D.Sectors store.old) dims) }
     ensures storable { IfOk result AreStorable }
     ensures refused { IsErrOf result BadLayout → D.keeps_word (device_of store.new) → bytes_of (content_of D.Sectors store.old) 1 ≡ Some customers.now
-        → bytes_of (content_of D.Sectors store.old) 2 ≡ Some suppliers.now → (w : Warehouse) → ¬ Stands (content_of D.Sectors store.old) w }
+        → bytes_of (content_of D.Sectors store.old) 2 ≡ Some suppliers.now → (w : Warehouse) → ¬ Represents (content_of D.Sectors store.old) w }
     ensures leaves { Leaves (disk_of D.Sectors store.old) (disk_of D.Sectors store.new) (λ c. c ≡ content_of D.Sectors store.old) }
     ensures stays { (IsErrOf result Device → ⊥) → IsStill D.Sectors store.old store.new }
     ensures device { IsErrOf result Device → Breaks D.Sectors store.old store.new }

@@ -45,7 +45,7 @@ fn first_wrong_room(alloc: Global) -> Result<Option<usize>, Fault> {
 }
 
 #[test]
-fn a_failing_write_stands_behind_what_was_taken(rt: HostRuntime) -> Result<(), Fail> {
+fn a_failing_write_comes_after_what_was_taken(rt: HostRuntime) -> Result<(), Fail> {
     assert_eq!(rt; first_wrong_room(rt.alloc())?, None);
     Ok(())
 }

@@ -65,7 +65,7 @@ fn first_wrong_room(alloc: Global) -> Result<Option<usize>, Fault> {
 }
 
 #[test]
-fn a_failing_writer_is_behind_the_batches_that_it_told(rt: HostRuntime) -> Result<(), Fail> {
+fn a_failing_writer_comes_after_the_batches_that_it_printed(rt: HostRuntime) -> Result<(), Fail> {
     assert_eq!(rt; first_wrong_room(rt.alloc())?, None);
     Ok(())
 }
@@ -74,7 +74,7 @@ fn a_failing_writer_is_behind_the_batches_that_it_told(rt: HostRuntime) -> Resul
 const READS: u32 = TABLES.lineorder.len() as u32 / 7 + 2;
 
 /// How many batches a load leaves whose reader fails at a read, unless it does not answer so or writes other lines.
-fn batches_behind(alloc: Global, read: u32) -> Result<Option<usize>, Fault> {
+fn batches_left(alloc: Global, read: u32) -> Result<Option<usize>, Fault> {
     let mut out = Vec::new(alloc);
     let reader = in_sevens(TABLES.lineorder).failing_at(read);
     let (done, batches) = outcome(alloc, reader, &mut out)?;
@@ -90,7 +90,7 @@ fn batches_behind(alloc: Global, read: u32) -> Result<Option<usize>, Fault> {
 fn first_wrong_read(alloc: Global) -> Result<Option<u32>, Fault> {
     let mut most = 0;
     for read in 1..=READS {
-        match batches_behind(alloc, read)? {
+        match batches_left(alloc, read)? {
             Some(batches) if batches >= most => most = batches,
             _ => return Ok(Some(read)),
         }
@@ -99,7 +99,7 @@ fn first_wrong_read(alloc: Global) -> Result<Option<u32>, Fault> {
 }
 
 #[test]
-fn a_failing_reader_is_answered_behind_whole_batches(rt: HostRuntime) -> Result<(), Fail> {
+fn a_failing_reader_is_answered_after_whole_batches(rt: HostRuntime) -> Result<(), Fail> {
     assert_eq!(rt; first_wrong_read(rt.alloc())?, None);
     Ok(())
 }

@@ -69,7 +69,7 @@ fn first_wrong(alloc: Global, when_full: WhenFull, rooms: usize) -> Result<Optio
 
 // With just the room of the report the last byte is taken, and the flush fails.
 #[test]
-fn a_failing_write_stands_behind_what_was_taken(rt: HostRuntime) -> Result<(), Fail> {
+fn a_failing_write_comes_after_what_was_taken(rt: HostRuntime) -> Result<(), Fail> {
     assert_eq!(rt;
         first_wrong(rt.alloc(), WhenFull::Fails, WHOLE.len() + 1)?,
         None

@@ -11,28 +11,28 @@ use Rattle.object_store.specs.Store.{IsStill}
 use Rattle.lattice.specs.declared.view.View.{View}
 use Rattle.lattice.specs.Views.{index_of}
 use Rattle.cuboid_cells.specs.Cells.{PlainCells}
-use Rattle.cuboid_upkeep.specs.Grouping.{StandFor}
+use Rattle.cuboid_upkeep.specs.Grouping.{RepresentRows}
 use Rattle.cuboid_upkeep.specs.Steps.{AreUnfit, HaveTooMany, IsAddFault}
-use Rattle.warehouse_objects.specs.Stands.{IsLaidOut}
+use Rattle.warehouse_objects.specs.Represents.{IsLaidOut}
 use Rattle.warehouse_objects.proofs.Batches.{get_within}
 use Rattle.warehouse_objects.proofs.Folded.{err_fault, of_fault}
 use Rattle.warehouse_objects.proofs.OneMoreRead.{breaks_then, reads_more, still_then}
 use Rattle.cuboid_upkeep.specs.Growing.{grown}
 use Rattle.batch_cells.proofs.Faults.{too_many_of, unfit}
-use Rattle.batch_cells.proofs.Members.{many_then, never_bad, none_stand}
+use Rattle.batch_cells.proofs.Members.{many_then, never_bad, none_represent}
 use Rattle.batch_cells.proofs.Read.{count_here}
 use Rattle.batch_cells.proofs.Spans.{between, none_between, one_more}
 use Rattle.batch_cells.proofs.batches.cells_of_batches.Goals as goal
 
 pub loop-before-init : goal.loop-before-init
 loop-before-init g c =
-    let stand : StandFor c.args.dims.now [] [] (grown c.in_ok-cells.cells) = none_stand c.args.dims.now c.args.view (grown c.in_ok-cells.cells) c.in_ok-cells.ensures.none in record {
+    let represent : RepresentRows c.args.dims.now [] [] (grown c.in_ok-cells.cells) = none_represent c.args.dims.now c.args.view (grown c.in_ok-cells.cells) c.in_ok-cells.ensures.none in record {
       fine = c.requires.fine;
       still = search rules;
       leaves = c.is_broken-usable.ensures.leaves c.requires.fine;
       view = ap (λ (cells : PlainCells). cells.view) c.in_ok-cells.ensures.none;
-      some = ([], stand);
-      own = λ k w laid. subst (λ (batches : List (List LineOrder)). StandFor c.args.dims.now [] (all_rows batches) (grown c.in_ok-cells.cells)) (sym (none_between c.args.span.from w.batches)) stand;
+      some = ([], represent);
+      own = λ k w laid. subst (λ (batches : List (List LineOrder)). RepresentRows c.args.dims.now [] (all_rows batches) (grown c.in_ok-cells.cells)) (sym (none_between c.args.span.from w.batches)) represent;
       over = c.in_ok-cells.ensures.over;
     }
 
@@ -59,13 +59,13 @@ loop-before-preserved g c =
       still = still_then g.D.Sectors first was now so_far.still still;
       leaves = reads_more g.D.Sectors first was now so_far.still so_far.leaves c.in_ok-add_batch.ensures.leaves;
       view = c.in_ok-add_batch.ensures.view ∙ so_far.view;
-      some = (so_far.some.0 ++ next.some.0, next.some.1.stand so_far.some.0 so_far.some.1);
+      some = (so_far.some.0 ++ next.some.0, next.some.1.represent so_far.some.0 so_far.some.1);
       own = λ k w laid.
           let here = next.own k w (subst (λ (x : Content). IsLaidOut x w) (sym (so_far.still.content (still.word k))) laid) in
           let low : from ≤ before = omega arith in
           let more : between w.batches from (before + 1) ≡ between w.batches from before ++ here.0 =
           ap (λ (n : ℕ). between w.batches from n) (add-one before) ∙ one_more w.batches from before here.0 low here.1 in
-          subst (λ (rows : List LineOrder). StandFor c.args.dims.now [] rows (grown c.add_batch.new.cells)) (sym more) (here.2.stand (between w.batches from before) (so_far.own (still.word k) w laid));
+          subst (λ (rows : List LineOrder). RepresentRows c.args.dims.now [] rows (grown c.add_batch.new.cells)) (sym more) (here.2.represent (between w.batches from before) (so_far.own (still.word k) w laid));
       over = c.in_ok-add_batch.ensures.over;
     }
 
@@ -191,9 +191,9 @@ pub returns-clause-ok : goal.returns-clause-ok
 returns-clause-ok g c =
     let ends : c.loop-before.before ≡ c.args.span.to = omega (arith, c.loop-before-test.false, c.loop-before.auto.before-end, c.requires.order) in
     IfOk-weaker c.finish.result _ _ (λ cells is k w laid same.
-    subst (λ (plain : PlainCells). StandFor w.rows [] (between w.batches c.args.span.from c.args.span.to) plain) (sym is)
-    (subst (λ (rows : DimRows). StandFor rows [] (between w.batches c.args.span.from c.args.span.to) (grown c.loop-before.cells)) same
-    (subst (λ (n : ℕ). StandFor c.args.dims.now [] (between w.batches c.args.span.from n) (grown c.loop-before.cells)) ends (c.loop-before.invariant.own k w laid))))
+    subst (λ (plain : PlainCells). RepresentRows w.rows [] (between w.batches c.args.span.from c.args.span.to) plain) (sym is)
+    (subst (λ (rows : DimRows). RepresentRows rows [] (between w.batches c.args.span.from c.args.span.to) (grown c.loop-before.cells)) same
+    (subst (λ (n : ℕ). RepresentRows c.args.dims.now [] (between w.batches c.args.span.from n) (grown c.loop-before.cells)) ends (c.loop-before.invariant.own k w laid))))
     c.finish.ensures.ok
 
 pub returns-clause-view : goal.returns-clause-view

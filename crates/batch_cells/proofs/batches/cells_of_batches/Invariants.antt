@@ -1,11 +1,11 @@
 use Rattle.std.proofs.Common.{◌≡◌, false, []}
 use Rattle.object_store.specs.Disk.{Leaves}
 use Rattle.object_store.specs.Store.{IsStill, content_of, device_of, disk_of, has_failed}
-use Rattle.cuboid_upkeep.specs.Grouping.{StandFor}
-use Rattle.warehouse_objects.specs.Stands.{IsLaidOut}
+use Rattle.cuboid_upkeep.specs.Grouping.{RepresentRows}
+use Rattle.warehouse_objects.specs.Represents.{IsLaidOut}
 use Rattle.warehouse_objects.specs.Warehouse.{Warehouse}
 use Rattle.cuboid_upkeep.specs.Growing.{GrowOver, grown}
-use Rattle.batch_cells.specs.Grouped.{StandForSome}
+use Rattle.batch_cells.specs.Grouped.{RepresentSomeRows}
 use Rattle.batch_cells.proofs.Spans.{between}
 use Rattle.batch_cells.proofs.batches.cells_of_batches.Given as goal
 
@@ -16,7 +16,7 @@ invariant-loop-before g l =
       still : IsStill g.D.Sectors l.initial.store l.store;
       leaves : Leaves (disk_of g.D.Sectors l.initial.store) (disk_of g.D.Sectors l.store) (λ c. c ≡ first);
       view : (grown l.cells).view ≡ l.fn.view;
-      some : StandForSome l.dims (grown l.cells);
-      own : g.D.Sectors.keeps_word (device_of l.store) → (w : Warehouse) → IsLaidOut first w → StandFor l.dims [] (between w.batches l.fn.span.from l.before) (grown l.cells);
+      some : RepresentSomeRows l.dims (grown l.cells);
+      own : g.D.Sectors.keeps_word (device_of l.store) → (w : Warehouse) → IsLaidOut first w → RepresentRows l.dims [] (between w.batches l.fn.span.from l.before) (grown l.cells);
       over : GrowOver l.dims l.cells;
     }

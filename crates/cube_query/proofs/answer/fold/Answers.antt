@@ -6,7 +6,7 @@ use Rattle.cube_query.proofs.Refusals.{never_improper}
 use Rattle.cube_query.proofs.answer.fold.Goals as goal
 
 pub add_rows-requires : goal.add_rows-requires
-add_rows-requires c = c.in_ok-state.ensures.ok.stands.over
+add_rows-requires c = c.in_ok-state.ensures.ok.represents.over
 
 pub returns-clause-answer : goal.returns-clause-answer
 returns-clause-answer c =
@@ -14,14 +14,14 @@ returns-clause-answer c =
     let takes = c.in_ok-add_rows.ensures.ok in
     let rows = c.args.rows.now in
     let query : c.add_rows.new.self.query ≡ c.args.query.now = takes.query ∙ begun.query_is in
-    IfOk-weaker c.finish.result _ _ (λ found all. all rows (takes.stands [] begun.stands) ∙ ap (λ q. answer q c.args.dims.now rows) query) c.finish.ensures.answer
+    IfOk-weaker c.finish.result _ _ (λ found all. all rows (takes.represents [] begun.represents) ∙ ap (λ q. answer q c.args.dims.now rows) query) c.finish.ensures.answer
 
 pub returns-clause-refused : goal.returns-clause-refused
 returns-clause-refused c = λ bad proper. never_improper c.finish.result c.finish.ensures.only bad
 
 pub returns-clause-unfolded : goal.returns-clause-unfolded
 returns-clause-unfolded c = λ bad foldable.
-    c.finish.ensures.refused bad (c.args.rows.now, (c.in_ok-add_rows.ensures.ok.stands [] c.in_ok-state.ensures.ok.stands, foldable))
+    c.finish.ensures.refused bad (c.args.rows.now, (c.in_ok-add_rows.ensures.ok.represents [] c.in_ok-state.ensures.ok.represents, foldable))
 
 pub returns-clause-only : goal.returns-clause-only
 returns-clause-only c = IfErr-weaker c.finish.result _ _ (λ fault either other. either) c.finish.ensures.only
@@ -31,4 +31,4 @@ returns-in_err-add_rows-clause-unfolded c =
     let p = err_from_is_err_and c.from_residual-in_err-add_rows.result c.from_residual-in_err-add_rows.ensures.1 in
     rw (p.1, p.2) (λ bad foldable.
     let fault : c.in_err-add_rows.field-0.0 ≡ BadLayout = cc bad in
-    c.in_err-add_rows.ensures.refused (ap (λ f. Err f) fault) ([], (c.in_ok-state.ensures.ok.stands, foldable)))
+    c.in_err-add_rows.ensures.refused (ap (λ f. Err f) fault) ([], (c.in_ok-state.ensures.ok.represents, foldable)))

@@ -10,7 +10,7 @@ use Rattle.cuboid_cells.specs.declared.cell.Cell.{Cell}
 use Rattle.cuboid_cells.specs.declared.head.RunHead.{RunHead}
 use Rattle.lattice.specs.declared.view.View.{View}
 use Rattle.group_plan.specs.Numbers.{group_count}
-use Rattle.cube_query.specs.CellSlots.{AreMergedIn, HaveNoStandIn}
+use Rattle.cube_query.specs.CellSlots.{AreMergedIn, HaveNoRepresentative}
 use Rattle.cube_query.specs.CellTallies.{GroupsHaveRoomFor}
 use Rattle.cube_query.specs.Slots.{entries_of, Grow}
 use Rattle.cube_query.proofs.CellSlots.{none_yet}
@@ -120,7 +120,7 @@ returns-in_err-merge_cells-clause-refused g c =
     let same = ap (λ (n : ℕ). g.S.Source.texts c.loop-source.source n) so_far.id
     ∙ so_far.read.stays.texts kept c.args.run.now.id in
     let fault : c.in_err-merge_cells.field-0.0 ≡ BadLayout = cc bad in
-    let refused = subst (λ (cells : List Cell). HaveNoStandIn asked cells
+    let refused = subst (λ (cells : List Cell). HaveNoRepresentative asked cells
     ⊎ (GroupsHaveRoomFor now aggs cells c.loop-source.columns → ⊥)) c.as_slice.ensures.value
     (c.in_err-merge_cells.ensures.refused (ap (λ fault. Err fault) fault)) in
     run_refused asked aggs text _ same (entries_of c.loop-source.slots) now c.loop-source.run c.read_wanted.new.run

@@ -26,7 +26,7 @@ returns-in-None-clause-groups c =
     subst (HaveLines dims query columns) (sym seen) (seen_have_lines dims query columns entries c.requires.numbers)
 
 pub returns-in-None-clause-lines : goal.returns-in-None-clause-lines
-returns-in-None-clause-lines c = λ rows stands.
+returns-in-None-clause-lines c = λ rows represents.
     let dims = c.args.plan.now.dimensions in
     let query = c.args.plan.now.query in
     let aggs = query.aggregates in
@@ -35,7 +35,7 @@ returns-in-None-clause-lines c = λ rows stands.
     let seen : c.in_ok-groups.groups.items ≡ seen_entries (tallies_at columns) entries = c.in_ok-groups.ensures in
     ap (lines_by dims query columns) seen
     ∙ seen_lines (key_at dims query.columns) aggs columns entries
-    ∙ ap (map (line_with aggs)) stands
+    ∙ ap (map (line_with aggs)) represents
     ∙ lines_are dims query rows (ap (λ q. q.order) (sym c.requires.query) ∙ c.in-None.is)
 
 pub returns-in_ok-sorted-in-Some-clause-groups : goal.returns-in_ok-sorted-in-Some-clause-groups
@@ -51,7 +51,7 @@ returns-in_ok-sorted-in-Some-clause-groups c =
     All-permutation (HasLine dims query columns) (seen_entries (tallies_at columns) entries) c.in_ok-sorted-in-Some.sorted.items same (seen_have_lines dims query columns entries c.requires.numbers)
 
 pub returns-in_ok-sorted-in-Some-clause-lines : goal.returns-in_ok-sorted-in-Some-clause-lines
-returns-in_ok-sorted-in-Some-clause-lines c = λ rows stands.
+returns-in_ok-sorted-in-Some-clause-lines c = λ rows represents.
     let dims = c.args.plan.now.dimensions in
     let query = c.args.plan.now.query in
     let aggs = query.aggregates in
@@ -69,7 +69,7 @@ returns-in_ok-sorted-in-Some-clause-lines c = λ rows stands.
     subst (λ all. IsAscending (line_cmp order) (map (entry_line key all columns) sorted)) aggregates c.in_ok-sorted-in-Some.ensures.rising in
     sorted_answer dims query rows order asked c.answer_is_the_one.ensures
     (map (entry_line key aggs columns) (seen_entries (tallies_at columns) entries)) (map (entry_line key aggs columns) sorted)
-    (seen_lines key aggs columns entries ∙ ap (map (line_with aggs)) stands ∙ unordered_lines dims query rows)
+    (seen_lines key aggs columns entries ∙ ap (map (line_with aggs)) represents ∙ unordered_lines dims query rows)
     (IsPermutation-map (entry_line key aggs columns) (seen_entries (tallies_at columns) entries) sorted same)
     rising
 

@@ -30,5 +30,5 @@ returns c =
     let made = plan_of_over dims plan over in
     record {
       query_is = refl;
-      stands = begun dims plan over slots columns (subst (λ n. AreSlots n (entries_of slots)) (c.group_count.ensures ∙ made.counted) c.in_ok-slots.ensures.numbers) none;
+      represents = begun dims plan over slots columns (subst (λ n. AreSlots n (entries_of slots)) (c.group_count.ensures ∙ made.counted) c.in_ok-slots.ensures.numbers) none;
     }

@@ -5,15 +5,15 @@ use Rattle.cube_model.specs.declared.measure.Agg.{Agg}
 use Rattle.cuboid_cells.specs.declared.cell.Cell.{Cell}
 use Rattle.cuboid_upkeep.specs.CellNumbers.{AskedOfCells}
 use Rattle.cuboid_upkeep.specs.Codes.{modes_of}
-use Rattle.cuboid_upkeep.proofs.Standing.{stands_among}
+use Rattle.cuboid_upkeep.proofs.Represented.{represents_among}
 use Rattle.group_plan.specs.Plans.{query_of}
-use Rattle.cube_query.specs.CellSlots.{HaveNoStandIn, asked_of}
+use Rattle.cube_query.specs.CellSlots.{HaveNoRepresentative, asked_of}
 use Rattle.cube_query.specs.CellTallies.{GroupsHaveRoomFor}
 use Rattle.cube_query.specs.Slots.{entries_of}
 use Rattle.cube_query.proofs.running.columns_with_cells.Goals as goal
 
 pub returns-clause-refused : goal.returns-clause-refused
-returns-clause-refused c bad rows stand known room =
+returns-clause-refused c bad rows represent known room =
     let dims = c.args.dims.now in
     let plain = c.args.cells.now in
     let query = query_of c.args.plan.now in
@@ -23,10 +23,10 @@ returns-clause-refused c bad rows stand known room =
     let aggregates = c.as_slice-aggregates.ensures ∙ ap (λ q. q.aggregates) c.query.ensures in
     elim (c.with_cells.ensures.refused bad) [
       | inl none ↦
-          let asked = subst (λ (own : AskedOfCells). HaveNoStandIn own c.as_slice-cells.result.now) c.in_ok-numbers.ensures none in
-          let seen = subst (λ (view : View). HaveNoStandIn (asked_of dims query view modes) c.as_slice-cells.result.now) c.view-view.ensures.value asked in
-          let own : HaveNoStandIn (asked_of dims query plain.view modes) plain.cells = subst (λ (cells : List Cell). HaveNoStandIn (asked_of dims query plain.view modes) cells) c.as_slice-cells.ensures seen in
-          let row = stands_among dims modes plain rows stand known own.cell own.among in
+          let asked = subst (λ (own : AskedOfCells). HaveNoRepresentative own c.as_slice-cells.result.now) c.in_ok-numbers.ensures none in
+          let seen = subst (λ (view : View). HaveNoRepresentative (asked_of dims query view modes) c.as_slice-cells.result.now) c.view-view.ensures.value asked in
+          let own : HaveNoRepresentative (asked_of dims query plain.view modes) plain.cells = subst (λ (cells : List Cell). HaveNoRepresentative (asked_of dims query plain.view modes) cells) c.as_slice-cells.ensures seen in
+          let row = represents_among dims modes plain rows represent known own.cell own.among in
           own.none row.0 row.1
       | inr full ↦
           full (subst (λ (aggs : List Agg). GroupsHaveRoomFor entries aggs c.as_slice-cells.result.now columns) (sym aggregates)

@@ -5,7 +5,7 @@ use Rattle.cuboid_cells.specs.declared.head.RunHead.{RunHead}
 use Rattle.cuboid_upkeep.specs.CellNumbers.{AskedOfCells}
 use Rattle.cuboid_upkeep.specs.Codes.{modes_of}
 use Rattle.group_plan.specs.Plans.{query_of}
-use Rattle.cube_query.specs.CellSlots.{HaveNoStandIn, asked_of}
+use Rattle.cube_query.specs.CellSlots.{HaveNoRepresentative, asked_of}
 use Rattle.cube_query.specs.CellTallies.{GroupsHaveRoomFor}
 use Rattle.cube_query.specs.Slots.{entries_of}
 use Rattle.cube_query.proofs.running.with_run.Goals as goal
@@ -19,8 +19,8 @@ returns-clause-refused g c = λ bad keeps cells left.
     let aggregates = c.as_slice-aggregates.ensures ∙ ap (λ q. q.aggregates) c.query.ensures in
     elim (c.merge_run.ensures.refused bad keeps cells left) [
       | inl none ↦
-          (let asked = subst (λ (own : AskedOfCells). HaveNoStandIn own cells) c.in_ok-numbers.ensures none in
-          inl (subst (λ (head : RunHead). HaveNoStandIn (asked_of dims query head.view modes) cells) c.head.ensures
+          (let asked = subst (λ (own : AskedOfCells). HaveNoRepresentative own cells) c.in_ok-numbers.ensures none in
+          inl (subst (λ (head : RunHead). HaveNoRepresentative (asked_of dims query head.view modes) cells) c.head.ensures
           asked))
       | inr full ↦ inr (λ room. full
           (subst (λ (aggs : List Agg). GroupsHaveRoomFor entries aggs cells c.args.columns.now) (sym aggregates) room))

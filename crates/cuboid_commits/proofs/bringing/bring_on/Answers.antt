@@ -112,7 +112,7 @@ returns-in-Err-2-clause-readable g c is k w at rows =
     let still : IsStill g.D.Sectors c.args.store.now c.next_of.new.store = c.in-Err.ensures.stays (bad_not_device c.in-Err.fault bad) in
     let k0 = still.word k in
     let found = stored_at g.D.Sectors c.args.store.now c.next_of.new.store still c.args.dims.now c.args.root.now c.cuboid_at.result.0 c.args.place c.cuboid_at.ensures.at w at k in
-    c.in-Err.ensures.refused (ap (λ (f : Fault). Err f) bad) k w found.0 (at.stands k0) found.2 (rows k0)
+    c.in-Err.ensures.refused (ap (λ (f : Fault). Err f) bad) k w found.0 (at.represents k0) found.2 (rows k0)
 
 pub returns-in-Err-2-clause-reason : goal.returns-in-Err-2-clause-reason
 returns-in-Err-2-clause-reason g c no_device no_memory k w at rows =
@@ -121,6 +121,6 @@ returns-in-Err-2-clause-reason g c no_device no_memory k w at rows =
     let k0 = still.word k in
     let found = stored_at g.D.Sectors c.args.store.now c.next_of.new.store still c.args.dims.now c.args.root.now c.cuboid_at.result.0 c.args.place c.cuboid_at.ensures.at w at k in
     absurd (none_left fault (index_of c.cuboid_at.result.1) no_memory no_device
-    (λ bad. c.in-Err.ensures.refused (ap (λ (f : Fault). Err f) bad) k w found.0 (at.stands k0) found.2 (rows k0))
+    (λ bad. c.in-Err.ensures.refused (ap (λ (f : Fault). Err f) bad) k w found.0 (at.represents k0) found.2 (rows k0))
     (λ many. let large = c.is_too_large.ensures.1 (ap number_of many) in cc (large, c.if-is_too_large.false))
     c.in-Err.ensures.causes)

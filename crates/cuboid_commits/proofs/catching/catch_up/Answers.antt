@@ -5,8 +5,8 @@ use Rattle.object_store.specs.Moments.{leaves_weaker}
 use Rattle.object_store.specs.Store as stores
 use Rattle.warehouse_root.specs.Root.{PlainRoot}
 use Rattle.warehouse_objects.specs.Warehouse.{Warehouse}
-use Rattle.warehouse_objects.specs.Stands as stands
-use Rattle.warehouse_objects.specs.Stands.{Stands, said_of}
+use Rattle.warehouse_objects.specs.Represents as represents
+use Rattle.warehouse_objects.specs.Represents.{Represents, said_of}
 use Rattle.warehouse_objects.proofs.Batches.{get_within}
 use Rattle.cuboid_commits.proofs.Turns.{AreReached, all_done, leaves_first, leaves_more, lower_reached, none_yet, one_more, rows_kept, same, still_reached, then_more}
 use Rattle.cuboid_commits.proofs.catching.catch_up.Goals as goal
@@ -22,12 +22,12 @@ loop-place-init g c =
       at = λ w at dims. (w, same w, at, λ k. none_yet w);
       leaves = λ w at dims.
           leaves_first w (stores.disk_of g.D.Sectors s) (stores.disk_of g.D.Sectors s)
-          (leaves_weaker (λ (x : Content). x ≡ stores.content_of g.D.Sectors s) (λ (x : Content). Stands x w) (stores.disk_of g.D.Sectors s) (stores.disk_of g.D.Sectors s)
-          (λ k x e. subst (λ (y : Content). Stands y w) (sym e) (at.stands k)) (c.is_broken-usable.ensures.leaves c.requires.fine));
+          (leaves_weaker (λ (x : Content). x ≡ stores.content_of g.D.Sectors s) (λ (x : Content). Represents x w) (stores.disk_of g.D.Sectors s) (stores.disk_of g.D.Sectors s)
+          (λ k x e. subst (λ (y : Content). Represents y w) (sym e) (at.represents k)) (c.is_broken-usable.ensures.leaves c.requires.fine));
     }
 
 -- as many cuboids as the root says
-many_there : (w : Warehouse) (root : PlainRoot) (count : ℕ) → stands.root_of w ≡ root → length root.cuboids ≡ count → length w.cuboids ≡ count
+many_there : (w : Warehouse) (root : PlainRoot) (count : ℕ) → represents.root_of w ≡ root → length root.cuboids ≡ count → length w.cuboids ≡ count
 many_there w root count root_is many = sym (length-map w.cuboids said_of) ∙ ap (λ (r : PlainRoot). length r.cuboids) root_is ∙ many
 
 pub loop-place-preserved : goal.loop-place-preserved
@@ -88,7 +88,7 @@ returns-in-Err-clause-reason g c no_device no_memory w at dims =
           let refused = c.in-Err.ensures.reason no_device no_memory k was.0 was.2 known in
           let before = c.bring_on.ensures.word k in record {
             next = refused.0;
-            lower = lower_reached was.0 c.loop-place.place c.loop-place.first refused.0.old (was.2.stands before).root.proper.ascending refused.1 (was.3 before);
+            lower = lower_reached was.0 c.loop-place.place c.loop-place.first refused.0.old (was.2.represents before).root.proper.ascending refused.1 (was.3 before);
           },
     )
 
@@ -114,5 +114,5 @@ returns-clause-ok g c w at dims =
       now.2,
       λ k.
           let many = many_there now.0 c.loop-place.root (length c.cuboids-count.result.now) (now.2.root_is k) c.loop-place.invariant.many in
-          all_done now.0 c.loop-place.place c.loop-place.first (now.2.stands k).root.proper.ascending (omega (arith, many, c.loop-place-test.false)) (now.3 k),
+          all_done now.0 c.loop-place.place c.loop-place.first (now.2.represents k).root.proper.ascending (omega (arith, many, c.loop-place-test.false)) (now.3 k),
     )

@@ -3,7 +3,7 @@ use Rattle.cube_model.specs.declared.rows.DimRows.{DimRows}
 use Rattle.object_store.specs.Disk.{Leaves}
 use Rattle.object_store.specs.Store.{content_of, device_of, disk_of, has_failed}
 use Rattle.warehouse_objects.specs.Loaded.{IsLoaded}
-use Rattle.warehouse_objects.specs.Stands.{Stands}
+use Rattle.warehouse_objects.specs.Represents.{Represents}
 use Rattle.warehouse_objects.specs.Warehouse.{Warehouse}
 use Rattle.cuboid_commits.specs.Keeping.{IsCaughtUp, StoreAt}
 use Rattle.cuboid_commits.proofs.Turns.{AreReached}
@@ -24,5 +24,5 @@ invariant-loop-place g l =
           → (v : Warehouse) × IsCaughtUp w v × StoreAt g.D.Sectors l.store l.root v × (keeps (device_of l.store) → AreReached l.place l.first v);
       leaves :
           (w : Warehouse) → StoreAt g.D.Sectors start l.initial.root w → (keeps (device_of start) → dims ≡ w.rows)
-          → Leaves (disk_of g.D.Sectors start) (disk_of g.D.Sectors l.store) (λ c. (v : Warehouse) × IsCaughtUp w v × Stands c v);
+          → Leaves (disk_of g.D.Sectors start) (disk_of g.D.Sectors l.store) (λ c. (v : Warehouse) × IsCaughtUp w v × Represents c v);
     }

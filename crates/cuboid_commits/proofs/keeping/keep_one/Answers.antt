@@ -4,7 +4,7 @@ use Rattle.wire.specs.Limits.{most_root_bytes}
 use Rattle.object_store.specs.Content.{Content}
 use Rattle.object_store.specs.Store as stores
 use Rattle.warehouse_root.proofs.CallerLemmas.{root_is_short}
-use Rattle.warehouse_objects.specs.Stands.{Stands}
+use Rattle.warehouse_objects.specs.Represents.{Represents}
 use Rattle.warehouse_objects.specs.Warehouse.{kept}
 use Rattle.warehouse_objects.specs.Loaded.{IsLoaded}
 use Rattle.cuboid_commits.specs.Nexts.{first_run}
@@ -23,21 +23,21 @@ pub returns-in-Ok-clause-leaves : goal.returns-in-Ok-clause-leaves
 returns-in-Ok-clause-leaves g c w root old new run at brings =
     next_leaves (stores.content_of g.D.Sectors c.args.store.now) w old new run c.args.next.now c.as_slice.result.now c.as_slice-2.result.now c.as_slice-3.result.now c.number.result
     c.as_slice.ensures.value c.as_slice-2.ensures.value c.as_slice-3.ensures.value c.number.ensures
-    (stores.disk_of g.D.Sectors c.args.store.now) (stores.disk_of g.D.Sectors c.commit.new.self) at.stands brings (c.commit.ensures.leaves at.fine)
+    (stores.disk_of g.D.Sectors c.args.store.now) (stores.disk_of g.D.Sectors c.commit.new.self) at.represents brings (c.commit.ensures.leaves at.fine)
 
 pub returns-in-Err-clause-leaves : goal.returns-in-Err-clause-leaves
 returns-in-Err-clause-leaves g c w root old new run at brings =
     next_leaves (stores.content_of g.D.Sectors c.args.store.now) w old new run c.args.next.now c.as_slice.result.now c.as_slice-2.result.now c.as_slice-3.result.now c.number.result
     c.as_slice.ensures.value c.as_slice-2.ensures.value c.as_slice-3.ensures.value c.number.ensures
-    (stores.disk_of g.D.Sectors c.args.store.now) (stores.disk_of g.D.Sectors c.commit.new.self) at.stands brings (c.commit.ensures.leaves at.fine)
+    (stores.disk_of g.D.Sectors c.args.store.now) (stores.disk_of g.D.Sectors c.commit.new.self) at.represents brings (c.commit.ensures.leaves at.fine)
 
 pub returns-in-Ok-clause-ok : goal.returns-in-Ok-clause-ok
 returns-in-Ok-clause-ok g c w root old new run at brings =
     let word = (c.commit.ensures.leaves at.fine).word in record {
       fine = c.in-Ok.ensures.fine.1;
-      stands = λ k. subst (λ (x : Content). Stands x (kept w new)) (sym (c.in-Ok.ensures.ok k))
+      represents = λ k. subst (λ (x : Content). Represents x (kept w new)) (sym (c.in-Ok.ensures.ok k))
           (after (stores.content_of g.D.Sectors c.args.store.now) w old new run c.args.next.now c.as_slice.result.now c.as_slice-2.result.now c.as_slice-3.result.now c.number.result
-          c.as_slice.ensures.value c.as_slice-2.ensures.value c.as_slice-3.ensures.value c.number.ensures (at.stands (word k)) brings);
+          c.as_slice.ensures.value c.as_slice-2.ensures.value c.as_slice-3.ensures.value c.number.ensures (at.represents (word k)) brings);
       root_is = λ k. sym brings.root;
     }
 

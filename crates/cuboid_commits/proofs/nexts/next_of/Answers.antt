@@ -14,7 +14,7 @@ use Rattle.object_store.specs.Store.{IsStill, content_of, device_of}
 use Rattle.warehouse_root.specs.declared.cuboid.StoredCuboid.{StoredCuboid}
 use Rattle.warehouse_root.specs.Root.{PlainRoot}
 use Rattle.warehouse_objects.specs.Warehouse.{modes_of}
-use Rattle.warehouse_objects.specs.Stands.{Stands, rows_in}
+use Rattle.warehouse_objects.specs.Represents.{Represents, rows_in}
 use Rattle.warehouse_objects.proofs.CallerLemmas.{laid_of}
 use Rattle.warehouse_objects.proofs.OneMoreRead.{reads_more}
 use Rattle.cuboid_commits.specs.Nexts.{IsNext}
@@ -32,15 +32,15 @@ returns-in-Ok-clause-ok g c =
     let content : Content = content_of g.D.Sectors c.args.store.now in
     IfOk-weaker c.next_run.result _ _
     (λ next is.
-    subst (λ (mark : ℕ). IsNext (λ w. g.D.Sectors.keeps_word (device_of c.next_run.new.store) × Stands content w × (c.args.dims.now ≡ w.rows)) c.args.root.now c.args.cuboid mark next) c.target.ensures
-    (next_weaker _ (λ w. g.D.Sectors.keeps_word (device_of c.next_run.new.store) × Stands content w × (c.args.dims.now ≡ w.rows)) c.args.root.now c.args.cuboid c.target.result next
+    subst (λ (mark : ℕ). IsNext (λ w. g.D.Sectors.keeps_word (device_of c.next_run.new.store) × Represents content w × (c.args.dims.now ≡ w.rows)) c.args.root.now c.args.cuboid mark next) c.target.ensures
+    (next_weaker _ (λ w. g.D.Sectors.keeps_word (device_of c.next_run.new.store) × Represents content w × (c.args.dims.now ≡ w.rows)) c.args.root.now c.args.cuboid c.target.result next
     (λ w old has less.
     let k = c.next_run.ensures.leaves.word less.0 in
-    (less.0, subst (λ (x : Content). Stands x w) (sym (still.content k)) less.1, c.in-Ok.ensures.ok k w (laid_of content w less.1) less.2)) is))
+    (less.0, subst (λ (x : Content). Represents x w) (sym (still.content k)) less.1, c.in-Ok.ensures.ok k w (laid_of content w less.1) less.2)) is))
     c.next_run.ensures.ok
 
 pub returns-in-Ok-clause-large : goal.returns-in-Ok-clause-large
-returns-in-Ok-clause-large g c is k w stored stands has rows =
+returns-in-Ok-clause-large g c is k w stored represents has rows =
     let still : IsStill g.D.Sectors c.args.store.now c.cells_of_batches.new.store = c.in-Ok.ensures.stays (λ e. cc) in
     let content : Content = content_of g.D.Sectors c.args.store.now in
     let mid = c.next_run.ensures.leaves.word k in
@@ -49,30 +49,30 @@ returns-in-Ok-clause-large g c is k w stored stands has rows =
     subst (λ (n : ℕ). HaveTooMany w.rows (modes_of w) c.args.view (all_rows (take n w.batches))) target
     (subst (λ (v : View). HaveTooMany w.rows (modes_of w) v (all_rows (take c.target.result w.batches))) view
     (c.next_run.ensures.large (subst (λ (v : View). IsErrOf c.next_run.result (TooManyCells (index_of v))) (sym view) is) k w stored
-    (subst (λ (x : Content). Stands x w) (sym (still.content mid)) stands) has (c.in-Ok.ensures.ok mid w (laid_of content w stands) rows)))
+    (subst (λ (x : Content). Represents x w) (sym (still.content mid)) represents) has (c.in-Ok.ensures.ok mid w (laid_of content w represents) rows)))
 
 pub returns-in-Ok-clause-refused : goal.returns-in-Ok-clause-refused
-returns-in-Ok-clause-refused g c is k w stored stands has rows =
+returns-in-Ok-clause-refused g c is k w stored represents has rows =
     let still : IsStill g.D.Sectors c.args.store.now c.cells_of_batches.new.store = c.in-Ok.ensures.stays (λ e. cc) in
     let content : Content = content_of g.D.Sectors c.args.store.now in
     let mid = c.next_run.ensures.leaves.word k in
-    c.next_run.ensures.refused is k w stored (subst (λ (x : Content). Stands x w) (sym (still.content mid)) stands) has (c.in-Ok.ensures.ok mid w (laid_of content w stands) rows)
+    c.next_run.ensures.refused is k w stored (subst (λ (x : Content). Represents x w) (sym (still.content mid)) represents) has (c.in-Ok.ensures.ok mid w (laid_of content w represents) rows)
 
 pub returns-in-Err-clause-large : goal.returns-in-Err-clause-large
-returns-in-Err-clause-large g c is k w stored stands has rows =
+returns-in-Err-clause-large g c is k w stored represents has rows =
     let content : Content = content_of g.D.Sectors c.args.store.now in
     let span : Span = record { from = c.args.cuboid.mark; to = c.target.result } in
     let view : c.args.view ≡ stored.view = one_view c.args.view stored.view (c.requires.view ∙ ap (λ (s : StoredCuboid). s.view) (sym has.said_is)) in
     let target : c.target.result ≡ w.target = c.target.ensures ∙ ap (λ (r : PlainRoot). r.target) has.root_is in
-    let mode = first_view content c.args.root.now c.args.cuboid w stored c.args.view stands has c.requires.proper c.requires.view in
+    let mode = first_view content c.args.root.now c.args.cuboid w stored c.args.view represents has c.requires.proper c.requires.view in
     let some : span.from ≤ span.to = omega (arith, c.requires.behind, c.target.ensures) in
-    let tail : HaveTooMany w.rows (modes_of w) c.args.view (rows_in w.batches span) = c.in-Err.ensures.large (ap (λ (f : Fault). Err f) (err_fault c.in-Err.fault _ is)) k w (laid_of content w stands) has.root_is rows mode in
+    let tail : HaveTooMany w.rows (modes_of w) c.args.view (rows_in w.batches span) = c.in-Err.ensures.large (ap (λ (f : Fault). Err f) (err_fault c.in-Err.fault _ is)) k w (laid_of content w represents) has.root_is rows mode in
     subst (λ (n : ℕ). HaveTooMany w.rows (modes_of w) c.args.view (all_rows (take n w.batches))) target
     (subst (λ (v : View). HaveTooMany w.rows (modes_of w) v (all_rows (take c.target.result w.batches))) (sym view)
     (whole_too_large c.rows_have_cells.ensures c.more_rows_have_no_fewer_cells.ensures w stored has.holds span (ap (λ (s : StoredCuboid). s.mark) (sym has.said_is)) some
     (subst (λ (v : View). HaveTooMany w.rows (modes_of w) v (rows_in w.batches span)) view tail)))
 
 pub returns-in-Err-clause-refused : goal.returns-in-Err-clause-refused
-returns-in-Err-clause-refused g c is k w stored stands has rows =
+returns-in-Err-clause-refused g c is k w stored represents has rows =
     let content : Content = content_of g.D.Sectors c.args.store.now in
-    c.in-Err.ensures.refused (ap (λ (f : Fault). Err f) (err_fault c.in-Err.fault _ is)) k w (laid_of content w stands) has.root_is rows (first_view content c.args.root.now c.args.cuboid w stored c.args.view stands has c.requires.proper c.requires.view)
+    c.in-Err.ensures.refused (ap (λ (f : Fault). Err f) (err_fault c.in-Err.fault _ is)) k w (laid_of content w represents) has.root_is rows (first_view content c.args.root.now c.args.cuboid w stored c.args.view represents has c.requires.proper c.requires.view)

@@ -5,7 +5,7 @@ use Rattle.object_store.specs.Store as stores
 use Rattle.cube_model.specs.declared.fault.Fault.TheVariants.{Device}
 use Rattle.warehouse_root.specs.Root as roots
 use Rattle.warehouse_root.specs.declared.cuboid.StoredCuboid.{StoredCuboid}
-use Rattle.warehouse_objects.specs.Stands.{root_of}
+use Rattle.warehouse_objects.specs.Represents.{root_of}
 use Rattle.warehouse_objects.specs.Warehouse.{aimed}
 use Rattle.cuboid_commits.proofs.Turns.{kept_same}
 use Rattle.cuboid_commits.proofs.Upkept.{all_whole, from_aimed, leaves_aimed, leaves_both, leaves_same, memory_or, target_is, whole_by_root}
@@ -14,7 +14,7 @@ use Rattle.cuboid_commits.proofs.upkeep.keep_up.Goals as goal
 pub returns-then-are_whole-clause-leaves : goal.returns-then-are_whole-clause-leaves
 returns-then-are_whole-clause-leaves g c w at dims =
     let s = c.args.store.now in
-    leaves_same w (stores.content_of g.D.Sectors s) (stores.disk_of g.D.Sectors s) (stores.disk_of g.D.Sectors s) at.stands (c.is_broken-usable.ensures.leaves c.requires.fine)
+    leaves_same w (stores.content_of g.D.Sectors s) (stores.disk_of g.D.Sectors s) (stores.disk_of g.D.Sectors s) at.represents (c.is_broken-usable.ensures.leaves c.requires.fine)
 
 pub returns-then-are_whole-clause-stays : goal.returns-then-are_whole-clause-stays
 returns-then-are_whole-clause-stays g c other w at dims = (w, kept_same w, at)
@@ -62,7 +62,7 @@ pub returns-in-Ok-clause-ok : goal.returns-in-Ok-clause-ok
 returns-in-Ok-clause-ok g c w at dims =
     let mid = c.in_default.ensures.ok w at in
     let now = c.in-Ok.ensures.ok (aimed w) mid (λ k. dims (c.aim.ensures.word k)) in
-    (now.0, from_aimed w now.0 now.1, now.2, λ k. all_whole (stores.content_of g.D.Sectors c.catch_up.new.store) now.0 c.in-Ok.passed (now.2.stands k) (target_is w now.0 now.1) (now.3 k))
+    (now.0, from_aimed w now.0 now.1, now.2, λ k. all_whole (stores.content_of g.D.Sectors c.catch_up.new.store) now.0 c.in-Ok.passed (now.2.represents k) (target_is w now.0 now.1) (now.3 k))
 
 pub returns-in-Err-catch_up-clause-leaves : goal.returns-in-Err-catch_up-clause-leaves
 returns-in-Err-catch_up-clause-leaves g c w at dims =

@@ -1,6 +1,6 @@
 use Rattle.std.proofs.Common.{◌++◌, [], ◌∷◌, List, sym, ap, ◌∙◌}
 use Rattle.warehouse_root.specs.declared.cuboid.StoredCuboid.{StoredCuboid}
-use Rattle.warehouse_objects.specs.Stands.{said_below}
+use Rattle.warehouse_objects.specs.Represents.{said_below}
 use Rattle.warehouse_objects.proofs.CallerLemmas.{said_more, said_none, said_same}
 use Rattle.cuboid_commits.proofs.viewing.said_below.Goals.{then-is_among+in_ok-push, else-is_among}
 use Rattle.cuboid_commits.proofs.viewing.said_below.Goals as goal

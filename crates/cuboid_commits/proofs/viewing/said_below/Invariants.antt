@@ -1,5 +1,5 @@
 use Rattle.std.proofs.Common.{◌≡◌}
-use Rattle.warehouse_objects.specs.Stands.{said_below}
+use Rattle.warehouse_objects.specs.Represents.{said_below}
 use Rattle.cuboid_commits.proofs.viewing.said_below.Given as goal
 
 abbrev pub invariant-loop-number : goal.invariant-loop-number

@@ -2,7 +2,7 @@ use Rattle.std.proofs.Common.{◌==◌, sym, ap, ◌∙◌, rules, tests, option
 use Rattle.std.proofs.lemmas.Iterator.{YieldsList-from_slice}
 use Rattle.std.proofs.lemmas.Iterator.Search.{find_from_yields_List}
 use Rattle.warehouse_root.specs.declared.cuboid.StoredCuboid.{StoredCuboid}
-use Rattle.warehouse_objects.specs.Stands.{said_or_new}
+use Rattle.warehouse_objects.specs.Represents.{said_or_new}
 use Rattle.cuboid_commits.proofs.viewing.said_or_new.Goals as goal
 
 pub returns-in-Some : goal.returns-in-Some

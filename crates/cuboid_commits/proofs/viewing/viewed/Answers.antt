@@ -5,7 +5,7 @@ use Rattle.warehouse_root.specs.declared.layout.Layout.TheVariants.{First, Secon
 use Rattle.warehouse_root.specs.Layouts.{views_of}
 use Rattle.warehouse_root.specs.Limits.{most_cuboids}
 use Rattle.warehouse_root.specs.Root.{AreAscending, IsProperCuboid}
-use Rattle.warehouse_objects.specs.Stands.{said_below, said_with}
+use Rattle.warehouse_objects.specs.Represents.{said_below, said_with}
 use Rattle.warehouse_objects.proofs.CallerLemmas.{said_ascend, said_each, said_few}
 use Rattle.cuboid_commits.proofs.viewing.viewed.Goals as goal
 

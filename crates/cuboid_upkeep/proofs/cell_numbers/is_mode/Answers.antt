@@ -1,7 +1,7 @@
 use Rattle.std.proofs.Common.{arith, rules, subst, sym}
 use Rattle.std.specs.Option.{option_map}
 use Rattle.cuboid_upkeep.specs.Codes.{modes_of}
-use Rattle.cuboid_upkeep.specs.StandIns.{IsCodeOfMode}
+use Rattle.cuboid_upkeep.specs.Representatives.{IsCodeOfMode}
 use Rattle.cuboid_upkeep.proofs.Modes.{code_absent, code_found}
 use Rattle.cuboid_upkeep.proofs.cell_numbers.is_mode.Goals as goal
 

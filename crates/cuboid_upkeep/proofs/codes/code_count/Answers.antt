@@ -28,16 +28,16 @@ returns-in-Some-clause-below c = λ place within.
     let dims = c.args.dims.now in
     let rows = rows_on dims c.args.axis in
     let column = c.in-Some.column in
-    let stand = in_level_column dims place column c.args.axis c.args.grouped (sym c.column_of_level.ensures ∙ c.in-Some.is) in
+    let represent = in_level_column dims place column c.args.axis c.args.grouped (sym c.column_of_level.ensures ∙ c.in-Some.is) in
     let in_rows : place < length rows = omega (arith, within, count_on dims c.args.axis) in
     let low = code_at-within (column_of column rows) place (in_texts c.args.axis rows c.requires.good column place in_rows column) in
-    omega (arith, low, stand.1, ap length (firsts_placed c.args.axis rows c.requires.good.keep column), ap length c.texts.ensures.texts, c.len.ensures.count)
+    omega (arith, low, represent.1, ap length (firsts_placed c.args.axis rows c.requires.good.keep column), ap length c.texts.ensures.texts, c.len.ensures.count)
 
 pub returns-in-Some-clause-few : goal.returns-in-Some-clause-few
 returns-in-Some-clause-few c =
     let dims = c.args.dims.now in
     let rows = rows_on dims c.args.axis in
     let column = c.in-Some.column in
-    let stand = in_level_column dims 0 column c.args.axis c.args.grouped (sym c.column_of_level.ensures ∙ c.in-Some.is) in
-    let most = (good_texts c.args.axis rows c.requires.good column stand.0).most in
+    let represent = in_level_column dims 0 column c.args.axis c.args.grouped (sym c.column_of_level.ensures ∙ c.in-Some.is) in
+    let most = (good_texts c.args.axis rows c.requires.good column represent.0).most in
     omega (arith, most, ap length c.texts.ensures.texts, c.len.ensures.count)

@@ -1,7 +1,7 @@
 use Rattle.std.proofs.Common.{◌∙◌, sym, ap, subst, Option, ℕ, List, map, All}
 use Rattle.cube_model.specs.declared.rows.DimRows.{DimRows}
 use Rattle.cuboid_upkeep.specs.MemberParts.{IsOfRow, part_by}
-use Rattle.cuboid_upkeep.proofs.Standing.{every_known, keys_known, parts_behind}
+use Rattle.cuboid_upkeep.proofs.Represented.{every_known, keys_known, parts_behind}
 use Rattle.cuboid_upkeep.proofs.member_parts.parts_of_members.Goals as goal
 
 pub parts_by_code-requires : goal.parts_by_code-requires

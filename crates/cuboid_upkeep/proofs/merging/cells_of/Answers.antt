@@ -2,9 +2,9 @@ use Rattle.std.proofs.Common.{[], inl, inr, sym, subst, List, length}
 use Rattle.std.proofs.lemmas.Result.{err_from_is_err_and}
 use Rattle.cuboid_cells.specs.declared.key.Key.{Key}
 use Rattle.cuboid_cells.specs.Cells.{PlainCells}
-use Rattle.cuboid_upkeep.specs.Grouping.{StandFor}
+use Rattle.cuboid_upkeep.specs.Grouping.{RepresentRows}
 use Rattle.cuboid_upkeep.specs.Keys.{AreRowKeys}
-use Rattle.cuboid_upkeep.proofs.Sorted.{they_are_proper, they_stand}
+use Rattle.cuboid_upkeep.proofs.Sorted.{they_are_proper, they_represent}
 use Rattle.cuboid_upkeep.proofs.merging.cells_of.Goals as goal
 
 pub of-requires : goal.of-requires
@@ -18,8 +18,8 @@ pub returns-clause-ok : goal.returns-clause-ok
 returns-clause-ok g c =
     let rows = g.F.FactRows.rows c.args.rows.now in
     let keyed = subst (λ (l : List Key). AreRowKeys c.args.dims.now c.args.view c.args.members.now rows (length rows) l) (sym c.as_slice.ensures.value) c.in_ok-keys.ensures.ok in
-    subst (λ (plain : PlainCells). StandFor c.args.dims.now [] rows plain) (sym c.of.ensures)
-    (they_stand c.args.dims.now [] c.args.view rows c.in_ok-cells.cells.items c.sort.new.cells.items
+    subst (λ (plain : PlainCells). RepresentRows c.args.dims.now [] rows plain) (sym c.of.ensures)
+    (they_represent c.args.dims.now [] c.args.view rows c.in_ok-cells.cells.items c.sort.new.cells.items
     (c.in_ok-cells.ensures.ok c.args.dims.now c.args.view c.args.members.now keyed) c.sort.ensures.same c.in_ok-sort.ensures.order)
 
 pub returns-in_err-keys-clause-refused : goal.returns-in_err-keys-clause-refused

@@ -42,7 +42,7 @@ returns-in_err-cell-clause-refused g c =
     let within : c.loop-place.place < length rows = omega (arith, c.loop-place-test.true, c.count-place-end.ensures) in
     rw (p.1, p.2) (
       c.in_err-cell.ensures.refused.0,
-      λ front stand. none_fits c.args.dims.now [] c.args.view rows c.loop-place.place within front (c.in_err-cell.ensures.refused.1 c.args.dims.now [] c.args.view),
+      λ front represent. none_fits c.args.dims.now [] c.args.view rows c.loop-place.place within front (c.in_err-cell.ensures.refused.1 c.args.dims.now [] c.args.view),
     )
 
 pub returns-in_err-take_in-clause-refused : goal.returns-in_err-take_in-clause-refused
@@ -60,9 +60,9 @@ returns-in_err-take_in-clause-refused g c =
     let past : PassesAt now (place_of members key) cell = subst (λ (n : ℕ). PassesAt now n cell) (sym is) c.in_err-take_in.ensures.refused.1 in
     rw (p.1, p.2) (
       c.in_err-take_in.ensures.refused.0,
-      λ front stand.
+      λ front represent.
           one_passes c.args.dims.now c.args.view members c.requires.no_modes rows c.loop-place.place within key cell c.key_for-key.ensures c.in_ok-cell.ensures.ok
-          c.args.slots.now.items now c.loop-place.invariant low past front stand,
+          c.args.slots.now.items now c.loop-place.invariant low past front represent,
     )
 
 pub returns-clause-ok : goal.returns-clause-ok

@@ -5,7 +5,7 @@ use Rattle.cube_model.specs.Admission.{all_rows}
 use Rattle.cube_model.specs.Answers.{answer}
 use Rattle.cube_model.specs.declared.query.Query.{Query}
 use Rattle.cube_model.specs.declared.rows.DimRows.{DimRows}
-use Rattle.cube_query.specs.Groups.{StandsFor}
+use Rattle.cube_query.specs.Groups.{RepresentsRows}
 use Rattle.cube_query.specs.Limits.{AreFoldable}
 use Rattle.warehouse_objects.proofs.CallerLemmas.{foldable}
 use Rattle.planned_queries.proofs.answering.groups_by_plan.Goals as goal
@@ -13,20 +13,20 @@ use Rattle.planned_queries.proofs.answering.groups_by_plan.Goals as goal
 pub returns-in_ok-fold_by_plan-in-Ok-clause-answer : goal.returns-in_ok-fold_by_plan-in-Ok-clause-answer
 returns-in_ok-fold_by_plan-in-Ok-clause-answer g c =
     IfOk-weaker c.of.result _ _
-    (λ found is k w stands rooted same.
+    (λ found is k w represents rooted same.
     let dims = c.args.dims.now.value in
     let fold = c.fold_by_plan.new.fold in
     let rows = all_rows (take c.args.as_of w.batches) in
-    let folded : StandsFor dims fold rows = subst (λ (d : DimRows). StandsFor d fold rows) c.deref-rows.ensures (c.in_ok-fold_by_plan-in-Ok.ensures.ok k w stands rooted (c.deref-rows.ensures ∙ same)) in
+    let folded : RepresentsRows dims fold rows = subst (λ (d : DimRows). RepresentsRows d fold rows) c.deref-rows.ensures (c.in_ok-fold_by_plan-in-Ok.ensures.ok k w represents rooted (c.deref-rows.ensures ∙ same)) in
     is rows folded ∙ ap (λ (q : Query). answer q dims rows) c.in_ok-fold_by_plan-in-Ok.ensures.query)
     c.of.ensures.answer
 
 pub returns-in_ok-fold_by_plan-in-Ok-clause-refused : goal.returns-in_ok-fold_by_plan-in-Ok-clause-refused
-returns-in_ok-fold_by_plan-in-Ok-clause-refused g c = λ is k w stands rooted same.
+returns-in_ok-fold_by_plan-in-Ok-clause-refused g c = λ is k w represents rooted same.
     let dims = c.args.dims.now.value in
     let fold = c.fold_by_plan.new.fold in
     let rows = all_rows (take c.args.as_of w.batches) in
-    let folded : StandsFor dims fold rows = subst (λ (d : DimRows). StandsFor d fold rows) c.deref-rows.ensures (c.in_ok-fold_by_plan-in-Ok.ensures.ok k w stands rooted (c.deref-rows.ensures ∙ same)) in
+    let folded : RepresentsRows dims fold rows = subst (λ (d : DimRows). RepresentsRows d fold rows) c.deref-rows.ensures (c.in_ok-fold_by_plan-in-Ok.ensures.ok k w represents rooted (c.deref-rows.ensures ∙ same)) in
     let within : c.args.as_of ≤ length w.batches = omega (arith, c.requires.few, ap (λ r. length r.batches) rooted, length-map w.batches length) in
-    let all : AreFoldable dims rows = subst (λ (d : DimRows). AreFoldable d rows) (sym same) (foldable w.rows w.batches stands.batches c.args.as_of within) in
+    let all : AreFoldable dims rows = subst (λ (d : DimRows). AreFoldable d rows) (sym same) (foldable w.rows w.batches represents.batches c.args.as_of within) in
     c.of.ensures.refused is (rows, (folded, all))

@@ -1,6 +1,6 @@
 use Rattle.std.proofs.Common.{◌≡◌, ◌∙◌, ◌++◌, ◌∷◌, [], Some, map, sym, ap}
 use Rattle.planner.specs.declared.stored.Stored.{Stored}
-use Rattle.warehouse_objects.specs.Stands.{said_of}
+use Rattle.warehouse_objects.specs.Represents.{said_of}
 use Rattle.planned_queries.specs.Planned.{seen_of}
 use Rattle.planned_queries.proofs.Cuboids.{seen_so_far}
 use Rattle.planned_queries.proofs.planning.stored_in.Goals as goal

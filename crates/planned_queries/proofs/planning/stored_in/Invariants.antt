@@ -1,5 +1,5 @@
 use Rattle.std.proofs.Common.{◌≡◌, map, take}
-use Rattle.warehouse_objects.specs.Stands.{root_of}
+use Rattle.warehouse_objects.specs.Represents.{root_of}
 use Rattle.warehouse_objects.specs.Warehouse.{Warehouse}
 use Rattle.planned_queries.specs.Planned.{seen_of}
 use Rattle.planned_queries.proofs.planning.stored_in.Given as goal

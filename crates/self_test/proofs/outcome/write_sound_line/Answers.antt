@@ -10,8 +10,8 @@ returns-in_err-write_bytes g c =
 
 pub returns-in_err-write_number : goal.returns-in_err-write_number
 returns-in_err-write_number g c =
-    Writes-stop_behind _ _ _ _ _ (codes "ok: ") (decimal c.args.stops) (codes " stops opened\n") _ (err_from_is_err_and _ c.from_residual-in_err-write_number.ensures.1) c.in_ok-write_bytes.ensures (search rules) refl
+    Writes-stop_behind _ _ _ _ _ (codes "ok: ") (decimal c.args.crashes) (codes " stops opened\n") _ (err_from_is_err_and _ c.from_residual-in_err-write_number.ensures.1) c.in_ok-write_bytes.ensures (search rules) refl
 
 pub returns : goal.returns
 returns g c =
-    Writes-on _ _ _ _ (codes "ok: ") _ _ c.in_ok-write_bytes.ensures (Writes-on _ _ _ _ (decimal c.args.stops) (codes " stops opened\n") _ (search rules) c.write_bytes-2.ensures refl) refl
+    Writes-on _ _ _ _ (codes "ok: ") _ _ c.in_ok-write_bytes.ensures (Writes-on _ _ _ _ (decimal c.args.crashes) (codes " stops opened\n") _ (search rules) c.write_bytes-2.ensures refl) refl

@@ -13,7 +13,7 @@ loop-init g c = (
   [],
   IsTaking-start lineorder_row most_batch_rows c.args.lines.now c.requires.fault,
   λ batches taken.
-      let few : length batches ≤ most_batches = omega (arith, c.findings-found.ensures.few, taken.stands.count) in
+      let few : length batches ≤ most_batches = omega (arith, c.findings-found.ensures.few, taken.represents.count) in
       IsBegun-start c.args.dims.now c.args.fold.now.query c.args.admission.now c.args.fold.now batches c.findings-found.result taken few
       (c.findings-found.ensures.found c.args.dims.now) c.findings-found.ensures.clean,
 )

@@ -27,9 +27,9 @@ returns-in_err-admit_found g c = λ batches taken.
     let as_many = counted c.args.dims.now c.args.fold.now.query (all_rows batches) looked.0 c.in_ok-found.found c.look_at_batch.new.fold looked.1.begun in
     let any : 1 ≤ c.in_ok-found.found.row_count = search rules in
     let some : 1 ≤ length looked.0 = omega (arith, any, as_many) in
-    let place = c.next_number-number.ensures.next ∙ ap (λ n. n + 1) taken.stands.count in
-    let refused = c.in_err-admit_found.ensures.admits c.args.dims.now batches looked.0 taken.stands
-    (found-behind c.args.dims.now c.args.fold.now.query c.args.admission.now batches looked.0 c.in_ok-found.found c.look_at_batch.new.fold taken.stands looked.1.begun) in
+    let place = c.next_number-number.ensures.next ∙ ap (λ n. n + 1) taken.represents.count in
+    let refused = c.in_err-admit_found.ensures.admits c.args.dims.now batches looked.0 taken.represents
+    (found-behind c.args.dims.now c.args.fold.now.query c.args.admission.now batches looked.0 c.in_ok-found.found c.look_at_batch.new.fold taken.represents looked.1.begun) in
     TakesNextBatch-refused c.args.dims.now c.args.fold.now.query batches c.args.lines.now c.look_at_batch.new.lines c.admit_found.new.self c.look_at_batch.new.fold looked.0 c.next_number-number.result _ _ some
     looked.1.read place refused.cause (err_from_is_err_and _ c.from_residual-in_err-admit_found.ensures.1)
 
@@ -39,9 +39,9 @@ returns g c = λ batches taken.
     let as_many = counted c.args.dims.now c.args.fold.now.query (all_rows batches) looked.0 c.in_ok-found.found c.look_at_batch.new.fold looked.1.begun in
     let any : 1 ≤ c.in_ok-found.found.row_count = search rules in
     let some : 1 ≤ length looked.0 = omega (arith, any, as_many) in
-    let place = c.next_number-number.ensures.next ∙ ap (λ n. n + 1) taken.stands.count in
-    let accepted = c.in_ok-admit_found.ensures.admits c.args.dims.now batches looked.0 taken.stands
-    (found-behind c.args.dims.now c.args.fold.now.query c.args.admission.now batches looked.0 c.in_ok-found.found c.look_at_batch.new.fold taken.stands looked.1.begun) in
+    let place = c.next_number-number.ensures.next ∙ ap (λ n. n + 1) taken.represents.count in
+    let accepted = c.in_ok-admit_found.ensures.admits c.args.dims.now batches looked.0 taken.represents
+    (found-behind c.args.dims.now c.args.fold.now.query c.args.admission.now batches looked.0 c.in_ok-found.found c.look_at_batch.new.fold taken.represents looked.1.begun) in
     let passed : refusal c.args.dims.now batches (length batches + 1) looked.0 ≡ None = ap (λ n. refusal c.args.dims.now batches n looked.0) (sym place) ∙ sym accepted.cause in (
       looked.0,
       record {

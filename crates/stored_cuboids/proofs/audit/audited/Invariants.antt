@@ -1,7 +1,7 @@
 use Rattle.std.proofs.Common.{◌≡◌, ◌<◌, ℕ, false, get_or, length}
 use Rattle.object_store.specs.Disk.{Leaves}
 use Rattle.object_store.specs.Store.{IsStill, content_of, device_of, disk_of, has_failed}
-use Rattle.warehouse_objects.specs.Stands.{IsLaidOut, root_of}
+use Rattle.warehouse_objects.specs.Represents.{IsLaidOut, root_of}
 use Rattle.warehouse_objects.specs.Warehouse.{Cuboid, Warehouse}
 use Rattle.stored_cuboids.specs.Merged.{IsSound}
 use Rattle.stored_cuboids.proofs.audit.audited.Given as goal

@@ -4,7 +4,7 @@ use Rattle.cube_model.specs.declared.fault.Fault.TheVariants.{BadLayout}
 use Rattle.object_store.specs.Content.{Content}
 use Rattle.object_store.specs.Store.{IsStill, content_of}
 use Rattle.warehouse_root.specs.declared.cuboid.StoredCuboid.{StoredCuboid}
-use Rattle.warehouse_objects.specs.Stands.{IsLaidOut}
+use Rattle.warehouse_objects.specs.Represents.{IsLaidOut}
 use Rattle.warehouse_objects.proofs.OneMoreRead.{reads_more}
 use Rattle.stored_cuboids.proofs.Auditing.{ok_so, sound_by, stored_mode}
 use Rattle.stored_cuboids.proofs.audit.is_sound.Goals as goal

@@ -24,7 +24,7 @@ fold_cells-requires-clause-total g c = ap (size_in c.open_next.new.store) c.in_o
 pub returns-in_err-reader-clause-refused : goal.returns-in_err-reader-clause-refused
 returns-in_err-reader-clause-refused g c =
     let p = err_from_is_err_and c.from_residual.result c.from_residual.ensures.1 in
-    rw (p.1, p.2) (λ is k others next rows goes stand can.
+    rw (p.1, p.2) (λ is k others next rows goes represent can.
     c.in_err-reader.ensures.refused (ap (λ (f : Fault). Err f) (err_fault c.in_err-reader.field-0.0 BadLayout is)) k others next goes)
 
 pub returns-clause-ok : goal.returns-clause-ok
@@ -38,12 +38,12 @@ returns-clause-ok g c = λ k.
 pub returns-in_err-fold_cells-clause-refused : goal.returns-in_err-fold_cells-clause-refused
 returns-in_err-fold_cells-clause-refused g c =
     let p = err_from_is_err_and c.from_residual-in_err-fold_cells.result c.from_residual-in_err-fold_cells.ensures.1 in
-    rw (p.1, p.2) (λ is k others next rows goes stand can.
+    rw (p.1, p.2) (λ is k others next rows goes represent can.
     let still : IsStill g.D.Sectors c.args.store.now c.open_next.new.store = c.in_ok-reader.ensures.stays (λ is. cc) in
     let kept = c.in_err-fold_cells.ensures.leaves.word k in
     not_counted (content_of g.D.Sectors c.args.store.now) (content_of g.D.Sectors c.open_next.new.store) (still.content kept) c.args.id c.args.view c.args.at c.in_ok-reader.reader c.in_ok-reader.ensures.id
     (c.in_ok-reader.ensures.ok kept) c.args.dims.now c.args.fold.now (c.in_err-fold_cells.ensures.refused (ap (λ (f : Fault). Err f) (err_fault c.in_err-fold_cells.field-0.0 BadLayout is)) k)
-    others next rows goes stand can)
+    others next rows goes represent can)
 
 pub returns-clause-leaves : goal.returns-clause-leaves
 returns-clause-leaves g c =

@@ -1,7 +1,7 @@
 use Rattle.std.proofs.Common.{◌≡◌, false, Some}
 use Rattle.object_store.specs.Disk.{Leaves}
 use Rattle.object_store.specs.Store.{IsStill, content_of, device_of, disk_of, has_failed}
-use Rattle.warehouse_objects.specs.Stands.{IsLaidOut, said_of}
+use Rattle.warehouse_objects.specs.Represents.{IsLaidOut, said_of}
 use Rattle.warehouse_objects.specs.Warehouse.{Cuboid, Warehouse, cuboid_at}
 use Rattle.stored_cuboids.specs.Steps.{AreMerged}
 use Rattle.stored_cuboids.proofs.runs.merge_all.Given as goal

@@ -64,7 +64,7 @@ pub returns-in-Ok-make_store-clause-leaves : goal.returns-in-Ok-make_store-claus
 returns-in-Ok-make_store-clause-leaves g c = (made_of g.D.Sectors c.args.device _ c.args.dims _ _ c.in-Ok-shared.ensures.ok c.in-Ok-make_store.ensures.ok).leaves
 
 pub returns-in-Ok-make_store-clause-ok : goal.returns-in-Ok-make_store-clause-ok
-returns-in-Ok-make_store-clause-ok g c = is_at g.D.Sectors _ (fresh c.args.dims) (made_of g.D.Sectors c.args.device _ c.args.dims _ _ c.in-Ok-shared.ensures.ok c.in-Ok-make_store.ensures.ok).fine (made_of g.D.Sectors c.args.device _ c.args.dims _ _ c.in-Ok-shared.ensures.ok c.in-Ok-make_store.ensures.ok).stands
+returns-in-Ok-make_store-clause-ok g c = is_at g.D.Sectors _ (fresh c.args.dims) (made_of g.D.Sectors c.args.device _ c.args.dims _ _ c.in-Ok-shared.ensures.ok c.in-Ok-make_store.ensures.ok).fine (made_of g.D.Sectors c.args.device _ c.args.dims _ _ c.in-Ok-shared.ensures.ok c.in-Ok-make_store.ensures.ok).represents
 
 pub returns-in-Ok-make_store-clause-unformatted : goal.returns-in-Ok-make_store-clause-unformatted
 returns-in-Ok-make_store-clause-unformatted g c = (made_of g.D.Sectors c.args.device _ c.args.dims _ _ c.in-Ok-shared.ensures.ok c.in-Ok-make_store.ensures.ok).unformatted

@@ -14,7 +14,7 @@ create-requires-clause-puts g c =
     let are : puts ≡ dimension_puts c.args.dims.now.value =
     puts_are c.args.dims.now.value c.as_slice.result.now c.as_slice-2.result.now c.as_slice-3.result.now c.as_slice-4.result.now (c.as_slice.ensures.value ∙ is.customers)
     (c.as_slice-2.ensures.value ∙ is.suppliers) (c.as_slice-3.ensures.value ∙ is.parts) (c.as_slice-4.ensures.value ∙ is.dates) in
-    subst ArePuts (sym are) c.kept_is_what_stands.ensures.puts
+    subst ArePuts (sym are) c.kept_is_represented.ensures.puts
 
 pub create-requires-clause-root : goal.create-requires-clause-root
 create-requires-clause-root g c =
@@ -31,7 +31,7 @@ create-requires-clause-few g c =
     puts_are c.args.dims.now.value c.as_slice.result.now c.as_slice-2.result.now c.as_slice-3.result.now c.as_slice-4.result.now (c.as_slice.ensures.value ∙ is.customers)
     (c.as_slice-2.ensures.value ∙ is.suppliers) (c.as_slice-3.ensures.value ∙ is.parts) (c.as_slice-4.ensures.value ∙ is.dates) in
     let bytes_are : bytes ≡ roots.root_of b.root = c.as_slice-5.ensures.value ∙ is.spelled.spelled in
-    few_at_first c.args.dims.now.value puts bytes c.number.result b.root c.kept_is_what_stands.ensures.dims are is.root_is bytes_are c.number.ensures
+    few_at_first c.args.dims.now.value puts bytes c.number.result b.root c.kept_is_represented.ensures.dims are is.root_is bytes_are c.number.ensures
 
 pub returns-clause-ok : goal.returns-clause-ok
 returns-clause-ok g c =
@@ -43,7 +43,7 @@ returns-clause-ok g c =
     puts_are c.args.dims.now.value c.as_slice.result.now c.as_slice-2.result.now c.as_slice-3.result.now c.as_slice-4.result.now (c.as_slice.ensures.value ∙ is.customers)
     (c.as_slice-2.ensures.value ∙ is.suppliers) (c.as_slice-3.ensures.value ∙ is.parts) (c.as_slice-4.ensures.value ∙ is.dates) in
     let bytes_are : bytes ≡ roots.root_of b.root = c.as_slice-5.ensures.value ∙ is.spelled.spelled in
-    makes_store c.args.dims.now.value puts bytes c.number.result b.root c.kept_is_what_stands.ensures.dims are is.root_is bytes_are c.number.ensures g.D.Sectors c.args.device c.create.result
+    makes_store c.args.dims.now.value puts bytes c.number.result b.root c.kept_is_represented.ensures.dims are is.root_is bytes_are c.number.ensures g.D.Sectors c.args.device c.create.result
     c.create.ensures.leaves c.create.ensures.fine c.create.ensures.ok c.create.ensures.unformatted
 
 pub returns-clause-refused : goal.returns-clause-refused
@@ -56,5 +56,5 @@ returns-clause-refused g c =
     puts_are c.args.dims.now.value c.as_slice.result.now c.as_slice-2.result.now c.as_slice-3.result.now c.as_slice-4.result.now (c.as_slice.ensures.value ∙ is.customers)
     (c.as_slice-2.ensures.value ∙ is.suppliers) (c.as_slice-3.ensures.value ∙ is.parts) (c.as_slice-4.ensures.value ∙ is.dates) in
     let bytes_are : bytes ≡ roots.root_of b.root = c.as_slice-5.ensures.value ∙ is.spelled.spelled in
-    refuses_to_make c.args.dims.now.value puts bytes c.number.result b.root c.kept_is_what_stands.ensures.dims are is.root_is bytes_are c.number.ensures g.D.Sectors c.args.device c.create.result
+    refuses_to_make c.args.dims.now.value puts bytes c.number.result b.root c.kept_is_represented.ensures.dims are is.root_is bytes_are c.number.ensures g.D.Sectors c.args.device c.create.result
     c.create.ensures.leaves_err c.create.ensures.still_blank c.create.ensures.not_already c.create.ensures.only c.create.ensures.spared c.create.ensures.device c.create.ensures.size c.create.ensures.full c.create.ensures.causes

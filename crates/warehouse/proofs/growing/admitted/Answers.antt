@@ -13,6 +13,6 @@ returns-in-Ok-clause-follows c = λ dimensions rows is.
 pub returns-in-Err-clause-model : goal.returns-in-Err-clause-model
 returns-in-Err-clause-model c = λ w rows root_is is.
     let behind = is ∙ ap (λ totals. found_in w.rows totals rows) (sym c.admission_of-admission.ensures.totals) in
-    let admits = c.in-Err.ensures.admits w.rows w.batches rows (c.admission_of-admission.ensures.stands w root_is) behind in
+    let admits = c.in-Err.ensures.admits w.rows w.batches rows (c.admission_of-admission.ensures.represents w root_is) behind in
     let refused : refusal w.rows w.batches c.args.number rows ≡ Some c.in-Err.fault = sym admits.cause in
     refused ∙ ap (λ f. Some f) (sym (c.cause_of.ensures.cause (refusal_apart w.rows w.batches c.args.number rows c.in-Err.fault refused)))

@@ -2,7 +2,7 @@ use Rattle.std.proofs.Common.{⊎_elim, inl, inr, Err, ◌+◌, ◌-◌, ◌^◌
 use Rattle.cube_model.specs.declared.fault.Fault.{Fault}
 use Rattle.object_store.specs.Disk.{disk, Leaves}
 use Rattle.object_store.specs.Found.{Explains, is_of_layout}
-use Rattle.warehouse.specs.Found.{MayStandSince}
+use Rattle.warehouse.specs.Found.{MayRepresentSince}
 use Rattle.warehouse.specs.Session.{content_of, disk_of}
 use Rattle.warehouse.proofs.Caught.{finish_leaves, found_caught, since_caught}
 use Rattle.warehouse.proofs.opening.open.Goals as goal
@@ -15,7 +15,7 @@ returns-in-Ok-finish-clause-leaves g c facts last all =
 pub returns-in-Err-finish-clause-leaves_err : goal.returns-in-Err-finish-clause-leaves_err
 returns-in-Err-finish-clause-leaves_err g c facts last all =
     let start = disk g.D.Sectors c.args.device in
-    subst (λ (d : g.row.D.Denot). Leaves start (disk g.D.Sectors d) (MayStandSince start facts last)) (sym c.close.ensures)
+    subst (λ (d : g.row.D.Denot). Leaves start (disk g.D.Sectors d) (MayRepresentSince start facts last)) (sym c.close.ensures)
     (finish_leaves start facts last g.D.Sectors c.in-Ok.session (disk_of g.D.Sectors c.finish.new.self)
     (c.in-Ok.ensures.ok facts last all) (c.in-Ok.ensures.leaves facts last all) c.finish.ensures.word c.finish.ensures.leaves)
 
@@ -55,7 +55,7 @@ returns-in-Err-finish-clause-blank g c is k blank none =
     let word = c.finish.ensures.word (subst (λ (d : g.row.D.Denot). g.D.Sectors.keeps_word d) c.close.ensures k) in
     let shown = c.in-Ok.ensures.shown word in
     let content = content_of g.D.Sectors c.in-Ok.session in
-    blank (c.in-Ok.ensures.word word) shown.image shown.is (content.generation % 2) (omega arith) shown.shows.0 shown.shows.2.standing
+    blank (c.in-Ok.ensures.word word) shown.image shown.is (content.generation % 2) (omega arith) shown.shows.0 shown.shows.2.in_slot
 
 pub returns-in-Err-finish-clause-causes : goal.returns-in-Err-finish-clause-causes
 returns-in-Err-finish-clause-causes g c =

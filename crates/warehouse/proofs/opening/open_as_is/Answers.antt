@@ -4,7 +4,7 @@ use Rattle.object_store.specs.Content.{Content}
 use Rattle.object_store.specs.Disk.{disk, IsShown}
 use Rattle.object_store.specs.Found.{Explains}
 use Rattle.object_store.specs.Store as stores
-use Rattle.warehouse.specs.Found.{MayStand}
+use Rattle.warehouse.specs.Found.{MayRepresent}
 use Rattle.warehouse.specs.Session.{disk_of}
 use Rattle.warehouse.proofs.FoundLaws.{only_since, read_leaves, session_may, never_loaded, never_none}
 use Rattle.warehouse.proofs.opening.open_as_is.Goals as goal
@@ -25,7 +25,7 @@ pub returns-in-Err-clause-never : goal.returns-in-Err-clause-never
 returns-in-Err-clause-never g c facts last all k =
     ⊎_elim (λ memory. inl memory)
     (⊎_elim (λ device. inr device)
-    (λ layout. absurd (never_none (disk g.D.Sectors c.args.device) (MayStand facts last) all (c.in-Err.ensures.only_err.word k) (c.in-Err.ensures.nothing layout k))))
+    (λ layout. absurd (never_none (disk g.D.Sectors c.args.device) (MayRepresent facts last) all (c.in-Err.ensures.only_err.word k) (c.in-Err.ensures.nothing layout k))))
     c.in-Err.ensures.causes
 
 pub returns-in-Err-load-clause-never : goal.returns-in-Err-load-clause-never
@@ -56,14 +56,14 @@ pub returns-in-Err-clause-blank : goal.returns-in-Err-clause-blank
 returns-in-Err-clause-blank g c is k blank none =
     let s = g.D.Sectors.state c.args.device in
     let newest = subst (λ (f : Fault). Explains f s.size s.reads) is (c.in-Err.ensures.explained k) in
-    none (newest.0.generation % 2) (omega arith) newest.0 newest.1.standing
+    none (newest.0.generation % 2) (omega arith) newest.0 newest.1.in_slot
 
 pub returns-in-Err-load-clause-blank : goal.returns-in-Err-load-clause-blank
 returns-in-Err-load-clause-blank g c is k blank none =
     let word = c.in-Err-load.ensures.leaves_err.word k in
     let shown = c.in-Ok.ensures.found word in
     let content = stores.content_of g.D.Sectors c.in-Ok.store in
-    blank (c.in-Ok.ensures.only.word word) shown.image shown.is (content.generation % 2) (omega arith) shown.shows.0 shown.shows.2.standing
+    blank (c.in-Ok.ensures.only.word word) shown.image shown.is (content.generation % 2) (omega arith) shown.shows.0 shown.shows.2.in_slot
 
 pub returns-in-Ok-load-clause-shown : goal.returns-in-Ok-load-clause-shown
 returns-in-Ok-load-clause-shown g c k =

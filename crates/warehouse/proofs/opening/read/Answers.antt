@@ -1,6 +1,6 @@
 use Rattle.std.proofs.Common.{sym, subst}
 use Rattle.cube_model.specs.declared.rows.DimRows.{DimRows}
-use Rattle.warehouse_objects.specs.Stands.{HasRows}
+use Rattle.warehouse_objects.specs.Represents.{HasRows}
 use Rattle.object_store.specs.Store as stores
 use Rattle.warehouse.proofs.opening.read.Goals as goal
 

@@ -7,7 +7,7 @@ use Rattle.object_store.specs.Content.{Content}
 use Rattle.object_store.specs.Store.{IsStill, content_of, device_of}
 use Rattle.batch_admission.specs.Totals.{totals_of}
 use Rattle.batch_admission.specs.declared.totals.Totals.{Totals}
-use Rattle.warehouse_objects.specs.Stands.{IsLaidOut, stored}
+use Rattle.warehouse_objects.specs.Represents.{IsLaidOut, stored}
 use Rattle.warehouse_objects.proofs.Batches.{get_within}
 use Rattle.warehouse_objects.proofs.OneMoreRead.{reads_more, still_then}
 use Rattle.warehouse_check.proofs.Loop.{count_in, here_at, none_of, own_next, so_far_next, so_far_none}
@@ -56,7 +56,7 @@ loop-said-preserved g c =
       so_far = so_far_next (g.D.Sectors.keeps_word (device_of was)) (g.D.Sectors.keeps_word (device_of now)) (content_of g.D.Sectors first) (content_of g.D.Sectors was)
           c.args.dims.now c.args.root.now.batches index _ c.loop-said.admission c.check_batch.new.admission still.word (λ k. so_far.still.content (still.word k))
           (ap (λ (l : List ℕ). slice_get l index) (sym c.batches-said-items.ensures) ∙ here_at c.batches-said-items.result.now index _ c.loop-said-test.true)
-          so_far.so_far (c.in_ok-found.ensures.sound none so_far.so_far.batches so_far.so_far.stand);
+          so_far.so_far (c.in_ok-found.ensures.sound none so_far.so_far.batches so_far.so_far.represent);
       own = λ k w laid rooted same.
           let items : c.batches-said-items.result.now ≡ map length w.batches = c.batches-said-items.ensures ∙ ap (λ r. r.batches) rooted in
           let within : index < length w.batches = omega (arith, c.loop-said-test.true, ap (λ (l : List ℕ). length l) items, length-map w.batches length) in
@@ -70,7 +70,7 @@ returns-clause-found g c = λ is k w laid rooted same.
     let index : ℕ = c.loop-said.said-index in
     let items : c.batches-said-items.result.now ≡ map length w.batches = c.batches-said-items.ensures ∙ ap (λ r. r.batches) rooted in
     let ends : length w.batches ≤ index = omega (arith, c.loop-said-test.false, ap (λ (l : List ℕ). length l) items, length-map w.batches length) in
-    let stand = so_far.own k w laid rooted same in
+    let represent = so_far.own k w laid rooted same in
     let counted : c.totals-2.result ≡ totals_of (all_rows w.batches) =
-    c.totals-2.ensures.totals ∙ stand.totals ∙ ap (λ (bs : List (List LineOrder)). totals_of (all_rows bs)) (take_all index w.batches ends) in
+    c.totals-2.ensures.totals ∙ represent.totals ∙ ap (λ (bs : List (List LineOrder)). totals_of (all_rows bs)) (take_all index w.batches ends) in
     c.check_totals.ensures.found is (c.totals.ensures ∙ ap (λ r. r.totals) rooted ∙ ap (λ (t : Totals). stored t) (sym counted))

@@ -1,8 +1,8 @@
 use Rattle.std.proofs.Common.{◌≡◌, false, take}
 use Rattle.object_store.specs.Disk.{Leaves}
 use Rattle.object_store.specs.Store.{IsStill, content_of, device_of, disk_of, has_failed}
-use Rattle.batch_admission.specs.Accepted.{StandsBehind}
-use Rattle.warehouse_objects.specs.Stands.{IsLaidOut, root_of}
+use Rattle.batch_admission.specs.Accepted.{HasAccepted}
+use Rattle.warehouse_objects.specs.Represents.{IsLaidOut, root_of}
 use Rattle.warehouse_objects.specs.Warehouse.{Warehouse}
 use Rattle.warehouse_check.proofs.Loop.{AreSoFar}
 use Rattle.warehouse_check.proofs.batches.check_batches.Given as goal
@@ -14,5 +14,5 @@ invariant-loop-said g l =
       still : IsStill g.D.Sectors l.initial.store l.store;
       leaves : Leaves (disk_of g.D.Sectors l.initial.store) (disk_of g.D.Sectors l.store) (λ c. c ≡ first);
       so_far : AreSoFar (g.D.Sectors.keeps_word (device_of l.store)) first l.dims l.root.batches l.said-index l.admission;
-      own : g.D.Sectors.keeps_word (device_of l.store) → (w : Warehouse) → IsLaidOut first w → l.root ≡ root_of w → l.dims ≡ w.rows → StandsBehind l.admission (take l.said-index w.batches);
+      own : g.D.Sectors.keeps_word (device_of l.store) → (w : Warehouse) → IsLaidOut first w → l.root ≡ root_of w → l.dims ≡ w.rows → HasAccepted l.admission (take l.said-index w.batches);
     }

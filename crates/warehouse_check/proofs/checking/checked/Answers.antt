@@ -2,7 +2,7 @@ use Rattle.std.proofs.Common.{◌≡◌, None, sym, subst}
 use Rattle.std.proofs.lemmas.Result.{IfOk-weaker}
 use Rattle.object_store.specs.Content.{Content}
 use Rattle.object_store.specs.Store.{IsStill, content_of}
-use Rattle.warehouse_objects.specs.Stands.{IsLaidOut}
+use Rattle.warehouse_objects.specs.Represents.{IsLaidOut}
 use Rattle.warehouse_objects.proofs.CallerLemmas.{laid_of}
 use Rattle.warehouse_objects.proofs.OneMoreRead.{reads_more}
 use Rattle.warehouse_check.proofs.Loop.{never_both}
@@ -19,15 +19,15 @@ pub returns-in-None-clause-found : goal.returns-in-None-clause-found
 returns-in-None-clause-found g c =
     let still : IsStill g.D.Sectors c.args.store.now c.check_batches.new.store = c.in_ok-found.ensures.stays (λ is. cc) in
     let content = content_of g.D.Sectors c.args.store.now in
-    IfOk-weaker c.check_cuboids.result _ _ (λ found answer is k w stands rooted same.
-    let there = subst (λ (x : Content). IsLaidOut x w) (sym (still.content (c.check_cuboids.ensures.leaves.word k))) (laid_of content w stands) in
-    never_both found ((answer k w there rooted same).1 (c.kept_cuboids_are_sound.ensures content w stands)) is) c.check_cuboids.ensures.answer
+    IfOk-weaker c.check_cuboids.result _ _ (λ found answer is k w represents rooted same.
+    let there = subst (λ (x : Content). IsLaidOut x w) (sym (still.content (c.check_cuboids.ensures.leaves.word k))) (laid_of content w represents) in
+    never_both found ((answer k w there rooted same).1 (c.kept_cuboids_are_sound.ensures content w represents)) is) c.check_cuboids.ensures.answer
 
 pub returns-in-None-clause-refused : goal.returns-in-None-clause-refused
-returns-in-None-clause-refused g c = λ is k w stands rooted same.
+returns-in-None-clause-refused g c = λ is k w represents rooted same.
     let still : IsStill g.D.Sectors c.args.store.now c.check_batches.new.store = c.in_ok-found.ensures.stays (λ is. cc) in
     let content = content_of g.D.Sectors c.args.store.now in
-    let there = subst (λ (x : Content). IsLaidOut x w) (sym (still.content (c.check_cuboids.ensures.leaves.word k))) (laid_of content w stands) in
+    let there = subst (λ (x : Content). IsLaidOut x w) (sym (still.content (c.check_cuboids.ensures.leaves.word k))) (laid_of content w represents) in
     c.check_cuboids.ensures.refused is k w there rooted same
 
 pub returns-in-None-clause-leaves : goal.returns-in-None-clause-leaves

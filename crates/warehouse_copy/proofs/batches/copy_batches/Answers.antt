@@ -2,7 +2,7 @@ use Rattle.std.proofs.Common.{Err, ◌<◌, ◌∙◌, length, ap, subst, sym, a
 use Rattle.std.proofs.lemmas.Result.{err_from_is_err_and}
 use Rattle.object_store.specs.Content.{Content}
 use Rattle.object_store.specs.Moments.{leaves_then}
-use Rattle.warehouse_objects.specs.Stands.{Stands}
+use Rattle.warehouse_objects.specs.Represents.{Represents}
 use Rattle.warehouse_objects.specs.Warehouse.{Warehouse}
 use Rattle.warehouse.specs.Session.{IsAt, disk_of}
 use Rattle.warehouse_copy.specs.Copied.{HoldsPart, with_first}
@@ -26,7 +26,7 @@ loop-before-preserved g c =
       from_word = λ k. so_far.from_word (next.from_word k);
       word = λ k. so_far.word (next.word k);
       from_at = λ w from. next.from_stays (λ is. cc) w (so_far.from_at w from);
-      from_leaves = λ w from. leaves_then (λ (x : Content). Stands x w) _ _ _ (so_far.from_leaves w from) (next.from_leaves w (so_far.from_at w from));
+      from_leaves = λ w from. leaves_then (λ (x : Content). Represents x w) _ _ _ (so_far.from_leaves w from) (next.from_leaves w (so_far.from_at w from));
       at = λ w from to k. next.ok w (so_far.from_at w from) (so_far.at w from to (next.from_word k)) k;
       leaves = λ w from to k. leaves_then (HoldsPart w) _ _ _ (so_far.leaves w from to (next.from_word k)) (next.leaves w (so_far.from_at w from) (so_far.at w from to (next.from_word k)) k);
     }
@@ -34,7 +34,7 @@ loop-before-preserved g c =
 pub returns-in_err-copy_batch-clause-from_leaves : goal.returns-in_err-copy_batch-clause-from_leaves
 returns-in_err-copy_batch-clause-from_leaves g c w from =
     let so_far = c.loop-before.invariant in
-    leaves_then (λ (x : Content). Stands x w) _ _ _ (so_far.from_leaves w from) (c.in_err-copy_batch.ensures.from_leaves w (so_far.from_at w from))
+    leaves_then (λ (x : Content). Represents x w) _ _ _ (so_far.from_leaves w from) (c.in_err-copy_batch.ensures.from_leaves w (so_far.from_at w from))
 
 pub returns-in_err-copy_batch-clause-from_stays : goal.returns-in_err-copy_batch-clause-from_stays
 returns-in_err-copy_batch-clause-from_stays g c =

@@ -19,7 +19,7 @@ pub returns-in_err-views-clause-refused : goal.returns-in_err-views-clause-refus
 returns-in_err-views-clause-refused g c =
     let p = err_from_is_err_and c.from_residual-in_err-views.result c.from_residual-in_err-views.ensures.1 in
     rw (p.1, p.2) (λ w from to k word.
-    let said = said_are w (content_of g.D.Sectors c.args.from.now) (from.stands k) _ _ (c.in_ok-status.ensures.ok w from k) in
+    let said = said_are w (content_of g.D.Sectors c.args.from.now) (from.represents k) _ _ (c.in_ok-status.ensures.ok w from k) in
     views_fault c.in_err-views.field-0.0 w.cuboids _ c.in_err-views.ensures.refused said.0 said.1)
 
 pub returns-clause-leaves : goal.returns-clause-leaves
@@ -28,7 +28,7 @@ returns-clause-leaves g c w to = views_leave w c.as_slice.result.now _ _ (c.put_
 pub returns-clause-ok : goal.returns-clause-ok
 returns-clause-ok g c =
     ok_so _ _ c.put_views.result (λ ok w from to k.
-    let said = said_are w (content_of g.D.Sectors c.args.from.now) (from.stands k) _ _ (c.in_ok-status.ensures.ok w from k) in
+    let said = said_are w (content_of g.D.Sectors c.args.from.now) (from.represents k) _ _ (c.in_ok-status.ensures.ok w from k) in
     let done = ok (with_first w (length w.batches)) to in
     (done.0, is_copy w c.as_slice.result.now done.0 done.1 (c.as_slice.ensures.value ∙ c.in_ok-views.ensures.views w.cuboids said.0), done.2, done.3)) c.put_views.ensures.ok
 

@@ -2,7 +2,7 @@ use Rattle.std.proofs.Common.{◌<◌, length, arith}
 use Rattle.std.proofs.lemmas.Result.{err_from_is_err_and}
 use Rattle.object_store.specs.Content.{Content}
 use Rattle.object_store.specs.Moments.{leaves_then}
-use Rattle.warehouse_objects.specs.Stands.{Stands}
+use Rattle.warehouse_objects.specs.Represents.{Represents}
 use Rattle.warehouse_dump.proofs.Written.{all_written, nothing_written, refused_next, written_next}
 use Rattle.warehouse_dump.proofs.writing.write_batches.Goals as goal
 
@@ -20,14 +20,14 @@ loop-before-preserved g c =
     let next = c.in_ok-write_batch.ensures in record {
       word = λ k. so_far.word (next.word k);
       at = λ w at. next.stays (λ is. cc) w (so_far.at w at);
-      leaves = λ w at. leaves_then (λ (x : Content). Stands x w) _ _ _ (so_far.leaves w at) (next.leaves w (so_far.at w at));
+      leaves = λ w at. leaves_then (λ (x : Content). Represents x w) _ _ _ (so_far.leaves w at) (next.leaves w (so_far.at w at));
       written = λ w at k. written_next w.batches c.loop-before.before _ _ _ (so_far.written w at (next.word k)) (next.ok w (so_far.at w at) k);
     }
 
 pub returns-in_err-write_batch-clause-leaves : goal.returns-in_err-write_batch-clause-leaves
 returns-in_err-write_batch-clause-leaves g c w at =
     let so_far = c.loop-before.invariant in
-    leaves_then (λ (x : Content). Stands x w) _ _ _ (so_far.leaves w at) (c.in_err-write_batch.ensures.leaves w (so_far.at w at))
+    leaves_then (λ (x : Content). Represents x w) _ _ _ (so_far.leaves w at) (c.in_err-write_batch.ensures.leaves w (so_far.at w at))
 
 pub returns-in_err-write_batch-clause-stays : goal.returns-in_err-write_batch-clause-stays
 returns-in_err-write_batch-clause-stays g c =

@@ -8,8 +8,8 @@ use Rattle.cube_model.specs.declared.rows.LineOrder.{LineOrder}
 use Rattle.object_store.specs.Content.{Content}
 use Rattle.object_store.specs.Store.{IsStill, content_of}
 use Rattle.cube_query.specs.Asked.{asked_columns}
-use Rattle.cube_query.specs.Groups.{StandsFor}
-use Rattle.warehouse_objects.specs.Stands.{Stands}
+use Rattle.cube_query.specs.Groups.{RepresentsRows}
+use Rattle.warehouse_objects.specs.Represents.{Represents}
 use Rattle.warehouse_objects.proofs.Batches.{get_within, rows_next}
 use Rattle.warehouse_objects.proofs.Folded.{count_there, err_fault, own_foldable}
 use Rattle.warehouse_objects.proofs.OneMoreRead.{breaks_then, reads_more, still_then}
@@ -35,26 +35,26 @@ loop-before-preserved g c =
       leaves = reads_more g.D.Sectors first was now so_far.still so_far.leaves c.in_ok-add_batch.ensures.leaves;
       query = c.in_ok-add_batch.ensures.query ∙ so_far.query;
       over = c.in_ok-add_batch.ensures.over;
-      own = λ k w stands begun.
-          let here = next k w (subst (λ (x : Content). Stands x w) (sym (so_far.still.content (still.word k))) stands) in
+      own = λ k w represents begun.
+          let here = next k w (subst (λ (x : Content). Represents x w) (sym (so_far.still.content (still.word k))) represents) in
           let more : all_rows (take (before + 1) w.batches) ≡ all_rows (take before w.batches) ++ here.0 =
           ap (λ (n : ℕ). all_rows (take n w.batches)) (add-one before) ∙ rows_next w.batches before here.0 here.1 in
-          subst (λ (l : List LineOrder). StandsFor c.args.dims.now c.add_batch.new.fold l) (sym more) (here.2.stands (all_rows (take before w.batches)) (so_far.own (still.word k) w stands begun));
+          subst (λ (l : List LineOrder). RepresentsRows c.args.dims.now c.add_batch.new.fold l) (sym more) (here.2.represents (all_rows (take before w.batches)) (so_far.own (still.word k) w represents begun));
     }
 
 pub returns-in_err-add_batch-clause-refused : goal.returns-in_err-add_batch-clause-refused
 returns-in_err-add_batch-clause-refused g c =
     let p = err_from_is_err_and c.from_residual-in_err-add_batch.result c.from_residual-in_err-add_batch.ensures.1 in
-    rw (p.1, p.2) (λ is k w stands rooted same begun.
+    rw (p.1, p.2) (λ is k w represents rooted same begun.
     let so_far = c.loop-before.invariant in
     let word = c.in_err-add_batch.ensures.leaves.word k in
     let lengths : length c.args.root.now.batches ≡ length w.batches = ap (λ r. length r.batches) rooted ∙ length-map w.batches length in
     let lt : c.loop-before.before < length w.batches = omega (arith, c.loop-before-test.true, c.requires.few, lengths) in
     let got = get_within w.batches c.loop-before.before lt in
     let many = ap (λ (l : List ℕ). get_or l c.loop-before.before 0) (c.batches-batches.ensures ∙ ap (λ r. r.batches) rooted)
-    ∙ count_there (content_of g.D.Sectors c.args.store.now) w stands c.loop-before.before got.0 got.1 in
-    c.in_err-add_batch.ensures.refused (ap (λ (f : Fault). Err f) (err_fault c.in_err-add_batch.field-0.0 BadLayout is)) k w (subst (λ (x : Content). Stands x w) (sym (so_far.still.content word)) stands) got.0 got.1 many
-    (own_foldable (content_of g.D.Sectors c.args.store.now) w stands c.args.dims.now c.loop-before.before same lt) (so_far.own word w stands begun))
+    ∙ count_there (content_of g.D.Sectors c.args.store.now) w represents c.loop-before.before got.0 got.1 in
+    c.in_err-add_batch.ensures.refused (ap (λ (f : Fault). Err f) (err_fault c.in_err-add_batch.field-0.0 BadLayout is)) k w (subst (λ (x : Content). Represents x w) (sym (so_far.still.content word)) represents) got.0 got.1 many
+    (own_foldable (content_of g.D.Sectors c.args.store.now) w represents c.args.dims.now c.loop-before.before same lt) (so_far.own word w represents begun))
 
 pub returns-in_err-add_batch-clause-leaves : goal.returns-in_err-add_batch-clause-leaves
 returns-in_err-add_batch-clause-leaves g c =
@@ -62,9 +62,9 @@ returns-in_err-add_batch-clause-leaves g c =
     reads_more g.D.Sectors c.args.store.now c.loop-before.store c.add_batch.new.store so_far.still so_far.leaves c.in_err-add_batch.ensures.leaves
 
 pub returns-clause-ok : goal.returns-clause-ok
-returns-clause-ok g c k w stands begun =
+returns-clause-ok g c k w represents begun =
     let ends : c.loop-before.before ≡ c.args.as_of = omega (arith, c.loop-before-test.false, c.loop-before.auto.before-end) in
-    subst (λ (n : ℕ). StandsFor c.args.dims.now c.loop-before.fold (all_rows (take n w.batches))) ends (c.loop-before.invariant.own k w stands begun)
+    subst (λ (n : ℕ). RepresentsRows c.args.dims.now c.loop-before.fold (all_rows (take n w.batches))) ends (c.loop-before.invariant.own k w represents begun)
 
 pub returns-in_err-add_batch-clause-stays : goal.returns-in_err-add_batch-clause-stays
 returns-in_err-add_batch-clause-stays g c =

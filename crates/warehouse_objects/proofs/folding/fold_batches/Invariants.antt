@@ -1,9 +1,9 @@
 use Rattle.std.proofs.Common.{◌≡◌, false, take}
 use Rattle.cube_model.specs.Admission.{all_rows}
-use Rattle.cube_query.specs.Groups.{IsOver, StandsFor}
+use Rattle.cube_query.specs.Groups.{IsOver, RepresentsRows}
 use Rattle.object_store.specs.Disk.{Leaves}
 use Rattle.object_store.specs.Store.{IsStill, content_of, device_of, disk_of, has_failed}
-use Rattle.warehouse_objects.specs.Stands.{Stands}
+use Rattle.warehouse_objects.specs.Represents.{Represents}
 use Rattle.warehouse_objects.specs.Warehouse.{Warehouse}
 use Rattle.warehouse_objects.proofs.folding.fold_batches.Given as goal
 
@@ -15,6 +15,6 @@ invariant-loop-before g l =
       leaves : Leaves (disk_of g.D.Sectors l.initial.store) (disk_of g.D.Sectors l.store) (λ c. c ≡ first);
       query : l.fold.query ≡ l.initial.fold.query;
       over : IsOver l.dims l.fold;
-      own : g.D.Sectors.keeps_word (device_of l.store) → (w : Warehouse) → Stands first w → StandsFor l.dims l.initial.fold (all_rows (take l.from w.batches))
-          → StandsFor l.dims l.fold (all_rows (take l.before w.batches));
+      own : g.D.Sectors.keeps_word (device_of l.store) → (w : Warehouse) → Represents first w → RepresentsRows l.dims l.initial.fold (all_rows (take l.from w.batches))
+          → RepresentsRows l.dims l.fold (all_rows (take l.before w.batches));
     }

@@ -11,9 +11,9 @@ use Rattle.warehouse_objects.proofs.reading.read_dims.Goals as goal
 pub returns-in_err-customers-clause-refused : goal.returns-in_err-customers-clause-refused
 returns-in_err-customers-clause-refused g c =
     let p = err_from_is_err_and c.from_residual.result c.from_residual.ensures.1 in
-    rw (p.1, p.2) (λ is k w stands.
+    rw (p.1, p.2) (λ is k w represents.
     let bad : c.in_err-customers.field-0.0 ≡ BadLayout = err_fault c.in_err-customers.field-0.0 BadLayout is in
-    first_two_there (content_of g.D.Sectors c.args.store.now) w stands (c.in_err-customers.ensures.missing (ap (λ (f : Fault). Err f) bad) k))
+    first_two_there (content_of g.D.Sectors c.args.store.now) w represents (c.in_err-customers.ensures.missing (ap (λ (f : Fault). Err f) bad) k))
 
 pub returns-clause-ok : goal.returns-clause-ok
 returns-clause-ok g c =

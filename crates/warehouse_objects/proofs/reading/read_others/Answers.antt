@@ -10,9 +10,9 @@ use Rattle.warehouse_objects.proofs.reading.read_others.Goals as goal
 pub returns-in_err-parts-clause-refused : goal.returns-in_err-parts-clause-refused
 returns-in_err-parts-clause-refused g c =
     let p = err_from_is_err_and c.from_residual.result c.from_residual.ensures.1 in
-    rw (p.1, p.2) (λ is k one two w stands.
+    rw (p.1, p.2) (λ is k one two w represents.
     let bad : c.in_err-parts.field-0.0 ≡ BadLayout = err_fault c.in_err-parts.field-0.0 BadLayout is in
-    last_two_there (content_of g.D.Sectors c.args.store.now) w stands (c.in_err-parts.ensures.missing (ap (λ (f : Fault). Err f) bad) k))
+    last_two_there (content_of g.D.Sectors c.args.store.now) w represents (c.in_err-parts.ensures.missing (ap (λ (f : Fault). Err f) bad) k))
 
 pub returns-clause-ok : goal.returns-clause-ok
 returns-clause-ok g c =

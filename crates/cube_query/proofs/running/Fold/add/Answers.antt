@@ -6,13 +6,13 @@ use Rattle.std.specs.declared.alloc.Global.{Global}
 use Rattle.std.specs.declared.vec.Vec.{Vec}
 use Rattle.cube_query.specs.Asked.{AreSame, is_asked}
 use Rattle.cube_query.specs.FoldInvariant.{HaveRoom, CountIn, IsKept}
-use Rattle.cube_query.specs.Groups.{CanTake, FoldState, IsOver, StandsFor}
+use Rattle.cube_query.specs.Groups.{CanTake, FoldState, IsOver, RepresentsRows}
 use Rattle.cube_query.specs.Slots.{entries_of}
 use Rattle.cube_query.specs.declared.tally.Tally.{Tally}
 use Rattle.group_plan.specs.Plans.{query_of}
 use Rattle.cube_query.proofs.AskedRefusals.{known_for, room_same, slots_same}
 use Rattle.cube_query.proofs.Columnwise.{tallies-length}
-use Rattle.cube_query.proofs.Folds.{HaveRoom-ready, kept_count, kept_ready, shown, shown_ready, stands_count}
+use Rattle.cube_query.proofs.Folds.{HaveRoom-ready, kept_count, kept_ready, shown, shown_ready, represents_count}
 use Rattle.cube_query.proofs.Known.{known_behind}
 use Rattle.cube_query.proofs.Marking.{AreGroupSlots-length}
 use Rattle.cube_query.proofs.running.Fold.add.Goals as goal
@@ -156,8 +156,8 @@ returns-clause-ok g c =
     let len : length new ≡ c.ready.new.columns.len = c.count_in_all.auto.columns ∙ c.as_mut_slice.ensures.len in
     record {
       query = ap (λ state. state.query) c.self.view_is;
-      stands = λ so_far stands.
-          subst (λ columns. StandsFor dims (shown inside.plan c.ready.new.slots columns) (so_far ++ rows)) (sym (with_items_is c.ready.new.columns new len))
-          (stands_count dims inside.plan over inside.slots inside.columns.items c.self.invariant c.ready.new.slots c.ready.new.columns.items c.ready.ensures.cover c.ready.ensures.grow c.ready.ensures.same
-          rows group_slots c.in_ok-group_slots.ensures.group_slots new count so_far (subst (λ (state : FoldState). StandsFor dims state so_far) (sym c.self.view_is) stands));
+      represents = λ so_far represents.
+          subst (λ columns. RepresentsRows dims (shown inside.plan c.ready.new.slots columns) (so_far ++ rows)) (sym (with_items_is c.ready.new.columns new len))
+          (represents_count dims inside.plan over inside.slots inside.columns.items c.self.invariant c.ready.new.slots c.ready.new.columns.items c.ready.ensures.cover c.ready.ensures.grow c.ready.ensures.same
+          rows group_slots c.in_ok-group_slots.ensures.group_slots new count so_far (subst (λ (state : FoldState). RepresentsRows dims state so_far) (sym c.self.view_is) represents));
     }

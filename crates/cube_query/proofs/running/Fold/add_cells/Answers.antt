@@ -9,10 +9,10 @@ use Rattle.group_plan.specs.Plans.{query_of}
 use Rattle.lattice.specs.Determined.{Serves}
 use Rattle.cube_query.specs.CellSlots.{AreMergedIn, asked_of}
 use Rattle.cube_query.specs.CellTallies.{GroupsHaveRoomFor}
-use Rattle.cube_query.specs.Groups.{CanTake, FoldState, IsOver, StandsFor}
+use Rattle.cube_query.specs.Groups.{CanTake, FoldState, IsOver, RepresentsRows}
 use Rattle.cube_query.specs.Slots.{entries_of}
 use Rattle.cube_query.specs.declared.tally.Tally.{Tally}
-use Rattle.cube_query.proofs.CellFolds.{kept_merged, room_for_cells, shown_with_slots, stands_merged}
+use Rattle.cube_query.proofs.CellFolds.{kept_merged, room_for_cells, shown_with_slots, represents_merged}
 use Rattle.cube_query.proofs.Columnwise.{tallies-length}
 use Rattle.cube_query.proofs.Known.{known_behind}
 use Rattle.cube_query.proofs.running.Fold.add_cells.Goals as goal
@@ -36,7 +36,7 @@ returns-in_err-merged-clause-err c =
 pub returns-in_err-merged-clause-refused : goal.returns-in_err-merged-clause-refused
 returns-in_err-merged-clause-refused c =
     let p = err_from_is_err_and c.from_residual.result c.from_residual.ensures.1 in
-    rw (p.1, p.2) (λ bad rows stand can.
+    rw (p.1, p.2) (λ bad rows represent can.
     let inside = c.self.inside in
     let dims = c.args.dims.now in
     let plain = c.args.cells.now in
@@ -44,9 +44,9 @@ returns-in_err-merged-clause-refused c =
     let over = subst (λ (state : FoldState). IsOver dims state) (sym c.self.view_is) c.requires.over in
     let given = subst (λ (state : FoldState). CanTake dims state rows) (sym c.self.view_is) can in
     let room = room_for_cells dims inside.plan over inside.slots inside.columns.items c.self.invariant c.columns_with_cells.new.slots c.columns_with_cells.ensures.cover c.columns_with_cells.ensures.grow modes plain
-    rows stand given.0 given.1.0 given.1.1 in
+    rows represent given.0 given.1.0 given.1.1 in
     let is : c.in_err-merged.field-0.0 ≡ BadLayout = cc bad in
-    c.in_err-merged.ensures.refused (ap (λ fault. Err fault) is) rows stand (known_behind dims 1 given.0 rows given.1.1.known)
+    c.in_err-merged.ensures.refused (ap (λ fault. Err fault) is) rows represent (known_behind dims 1 given.0 rows given.1.1.known)
     (subst (λ (columns : List (Vec Tally Global)). GroupsHaveRoomFor (entries_of c.columns_with_cells.new.slots) (query_of inside.plan).aggregates plain.cells columns) (sym c.as_slice-columns.ensures.value) room))
 
 pub invariant_of-self-2 : goal.invariant_of-self-2
@@ -62,7 +62,7 @@ invariant_of-self-2 c =
     kept_merged dims inside.plan over inside.slots inside.columns.items c.self.invariant c.columns_with_cells.new.slots c.columns_with_cells.ensures.cover c.columns_with_cells.ensures.grow modes plain merged are
 
 pub returns-clause-ok : goal.returns-clause-ok
-returns-clause-ok c = λ rows stand.
+returns-clause-ok c = λ rows represent.
     let inside = c.self.inside in
     let dims = c.args.dims.now in
     let plain = c.args.cells.now in
@@ -74,7 +74,7 @@ returns-clause-ok c = λ rows stand.
     c.as_slice-columns.ensures.value c.in_ok-merged.ensures.merged in
     record {
       query = ap (λ state. state.query) c.self.view_is;
-      stands = λ so_far stands.
-          stands_merged dims inside.plan over inside.slots inside.columns.items c.self.invariant c.columns_with_cells.new.slots c.columns_with_cells.ensures.cover c.columns_with_cells.ensures.grow modes plain merged are
-          c.one_key_one_group.ensures serves rows stand so_far (subst (λ (state : FoldState). StandsFor dims state so_far) (sym c.self.view_is) stands);
+      represents = λ so_far represents.
+          represents_merged dims inside.plan over inside.slots inside.columns.items c.self.invariant c.columns_with_cells.new.slots c.columns_with_cells.ensures.cover c.columns_with_cells.ensures.grow modes plain merged are
+          c.one_key_one_group.ensures serves rows represent so_far (subst (λ (state : FoldState). RepresentsRows dims state so_far) (sym c.self.view_is) represents);
     }

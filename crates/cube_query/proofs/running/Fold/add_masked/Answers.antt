@@ -11,12 +11,12 @@ use Rattle.column_kernels.specs.Masks.{selected}
 use Rattle.group_plan.specs.Plans.{query_of}
 use Rattle.cube_query.specs.Asked.{AreSame, is_asked}
 use Rattle.cube_query.specs.Columns.{tallies_at}
-use Rattle.cube_query.specs.Groups.{CanTake, FoldState, IsOver, StandsFor, Takes}
+use Rattle.cube_query.specs.Groups.{CanTake, FoldState, IsOver, RepresentsRows, Takes}
 use Rattle.cube_query.specs.Slots.{entries_of}
 use Rattle.cube_query.specs.WholeBatch.{HaveRoomAt, has_one_group, with_rows}
 use Rattle.cube_query.specs.declared.tally.Tally.{Tally}
 use Rattle.cube_query.proofs.AskedRefusals.{marks_same, masked_same, room_at_same}
-use Rattle.cube_query.proofs.BatchFolds.{kept_batch, kept_one, place_first, room_one, shown_one, slot_within, stands_batch, takes_none}
+use Rattle.cube_query.proofs.BatchFolds.{kept_batch, kept_one, place_first, room_one, shown_one, slot_within, represents_batch, takes_none}
 use Rattle.cube_query.proofs.Choosing.{can_take_marked, takes_all}
 use Rattle.cube_query.proofs.Columnwise.{tallies-length}
 use Rattle.cube_query.proofs.WholeBatches.{mask_keeps, none_selected, some_selected}
@@ -107,9 +107,9 @@ returns-clause-ok c =
     ∙ (λ i. with_rows (aggregates i) (selected mask rows) c.in_ok-slot.slot other (tallies_at (c.as_slice.ensures.value i) other)) in
     takes_all (Ok (tt {0})) dims old (selected mask rows) rows _ (mask_keeps dims old.query.conditions mask rows own) (record {
       query = ap (λ state. state.query) c.self.view_is;
-      stands = λ so_far stands.
-          stands_batch dims inside.plan over inside.slots inside.columns.items c.self.invariant one c.ready_for_one.new.slots c.ready_for_one.new.columns.items found.cover found.grow found.same
-          c.in_ok-slot.slot c.in_ok-slot.ensures.slot mask rows marks c.in_ok-merged.merged.items is so_far (subst (λ (state : FoldState). StandsFor dims state so_far) (sym c.self.view_is) stands);
+      represents = λ so_far represents.
+          represents_batch dims inside.plan over inside.slots inside.columns.items c.self.invariant one c.ready_for_one.new.slots c.ready_for_one.new.columns.items found.cover found.grow found.same
+          c.in_ok-slot.slot c.in_ok-slot.ensures.slot mask rows marks c.in_ok-merged.merged.items is so_far (subst (λ (state : FoldState). RepresentsRows dims state so_far) (sym c.self.view_is) represents);
     })
 
 pub returns-in_err-merged-clause-err : goal.returns-in_err-merged-clause-err

@@ -6,7 +6,7 @@ use Rattle.std.specs.declared.vec.Vec.{Vec}
 use Rattle.cuboid_cells.specs.Steps.{cells_of}
 use Rattle.cuboid_cells.proofs.Continuing.{on_ok}
 use Rattle.cuboid_upkeep.specs.Codes.{modes_of}
-use Rattle.cuboid_upkeep.proofs.Standing.{stands_among}
+use Rattle.cuboid_upkeep.proofs.Represented.{represents_among}
 use Rattle.group_plan.specs.Plans.{query_of}
 use Rattle.lattice.specs.Determined.{Serves}
 use Rattle.cube_query.specs.CellRuns.{AreWantedMerged}
@@ -14,7 +14,7 @@ use Rattle.cube_query.specs.CellSlots.{asked_of}
 use Rattle.cube_query.specs.CellTallies.{GroupsHaveRoomFor}
 use Rattle.cube_query.specs.Columns.{tallies_at}
 use Rattle.cube_query.specs.FoldInvariant.{IsKept}
-use Rattle.cube_query.specs.Groups.{CanTake, FoldState, IsOver, StandsFor}
+use Rattle.cube_query.specs.Groups.{CanTake, FoldState, IsOver, RepresentsRows}
 use Rattle.cube_query.specs.Slots.{entries_of}
 use Rattle.cube_query.specs.declared.tally.Tally.{Tally}
 use Rattle.cube_query.proofs.CellFolds.{kept_after, represents_wanted, room_for_cells}
@@ -52,7 +52,7 @@ returns-clause-ok g c =
     let view = c.args.run.now.head.view in
     let modes : List (List ℕ) = modes_of (option_map (λ modes. modes.now) c.args.modes) in
     let new = c.with_run.new.slots in
-    on_ok c.with_run.result (λ merged keeps cells left rows stand.
+    on_ok c.with_run.result (λ merged keeps cells left rows represent.
     let over = subst (λ (state : FoldState). IsOver dims state) (sym c.self.view_is) c.requires.over in
     let serves = subst (λ (state : FoldState). Serves view state.query) (sym c.self.view_is) c.requires.serves in
     let are = subst (λ (columns : List (Vec Tally Global)). AreWantedMerged
@@ -62,17 +62,17 @@ returns-clause-ok g c =
     let many : length c.with_run.new.columns ≡ inside.columns.len = omega (arith, c.with_run.auto.columns, ap length c.as_mut_slice-columns.ensures.value, inside.columns.ok.0) in
     record {
       query = ap (λ (state : FoldState). state.query) c.self.view_is;
-      stands = λ so_far stands.
-          subst (λ (columns : List (Vec Tally Global)). StandsFor dims (shown inside.plan new columns) (so_far ++ rows))
+      represents = λ so_far represents.
+          subst (λ (columns : List (Vec Tally Global)). RepresentsRows dims (shown inside.plan new columns) (so_far ++ rows))
           (sym (written inside.columns.len c.with_run.new.columns inside.columns.items many))
           (represents_wanted dims inside.plan over inside.slots inside.columns.items c.self.invariant new
           c.with_run.ensures.cover c.with_run.ensures.grow modes (cells_of view cells) c.with_run.new.columns are
-          c.one_key_one_group.ensures serves rows stand so_far
-          (subst (λ (state : FoldState). StandsFor dims state so_far) (sym c.self.view_is) stands));
+          c.one_key_one_group.ensures serves rows represent so_far
+          (subst (λ (state : FoldState). RepresentsRows dims state so_far) (sym c.self.view_is) represents));
     }) c.with_run.ensures.merged
 
 pub returns-clause-refused : goal.returns-clause-refused
-returns-clause-refused g c = λ bad keeps cells left rows stand can.
+returns-clause-refused g c = λ bad keeps cells left rows represent can.
     let inside = c.self.inside in
     let dims = c.args.dims.now in
     let query = query_of inside.plan in
@@ -83,11 +83,11 @@ returns-clause-refused g c = λ bad keeps cells left rows stand can.
     let given = subst (λ (state : FoldState). CanTake dims state rows) (sym c.self.view_is) can in
     elim (c.with_run.ensures.refused bad keeps cells left) [
       | inl none ↦
-          (let row = stands_among dims modes plain rows stand (known_behind dims 1 given.0 rows given.1.1.known)
+          (let row = represents_among dims modes plain rows represent (known_behind dims 1 given.0 rows given.1.1.known)
           none.cell none.among in
           none.none row.0 row.1)
       | inr full ↦
           full (subst (λ (columns : List (Vec Tally Global)). GroupsHaveRoomFor entries query.aggregates cells columns)
           (sym c.as_mut_slice-columns.ensures.value)
-          (room_for_cells dims inside.plan over inside.slots inside.columns.items c.self.invariant c.with_run.new.slots c.with_run.ensures.cover c.with_run.ensures.grow modes plain rows stand given.0 given.1.0 given.1.1))
+          (room_for_cells dims inside.plan over inside.slots inside.columns.items c.self.invariant c.with_run.new.slots c.with_run.ensures.cover c.with_run.ensures.grow modes plain rows represent given.0 given.1.0 given.1.1))
     ]

@@ -3,7 +3,7 @@ use Rattle.std.proofs.lemmas.Result.{err_from_is_err_and}
 use Rattle.cube_model.specs.declared.fault.Fault.TheVariants.{BadLayout}
 use Rattle.cube_model.specs.Answers.{answer}
 use Rattle.cube_query.specs.FoldInvariant.{AreTallied, IsFold}
-use Rattle.cube_query.specs.Groups.{FoldState, IsFoldable, IsOver, StandsFor, finest}
+use Rattle.cube_query.specs.Groups.{FoldState, IsFoldable, IsOver, RepresentsRows, finest}
 use Rattle.cube_query.specs.Limits.{AreFoldable}
 use Rattle.cube_query.specs.Slots.{entries_of}
 use Rattle.group_plan.specs.Numbers.{Asked}
@@ -26,13 +26,13 @@ answer_lines-requires-clause-fold c =
     (subst (IsFold dims query inside.slots) (sym c.as_slice.ensures.value) fold)
 
 pub returns-clause-answer : goal.returns-clause-answer
-returns-clause-answer c = λ rows stands.
+returns-clause-answer c = λ rows represents.
     let dims = c.args.dims.now in
     let inside = c.self.inside in
     let query = query_of inside.plan in
     let entries = entries_of inside.slots in
     let over = subst (λ (state : FoldState). IsOver dims state) (sym c.self.view_is) c.requires in
-    let here = subst (λ (state : FoldState). StandsFor dims state rows) (sym c.self.view_is) stands in
+    let here = subst (λ (state : FoldState). RepresentsRows dims state rows) (sym c.self.view_is) represents in
     let tallied : AreTallied dims (finest query) entries inside.columns.items rows = tallied_for dims inside.plan over inside.slots inside.columns.items c.self.invariant rows here in
     let lines : c.in_ok-lines.lines ≡ (answer query dims rows).lines =
     subst (λ (asked : Asked). AreTallied asked.dimensions (finest asked.query) entries c.as_slice.result.now rows → c.in_ok-lines.lines ≡ (answer asked.query asked.dimensions rows).lines) c.over-plan.ensures (c.in_ok-lines.ensures.lines rows)

@@ -2,7 +2,7 @@ use Rattle.std.proofs.Common.{◌∙◌, sym, ap, subst}
 use Rattle.std.proofs.lemmas.Result.{IfOk-weaker}
 use Rattle.cube_model.specs.Answers.{answer}
 use Rattle.cube_query.specs.FoldInvariant.{AreTallied}
-use Rattle.cube_query.specs.Groups.{FoldState, IsFoldable, IsOver, StandsFor, finest}
+use Rattle.cube_query.specs.Groups.{FoldState, IsFoldable, IsOver, RepresentsRows, finest}
 use Rattle.cube_query.specs.Slots.{entries_of}
 use Rattle.group_plan.specs.Plans.{query_of}
 use Rattle.cube_query.proofs.Folds.{fold_over, tallied_for}
@@ -25,8 +25,8 @@ returns-clause-answer c =
     let inside = c.self.inside in
     let over = subst (λ (state : FoldState). IsOver dims state) (sym c.self.view_is) c.requires in
     IfOk-weaker c.of.result _ _
-    (λ groups is rows stands.
-    let here = subst (λ (state : FoldState). StandsFor dims state rows) (sym c.self.view_is) stands in
+    (λ groups is rows represents.
+    let here = subst (λ (state : FoldState). RepresentsRows dims state rows) (sym c.self.view_is) represents in
     let tallied : AreTallied dims (finest (query_of inside.plan)) (entries_of inside.slots) inside.columns.items rows = tallied_for dims inside.plan over inside.slots inside.columns.items c.self.invariant rows here in
     is rows tallied ∙ ap (λ q. answer q dims rows) (ap (λ (state : FoldState). state.query) c.self.view_is))
     c.of.ensures.answer

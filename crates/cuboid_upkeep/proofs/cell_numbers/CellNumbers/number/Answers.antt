@@ -5,7 +5,7 @@ use Rattle.cuboid_cells.specs.Cells.{IsCellOf}
 use Rattle.cuboid_upkeep.specs.CellNumbers.{AskedOfCells}
 use Rattle.cuboid_upkeep.specs.Codes.{modes_of}
 use Rattle.cuboid_upkeep.specs.MemberParts.{part_in}
-use Rattle.cuboid_upkeep.proofs.Standing.{cell_number, customer_code, date_code, mode_of_cell, no_member, none_selected, part_code, supplier_code}
+use Rattle.cuboid_upkeep.proofs.Represented.{cell_number, customer_code, date_code, mode_of_cell, no_member, none_selected, part_code, supplier_code}
 use Rattle.cuboid_upkeep.proofs.cell_numbers.CellNumbers.number.Goals as goal
 
 pub returns-then-not-has_mode-clause-refused : goal.returns-then-not-has_mode-clause-refused
@@ -13,8 +13,8 @@ returns-then-not-has_mode-clause-refused c =
     let inside = c.self.inside in
     let asked : AskedOfCells = record { dimensions = inside.plan.dimensions; query = inside.plan.query; view = inside.view; modes = modes_of (option_map (λ modes. modes.now) inside.modes) } in
     let cell = c.args.cell.now in
-    rw (← c.self.view_is) (λ row stands.
-    let yes = c.has_mode.ensures.1 (mode_of_cell asked cell row stands) in
+    rw (← c.self.view_is) (λ row represents.
+    let yes = c.has_mode.ensures.1 (mode_of_cell asked cell row represents) in
     absurd (cc (yes, c.if-not-has_mode.true)))
 
 pub returns-in_default-clause-refused : goal.returns-in_default-clause-refused
@@ -22,32 +22,32 @@ returns-in_default-clause-refused c =
     let inside = c.self.inside in
     let asked : AskedOfCells = record { dimensions = inside.plan.dimensions; query = inside.plan.query; view = inside.view; modes = modes_of (option_map (λ modes. modes.now) inside.modes) } in
     let cell = c.args.cell.now in
-    rw (← c.self.view_is) (λ row stands.
-    no_member asked.dimensions asked.query Customer inside.view.customer inside.customers c.self.invariant.by_customer cell.key.customer (sym c.at.ensures ∙ c.in_default.is) row.custkey (customer_code asked cell row stands))
+    rw (← c.self.view_is) (λ row represents.
+    no_member asked.dimensions asked.query Customer inside.view.customer inside.customers c.self.invariant.by_customer cell.key.customer (sym c.at.ensures ∙ c.in_default.is) row.custkey (customer_code asked cell row represents))
 
 pub returns-in_default-at-clause-refused : goal.returns-in_default-at-clause-refused
 returns-in_default-at-clause-refused c =
     let inside = c.self.inside in
     let asked : AskedOfCells = record { dimensions = inside.plan.dimensions; query = inside.plan.query; view = inside.view; modes = modes_of (option_map (λ modes. modes.now) inside.modes) } in
     let cell = c.args.cell.now in
-    rw (← c.self.view_is) (λ row stands.
-    no_member asked.dimensions asked.query Supplier inside.view.supplier inside.suppliers c.self.invariant.by_supplier cell.key.supplier (sym c.at-2.ensures ∙ c.in_default-at.is) row.suppkey (supplier_code asked cell row stands))
+    rw (← c.self.view_is) (λ row represents.
+    no_member asked.dimensions asked.query Supplier inside.view.supplier inside.suppliers c.self.invariant.by_supplier cell.key.supplier (sym c.at-2.ensures ∙ c.in_default-at.is) row.suppkey (supplier_code asked cell row represents))
 
 pub returns-in_default-at-2-clause-refused : goal.returns-in_default-at-2-clause-refused
 returns-in_default-at-2-clause-refused c =
     let inside = c.self.inside in
     let asked : AskedOfCells = record { dimensions = inside.plan.dimensions; query = inside.plan.query; view = inside.view; modes = modes_of (option_map (λ modes. modes.now) inside.modes) } in
     let cell = c.args.cell.now in
-    rw (← c.self.view_is) (λ row stands.
-    no_member asked.dimensions asked.query Part inside.view.part inside.parts c.self.invariant.by_part cell.key.part (sym c.at-3.ensures ∙ c.in_default-at-2.is) row.partkey (part_code asked cell row stands))
+    rw (← c.self.view_is) (λ row represents.
+    no_member asked.dimensions asked.query Part inside.view.part inside.parts c.self.invariant.by_part cell.key.part (sym c.at-3.ensures ∙ c.in_default-at-2.is) row.partkey (part_code asked cell row represents))
 
 pub returns-in_default-at-3-clause-refused : goal.returns-in_default-at-3-clause-refused
 returns-in_default-at-3-clause-refused c =
     let inside = c.self.inside in
     let asked : AskedOfCells = record { dimensions = inside.plan.dimensions; query = inside.plan.query; view = inside.view; modes = modes_of (option_map (λ modes. modes.now) inside.modes) } in
     let cell = c.args.cell.now in
-    rw (← c.self.view_is) (λ row stands.
-    no_member asked.dimensions asked.query Date inside.view.date inside.dates c.self.invariant.by_date cell.key.date (sym c.at-4.ensures ∙ c.in_default-at-3.is) row.orderdate (date_code asked cell row stands))
+    rw (← c.self.view_is) (λ row represents.
+    no_member asked.dimensions asked.query Date inside.view.date inside.dates c.self.invariant.by_date cell.key.date (sym c.at-4.ensures ∙ c.in_default-at-3.is) row.orderdate (date_code asked cell row represents))
 
 pub returns-then-not-self-clause-ok : goal.returns-then-not-self-clause-ok
 returns-then-not-self-clause-ok c =

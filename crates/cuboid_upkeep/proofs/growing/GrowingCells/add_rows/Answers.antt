@@ -7,7 +7,7 @@ returns-in-ByNumber-clause-ok g c = rw c.in-ByNumber.is c.add_rows.ensures.ok
 
 pub returns-in-ByNumber-clause-refused : goal.returns-in-ByNumber-clause-refused
 returns-in-ByNumber-clause-refused g c =
-    rw c.in-ByNumber.is (IfErr-weaker c.add_rows.result _ _ (λ fault why so_far stand. elim (why so_far stand) [
+    rw c.in-ByNumber.is (IfErr-weaker c.add_rows.result _ _ (λ fault why so_far represent. elim (why so_far represent) [
       | inl memory ↦ inl memory
       | inr bad ↦ inr (inl bad)
     ]) c.add_rows.ensures.refused)

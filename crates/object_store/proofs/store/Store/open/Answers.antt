@@ -7,7 +7,7 @@ pub returns-then-count-lt-LEAST_SECTORS-clause-nothing : goal.returns-then-count
 returns-then-count-lt-LEAST_SECTORS-clause-nothing g c layout w = record {
   image = (g.D.Sectors.state c.args.device).reads;
   is = λ i. g.met.D.Sectors.read_may_stay c.args.device i w;
-  none = λ x shows. omega (arith, (shows.2).spells.sized, (shows.2).standing.proper.least_sectors, c.count.ensures, c.if-count-lt-LEAST_SECTORS.true);
+  none = λ x shows. omega (arith, (shows.2).spells.sized, (shows.2).in_slot.proper.least_sectors, c.count.ensures, c.if-count-lt-LEAST_SECTORS.true);
 }
 
 pub returns-in-Ok-clause-shows : goal.returns-in-Ok-clause-shows

@@ -2,18 +2,18 @@ use Rattle.std.proofs.Common.{◌≡◌, ◌∙◌, ◌≤◌, ℕ, length, take
 use Rattle.std.proofs.lemmas.List.{length-map}
 use Rattle.cube_model.specs.Admission.{all_rows}
 use Rattle.cube_model.specs.declared.rows.DimRows.{DimRows}
-use Rattle.cube_query.specs.Groups.{StandsFor}
+use Rattle.cube_query.specs.Groups.{RepresentsRows}
 use Rattle.planned_queries.proofs.Steps.{begun}
 use Rattle.planned_queries.proofs.stepping.Running.begin.Goals as goal
 
 pub returns-in_ok-dims-in-Ok-clause-begun : goal.returns-in_ok-dims-in-Ok-clause-begun
-returns-in_ok-dims-in-Ok-clause-begun g c k w stands rooted same =
+returns-in_ok-dims-in-Ok-clause-begun g c k w represents rooted same =
     let done : ℕ = c.in_ok-done-in-Ok.done in
     let fold = c.begin_fold.new.fold in
     let here = c.deref-rows.ensures ∙ same in
-    let cells = c.in_ok-done-in-Ok.ensures.begun k w stands rooted here in
+    let cells = c.in_ok-done-in-Ok.ensures.begun k w represents rooted here in
     let shared : c.in_ok-dims-in-Ok.dims.value ≡ c.args.dims.now.value = c.in_ok-dims-in-Ok.ensures.cases in
     let there : c.args.as_of ≤ length w.batches = omega (arith, c.requires.few, ap (λ r. length r.batches) rooted, length-map w.batches length) in
     begun w c.args.as_of c.args.query.now (record { rows = c.in_ok-dims-in-Ok.dims.value; fold = fold; done = done; as_of = c.args.as_of })
-    (cells.0, cells.1, cells.2, subst (λ (d : DimRows). StandsFor d fold (all_rows (take done w.batches))) here cells.3)
-    (shared ∙ same) c.in_ok-done-in-Ok.ensures.query refl c.in_ok-done-in-Ok.ensures.in_time there stands.batches
+    (cells.0, cells.1, cells.2, subst (λ (d : DimRows). RepresentsRows d fold (all_rows (take done w.batches))) here cells.3)
+    (shared ∙ same) c.in_ok-done-in-Ok.ensures.query refl c.in_ok-done-in-Ok.ensures.in_time there represents.batches

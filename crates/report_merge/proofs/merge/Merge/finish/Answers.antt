@@ -1,9 +1,9 @@
 use Rattle.std.proofs.Common.{◌≡◌, ap, sym, subst}
 use Rattle.std.proofs.lemmas.Result.{err_from_is_err_and}
 use Rattle.answer_merge.specs.Wide.{lines_of}
-use Rattle.answer_merge.specs.Finishing.{FinishRefuses}
+use Rattle.answer_merge.specs.Finishing.{CanBeFinished, FinishRefuses}
 use Rattle.report_formats.specs.Asked.{query_for}
-use Rattle.report_merge.specs.Finishing.{CanBeFinished, finished_for, partial_for}
+use Rattle.report_merge.specs.Finishing.{finished_for, partial_for}
 use Rattle.report_merge.specs.Merging.{Part}
 use Rattle.report_merge.proofs.Counted.{done}
 use Rattle.report_merge.proofs.Finished.{fine_memory, refused_for}

@@ -2,13 +2,13 @@ use Rattle.std.proofs.Common.{◌≡◌, ⊎_elim, Err, Option, Some, None, IsTr
 use Rattle.object_store.specs.Store as stores
 use Rattle.cube_model.specs.declared.rows.DimRows.{DimRows}
 use Rattle.warehouse_check.specs.Checked.{HasBatches}
-use Rattle.warehouse.proofs.Standing.{store_at, session_at, still_at, content_leaves}
+use Rattle.warehouse.proofs.Represented.{store_at, session_at, still_at, content_leaves}
 use Rattle.warehouse.proofs.session.Session.check.Goals as goal
 
 pub returns-in-Ok-clause-leaves : goal.returns-in-Ok-clause-leaves
 returns-in-Ok-clause-leaves g c w at =
     let s = c.args.self.now in
-    content_leaves g.D.Sectors w (stores.disk_of g.D.Sectors s.store) (stores.disk_of g.D.Sectors c.checked.new.store) (stores.content_of g.D.Sectors s.store) at.stands c.checked.ensures.leaves
+    content_leaves g.D.Sectors w (stores.disk_of g.D.Sectors s.store) (stores.disk_of g.D.Sectors c.checked.new.store) (stores.content_of g.D.Sectors s.store) at.represents c.checked.ensures.leaves
 
 pub returns-in-Ok-clause-stays : goal.returns-in-Ok-clause-stays
 returns-in-Ok-clause-stays g c other w at =
@@ -18,7 +18,7 @@ returns-in-Ok-clause-stays g c other w at =
 pub returns-in-Err-clause-leaves : goal.returns-in-Err-clause-leaves
 returns-in-Err-clause-leaves g c w at =
     let s = c.args.self.now in
-    content_leaves g.D.Sectors w (stores.disk_of g.D.Sectors s.store) (stores.disk_of g.D.Sectors c.checked.new.store) (stores.content_of g.D.Sectors s.store) at.stands c.checked.ensures.leaves
+    content_leaves g.D.Sectors w (stores.disk_of g.D.Sectors s.store) (stores.disk_of g.D.Sectors c.checked.new.store) (stores.content_of g.D.Sectors s.store) at.represents c.checked.ensures.leaves
 
 pub returns-in-Err-clause-stays : goal.returns-in-Err-clause-stays
 returns-in-Err-clause-stays g c other w at =
@@ -34,8 +34,8 @@ returns-in-Ok-clause-sound g c is k =
       rows = s.dims.value;
       root = s.root;
       loaded = s.loaded fine (word k);
-      storable = c.kept_is_what_stands.ensures.dims;
-      proper = c.kept_is_what_stands.ensures.root;
+      storable = c.kept_is_represented.ensures.dims;
+      proper = c.kept_is_represented.ensures.root;
       objects = c.in-Ok.ensures.objects is k;
       has = subst (λ (rows : DimRows). HasBatches content rows s.root) c.deref.ensures (c.in-Ok.ensures.batches is k);
     }
@@ -45,24 +45,24 @@ returns-in-Ok-clause-cuboids g c is w at k =
     let s = c.args.self.now in
     let word = c.checked.ensures.leaves.word in
     let laid = at.laid (word k) in
-    let agree = c.kept_is_what_stands.ensures.laid (stores.content_of g.D.Sectors s.store) w (s.loaded at.fine (word k)) laid in
+    let agree = c.kept_is_represented.ensures.laid (stores.content_of g.D.Sectors s.store) w (s.loaded at.fine (word k)) laid in
     c.in-Ok.ensures.cuboids is k w laid (sym agree.root_is) (c.deref.ensures ∙ sym agree.rows_are)
 
 pub returns-in-Ok-clause-found : goal.returns-in-Ok-clause-found
-returns-in-Ok-clause-found g c is k w stands =
+returns-in-Ok-clause-found g c is k w represents =
     let s = c.args.self.now in
     let word = c.checked.ensures.leaves.word in
     let fine : stores.has_failed s.store ≡ false = sym c.is_broken.ensures.broken ∙ c.if-is_broken.false in
-    let agree = c.kept_is_what_stands.ensures.agrees (stores.content_of g.D.Sectors s.store) w (s.loaded fine (word k)) stands in
-    c.in-Ok.ensures.found is k w stands (sym agree.root_is) (c.deref.ensures ∙ sym agree.rows_are)
+    let agree = c.kept_is_represented.ensures.agrees (stores.content_of g.D.Sectors s.store) w (s.loaded fine (word k)) represents in
+    c.in-Ok.ensures.found is k w represents (sym agree.root_is) (c.deref.ensures ∙ sym agree.rows_are)
 
 pub returns-in-Ok-clause-none : goal.returns-in-Ok-clause-none
 returns-in-Ok-clause-none g c w at k =
     let s = c.args.self.now in
     let word = c.checked.ensures.leaves.word in
-    let stands = at.stands (word k) in
-    let agree = c.kept_is_what_stands.ensures.agrees (stores.content_of g.D.Sectors s.store) w (s.loaded at.fine (word k)) stands in
-    none_unless c.in-Ok.found (λ is. c.in-Ok.ensures.found is k w stands (sym agree.root_is) (c.deref.ensures ∙ sym agree.rows_are))
+    let represents = at.represents (word k) in
+    let agree = c.kept_is_represented.ensures.agrees (stores.content_of g.D.Sectors s.store) w (s.loaded at.fine (word k)) represents in
+    none_unless c.in-Ok.found (λ is. c.in-Ok.ensures.found is k w represents (sym agree.root_is) (c.deref.ensures ∙ sym agree.rows_are))
   where
     none_unless : {X : Type 0} (found : Option X) → (IsTrue (is_some found) → ⊥) → found ≡ None
     none_unless None never = refl
@@ -72,9 +72,9 @@ pub returns-in-Err-clause-refused : goal.returns-in-Err-clause-refused
 returns-in-Err-clause-refused g c cause w at k =
     let s = c.args.self.now in
     let word = c.checked.ensures.leaves.word in
-    let stands = at.stands (word k) in
-    let agree = c.kept_is_what_stands.ensures.agrees (stores.content_of g.D.Sectors s.store) w (s.loaded at.fine (word k)) stands in
+    let represents = at.represents (word k) in
+    let agree = c.kept_is_represented.ensures.agrees (stores.content_of g.D.Sectors s.store) w (s.loaded at.fine (word k)) represents in
     ⊎_elim (λ memory. memory)
     (⊎_elim (λ device. absurd (cause device))
-    (λ bad. absurd (c.in-Err.ensures.refused (ap (λ f. Err f) bad) k w stands (sym agree.root_is) (c.deref.ensures ∙ sym agree.rows_are))))
+    (λ bad. absurd (c.in-Err.ensures.refused (ap (λ f. Err f) bad) k w represents (sym agree.root_is) (c.deref.ensures ∙ sym agree.rows_are))))
     c.in-Err.ensures.causes

@@ -16,7 +16,7 @@ use Rattle.warehouse.proofs.session.Session.choice.Goals as goal
 
 pub of-requires : goal.of-requires
 of-requires g c =
-    let proper = c.kept_is_what_stands.ensures.root in
+    let proper = c.kept_is_represented.ensures.root in
     let total : c.row_total-rows.result ≡ sum_by (λ rows. rows) c.args.self.now.root.batches = c.row_total-rows.ensures ∙ ap (λ (l : List ℕ). sum_by (λ rows. rows) l) c.batches.ensures in
     record {
       rows = omega (arith, total, rows_at_most c.args.self.now.root.batches proper.rows, proper.most_batches);
@@ -27,7 +27,7 @@ pub returns-in-Ok-clause-ok : goal.returns-in-Ok-clause-ok
 returns-in-Ok-clause-ok g c w at k =
     let s = c.args.self.now in
     let choice = c.in-Ok.choice in
-    let agree = c.kept_is_what_stands.ensures.agrees (content_of g.D.Sectors s) w (s.loaded at.fine k) (at.stands k) in
+    let agree = c.kept_is_represented.ensures.agrees (content_of g.D.Sectors s) w (s.loaded at.fine k) (at.represents k) in
     let rows : c.row_total-rows.result ≡ length (all_rows w.batches)
     = c.row_total-rows.ensures ∙ ap (λ (l : List ℕ). sum_by (λ rows. rows) l) (c.batches.ensures ∙ ap (λ (root : PlainRoot). root.batches) (sym agree.root_is)) ∙ rows_together w.batches in
     let counts : c.counts_of.result ≡ counts_of w.rows = c.counts_of.ensures ∙ ap (λ (r : DimRows). counts_of r) (c.deref.ensures ∙ sym agree.rows_are) in

@@ -9,26 +9,26 @@ use Rattle.warehouse.proofs.session.Session.finish.Goals as goal
 
 pub returns-clause-leaves : goal.returns-clause-leaves
 returns-clause-leaves g c w at =
-    let tells = c.kept_is_what_stands.ensures.agrees in
+    let tells = c.kept_is_represented.ensures.agrees in
     c.catch_up-caught.ensures.leaves w (kept_at g.D.Sectors w c.args.self.now at tells) (λ k. c.deref.ensures ∙ dims_are g.D.Sectors w c.args.self.now at tells k)
 
 pub returns-clause-ok : goal.returns-clause-ok
 returns-clause-ok g c =
     IfOk-weaker c.unless_no_room.result _ _
     (λ unit how w at.
-    let tells = c.kept_is_what_stands.ensures.agrees in
+    let tells = c.kept_is_represented.ensures.agrees in
     let store_at = kept_at g.D.Sectors w c.args.self.now at tells in
     let dims = λ (k : (disk_of g.D.Sectors c.args.self.now).keeps_word). c.deref.ensures ∙ dims_are g.D.Sectors w c.args.self.now at tells k in
     let caught = c.catch_up-caught.result in
     let now = finished_at g.D.Sectors c.catch_up-caught.new.store c.catch_up-caught.new.root w caught how
     (IfOk-weaker caught _ _ (λ passed done. done w store_at dims) c.catch_up-caught.ensures.ok)
     (IfErr-weaker caught _ _ (λ fault reason device memory. reason device memory w store_at dims) c.catch_up-caught.ensures.reason) in
-    (now.0, now.1, is_at g.D.Sectors _ now.0 now.2.fine now.2.stands, now.3))
+    (now.0, now.1, is_at g.D.Sectors _ now.0 now.2.fine now.2.represents, now.3))
     c.unless_no_room.ensures.ok
 
 pub returns-clause-readable : goal.returns-clause-readable
 returns-clause-readable g c is k w at =
-    let tells = c.kept_is_what_stands.ensures.agrees in
+    let tells = c.kept_is_represented.ensures.agrees in
     let bad = of_err c.unless_no_room.result _ BadLayout is c.unless_no_room.ensures.err in
     c.catch_up-caught.ensures.readable bad.0 k w (kept_at g.D.Sectors w c.args.self.now at tells) (λ k. c.deref.ensures ∙ dims_are g.D.Sectors w c.args.self.now at tells k)
 

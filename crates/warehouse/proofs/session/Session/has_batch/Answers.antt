@@ -1,17 +1,17 @@
 use Rattle.std.proofs.Common.{sym}
 use Rattle.object_store.specs.Store as stores
-use Rattle.warehouse.proofs.Standing.{content_leaves, session_at, still_at, store_at}
+use Rattle.warehouse.proofs.Represented.{content_leaves, session_at, still_at, store_at}
 use Rattle.warehouse.proofs.session.Session.has_batch.Goals as goal
 
 pub returns-in-Ok-clause-leaves : goal.returns-in-Ok-clause-leaves
 returns-in-Ok-clause-leaves g c w at =
     let s = c.args.self.now in
-    content_leaves g.D.Sectors w (stores.disk_of g.D.Sectors s.store) (stores.disk_of g.D.Sectors c.is_stored.new.store) (stores.content_of g.D.Sectors s.store) at.stands c.is_stored.ensures.leaves
+    content_leaves g.D.Sectors w (stores.disk_of g.D.Sectors s.store) (stores.disk_of g.D.Sectors c.is_stored.new.store) (stores.content_of g.D.Sectors s.store) at.represents c.is_stored.ensures.leaves
 
 pub returns-in-Err-clause-leaves : goal.returns-in-Err-clause-leaves
 returns-in-Err-clause-leaves g c w at =
     let s = c.args.self.now in
-    content_leaves g.D.Sectors w (stores.disk_of g.D.Sectors s.store) (stores.disk_of g.D.Sectors c.is_stored.new.store) (stores.content_of g.D.Sectors s.store) at.stands c.is_stored.ensures.leaves
+    content_leaves g.D.Sectors w (stores.disk_of g.D.Sectors s.store) (stores.disk_of g.D.Sectors c.is_stored.new.store) (stores.content_of g.D.Sectors s.store) at.represents c.is_stored.ensures.leaves
 
 pub returns-in-Ok-clause-stays : goal.returns-in-Ok-clause-stays
 returns-in-Ok-clause-stays g c other w at =
@@ -27,5 +27,5 @@ pub returns-in-Ok-clause-answer : goal.returns-in-Ok-clause-answer
 returns-in-Ok-clause-answer g c w rows at grown k =
     let s = c.args.self.now in
     let word = c.is_stored.ensures.leaves.word in
-    let agree = c.kept_is_what_stands.ensures.agrees (stores.content_of g.D.Sectors s.store) w (s.loaded at.fine (word k)) (at.stands (word k)) in
-    c.in-Ok.ensures.answer k w s.dims.value rows (at.stands (word k)) (sym agree.root_is) grown
+    let agree = c.kept_is_represented.ensures.agrees (stores.content_of g.D.Sectors s.store) w (s.loaded at.fine (word k)) (at.represents (word k)) in
+    c.in-Ok.ensures.answer k w s.dims.value rows (at.represents (word k)) (sym agree.root_is) grown

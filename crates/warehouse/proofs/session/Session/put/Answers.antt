@@ -7,12 +7,12 @@ use Rattle.object_store.specs.Store as stores
 use Rattle.object_store.proofs.CallerLemmas.{generation_after}
 use Rattle.warehouse_root.proofs.CallerLemmas.{root_is_short}
 use Rattle.warehouse_objects.specs.Warehouse.{loaded}
-use Rattle.warehouse_objects.specs.Stands.{Stands, root_of}
+use Rattle.warehouse_objects.specs.Represents.{Represents, root_of}
 use Rattle.warehouse_objects.specs.Loaded.{IsLoaded}
 use Rattle.warehouse.specs.Session.{is_at}
 use Rattle.warehouse_objects.proofs.CallerLemmas.{batch_is_put}
-use Rattle.warehouse.proofs.Standing.{store_at, session_at, as_before_at, as_before_leaves}
-use Rattle.warehouse.proofs.Submitting.{put_is, few_more, loaded_after, stands_after, submit_leaves, submit_causes}
+use Rattle.warehouse.proofs.Represented.{store_at, session_at, as_before_at, as_before_leaves}
+use Rattle.warehouse.proofs.Submitting.{put_is, few_more, loaded_after, represents_after, submit_leaves, submit_causes}
 use Rattle.warehouse.proofs.session.Session.put.Goals as goal
 
 pub commit-requires-clause-puts : goal.commit-requires-clause-puts
@@ -64,7 +64,7 @@ returns-in-Ok-clause-leaves g c w rows ready =
     let puts_are = put_is c.segment_id.result c.args.number c.as_slice.result.now rows c.segment_id.ensures (c.as_slice.ensures.value ∙ is.segment) in
     let bytes_are = c.as_slice-2.ensures.value ∙ is.spelled.spelled in
     let model : g.D.Sectors.keeps_word (stores.device_of s.store) → IsAdmissible w.rows w.batches c.args.number rows × (p.root ≡ root_of (loaded w rows)) = λ k. ready.admissible k in
-    submit_leaves content puts c.as_slice-2.result.now c.number.result c.args.number rows p.root puts_are bytes_are c.number.ensures w (stores.disk_of g.D.Sectors s.store) (stores.disk_of g.D.Sectors c.commit.new.self) at.stands (λ k. model k) is.fits (c.commit.ensures.leaves at.fine)
+    submit_leaves content puts c.as_slice-2.result.now c.number.result c.args.number rows p.root puts_are bytes_are c.number.ensures w (stores.disk_of g.D.Sectors s.store) (stores.disk_of g.D.Sectors c.commit.new.self) at.represents (λ k. model k) is.fits (c.commit.ensures.leaves at.fine)
 
 pub returns-in-Err-clause-leaves : goal.returns-in-Err-clause-leaves
 returns-in-Err-clause-leaves g c w rows ready =
@@ -77,7 +77,7 @@ returns-in-Err-clause-leaves g c w rows ready =
     let puts_are = put_is c.segment_id.result c.args.number c.as_slice.result.now rows c.segment_id.ensures (c.as_slice.ensures.value ∙ is.segment) in
     let bytes_are = c.as_slice-2.ensures.value ∙ is.spelled.spelled in
     let model : g.D.Sectors.keeps_word (stores.device_of s.store) → IsAdmissible w.rows w.batches c.args.number rows × (p.root ≡ root_of (loaded w rows)) = λ k. ready.admissible k in
-    submit_leaves content puts c.as_slice-2.result.now c.number.result c.args.number rows p.root puts_are bytes_are c.number.ensures w (stores.disk_of g.D.Sectors s.store) (stores.disk_of g.D.Sectors c.commit.new.self) at.stands (λ k. model k) is.fits (c.commit.ensures.leaves at.fine)
+    submit_leaves content puts c.as_slice-2.result.now c.number.result c.args.number rows p.root puts_are bytes_are c.number.ensures w (stores.disk_of g.D.Sectors s.store) (stores.disk_of g.D.Sectors c.commit.new.self) at.represents (λ k. model k) is.fits (c.commit.ensures.leaves at.fine)
 
 pub returns-in-Ok-clause-ok : goal.returns-in-Ok-clause-ok
 returns-in-Ok-clause-ok g c w rows ready =
@@ -91,8 +91,8 @@ returns-in-Ok-clause-ok g c w rows ready =
     let bytes_are = c.as_slice-2.ensures.value ∙ is.spelled.spelled in
     let model : g.D.Sectors.keeps_word (stores.device_of s.store) → IsAdmissible w.rows w.batches c.args.number rows × (p.root ≡ root_of (loaded w rows)) = λ k. ready.admissible k in
     let word = (c.commit.ensures.leaves at.fine).word in (
-      is_at g.D.Sectors _ (loaded w rows) c.in-Ok.ensures.fine.1 (λ k. subst (λ (x : Content). Stands x (loaded w rows)) (sym (c.in-Ok.ensures.ok k))
-          (stands_after content puts c.as_slice-2.result.now c.number.result c.args.number rows p.root puts_are bytes_are c.number.ensures w (at.stands (word k)) (model (word k)).0 is.fits (model (word k)).1)),
+      is_at g.D.Sectors _ (loaded w rows) c.in-Ok.ensures.fine.1 (λ k. subst (λ (x : Content). Represents x (loaded w rows)) (sym (c.in-Ok.ensures.ok k))
+          (represents_after content puts c.as_slice-2.result.now c.number.result c.args.number rows p.root puts_are bytes_are c.number.ensures w (at.represents (word k)) (model (word k)).0 is.fits (model (word k)).1)),
       λ k. (model (word k)).0,
     )
 

@@ -8,12 +8,12 @@ use Rattle.object_store.specs.Commit.{ArePuts, committed, puts_of}
 use Rattle.object_store.specs.Store as stores
 use Rattle.object_store.proofs.CallerLemmas.{generation_after}
 use Rattle.warehouse_root.proofs.CallerLemmas.{root_is_short}
-use Rattle.warehouse_objects.specs.Stands.{Stands}
+use Rattle.warehouse_objects.specs.Represents.{Represents}
 use Rattle.warehouse_objects.specs.Loaded.{IsLoaded}
 use Rattle.warehouse.specs.Session.{is_at}
 use Rattle.warehouse.specs.Widening.{WidenedOrNot, shown_puts}
-use Rattle.warehouse.proofs.Standing.{store_at, session_at, as_before_at, as_before_leaves}
-use Rattle.warehouse.proofs.Wider.{few_wider, loaded_wider, stands_wider, wider_causes, wider_leaves}
+use Rattle.warehouse.proofs.Represented.{store_at, session_at, as_before_at, as_before_leaves}
+use Rattle.warehouse.proofs.Wider.{few_wider, loaded_wider, represents_wider, wider_causes, wider_leaves}
 use Rattle.warehouse.proofs.session.Session.put_wider.Goals as goal
 
 pub commit-requires-clause-puts : goal.commit-requires-clause-puts
@@ -71,7 +71,7 @@ returns-in-Ok-commit-clause-leaves g c w number more ready =
     let puts_are : puts_of c.as_slice-2.result.now ≡ widening_puts s.dims.value more =
     ap puts_of c.as_slice-2.ensures.value ∙ c.in-Ok.ensures.ok ∙ ap shown_puts c.as_slice.ensures.value ∙ is.objects_are in
     let bytes_are = c.as_slice-3.ensures.value ∙ is.spelled.spelled in
-    wider_leaves content (puts_of c.as_slice-2.result.now) c.as_slice-3.result.now c.number.result s.dims.value more s.root wider.root puts_are bytes_are is.root_is c.number.ensures w number (stores.disk_of g.D.Sectors s.store) (stores.disk_of g.D.Sectors c.commit.new.self) ready.at.stands ready.admissible is.storable (c.commit.ensures.leaves ready.at.fine)
+    wider_leaves content (puts_of c.as_slice-2.result.now) c.as_slice-3.result.now c.number.result s.dims.value more s.root wider.root puts_are bytes_are is.root_is c.number.ensures w number (stores.disk_of g.D.Sectors s.store) (stores.disk_of g.D.Sectors c.commit.new.self) ready.at.represents ready.admissible is.storable (c.commit.ensures.leaves ready.at.fine)
 
 pub returns-in-Err-commit-clause-leaves : goal.returns-in-Err-commit-clause-leaves
 returns-in-Err-commit-clause-leaves g c w number more ready =
@@ -82,7 +82,7 @@ returns-in-Err-commit-clause-leaves g c w number more ready =
     let puts_are : puts_of c.as_slice-2.result.now ≡ widening_puts s.dims.value more =
     ap puts_of c.as_slice-2.ensures.value ∙ c.in-Ok.ensures.ok ∙ ap shown_puts c.as_slice.ensures.value ∙ is.objects_are in
     let bytes_are = c.as_slice-3.ensures.value ∙ is.spelled.spelled in
-    wider_leaves content (puts_of c.as_slice-2.result.now) c.as_slice-3.result.now c.number.result s.dims.value more s.root wider.root puts_are bytes_are is.root_is c.number.ensures w number (stores.disk_of g.D.Sectors s.store) (stores.disk_of g.D.Sectors c.commit.new.self) ready.at.stands ready.admissible is.storable (c.commit.ensures.leaves ready.at.fine)
+    wider_leaves content (puts_of c.as_slice-2.result.now) c.as_slice-3.result.now c.number.result s.dims.value more s.root wider.root puts_are bytes_are is.root_is c.number.ensures w number (stores.disk_of g.D.Sectors s.store) (stores.disk_of g.D.Sectors c.commit.new.self) ready.at.represents ready.admissible is.storable (c.commit.ensures.leaves ready.at.fine)
 
 pub returns-in-Ok-commit-clause-ok : goal.returns-in-Ok-commit-clause-ok
 returns-in-Ok-commit-clause-ok g c w number more ready =
@@ -94,8 +94,8 @@ returns-in-Ok-commit-clause-ok g c w number more ready =
     ap puts_of c.as_slice-2.ensures.value ∙ c.in-Ok.ensures.ok ∙ ap shown_puts c.as_slice.ensures.value ∙ is.objects_are in
     let bytes_are = c.as_slice-3.ensures.value ∙ is.spelled.spelled in
     let word = (c.commit.ensures.leaves ready.at.fine).word in (
-      is_at g.D.Sectors _ (widened w more) c.in-Ok-commit.ensures.fine.1 (λ k. subst (λ (x : Content). Stands x (widened w more)) (sym (c.in-Ok-commit.ensures.ok k))
-          (stands_wider content (puts_of c.as_slice-2.result.now) c.as_slice-3.result.now c.number.result s.dims.value more s.root wider.root puts_are bytes_are is.root_is c.number.ensures w number (ready.at.stands (word k)) (ready.admissible (word k)) is.storable)),
+      is_at g.D.Sectors _ (widened w more) c.in-Ok-commit.ensures.fine.1 (λ k. subst (λ (x : Content). Represents x (widened w more)) (sym (c.in-Ok-commit.ensures.ok k))
+          (represents_wider content (puts_of c.as_slice-2.result.now) c.as_slice-3.result.now c.number.result s.dims.value more s.root wider.root puts_are bytes_are is.root_is c.number.ensures w number (ready.at.represents (word k)) (ready.admissible (word k)) is.storable)),
       λ k. (ready.admissible (word k)).0,
     )
 
@@ -127,7 +127,7 @@ returns-in-Err-commit-clause-causes g c cause w number more ready k =
 -- no memory for what is put
 
 pub returns-in-Err-clause-leaves : goal.returns-in-Err-clause-leaves
-returns-in-Err-clause-leaves g c w number more ready = leaves_weaker (λ x. Stands x w) (WidenedOrNot w number more) _ _ (λ k x stands. inl stands) ready.still
+returns-in-Err-clause-leaves g c w number more ready = leaves_weaker (λ x. Represents x w) (WidenedOrNot w number more) _ _ (λ k x represents. inl represents) ready.still
 
 pub returns-in-Err-clause-refused : goal.returns-in-Err-clause-refused
 returns-in-Err-clause-refused g c cause w number more ready = (ready.at, ready.still)

@@ -7,14 +7,14 @@ use Rattle.cube_model.specs.Answers.{answer}
 use Rattle.warehouse_root.specs.Root.{PlainRoot}
 use Rattle.object_store.specs.Store as stores
 use Rattle.warehouse.specs.Session.{IsAsked}
-use Rattle.warehouse.proofs.Standing.{store_at, session_at, still_at, content_leaves}
+use Rattle.warehouse.proofs.Represented.{store_at, session_at, still_at, content_leaves}
 use Rattle.warehouse.proofs.session.Session.query_groups.Goals as goal
 
 pub returns-in-Err-clause-refused : goal.returns-in-Err-clause-refused
 returns-in-Err-clause-refused g c cause w at k =
     let s = c.args.self.now in
     let content = stores.content_of g.D.Sectors s.store in
-    let agree = c.kept_is_what_stands.ensures.agrees content w (s.loaded at.fine k) (at.stands k) in
+    let agree = c.kept_is_represented.ensures.agrees content w (s.loaded at.fine k) (at.represents k) in
     let many : length c.batches.result.now ≡ length w.batches = ap length c.batches.ensures ∙ ap (λ (root : PlainRoot). length root.batches) (sym agree.root_is) ∙ length-map w.batches (λ (batch : List LineOrder). length batch) in
     ⊎_elim (λ improper. inl improper) (λ beyond. inr (inl (beyond.0, beyond.1, subst (λ (n : ℕ). n < c.args.as_of) many beyond.2))) c.in-Err.ensures.causes
 
@@ -22,13 +22,13 @@ pub returns-in-Ok-clause-leaves : goal.returns-in-Ok-clause-leaves
 returns-in-Ok-clause-leaves g c w at =
     let s = c.args.self.now in
     let content = stores.content_of g.D.Sectors s.store in
-    content_leaves g.D.Sectors w (stores.disk_of g.D.Sectors s.store) (stores.disk_of g.D.Sectors c.groups_by_plan.new.store) content at.stands c.groups_by_plan.ensures.leaves
+    content_leaves g.D.Sectors w (stores.disk_of g.D.Sectors s.store) (stores.disk_of g.D.Sectors c.groups_by_plan.new.store) content at.represents c.groups_by_plan.ensures.leaves
 
 pub returns-in-Err-groups_by_plan-clause-leaves : goal.returns-in-Err-groups_by_plan-clause-leaves
 returns-in-Err-groups_by_plan-clause-leaves g c w at =
     let s = c.args.self.now in
     let content = stores.content_of g.D.Sectors s.store in
-    content_leaves g.D.Sectors w (stores.disk_of g.D.Sectors s.store) (stores.disk_of g.D.Sectors c.groups_by_plan.new.store) content at.stands c.groups_by_plan.ensures.leaves
+    content_leaves g.D.Sectors w (stores.disk_of g.D.Sectors s.store) (stores.disk_of g.D.Sectors c.groups_by_plan.new.store) content at.represents c.groups_by_plan.ensures.leaves
 
 pub returns-in-Ok-clause-stays : goal.returns-in-Ok-clause-stays
 returns-in-Ok-clause-stays g c other w at =
@@ -45,11 +45,11 @@ returns-in-Ok-clause-answer g c w at k =
     let s = c.args.self.now in
     let content = stores.content_of g.D.Sectors s.store in
     let word = c.groups_by_plan.ensures.leaves.word in
-    let agree = c.kept_is_what_stands.ensures.agrees content w (s.loaded at.fine (word k)) (at.stands (word k)) in
+    let agree = c.kept_is_represented.ensures.agrees content w (s.loaded at.fine (word k)) (at.represents (word k)) in
     let many : length c.batches.result.now ≡ length w.batches = ap length c.batches.ensures ∙ ap (λ (root : PlainRoot). length root.batches) (sym agree.root_is) ∙ length-map w.batches (λ (batch : List LineOrder). length batch) in
     let asked : IsAsked w c.args.as_of c.args.query.now = record { proper = c.in_default.ensures.ok.0; there = subst (λ (n : ℕ). c.args.as_of ≤ n) many c.in_default.ensures.ok.1 } in (
       asked,
-      c.in-Ok.ensures.answer k w (at.stands (word k)) (sym agree.root_is) (sym agree.rows_are)
+      c.in-Ok.ensures.answer k w (at.represents (word k)) (sym agree.root_is) (sym agree.rows_are)
           ∙ ap (λ (rows : DimRows). answer c.args.query.now rows (all_rows (take c.args.as_of w.batches))) (sym agree.rows_are),
     )
 
@@ -58,7 +58,7 @@ returns-in-Ok-clause-beyond g c w at k proper less =
     let s = c.args.self.now in
     let content = stores.content_of g.D.Sectors s.store in
     let word = c.groups_by_plan.ensures.leaves.word in
-    let agree = c.kept_is_what_stands.ensures.agrees content w (s.loaded at.fine (word k)) (at.stands (word k)) in
+    let agree = c.kept_is_represented.ensures.agrees content w (s.loaded at.fine (word k)) (at.represents (word k)) in
     let many : length c.batches.result.now ≡ length w.batches = ap length c.batches.ensures ∙ ap (λ (root : PlainRoot). length root.batches) (sym agree.root_is) ∙ length-map w.batches (λ (batch : List LineOrder). length batch) in
     absurd (omega (arith, less, many, c.in_default.ensures.ok.1))
 
@@ -67,7 +67,7 @@ returns-in-Err-groups_by_plan-clause-beyond g c w at k proper less =
     let s = c.args.self.now in
     let content = stores.content_of g.D.Sectors s.store in
     let word = c.groups_by_plan.ensures.leaves.word in
-    let agree = c.kept_is_what_stands.ensures.agrees content w (s.loaded at.fine (word k)) (at.stands (word k)) in
+    let agree = c.kept_is_represented.ensures.agrees content w (s.loaded at.fine (word k)) (at.represents (word k)) in
     let many : length c.batches.result.now ≡ length w.batches = ap length c.batches.ensures ∙ ap (λ (root : PlainRoot). length root.batches) (sym agree.root_is) ∙ length-map w.batches (λ (batch : List LineOrder). length batch) in
     absurd (omega (arith, less, many, c.in_default.ensures.ok.1))
 
@@ -76,10 +76,10 @@ returns-in-Err-groups_by_plan-clause-refused g c cause w at k =
     let s = c.args.self.now in
     let content = stores.content_of g.D.Sectors s.store in
     let word = c.groups_by_plan.ensures.leaves.word in
-    let agree = c.kept_is_what_stands.ensures.agrees content w (s.loaded at.fine (word k)) (at.stands (word k)) in
+    let agree = c.kept_is_represented.ensures.agrees content w (s.loaded at.fine (word k)) (at.represents (word k)) in
     let many : length c.batches.result.now ≡ length w.batches = ap length c.batches.ensures ∙ ap (λ (root : PlainRoot). length root.batches) (sym agree.root_is) ∙ length-map w.batches (λ (batch : List LineOrder). length batch) in
     let asked : IsAsked w c.args.as_of c.args.query.now = record { proper = c.in_default.ensures.ok.0; there = subst (λ (n : ℕ). c.args.as_of ≤ n) many c.in_default.ensures.ok.1 } in
     ⊎_elim (λ memory. inr (inr (memory, asked)))
     (⊎_elim (λ device. absurd (cause device))
-    (λ bad. absurd (c.in-Err-groups_by_plan.ensures.refused (ap (λ f. Err f) bad) k w (at.stands (word k)) (sym agree.root_is) (sym agree.rows_are))))
+    (λ bad. absurd (c.in-Err-groups_by_plan.ensures.refused (ap (λ f. Err f) bad) k w (at.represents (word k)) (sym agree.root_is) (sym agree.rows_are))))
     c.in-Err-groups_by_plan.ensures.causes

@@ -4,23 +4,23 @@ use Rattle.cube_model.specs.declared.fault.Fault.{Fault}
 use Rattle.cube_model.specs.declared.fault.Fault.TheVariants.{Device}
 use Rattle.object_store.specs.Store as stores
 use Rattle.planned_queries.specs.Stepping.{Advances, IsRunning, RunningState}
-use Rattle.warehouse.proofs.Standing.{store_at, session_at, still_at, content_leaves}
+use Rattle.warehouse.proofs.Represented.{store_at, session_at, still_at, content_leaves}
 use Rattle.warehouse.proofs.session.Session.step.Goals as goal
 
 pub returns-in-None-clause-leaves : goal.returns-in-None-clause-leaves
 returns-in-None-clause-leaves g c w at =
     let s = c.args.self.now in
-    content_leaves g.D.Sectors w (stores.disk_of g.D.Sectors s.store) (stores.disk_of g.D.Sectors c.advance.new.store) (stores.content_of g.D.Sectors s.store) at.stands c.advance.ensures.leaves
+    content_leaves g.D.Sectors w (stores.disk_of g.D.Sectors s.store) (stores.disk_of g.D.Sectors c.advance.new.store) (stores.content_of g.D.Sectors s.store) at.represents c.advance.ensures.leaves
 
 pub returns-in-Some-clause-leaves : goal.returns-in-Some-clause-leaves
 returns-in-Some-clause-leaves g c w at =
     let s = c.args.self.now in
-    content_leaves g.D.Sectors w (stores.disk_of g.D.Sectors s.store) (stores.disk_of g.D.Sectors c.advance.new.store) (stores.content_of g.D.Sectors s.store) at.stands c.advance.ensures.leaves
+    content_leaves g.D.Sectors w (stores.disk_of g.D.Sectors s.store) (stores.disk_of g.D.Sectors c.advance.new.store) (stores.content_of g.D.Sectors s.store) at.represents c.advance.ensures.leaves
 
 pub returns-in-Err-clause-leaves : goal.returns-in-Err-clause-leaves
 returns-in-Err-clause-leaves g c w at =
     let s = c.args.self.now in
-    content_leaves g.D.Sectors w (stores.disk_of g.D.Sectors s.store) (stores.disk_of g.D.Sectors c.advance.new.store) (stores.content_of g.D.Sectors s.store) at.stands c.advance.ensures.leaves
+    content_leaves g.D.Sectors w (stores.disk_of g.D.Sectors s.store) (stores.disk_of g.D.Sectors c.advance.new.store) (stores.content_of g.D.Sectors s.store) at.represents c.advance.ensures.leaves
 
 pub returns-in-None-clause-stays : goal.returns-in-None-clause-stays
 returns-in-None-clause-stays g c other w at =
@@ -42,24 +42,24 @@ pub returns-in-None-clause-steps : goal.returns-in-None-clause-steps
 returns-in-None-clause-steps g c w at k started extends is =
     let s = c.args.self.now in
     let word = c.advance.ensures.leaves.word k in
-    let agree = c.kept_is_what_stands.ensures.agrees (stores.content_of g.D.Sectors s.store) w (s.loaded at.fine word) (at.stands word) in
-    subst (λ (found : Option Answer). Advances started c.advance.new.self found) c.in-None.is (c.in-Ok.ensures.steps k w (at.stands word) (sym agree.root_is) started extends is)
+    let agree = c.kept_is_represented.ensures.agrees (stores.content_of g.D.Sectors s.store) w (s.loaded at.fine word) (at.represents word) in
+    subst (λ (found : Option Answer). Advances started c.advance.new.self found) c.in-None.is (c.in-Ok.ensures.steps k w (at.represents word) (sym agree.root_is) started extends is)
 
 pub returns-in-Some-clause-steps : goal.returns-in-Some-clause-steps
 returns-in-Some-clause-steps g c w at k started extends is =
     let s = c.args.self.now in
     let word = c.advance.ensures.leaves.word k in
-    let agree = c.kept_is_what_stands.ensures.agrees (stores.content_of g.D.Sectors s.store) w (s.loaded at.fine word) (at.stands word) in
-    subst (λ (found : Option Answer). Advances started c.advance.new.self found) c.in-Some.is (c.in-Ok.ensures.steps k w (at.stands word) (sym agree.root_is) started extends is)
+    let agree = c.kept_is_represented.ensures.agrees (stores.content_of g.D.Sectors s.store) w (s.loaded at.fine word) (at.represents word) in
+    subst (λ (found : Option Answer). Advances started c.advance.new.self found) c.in-Some.is (c.in-Ok.ensures.steps k w (at.represents word) (sym agree.root_is) started extends is)
 
 pub returns-in-Err-clause-steps : goal.returns-in-Err-clause-steps
 returns-in-Err-clause-steps g c w at k started extends is =
     let s = c.args.self.now in
     let word = c.advance.ensures.leaves.word k in
-    let agree = c.kept_is_what_stands.ensures.agrees (stores.content_of g.D.Sectors s.store) w (s.loaded at.fine word) (at.stands word) in (
+    let agree = c.kept_is_represented.ensures.agrees (stores.content_of g.D.Sectors s.store) w (s.loaded at.fine word) (at.represents word) in (
       subst (λ (running : RunningState). IsRunning running started) (sym c.in-Err.ensures.err) is,
       ⊎_elim (λ memory. inl memory)
           (⊎_elim (λ device. inr device)
-          (λ bad. absurd (c.in-Err.ensures.refused (ap (λ (f : Fault). Err f) bad) k w (at.stands word) (sym agree.root_is) started extends is)))
+          (λ bad. absurd (c.in-Err.ensures.refused (ap (λ (f : Fault). Err f) bad) k w (at.represents word) (sym agree.root_is) started extends is)))
           c.in-Err.ensures.causes,
     )

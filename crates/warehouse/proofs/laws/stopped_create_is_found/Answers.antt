@@ -1,5 +1,0 @@
-use Rattle.warehouse.proofs.Restarting.{create_again}
-use Rattle.warehouse.proofs.laws.stopped_create_is_found.Goals as goal
-
-pub returns : goal.returns
-returns g c = create_again g.D.Sectors

@@ -1,5 +1,0 @@
-use Rattle.warehouse.proofs.Restarting.{open_again}
-use Rattle.warehouse.proofs.laws.stopped_open_is_found.Goals as goal
-
-pub returns : goal.returns
-returns g c = open_again g.D.Sectors

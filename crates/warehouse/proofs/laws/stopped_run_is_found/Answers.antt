@@ -1,5 +1,0 @@
-use Rattle.warehouse.proofs.Headlining.{stopped_run}
-use Rattle.warehouse.proofs.laws.stopped_run_is_found.Goals as goal
-
-pub returns : goal.returns
-returns g c = stopped_run g.D.Sectors g.met.D.Sectors.only_now
