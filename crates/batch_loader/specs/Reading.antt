@@ -71,6 +71,12 @@ IsNextFault row number (Some text) fault =
 abbrev pub RefusesRow : {Row : Type 0} → (ℕ → List ℕ → Result Row Fault) → Unread → Fault → Type 0
 RefusesRow row old fault = (fault ≡ Memory) ⊎ ((fault ≡ Input) ⊎ IsNextFault row old.number old.left fault)
 
+-- the line that was taken last is the one that is refused: a fault is that of its row, or says that the line is too long. Or memory was
+-- refused, or a read failed
+abbrev pub RefusesLine : {Row : Type 0} → (ℕ → List ℕ → Result Row Fault) → Unread → Fault → Type 0
+RefusesLine row new fault =
+    (fault ≡ Memory) ⊎ ((fault ≡ Input) ⊎ ((fault ≡ FieldTooLong (Line new.number) 0) ⊎ (row new.number new.line ≡ Err fault)))
+
 -- the rows of the next lines, at most so many, were taken, and the other lines are left
 abbrev pub TakesRows : {Row : Type 0} → (ℕ → List ℕ → Result Row Fault) → ℕ → ℕ → Option (List ℕ) → Option (List ℕ) → List Row → Type 0
 TakesRows row max number None new rows = ⊤

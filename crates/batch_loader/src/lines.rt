@@ -2,6 +2,7 @@
 ghost use Rattle.std.specs.Prelude.{◌≡◌, ◌⊎◌, ◌+◌, Some, None, MatchBool, MatchOption, MatchResult, IfOk, IfErr, IfSome, min, length, ◌≤◌};
 ghost use Rattle.std.specs.Io.KnownBytes.{IsAtEnd, Keeps};
 ghost use Rattle.batch_loader.specs.Reading.{TakesNext, IsAllTaken, RefusesNext, NextGives};
+ghost use Rattle.batch_loader.specs.Rows.{next_number};
 ghost use Rattle.std.specs.Borrow.{sem};
 ghost use Rattle.std.specs.Io.BufRead.{Rests};
 ghost use Rattle.batch_loader.specs.contracts.lines.Lines.{the_row};
@@ -67,8 +68,9 @@ impl<R: Read> Lines<R> {
         })
     }
 
-    /// The line that was taken last.
-    pub(crate) fn line(&self) -> &[u8]
+    /// The line that was taken last, without its LF. After a refusal it is the line that is refused, except where that is too long or a
+    /// read failed.
+    pub fn line(&self) -> &[u8]
         ensures { result.now ≡ self.now.line }
     {
         if self.taken == 0 {
@@ -108,6 +110,7 @@ impl<R: Read> Lines<R> {
         ensures held { IfErr result (λ fault. self.new.fault ≡ Some fault) }
         ensures found { IfOk result (λ found. MatchBool found (TakesNext self.old self.new self.new.line) (IsAllTaken self.old self.new)) }
         ensures refused { self.old.fault ≡ None → IfErr result (RefusesNext self.old) }
+        ensures number { self.old.fault ≡ None → IfErr result (λ _. self.new.number ≡ next_number self.old.number) }
     {
         if let Some(fault) = self.fault {
             return Err(fault);

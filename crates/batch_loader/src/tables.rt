@@ -2,7 +2,7 @@
 ghost use Rattle.std.specs.Prelude.{◌≡◌, ◌⊎◌, ◌≤◌, None, IfOk, OnOk, IfErr, IfSome, Err, length};
 ghost use Rattle.cube_model.specs.Limits.{longest_line};
 ghost use Rattle.batch_loader.specs.Columns.{row_of};
-ghost use Rattle.batch_loader.specs.Reading.{PushesNext, PushesRow, RefusesRow, TakesBatch, RefusesBatch, TakesTable, RefusesTable};
+ghost use Rattle.batch_loader.specs.Reading.{PushesNext, PushesRow, RefusesLine, RefusesRow, TakesBatch, RefusesBatch, TakesTable, RefusesTable};
 ghost use Rattle.batch_loader.specs.Tables.{customer_row, supplier_row, part_row, date_row, lineorder_row};
 
 use crate::lines::Lines;
@@ -21,6 +21,7 @@ pub fn read_customers<R: Read>(
     ensures held { IfErr result (λ fault. lines.new.fault ≡ Some fault) }
     ensures taken { IfOk result (TakesTable customer_row lines.old lines.new) }
     ensures refused { lines.old.fault ≡ None → IfErr result (RefusesTable customer_row lines.old) }
+    ensures line { lines.old.fault ≡ None → IfErr result (RefusesLine customer_row lines.new) }
 {
     read_all(alloc, lines)
 }
@@ -34,6 +35,7 @@ pub fn read_suppliers<R: Read>(
     ensures held { IfErr result (λ fault. lines.new.fault ≡ Some fault) }
     ensures taken { IfOk result (TakesTable supplier_row lines.old lines.new) }
     ensures refused { lines.old.fault ≡ None → IfErr result (RefusesTable supplier_row lines.old) }
+    ensures line { lines.old.fault ≡ None → IfErr result (RefusesLine supplier_row lines.new) }
 {
     read_all(alloc, lines)
 }
@@ -44,6 +46,7 @@ pub fn read_parts<R: Read>(alloc: Global, lines: &mut Lines<R>) -> Result<Items<
     ensures held { IfErr result (λ fault. lines.new.fault ≡ Some fault) }
     ensures taken { IfOk result (TakesTable part_row lines.old lines.new) }
     ensures refused { lines.old.fault ≡ None → IfErr result (RefusesTable part_row lines.old) }
+    ensures line { lines.old.fault ≡ None → IfErr result (RefusesLine part_row lines.new) }
 {
     read_all(alloc, lines)
 }
@@ -54,6 +57,7 @@ pub fn read_dates<R: Read>(alloc: Global, lines: &mut Lines<R>) -> Result<Items<
     ensures held { IfErr result (λ fault. lines.new.fault ≡ Some fault) }
     ensures taken { IfOk result (TakesTable date_row lines.old lines.new) }
     ensures refused { lines.old.fault ≡ None → IfErr result (RefusesTable date_row lines.old) }
+    ensures line { lines.old.fault ≡ None → IfErr result (RefusesLine date_row lines.new) }
 {
     read_all(alloc, lines)
 }
@@ -68,6 +72,7 @@ pub fn read_batch<R: Read>(
     ensures held { IfErr result (λ fault. lines.new.fault ≡ Some fault) }
     ensures taken { IfOk result (TakesBatch lineorder_row max lines.old lines.new) }
     ensures refused { lines.old.fault ≡ None → IfErr result (RefusesBatch lineorder_row max lines.old) }
+    ensures line { lines.old.fault ≡ None → IfErr result (RefusesLine lineorder_row lines.new) }
 {
     read_rows(alloc, lines, max, Items::new(alloc))
 }
@@ -83,6 +88,7 @@ pub fn read_batch_into<R: Read>(
     ensures held { IfErr result (λ fault. lines.new.fault ≡ Some fault) }
     ensures taken { IfOk result (TakesBatch lineorder_row max lines.old lines.new) }
     ensures refused { lines.old.fault ≡ None → IfErr result (RefusesBatch lineorder_row max lines.old) }
+    ensures line { lines.old.fault ≡ None → IfErr result (RefusesLine lineorder_row lines.new) }
 {
     read_rows(alloc, lines, max, done)
 }
@@ -96,6 +102,7 @@ fn read_all<T: TableRow + Drop, R: Read>(
     ensures held { IfErr result (λ fault. lines.new.fault ≡ Some fault) }
     ensures taken { IfOk result (TakesTable (row_of T.columns T.of_fields) lines.old lines.new) }
     ensures refused { lines.old.fault ≡ None → IfErr result (RefusesTable (row_of T.columns T.of_fields) lines.old) }
+    ensures line { lines.old.fault ≡ None → IfErr result (RefusesLine (row_of T.columns T.of_fields) lines.new) }
 {
     let rows = read_rows(alloc, lines, usize::MAX, Items::new(alloc))?;
     if rows.len() == usize::MAX {
@@ -116,6 +123,7 @@ fn read_rows<T: TableRow + Drop, R: Read>(
     ensures held { IfErr result (λ fault. lines.new.fault ≡ Some fault) }
     ensures taken { IfOk result (TakesBatch (row_of T.columns T.of_fields) max lines.old lines.new) }
     ensures refused { lines.old.fault ≡ None → IfErr result (RefusesBatch (row_of T.columns T.of_fields) max lines.old) }
+    ensures line { lines.old.fault ≡ None → IfErr result (RefusesLine (row_of T.columns T.of_fields) lines.new) }
 {
     if let Some(fault) = lines.fault() {
         return Err(fault);
@@ -139,6 +147,7 @@ fn push_row<T: TableRow + Drop, R: Read>(
     ensures held { IfErr result (λ fault. lines.new.fault ≡ Some fault) }
     ensures taken { IfOk result (PushesNext (row_of T.columns T.of_fields) lines.old lines.new rows.old rows.new) }
     ensures refused { lines.old.fault ≡ None → IfErr result (RefusesRow (row_of T.columns T.of_fields) lines.old) }
+    ensures line { lines.old.fault ≡ None → IfErr result (RefusesLine (row_of T.columns T.of_fields) lines.new) }
 {
     if !lines.advance()? {
         return Ok(false);

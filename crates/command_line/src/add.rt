@@ -4,19 +4,19 @@ ghost use Rattle.cube_model.specs.Validity.{HaveShortTexts};
 
 use crate::device::{self, Access, Device};
 use crate::exit::{DONE, NO_COMMAND};
-use crate::files::{DimensionFiles, GivenFiles, open_named};
+use crate::files::{Reads, open_named};
 use crate::job::met_in;
 use crate::output::{cut_short, output};
-use crate::refusal::{Met, Refusal, explained};
+use crate::refusal::{Refusal, explained};
+use crate::table_refusals::{broken_hint, refused_tables, rows_over};
 use crate::unfinished::note_unfinished;
 use clap::ArgMatches;
 use cube_model::{DimRows, Fault};
 use file_device::LockFile;
-use ssb_eval::read_rows;
+use sector_device::Sectors;
 use std::alloc::Global;
 use std::os::unix::fs::FileExt;
 use std::rt::{Clock, Files};
-use table_hints::addition_hint;
 use warehouse::Session;
 use warehouse_root::limits::MOST_ADDITIONS;
 
@@ -31,10 +31,7 @@ where
     let Some(number) = given.get_one::<u32>("number") else {
         return Ok(NO_COMMAND);
     };
-    let rows = match rows_of(rt, given) {
-        Ok(rows) => rows,
-        Err(fault) => return Err(explained(rt, given, Met::from(fault))),
-    };
+    let rows = rows_of(rt, given)?;
     match device::open(rt, given, Access::Commit) {
         Ok(mut session) => print_addition(rt, given, &mut session, number, &rows),
         Err(met) => Err(explained(rt, given, met)),
@@ -42,16 +39,14 @@ where
 }
 
 // The rows of the tables that the command names. One that it does not name has none.
-fn rows_of<R: Files + AllocGlobal>(rt: &R, given: &ArgMatches<'_>) -> Result<DimRows, Fault>
+fn rows_of<R: Files + AllocGlobal>(rt: &R, given: &ArgMatches<'_>) -> Result<DimRows, Refusal>
     ensures short { IfOk result HaveShortTexts }
 {
-    let DimensionFiles {
-        customer,
-        supplier,
-        part,
-        date,
-    } = open_named(rt, given)?;
-    read_rows(rt.alloc(), customer, supplier, part, date)
+    let reads = Reads::new(None);
+    match open_named(rt, given, &reads) {
+        Ok(files) => rows_over(rt.alloc(), given, files, &reads),
+        Err(fault) => Err(refused_tables(rt.alloc(), given, &reads, fault, Ok(None))),
+    }
 }
 
 // Adds rows to the dimensions of an open warehouse, and prints that it is done.
@@ -73,7 +68,7 @@ where
             Ok(DONE)
         }
         Err(Fault::Output) => cut_short(rt.alloc(), out.failure()),
-        Err(fault) => Err(refused(rt, given, session, number, fault)),
+        Err(fault) => Err(refused(rt, given, session, number, rows, fault)),
     }
 }
 
@@ -83,12 +78,13 @@ fn refused<R: Files + AllocGlobal + Eprint + Clock>(
     given: &ArgMatches<'_>,
     session: &Session<Device<'_, R, R::File>>,
     number: u32,
+    rows: &DimRows,
     fault: Fault,
 ) -> Refusal
 where
     R::File: FileExt + LockFile,
 {
-    match hint_of(rt, given, session, number, fault) {
+    match hint_of(rt.alloc(), given, session, number, rows, fault) {
         Ok(Some(hint)) => Refusal {
             fault,
             hint: Some(hint),
@@ -97,27 +93,20 @@ where
     }
 }
 
-fn hint_of<R: Files + AllocGlobal + Eprint + Clock>(
-    rt: &R,
+fn hint_of<D: Sectors>(
+    alloc: Global,
     given: &ArgMatches<'_>,
-    session: &Session<Device<'_, R, R::File>>,
+    session: &Session<D>,
     number: u32,
+    rows: &DimRows,
     fault: Fault,
-) -> Result<Option<String>, Fault>
-where
-    R::File: FileExt + LockFile,
-{
+) -> Result<Option<String>, Fault> {
     let next = session.status()?.additions.saturating_add(1);
     match fault {
-        Fault::Gap => Ok(Some(gap_hint(rt.alloc(), number, next)?)),
-        Fault::Repeated => Ok(Some(repeated_hint(rt.alloc(), number, next)?)),
-        Fault::TooManyAdditions => Ok(Some(crowd_hint(rt.alloc())?)),
-        _ => addition_hint(
-            rt.alloc(),
-            &GivenFiles::new(rt, given)?,
-            session.dims(),
-            fault,
-        ),
+        Fault::Gap => Ok(Some(gap_hint(alloc, number, next)?)),
+        Fault::Repeated => Ok(Some(repeated_hint(alloc, number, next)?)),
+        Fault::TooManyAdditions => Ok(Some(crowd_hint(alloc)?)),
+        _ => broken_hint(alloc, given, rows, Some(session.dims()), fault),
     }
 }
 

@@ -1,19 +1,21 @@
 //! The command `create`.
+ghost use Rattle.cube_model.specs.Validity.{HaveShortTexts};
+
 use crate::device;
 use crate::exit::{DONE, NO_COMMAND};
-use crate::files::{DimensionFiles, first_error, open_again, open_dimensions};
+use crate::files::{Reads, first_error, open_again, open_dimensions};
 use crate::output::unwritten;
 use crate::refusal::{Met, Refusal, explained};
 use crate::sizes::sectors_in;
 use crate::space::{rows_of, sectors_for};
+use crate::table_refusals::{broken_hint, refused_tables, rows_over};
 use clap::ArgMatches;
-use cube_model::Fault;
+use cube_model::{DimRows, Fault};
 use dimensions::Dims;
 use file_device::{Existing, LockFile};
-use ssb_eval::read_dimensions;
 use std::alloc::{AllocError, Global};
 use std::fs::OpenFile;
-use std::io::{ErrorKind, Read};
+use std::io::ErrorKind;
 use std::os::unix::fs::FileExt;
 use std::rt::{Clock, Files};
 
@@ -108,10 +110,7 @@ fn make<R: Files + AllocGlobal + Eprint + Clock>(
 where
     R::File: FileExt + LockFile,
 {
-    let dims = match read(rt, given) {
-        Ok(dims) => dims,
-        Err(fault) => return Err(explained(rt, given, Met::from(fault))),
-    };
+    let dims = read(rt, given)?;
     let sectors = sectors_of(rt.alloc(), size, &dims)?;
     match device::create(rt, device::path_of(given), sectors, existing(given), dims) {
         Ok(()) => Ok(sectors),
@@ -150,16 +149,34 @@ fn existing(given: &ArgMatches<'_>) -> Existing {
 }
 
 // Reads the dimension tables.
-fn read<R: Files + AllocGlobal>(rt: &R, given: &ArgMatches<'_>) -> Result<Dims, Fault> {
-    dimensions(rt.alloc(), open_dimensions(rt, given)?)
+fn read<R: Files + AllocGlobal>(rt: &R, given: &ArgMatches<'_>) -> Result<Dims, Refusal> {
+    let alloc = rt.alloc();
+    let reads = Reads::new(None);
+    match open_dimensions(rt, given, &reads) {
+        Ok(files) => dims_of(
+            alloc,
+            given,
+            &rows_over(alloc, given, files, &reads)?,
+            &reads,
+        ),
+        Err(fault) => Err(refused_tables(alloc, given, &reads, fault, Ok(None))),
+    }
 }
 
-fn dimensions<F: Read + Drop>(alloc: Global, files: DimensionFiles<F>) -> Result<Dims, Fault> {
-    let DimensionFiles {
-        customer,
-        supplier,
-        part,
-        date,
-    } = files;
-    read_dimensions(alloc, customer, supplier, part, date)
+// The dimensions of rows.
+fn dims_of(
+    alloc: Global,
+    given: &ArgMatches<'_>,
+    rows: &DimRows,
+    reads: &Reads,
+) -> Result<Dims, Refusal>
+    requires short { HaveShortTexts rows.now }
+{
+    match Dims::build(alloc, rows) {
+        Ok(dims) => Ok(dims),
+        Err(fault) => {
+            let hint = broken_hint(alloc, given, rows, None, fault);
+            Err(refused_tables(alloc, given, reads, fault, hint))
+        }
+    }
 }

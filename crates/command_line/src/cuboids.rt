@@ -42,13 +42,7 @@ where
         Some(path) => Some(demanded(rt, path)?),
     };
     let done = match format_of(given) {
-        None => perform_job(
-            rt,
-            given,
-            Access::Commit,
-            job_of(views, demanded),
-            io::empty(),
-        ),
+        None => perform_job(rt, given, Access::Commit, job_of(views, demanded)),
         Some(format) => choose_as(rt, given, format, views, demanded),
     };
     match done {

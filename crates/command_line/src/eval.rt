@@ -1,18 +1,19 @@
 //! The command `eval`.
 use crate::exit::DONE;
-use crate::files::{DimensionFiles, open, open_dimensions};
+use crate::files::{DimensionFiles, GivenFile, Reads, open, open_dimensions};
 use crate::notes::note_report;
 use crate::output::{cut_short, output};
 use crate::progress::{Progress, Tally, Wanted};
-use crate::refusal::{Met, Refusal, explained};
+use crate::refusal::Refusal;
 use crate::reports::{Reports, report_of};
 use crate::saving::{begin, cut_off, finish, part_of, remove};
 use crate::screens::Screens;
+use crate::table_refusals::{Star, refused_tables, star_hint};
 use crate::timing::{say_read, say_seconds};
 use clap::ArgMatches;
 use cube_model::Fault;
 use dimensions::Dims;
-use ssb_eval::{eval_formatted, eval_partial};
+use ssb_eval::{Tables, eval_formatted, eval_partial};
 use std::alloc::Global;
 use std::cell::Cell;
 use std::fs::OpenFile;
@@ -27,11 +28,13 @@ pub fn eval<R: Files + AllocGlobal + Print + Eprint + Clock + CpuClock>(
     given: &ArgMatches<'_>,
     screens: Screens,
 ) -> Result<u8, Refusal> {
-    match opened(rt, given) {
+    let reads = Reads::new(None);
+    match opened(rt, given, &reads) {
         Ok((asked, dimensions, lineorder)) => {
-            let tally = Cell::new(tally_of(rt, given, &lineorder, screens));
+            let tally = Cell::new(tally_of(rt, given, lineorder.file(), screens));
             let lineorder = Progress::new(rt, lineorder, &tally);
-            let status = answer(rt, given, &asked, dimensions, lineorder)?;
+            let tables = tables_over(rt.alloc(), dimensions, lineorder)?;
+            let status = answer(rt, given, &asked, tables, &reads)?;
             let tally = tally.get();
             say_seconds(rt, given, &tally);
             say_read(rt, given, tally.rows(), tally.bytes());
@@ -39,6 +42,21 @@ pub fn eval<R: Files + AllocGlobal + Print + Eprint + Clock + CpuClock>(
         }
         Err(refusal) => Err(refusal),
     }
+}
+
+// The tables that files give.
+fn tables_over<F: Read + Drop, L: Read + Drop>(
+    alloc: Global,
+    dimensions: DimensionFiles<F>,
+    lineorder: L,
+) -> Result<Star<F, L>, Fault> {
+    let DimensionFiles {
+        customer,
+        supplier,
+        part,
+        date,
+    } = dimensions;
+    Tables::new(alloc, customer, supplier, part, date, lineorder)
 }
 
 // What counts the rows of a file of which nothing was read yet.
@@ -59,36 +77,38 @@ fn tally_of<R: Clock, F: OpenFile>(
     Tally::new(rt, length, wanted)
 }
 
-// Writes a report over the files of its tables to where the words have it go, and the notes on its conditions. It gives the status of
-// the program.
+// Writes a report over its tables to where the words have it go, and the notes on its conditions. It gives the status of the program.
 fn answer<R: Files + AllocGlobal + Print + Eprint, F: Read + Drop, L: Read + Drop>(
     rt: &R,
     given: &ArgMatches<'_>,
     asked: &Reports,
-    dimensions: DimensionFiles<F>,
-    lineorder: L,
+    tables: Star<F, L>,
+    reads: &Reads,
 ) -> Result<u8, Refusal> {
     match given.get_str("output") {
-        None => print_report(rt, given, asked, dimensions, lineorder),
-        Some(path) => save_report(rt, given, asked, dimensions, lineorder, path),
+        None => print_report(rt, given, asked, tables, reads),
+        Some(path) => save_report(rt, given, asked, tables, reads, path),
     }
 }
 
-// Prints a report.
+// Prints a report. A line that says how far it is goes with the tables, before a note comes.
 fn print_report<R: Files + AllocGlobal + Print + Eprint, F: Read + Drop, L: Read + Drop>(
     rt: &R,
     given: &ArgMatches<'_>,
     asked: &Reports,
-    dimensions: DimensionFiles<F>,
-    lineorder: L,
+    tables: Star<F, L>,
+    reads: &Reads,
 ) -> Result<u8, Refusal> {
     let mut out = output(rt)?;
-    match report(rt.alloc(), asked, dimensions, lineorder, &mut out) {
+    let mut tables = tables;
+    match report(rt.alloc(), asked, &mut tables, &mut out) {
         Ok(dims) => {
+            drop(tables);
             note_report(rt, given, asked, &dims);
             Ok(DONE)
         }
-        Err(fault) => not_done(rt, given, fault, out.failure()),
+        Err(Fault::Output) => cut_short(rt.alloc(), out.failure()),
+        Err(fault) => Err(refused(rt.alloc(), given, &tables, reads, fault)),
     }
 }
 
@@ -97,74 +117,79 @@ fn save_report<R: Files + AllocGlobal + Eprint, F: Read + Drop, L: Read + Drop>(
     rt: &R,
     given: &ArgMatches<'_>,
     asked: &Reports,
-    dimensions: DimensionFiles<F>,
-    lineorder: L,
+    tables: Star<F, L>,
+    reads: &Reads,
     path: &str,
 ) -> Result<u8, Refusal> {
     let part = part_of(rt.alloc(), path)?;
     let mut out = begin(rt, given, path, part.as_str())?;
-    let done = report(rt.alloc(), asked, dimensions, lineorder, &mut out);
+    let mut tables = tables;
+    let done = report(rt.alloc(), asked, &mut tables, &mut out);
     let failure = out.failure();
     drop(out);
     match done {
         Ok(dims) => {
+            drop(tables);
             let status = finish(rt, path, part.as_str())?;
             note_report(rt, given, asked, &dims);
             Ok(status)
         }
         Err(fault) => {
             remove(rt, part.as_str());
-            Err(unsaved(rt, given, part.as_str(), fault, failure))
+            Err(match fault {
+                Fault::Output => cut_off(rt.alloc(), part.as_str(), failure),
+                fault => refused(rt.alloc(), given, &tables, reads, fault),
+            })
         }
     }
 }
 
-// The status of a report that was not written whole, or its refusal.
-fn not_done<R: Files + AllocGlobal>(
-    rt: &R,
+// The refusal of a report over tables.
+fn refused<F: Read + Drop, L: Read + Drop>(
+    alloc: Global,
     given: &ArgMatches<'_>,
+    tables: &Star<F, L>,
+    reads: &Reads,
     fault: Fault,
-    failure: Option<io::Error>,
-) -> Result<u8, Refusal> {
-    match fault {
-        Fault::Output => cut_short(rt.alloc(), failure),
-        fault => Err(explained(rt, given, Met::from(fault))),
-    }
-}
-
-// The refusal of a report that was not saved.
-fn unsaved<R: Files + AllocGlobal>(
-    rt: &R,
-    given: &ArgMatches<'_>,
-    part: &str,
-    fault: Fault,
-    failure: Option<io::Error>,
 ) -> Refusal {
-    match fault {
-        Fault::Output => cut_off(rt.alloc(), part, failure),
-        fault => explained(rt, given, Met::from(fault)),
-    }
+    let hint = star_hint(alloc, given, tables, fault);
+    refused_tables(alloc, given, reads, fault, hint)
 }
 
 // The report that is asked for, and the files of its tables.
-fn opened<R: Files + AllocGlobal>(
+fn opened<'k, R: Files + AllocGlobal>(
     rt: &R,
     given: &ArgMatches<'_>,
-) -> Result<(Reports, DimensionFiles<R::File>, R::File), Refusal> {
+    reads: &'k Reads,
+) -> Result<
+    (
+        Reports,
+        DimensionFiles<GivenFile<'k, R::File>>,
+        GivenFile<'k, R::File>,
+    ),
+    Refusal,
+> {
     let asked = report_of(rt.alloc(), given)?;
-    match tables_of(rt, given) {
+    match tables_of(rt, given, reads) {
         Ok((dimensions, lineorder)) => Ok((asked, dimensions, lineorder)),
-        Err(fault) => Err(explained(rt, given, Met::from(fault))),
+        Err(fault) => Err(refused_tables(rt.alloc(), given, reads, fault, Ok(None))),
     }
 }
 
 // The files of the tables, in the order of the command.
-fn tables_of<R: Files + AllocGlobal>(
+fn tables_of<'k, R: Files + AllocGlobal>(
     rt: &R,
     given: &ArgMatches<'_>,
-) -> Result<(DimensionFiles<R::File>, R::File), Fault> {
-    let dimensions = open_dimensions(rt, given)?;
-    let lineorder = open(rt, given, Table::Lineorder)?;
+    reads: &'k Reads,
+) -> Result<
+    (
+        DimensionFiles<GivenFile<'k, R::File>>,
+        GivenFile<'k, R::File>,
+    ),
+    Fault,
+> {
+    let dimensions = open_dimensions(rt, given, reads)?;
+    let lineorder = open(rt, given, Table::Lineorder, reads)?;
     Ok((dimensions, lineorder))
 }
 
@@ -172,23 +197,12 @@ fn tables_of<R: Files + AllocGlobal>(
 fn report<F: Read + Drop, L: Read + Drop, W: io::Write>(
     alloc: Global,
     asked: &Reports,
-    dimensions: DimensionFiles<F>,
-    lineorder: L,
+    tables: &mut Star<F, L>,
     out: &mut W,
 ) -> Result<Dims, Fault> {
-    let DimensionFiles {
-        customer,
-        supplier,
-        part,
-        date,
-    } = dimensions;
     match asked {
-        Reports::One(asked) => eval_formatted(
-            alloc, customer, supplier, part, date, lineorder, asked, out,
-        ),
-        Reports::Part(asked) => eval_partial(
-            alloc, customer, supplier, part, date, lineorder, asked, out,
-        ),
+        Reports::One(asked) => eval_formatted(alloc, tables, asked, out),
+        Reports::Part(asked) => eval_partial(alloc, tables, asked, out),
         Reports::Several(_) => Err(Fault::BadQuery),
     }
 }

@@ -1,13 +1,14 @@
 //! The files that the words of a command name.
-use crate::joined::Joined;
-use crate::table_paths::{count_inputs, is_standard_input, loaded_paths, table_name, table_path};
+use crate::refusal::Refusal;
+use crate::table_paths::{shown, table_path};
 use clap::ArgMatches;
 use cube_model::Fault;
-use std::alloc::{AllocError, Global};
+use std::alloc::Global;
+use std::cell::Cell;
 use std::fs;
 use std::io::{self, Read};
 use std::rt::Files;
-use table_hints::{Table, TableFiles};
+use table_hints::Table;
 
 /// The files of the dimensions.
 #[derive(Drop)]
@@ -18,29 +19,77 @@ pub struct DimensionFiles<F> {
     pub date: F,
 }
 
+/// A file that could not be opened or read: its place among those of the command, and what the system said.
+#[derive(Clone, Copy)]
+pub struct UnreadFile {
+    pub place: usize,
+    pub error: io::Error,
+}
+
+/// What a command keeps of the last file that could not be opened or read. Its files share it.
+pub type Reads = Cell<Option<UnreadFile>>;
+
+/// A file of a command.
+#[derive(Drop)]
+pub struct GivenFile<'k, F> {
+    file: F,
+    place: usize,
+    reads: &'k Reads,
+}
+
+impl<'k, F> GivenFile<'k, F> {
+    /// The file at a place among those of a command.
+    pub fn new(file: F, place: usize, reads: &'k Reads) -> GivenFile<'k, F> {
+        GivenFile { file, place, reads }
+    }
+
+    /// The file itself.
+    pub fn file(&self) -> &F {
+        &self.file
+    }
+}
+
+impl<F: Read> Read for GivenFile<'_, F> {
+    ghost remaining = { λ given. F.remaining given.file };
+
+    fn read(&mut self, buf: &mut [u8]) -> io::Result<usize> {
+        let done = self.file.read(buf);
+        if let Err(error) = &done {
+            keep_error(self.reads, self.place, *error);
+        }
+        done
+    }
+}
+
+fn keep_error(reads: &Reads, place: usize, error: io::Error) {
+    reads.set(Some(UnreadFile { place, error }));
+}
+
 /// Opens the files of the dimensions, in the order of the command.
-pub fn open_dimensions<R: Files + AllocGlobal>(
+pub fn open_dimensions<'k, R: Files + AllocGlobal>(
     rt: &R,
     given: &ArgMatches<'_>,
-) -> Result<DimensionFiles<R::File>, Fault> {
+    reads: &'k Reads,
+) -> Result<DimensionFiles<GivenFile<'k, R::File>>, Fault> {
     Ok(DimensionFiles {
-        customer: open(rt, given, Table::Customer)?,
-        supplier: open(rt, given, Table::Supplier)?,
-        part: open(rt, given, Table::Part)?,
-        date: open(rt, given, Table::Date)?,
+        customer: open(rt, given, Table::Customer, reads)?,
+        supplier: open(rt, given, Table::Supplier, reads)?,
+        part: open(rt, given, Table::Part, reads)?,
+        date: open(rt, given, Table::Date, reads)?,
     })
 }
 
 /// Opens the files of the dimensions that the command names, in its order.
-pub fn open_named<R: Files + AllocGlobal>(
+pub fn open_named<'k, R: Files + AllocGlobal>(
     rt: &R,
     given: &ArgMatches<'_>,
-) -> Result<DimensionFiles<NamedFile<R::File>>, Fault> {
+    reads: &'k Reads,
+) -> Result<DimensionFiles<NamedFile<GivenFile<'k, R::File>>>, Fault> {
     Ok(DimensionFiles {
-        customer: named(rt, given, Table::Customer)?,
-        supplier: named(rt, given, Table::Supplier)?,
-        part: named(rt, given, Table::Part)?,
-        date: named(rt, given, Table::Date)?,
+        customer: named(rt, given, Table::Customer, reads)?,
+        supplier: named(rt, given, Table::Supplier, reads)?,
+        part: named(rt, given, Table::Part, reads)?,
+        date: named(rt, given, Table::Date, reads)?,
     })
 }
 
@@ -60,35 +109,93 @@ impl<F: Read> Read for NamedFile<F> {
 }
 
 // Opens the file of a table, where the command names one.
-fn named<R: Files + AllocGlobal>(
+fn named<'k, R: Files + AllocGlobal>(
     rt: &R,
     given: &ArgMatches<'_>,
     table: Table,
-) -> Result<NamedFile<R::File>, Fault> {
+    reads: &'k Reads,
+) -> Result<NamedFile<GivenFile<'k, R::File>>, Fault> {
     let file = match given.get_str(table.name()) {
-        Some(path) => Some(open_file(rt, path)?),
+        Some(path) => Some(open_table(rt, path, table, reads)?),
         None => None,
     };
     Ok(NamedFile { file })
 }
 
 /// Opens the file of a table.
-pub fn open<R: Files + AllocGlobal>(
+pub fn open<'k, R: Files + AllocGlobal>(
     rt: &R,
     given: &ArgMatches<'_>,
     table: Table,
-) -> Result<R::File, Fault> {
+    reads: &'k Reads,
+) -> Result<GivenFile<'k, R::File>, Fault> {
     match table_path(rt.alloc(), given, table)? {
-        Some(path) => open_file(rt, path.as_str()),
+        Some(path) => open_table(rt, path.as_str(), table, reads),
         None => Err(Fault::Input),
     }
 }
 
-/// Opens a file.
-pub fn open_file<R: Files>(rt: &R, path: &str) -> Result<R::File, Fault> {
+// The place of a table's file is that of the table in the order in which they are read.
+fn open_table<'k, R: Files>(
+    rt: &R,
+    path: &str,
+    table: Table,
+    reads: &'k Reads,
+) -> Result<GivenFile<'k, R::File>, Fault> {
+    let place = table as usize;
+    let file = open_file(rt, path, place, reads)?;
+    Ok(GivenFile::new(file, place, reads))
+}
+
+/// Opens a file, which has a place among those of a command.
+pub fn open_file<R: Files>(
+    rt: &R,
+    path: &str,
+    place: usize,
+    reads: &Reads,
+) -> Result<R::File, Fault> {
     match fs::open(rt, path) {
         Ok(file) => Ok(file),
-        Err(_) => Err(Fault::Input),
+        Err(error) => {
+            keep_error(reads, place, error);
+            Err(Fault::Input)
+        }
+    }
+}
+
+// The refusal of a file that could not be opened or read, with what the system said of it.
+fn unread(alloc: Global, path: &str, error: io::Error) -> Refusal {
+    Refusal {
+        fault: Fault::Input,
+        hint: format!(in alloc; "{path}: {error}").ok(),
+    }
+}
+
+/// The refusal of tables of a command of which one could not be opened or read, with what the system said of it.
+pub fn unread_table(alloc: Global, given: &ArgMatches<'_>, reads: &Reads) -> Refusal {
+    let Some(UnreadFile { place, error }) = reads.get() else {
+        return Refusal::from(Fault::Input);
+    };
+    match path_at(alloc, given, place) {
+        Some(path) => unread(alloc, path.as_str(), error),
+        None => Refusal::from(Fault::Input),
+    }
+}
+
+// The file of the table at a place.
+fn path_at(alloc: Global, given: &ArgMatches<'_>, place: usize) -> Option<String> {
+    let table = *Table::ALL.get(place)?;
+    table_path(alloc, given, table).ok()?
+}
+
+/// The same of files whose names are given. One of them may be standard input.
+pub fn unread_among(alloc: Global, paths: &[&str], reads: &Reads) -> Refusal {
+    let Some(UnreadFile { place, error }) = reads.get() else {
+        return Refusal::from(Fault::Input);
+    };
+    match paths.get(place) {
+        Some(path) => unread(alloc, shown(path), error),
+        None => Refusal::from(Fault::Input),
     }
 }
 
@@ -99,127 +206,6 @@ pub fn open_again<R: Files>(rt: &R, path: &str) -> Option<R::File> {
         fs::open(rt, path).ok()
     } else {
         None
-    }
-}
-
-/// The words of a command, and the system whose files they name.
-#[derive(Drop)]
-pub struct GivenFiles<'r, 'g, 'w, R> {
-    pub rt: &'r R,
-    pub given: &'g ArgMatches<'w>,
-    names: TableNames,
-}
-
-// What the tables are called.
-#[derive(Drop)]
-struct TableNames {
-    customer: String,
-    supplier: String,
-    part: String,
-    date: String,
-    lineorder: String,
-}
-
-impl<'r, 'g, 'w, R: AllocGlobal> GivenFiles<'r, 'g, 'w, R> {
-    /// The files of a command. It can only fail when out of memory.
-    pub fn new(
-        rt: &'r R,
-        given: &'g ArgMatches<'w>,
-    ) -> Result<GivenFiles<'r, 'g, 'w, R>, AllocError> {
-        let names = TableNames {
-            customer: table_name(rt.alloc(), given, Table::Customer)?,
-            supplier: table_name(rt.alloc(), given, Table::Supplier)?,
-            part: table_name(rt.alloc(), given, Table::Part)?,
-            date: table_name(rt.alloc(), given, Table::Date)?,
-            lineorder: table_name(rt.alloc(), given, Table::Lineorder)?,
-        };
-        Ok(GivenFiles { rt, given, names })
-    }
-}
-
-impl<R: Files + AllocGlobal> TableFiles for GivenFiles<'_, '_, '_, R> {
-    type Reader = Joined<R::File>;
-
-    fn path(&self, table: Table) -> &str {
-        match table {
-            Table::Customer => self.names.customer.as_str(),
-            Table::Supplier => self.names.supplier.as_str(),
-            Table::Part => self.names.part.as_str(),
-            Table::Date => self.names.date.as_str(),
-            Table::Lineorder => self.names.lineorder.as_str(),
-        }
-    }
-
-    fn open(&self, table: Table) -> Option<Joined<R::File>> {
-        let loaded = loaded_paths(self.given).unwrap_or(&[]);
-        if loaded.is_empty() {
-            return one_again(self.rt, self.path(table));
-        }
-        if table != Table::Lineorder || count_inputs(loaded) > 0 {
-            return None;
-        }
-        all_again(self.rt, loaded)
-    }
-}
-
-// Opens a file once more, if it can be read again.
-fn one_again<R: Files + AllocGlobal>(rt: &R, path: &str) -> Option<Joined<R::File>> {
-    let mut files = Vec::new(rt.alloc());
-    files.push(open_again(rt, path)?).ok()?;
-    Some(Joined::new(files))
-}
-
-// Opens files once more, if each can be read again.
-fn all_again<R: Files + AllocGlobal>(rt: &R, paths: &[&str]) -> Option<Joined<R::File>> {
-    let mut files = Vec::new(rt.alloc());
-    for path in paths {
-        files.push(open_again(rt, path)?).ok()?;
-    }
-    Some(Joined::new(files))
-}
-
-impl<R: Files + AllocGlobal> GivenFiles<'_, '_, '_, R> {
-    /// The first file that cannot be opened or read, and what the system says.
-    pub fn unreadable(&self) -> Result<Option<String>, Fault> {
-        let loaded = loaded_paths(self.given).unwrap_or(&[]);
-        if loaded.is_empty() {
-            return self.unreadable_table();
-        }
-        for path in loaded {
-            if !is_standard_input(path) {
-                if let Some(said) = unreadable_file(self.rt, path)? {
-                    return Ok(Some(said));
-                }
-            }
-        }
-        if count_inputs(loaded) == 0 {
-            return Ok(None);
-        }
-        Ok(Some(format!(in self.rt.alloc(); "standard input: a read failed")?))
-    }
-
-    // The same of the tables of a command that loads none.
-    fn unreadable_table(&self) -> Result<Option<String>, Fault> {
-        for table in Table::ALL {
-            let path = self.path(table);
-            if !path.is_empty() {
-                if let Some(said) = unreadable_file(self.rt, path)? {
-                    return Ok(Some(said));
-                }
-            }
-        }
-        Ok(None)
-    }
-}
-
-/// Why a file cannot be opened or read, and its name.
-pub fn unreadable_file<R: Files + AllocGlobal>(
-    rt: &R,
-    path: &str,
-) -> Result<Option<String>, Fault> {
-    match first_error(rt, path) {
-        Some(error) => Ok(Some(format!(in rt.alloc(); "{path}: {error}")?)),
-        None => Ok(None),
     }
 }
 

@@ -1,26 +1,23 @@
 //! A job that a command has done to its warehouse.
 use crate::device::{self, Access, Device};
-use crate::exit::{DONE, NO_COMMAND, UNFINISHED};
-use crate::load::cut_of;
+use crate::exit::{DONE, NO_COMMAND};
 use crate::notes::note_report;
-use crate::output::{Output, cut_short, is_closed, output, unwritten};
+use crate::output::{Output, cut_short, output};
 use crate::plans::say_reads;
 use crate::refusal::{Met, Refusal, explained};
-use crate::repeated::StoredBatch;
 use crate::report::swapped;
 use crate::reports::{Reports, odd_format, reports_of, write_reports};
 use crate::saving::{begin, cut_off, finish, part_of, remove};
-use crate::space::{Room, note_room};
+use crate::space::Room;
 use crate::timing::{begin as begin_time, say_seconds};
 use crate::unfinished::note_unfinished;
 use clap::ArgMatches;
 use cube_model::Fault;
 use file_device::LockFile;
-use sector_device::Sectors;
 use ssb_eval::exit_of;
 use std::alloc::Global;
 use std::fs::OpenFile;
-use std::io::{self, Read};
+use std::io;
 use std::os::unix::fs::FileExt;
 use std::rt::{Clock, Files};
 use std::time::CpuClock;
@@ -167,72 +164,54 @@ pub fn unasked(alloc: Global, given: &ArgMatches<'_>, refusal: Refusal) -> Refus
     }
 }
 
-/// Opens the warehouse of a command, does a job to it, and gives the status of the program. A load for which it has no room is noted.
-pub fn perform_job<R: Files + AllocGlobal + Print + Eprint + Clock, L: Read + Drop>(
+/// Opens the warehouse of a command, does a job to it, and gives the status of the program.
+pub fn perform_job<R: Files + AllocGlobal + Print + Eprint + Clock>(
     rt: &R,
     given: &ArgMatches<'_>,
     access: Access,
     job: Job,
-    lineorder: L,
 ) -> Result<u8, Refusal>
 where
     R::File: FileExt + LockFile,
 {
     match device::open(rt, given, access) {
-        Ok(mut session) => done_with_notes(rt, given, &mut session, job, lineorder),
+        Ok(mut session) => done_with_notes(rt, given, &mut session, job),
         Err(met) => Err(explained(rt, given, met)),
     }
 }
 
-// Does a job to an open warehouse, with a note where a load has no room, and one where an upkeep is not finished.
-fn done_with_notes<R: Files + AllocGlobal + Print + Eprint + Clock, L: Read + Drop>(
+// Does a job to an open warehouse, with a note where an upkeep is not finished.
+fn done_with_notes<R: Files + AllocGlobal + Print + Eprint + Clock>(
     rt: &R,
     given: &ArgMatches<'_>,
     session: &mut Session<Device<'_, R, R::File>>,
     job: Job,
-    lineorder: L,
 ) -> Result<u8, Refusal>
 where
     R::File: FileExt + LockFile,
 {
-    note_room(rt, given, session);
-    let status = done_in(rt, given, session, job, lineorder)?;
+    let status = done_in(rt, given, session, job)?;
     note_unfinished(rt, given, session);
     Ok(status)
 }
 
 /// Does a job to an open warehouse, and gives the status of the program.
-pub fn done_in<R: Files + AllocGlobal + Print + Eprint + Clock, L: Read + Drop>(
+pub fn done_in<R: Files + AllocGlobal + Print + Eprint + Clock>(
     rt: &R,
     given: &ArgMatches<'_>,
     session: &mut Session<Device<'_, R, R::File>>,
     job: Job,
-    lineorder: L,
 ) -> Result<u8, Refusal>
 where
     R::File: FileExt + LockFile,
 {
     let mut out = output(rt)?;
-    done_to(rt, given, session, job, lineorder, &mut out)
+    let done = perform(rt.alloc(), session, job, io::empty(), &mut out);
+    ended(rt, given, session, done, &out)
 }
 
-// Does a job to an open warehouse, writes what it says, and gives the status of the program.
-fn done_to<R: Files + AllocGlobal + Print + Eprint + Clock, L: Read + Drop>(
-    rt: &R,
-    given: &ArgMatches<'_>,
-    session: &mut Session<Device<'_, R, R::File>>,
-    job: Job,
-    lineorder: L,
-    out: &mut Output<'_, R>,
-) -> Result<u8, Refusal>
-where
-    R::File: FileExt + LockFile,
-{
-    let done = perform(rt.alloc(), session, job, lineorder, out);
-    ended(rt, given, session, done, out)
-}
-
-/// The status of a job that was done, or its refusal. Standard output may have failed.
+/// The status of a job that was done, or its refusal. Standard output may have failed; a reader of it that closes early has read what it
+/// wants.
 pub fn ended<R: Files + AllocGlobal + Print + Eprint + Clock>(
     rt: &R,
     given: &ArgMatches<'_>,
@@ -245,44 +224,8 @@ where
 {
     match done {
         Ok(_) => Ok(exit_of(&done)),
-        Err(Fault::Output) => not_written(rt, given, out.failure()),
-        Err(fault) => {
-            let stored = stored_batch(given, session, out.flushes());
-            let met = met_in(rt.alloc(), fault, session);
-            Err(explained(rt, given, Met { stored, ..met }))
-        }
-    }
-}
-
-// The stored batch that has the number of the next batch of a load, after so many that were done.
-fn stored_batch<D: Sectors>(
-    given: &ArgMatches<'_>,
-    session: &Session<D>,
-    done: u32,
-) -> Option<StoredBatch> {
-    let number = cut_of(given)?.first.checked_add(done)?;
-    let rows = session.batch_rows(number)?;
-    Some(StoredBatch { number, rows })
-}
-
-// The status where standard output took no more, or the refusal of the write.
-fn not_written<R: AllocGlobal>(
-    rt: &R,
-    given: &ArgMatches<'_>,
-    failure: Option<io::Error>,
-) -> Result<u8, Refusal> {
-    if is_closed(failure) {
-        Ok(status_of_closed(given))
-    } else {
-        Err(unwritten(rt.alloc(), failure))
-    }
-}
-
-// A reader of a report that closes early has read what it wants.
-fn status_of_closed(given: &ArgMatches<'_>) -> u8 {
-    match cut_of(given) {
-        Some(_) => UNFINISHED,
-        None => DONE,
+        Err(Fault::Output) => cut_short(rt.alloc(), out.failure()),
+        Err(fault) => Err(explained(rt, given, met_in(rt.alloc(), fault, session))),
     }
 }
 

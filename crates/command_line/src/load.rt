@@ -1,32 +1,49 @@
 //! The command `load`.
-use crate::device::Access;
-use crate::exit::{DONE, NO_COMMAND};
-use crate::files::open_file;
-use crate::job::perform_job;
+use crate::device::{self, Access, Device};
+use crate::exit::{DONE, NO_COMMAND, UNFINISHED};
+use crate::files::{GivenFile, Reads, open_file, unread_among};
 use crate::joined::{Joined, Source};
+use crate::load_refusals::refused;
+use crate::output::{is_closed, output, unwritten};
 use crate::progress::{Progress, Tally, Wanted};
 use crate::refusal::{Met, Refusal, explained};
 use crate::screens::Screens;
+use crate::space::{note_room, rows_in_all};
 use crate::table_paths::{count_inputs, is_standard_input, loaded_paths};
 use crate::timing::say_summary;
+use crate::unfinished::note_unfinished;
 use clap::ArgMatches;
 use cube_model::Fault;
 use cube_model::limits::MOST_BATCH_ROWS;
 use file_device::LockFile;
+use std::alloc::{AllocError, Global};
 use std::cell::Cell;
 use std::fs;
+use std::io::{self, Read};
 use std::os::unix::fs::FileExt;
 use std::rt::{Clock, Files};
 use table_hints::Cut;
-use warehouse_jobs::{BatchNumber, BatchRows, Job};
+use warehouse::Session;
+use warehouse_jobs::{BatchNumber, BatchRows, LoadText};
 
 /// How a load cuts its files, if the command is one.
-pub fn cut_of(given: &ArgMatches<'_>) -> Option<Cut> {
+fn cut_of(given: &ArgMatches<'_>) -> Option<Cut> {
     let first = given.get_one::<u32>("first")?;
     let rows = given
         .get_one::<u32>("rows")
         .unwrap_or(MOST_BATCH_ROWS as u32);
     Some(Cut { first, rows })
+}
+
+/// What is to be loaded: how files are cut into batches, and how many rows they have together, about, where that is known. As a load
+/// reads them, the lines of each of several files are counted.
+#[derive(Drop)]
+pub struct LoadPlan {
+    pub cut: Cut,
+    pub rows: Option<u64>,
+    pub counts: Vec<Cell<u64>>,
+    first: BatchNumber,
+    size: BatchRows,
 }
 
 /// Loads the files of the command. Where the batches are printed to a terminal, they say themselves how far it is.
@@ -38,30 +55,170 @@ pub fn load<R: Files + AllocGlobal + Print + Eprint + Clock + Input>(
 where
     R::File: FileExt + LockFile,
 {
-    let Some(job) = job_of(given) else {
-        return Ok(NO_COMMAND);
-    };
     let paths = loaded_paths(given).unwrap_or(&[]);
     if count_inputs(paths) > 1 {
         return several_inputs(rt);
     }
+    match plan_of(rt, given, paths)? {
+        Some(plan) => load_files(rt, given, paths, &plan, screens),
+        None => Ok(NO_COMMAND),
+    }
+}
+
+fn plan_of<R: Files + AllocGlobal>(
+    rt: &R,
+    given: &ArgMatches<'_>,
+    paths: &[&str],
+) -> Result<Option<LoadPlan>, AllocError> {
+    let Some(cut) = cut_of(given) else {
+        return Ok(None);
+    };
+    let (Some(first), Some(size)) = (
+        BatchNumber::new(cut.first),
+        BatchRows::new(cut.rows as usize),
+    ) else {
+        return Ok(None);
+    };
+    Ok(Some(LoadPlan {
+        cut,
+        rows: rows_in_all(rt, paths),
+        counts: line_counts(rt.alloc(), paths.len())?,
+        first,
+        size,
+    }))
+}
+
+// A count of lines for each of several files. Of one file the lines are not counted.
+fn line_counts(alloc: Global, files: usize) -> Result<Vec<Cell<u64>>, AllocError> {
+    let mut counts = Vec::new(alloc);
+    if files > 1 {
+        for _ in 0..files {
+            counts.push(Cell::new(0))?;
+        }
+    }
+    Ok(counts)
+}
+
+// Opens files, and loads them. Where one cannot be opened or read, the refusal says what the system said of it.
+fn load_files<R: Files + AllocGlobal + Print + Eprint + Clock + Input>(
+    rt: &R,
+    given: &ArgMatches<'_>,
+    paths: &[&str],
+    plan: &LoadPlan,
+    screens: Screens,
+) -> Result<u8, Refusal>
+where
+    R::File: FileExt + LockFile,
+{
+    let reads = Reads::new(None);
+    let done = match open_each(rt, paths, &reads) {
+        Ok(sources) => load_sources(rt, given, plan, sources, screens),
+        Err(fault) => Err(Refusal::from(fault)),
+    };
+    match done {
+        Ok(status) => Ok(status),
+        Err(refusal) if refusal.fault == Fault::Input => {
+            Err(unread_among(rt.alloc(), paths, &reads))
+        }
+        Err(refusal) => Err(refusal),
+    }
+}
+
+// Loads files that were opened, and says how long it took where a person reads that.
+fn load_sources<R: Files + AllocGlobal + Print + Eprint + Clock, F: Read + Drop>(
+    rt: &R,
+    given: &ArgMatches<'_>,
+    plan: &LoadPlan,
+    sources: Vec<F>,
+    screens: Screens,
+) -> Result<u8, Refusal>
+where
+    R::File: FileExt + LockFile,
+{
     let shows = screens.errors && !given.get_flag("quiet");
     let wanted = Wanted {
         progress: shows && !screens.output,
         rows: shows,
     };
-    match open_each(rt, paths) {
-        Ok(sources) => {
-            let text = Joined::new(sources);
-            let tally = Cell::new(Tally::new(rt, byte_count(rt, paths), wanted));
-            let text = Progress::new(rt, text, &tally);
-            let status = perform_job(rt, given, Access::Commit, job, text)?;
-            if shows && status == DONE {
-                say_summary(rt, &tally.get());
-            }
-            Ok(status)
-        }
-        Err(fault) => Err(explained(rt, given, Met::from(fault))),
+    let length = byte_count(rt, loaded_paths(given).unwrap_or(&[])).unwrap_or(0);
+    let tally = Cell::new(Tally::new(rt, length, wanted));
+    let text = Joined::new(sources, plan.counts.as_slice());
+    let status = load_text(rt, given, plan, Progress::new(rt, text, &tally))?;
+    if shows && status == DONE {
+        say_summary(rt, &tally.get());
+    }
+    Ok(status)
+}
+
+// Loads a text into the warehouse of a command.
+fn load_text<R: Files + AllocGlobal + Print + Eprint + Clock, L: Read + Drop>(
+    rt: &R,
+    given: &ArgMatches<'_>,
+    plan: &LoadPlan,
+    text: L,
+) -> Result<u8, Refusal>
+where
+    R::File: FileExt + LockFile,
+{
+    match device::open(rt, given, Access::Commit) {
+        Ok(mut session) => load_into(rt, given, plan, &mut session, text),
+        Err(met) => Err(explained(rt, given, met)),
+    }
+}
+
+// Loads a text into an open warehouse, with a note where it has no room, and one where an upkeep is not finished.
+fn load_into<R: Files + AllocGlobal + Print + Eprint + Clock, L: Read + Drop>(
+    rt: &R,
+    given: &ArgMatches<'_>,
+    plan: &LoadPlan,
+    session: &mut Session<Device<'_, R, R::File>>,
+    text: L,
+) -> Result<u8, Refusal>
+where
+    R::File: FileExt + LockFile,
+{
+    if let Some(rows) = plan.rows {
+        note_room(rt, given, session, plan.cut, rows);
+    }
+    let status = load_batches(rt, given, plan, session, text)?;
+    note_unfinished(rt, given, session);
+    Ok(status)
+}
+
+// Loads a text into an open warehouse. A line that says how far it is goes with the text, before a note comes.
+fn load_batches<R: Files + AllocGlobal + Print + Eprint + Clock, L: Read + Drop>(
+    rt: &R,
+    given: &ArgMatches<'_>,
+    plan: &LoadPlan,
+    session: &mut Session<Device<'_, R, R::File>>,
+    text: L,
+) -> Result<u8, Refusal>
+where
+    R::File: FileExt + LockFile,
+{
+    let mut out = output(rt)?;
+    let mut text = LoadText::new(rt.alloc(), text)?;
+    let done = warehouse_jobs::load(
+        rt.alloc(),
+        session,
+        plan.first,
+        plan.size,
+        &mut text,
+        &mut out,
+    );
+    match done {
+        Ok(()) => Ok(DONE),
+        Err(Fault::Output) => not_written(rt.alloc(), out.failure()),
+        Err(fault) => Err(refused(rt, given, plan, session, &text, out.flushes(), fault)),
+    }
+}
+
+// The status where standard output took no more lines of batches, or the refusal of the write.
+fn not_written(alloc: Global, failure: Option<io::Error>) -> Result<u8, Refusal> {
+    if is_closed(failure) {
+        Ok(UNFINISHED)
+    } else {
+        Err(unwritten(alloc, failure))
     }
 }
 
@@ -77,37 +234,31 @@ pub fn several_inputs<R: Eprint>(rt: &R) -> Result<u8, Refusal> {
 }
 
 /// Opens files in order.
-pub fn open_each<R: Files + AllocGlobal + Input>(
+pub fn open_each<'k, R: Files + AllocGlobal + Input>(
     rt: &R,
     paths: &[&str],
-) -> Result<Vec<Source<R::File, R::Reader>>, Fault> {
+    reads: &'k Reads,
+) -> Result<Vec<GivenFile<'k, Source<R::File, R::Reader>>>, Fault> {
     let mut sources = Vec::new(rt.alloc());
-    for path in paths {
+    for (place, path) in paths.iter().enumerate() {
         let source = if is_standard_input(path) {
             Source::Input(rt.reader())
         } else {
-            Source::File(open_file(rt, path)?)
+            Source::File(open_file(rt, path, place, reads)?)
         };
-        sources.push(source)?;
+        sources.push(GivenFile::new(source, place, reads))?;
     }
     Ok(sources)
 }
 
-/// The bytes of some files together, and 0 where those of one are not known.
-pub fn byte_count<R: Files>(rt: &R, paths: &[&str]) -> u64 {
+/// The bytes of some files together, if each is a regular file.
+pub fn byte_count<R: Files>(rt: &R, paths: &[&str]) -> Option<u64> {
     let mut bytes = 0u64;
     for path in paths {
         match fs::metadata(rt, path) {
             Ok(metadata) if metadata.is_file() => bytes = bytes.saturating_add(metadata.len()),
-            _ => return 0,
+            _ => return None,
         }
     }
-    bytes
-}
-
-fn job_of(given: &ArgMatches<'_>) -> Option<Job> {
-    let cut = cut_of(given)?;
-    let first = BatchNumber::new(cut.first)?;
-    let rows = BatchRows::new(cut.rows as usize)?;
-    Some(Job::Load { first, rows })
+    Some(bytes)
 }

@@ -1,12 +1,12 @@
 //! The command `merge`.
 use crate::exit::DONE;
-use crate::files::unreadable_file;
+use crate::files::{Reads, unread_among};
 use crate::layout::{arrangement_of, bad_order, layout_of};
 use crate::load::{open_each, several_inputs};
 use crate::output::{cut_short, output};
 use crate::refusal::Refusal;
 use crate::saving::{begin, cut_off, finish, part_of, remove};
-use crate::table_paths::{count_inputs, is_standard_input};
+use crate::table_paths::count_inputs;
 use crate::unmerged::unmerged_hint;
 use clap::ArgMatches;
 use cube_model::{Answer, Fault};
@@ -48,12 +48,14 @@ fn merged_of<R: Files + AllocGlobal + Input>(
     paths: &[&str],
 ) -> Result<Merged, Refusal> {
     let alloc = rt.alloc();
-    let merge = match open_each(rt, paths) {
+    let reads = Reads::new(None);
+    let merge = match open_each(rt, paths, &reads) {
         Ok(readers) => match merge_readers(alloc, readers) {
             Ok(merge) => merge,
-            Err(unmerged) => return Err(refusal_of(rt, paths, unmerged)),
+            Err(unmerged) => return Err(refusal_of(alloc, paths, &reads, unmerged)),
         },
-        Err(fault) => return Err(unread(rt, paths, fault)),
+        Err(Fault::Input) => return Err(unread_among(alloc, paths, &reads)),
+        Err(fault) => return Err(Refusal::from(fault)),
     };
     if given.get_flag("partial") {
         return Ok(Merged::Parts(merge));
@@ -126,35 +128,15 @@ fn unsaved(alloc: Global, part: &str, fault: Fault, failure: Option<io::Error>) 
 }
 
 // The refusal of a file that was not merged.
-fn refusal_of<R: Files + AllocGlobal>(rt: &R, paths: &[&str], unmerged: Unmerged) -> Refusal {
+fn refusal_of(alloc: Global, paths: &[&str], reads: &Reads, unmerged: Unmerged) -> Refusal {
     let Unmerged { place, refused } = unmerged;
     match refused.fault() {
-        Fault::Input => unread(rt, paths, Fault::Input),
+        Fault::Input => unread_among(alloc, paths, reads),
         fault => Refusal {
             fault,
-            hint: unmerged_hint(rt.alloc(), paths, place, refused),
+            hint: unmerged_hint(alloc, paths, place, refused),
         },
     }
-}
-
-// The refusal of files of which one cannot be read, with what the system says of it.
-fn unread<R: Files + AllocGlobal>(rt: &R, paths: &[&str], fault: Fault) -> Refusal {
-    let hint = match fault {
-        Fault::Input => unreadable_among(rt, paths),
-        _ => None,
-    };
-    Refusal { fault, hint }
-}
-
-fn unreadable_among<R: Files + AllocGlobal>(rt: &R, paths: &[&str]) -> Option<String> {
-    for path in paths {
-        if !is_standard_input(path) {
-            if let Ok(Some(said)) = unreadable_file(rt, path) {
-                return Some(said);
-            }
-        }
-    }
-    None
 }
 
 // The refusal of parts that are not the whole, or have no such order.

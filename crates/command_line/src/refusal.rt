@@ -1,16 +1,12 @@
 //! A refusal, and what the program knows of it.
 use crate::device_hints::{device_hint, failure_hint};
-use crate::files::GivenFiles;
-use crate::load::cut_of;
-use crate::locating::located_hint;
-use crate::repeated::{StoredBatch, repeated_hint};
 use crate::space::{Room, room_hint};
 use clap::ArgMatches;
 use cube_model::Fault;
 use std::alloc::{AllocError, Global};
 use std::io;
 use std::rt::Files;
-use table_hints::table_hint;
+use table_hints::Needs;
 
 /// A fault, and a line in plain words after it where the program knows more.
 #[derive(Drop)]
@@ -47,8 +43,8 @@ pub struct Met {
     pub batches: Option<u32>,
     /// Its sectors, where it has too few that are free.
     pub room: Option<Room>,
-    /// The stored batch that a batch of a load is not, though it has its number.
-    pub stored: Option<StoredBatch>,
+    /// What a load needs.
+    pub needs: Option<Needs>,
     /// What the system said of the warehouse's file.
     pub failure: Option<io::Error>,
     /// How many sectors the warehouse was to be made with.
@@ -61,7 +57,7 @@ impl From<Fault> for Met {
             fault,
             batches: None,
             room: None,
-            stored: None,
+            needs: None,
             failure: None,
             sectors: None,
         }
@@ -85,19 +81,16 @@ fn hint_of<R: Files + AllocGlobal>(
     given: &ArgMatches<'_>,
     met: Met,
 ) -> Result<Option<String>, Fault> {
-    let files = GivenFiles::new(rt, given)?;
     match met.fault {
-        Fault::Input => files.unreadable(),
-        Fault::Repeated => repeated_hint(rt.alloc(), &files, met.stored),
         Fault::NoSuchPrefix => prefix_hint(rt.alloc(), given, met.batches),
         Fault::Device => failure_hint(rt, given, met.failure),
-        Fault::Full if met.room.is_some() => room_hint(rt, given, met.room, met.batches),
+        Fault::Full if met.room.is_some() => room_hint(rt.alloc(), given, met.room, met.needs),
         Fault::Full
         | Fault::NotFormatted
         | Fault::AlreadyFormatted
         | Fault::BadLayout
         | Fault::DeviceSize => device_hint(rt, given, met.fault, met.sectors),
-        _ => row_hint(rt.alloc(), &files, met),
+        _ => Ok(None),
     }
 }
 
@@ -116,15 +109,4 @@ fn prefix_hint(
     };
     let said = format!(in alloc; "--{option} {number}: batches in the warehouse: {batches}")?;
     Ok(Some(said))
-}
-
-fn row_hint<R: Files + AllocGlobal>(
-    alloc: Global,
-    files: &GivenFiles<'_, '_, '_, R>,
-    met: Met,
-) -> Result<Option<String>, Fault> {
-    match (cut_of(files.given), met.batches) {
-        (Some(cut), Some(batches)) => located_hint(alloc, files, met.fault, cut, batches),
-        _ => table_hint(alloc, files, met.fault),
-    }
 }

@@ -111,7 +111,7 @@ where
         "dump" => dump::dump(rt, given),
         "copy" => copy::copy(rt, given, screens),
         "check" => check::check(rt, given, screens),
-        "audit" => job::perform_job(rt, given, Access::Read, Job::Audit, io::empty()),
+        "audit" => job::perform_job(rt, given, Access::Read, Job::Audit),
         _ => Ok(NO_COMMAND),
     }
 }

@@ -1,7 +1,7 @@
 //! Whether a warehouse has room for what is to be stored.
 use crate::device::{Device, path_of};
-use crate::files::GivenFiles;
-use crate::load::{byte_count, cut_of};
+use crate::files::open_again;
+use crate::load::byte_count;
 use crate::table_paths::{loaded_paths, table_name};
 use clap::ArgMatches;
 use cube_model::limits::{MOST_BATCH_ROWS, MOST_BATCHES};
@@ -13,7 +13,7 @@ use std::alloc::Global;
 use std::io::Read;
 use std::os::unix::fs::FileExt;
 use std::rt::{Clock, Files};
-use table_hints::{Cut, Needs, Table, TableFiles, row_count};
+use table_hints::{Cut, Needs, Table, row_count};
 use warehouse::Session;
 use warehouse_root::limits::MOST_CELLS;
 
@@ -105,12 +105,14 @@ impl Room {
     }
 }
 
-/// Says on standard error where the free sectors are too few for the batches of a load that are not stored yet. The load goes on;
-/// standard output and the status stay as they are, also where standard error takes nothing.
+/// Says on standard error where the free sectors are too few for the batches of a load of so many rows, about, that are not stored yet.
+/// The load goes on; standard output and the status stay as they are, also where standard error takes nothing.
 pub fn note_room<R: Files + AllocGlobal + Eprint + Clock>(
     rt: &R,
     given: &ArgMatches<'_>,
     session: &Session<Device<'_, R, R::File>>,
+    cut: Cut,
+    rows: u64,
 )
 where
     R::File: FileExt + LockFile,
@@ -118,12 +120,10 @@ where
     let Ok(status) = session.status() else {
         return;
     };
-    let Some(needs) = needs_of(rt, given, status.batches) else {
-        return;
-    };
     let Ok(room) = Room::of(rt.alloc(), session) else {
         return;
     };
+    let needs = Needs::of(cut, rows, status.batches);
     if needs.whole > room.free() {
         say_lack(rt, given, needs, room);
     }
@@ -147,12 +147,18 @@ fn say_lack<R: AllocGlobal + Eprint>(rt: &R, given: &ArgMatches<'_>, needs: Need
     );
 }
 
-// What the load of a command needs, if it is one of files that can be read twice.
-fn needs_of<R: Files + AllocGlobal>(rt: &R, given: &ArgMatches<'_>, batches: u32) -> Option<Needs> {
-    let cut = cut_of(given)?;
-    let text = GivenFiles::new(rt, given).ok()?.open(Table::Lineorder)?;
-    let rows = rows_of(text, byte_count(rt, loaded_paths(given).unwrap_or(&[])))?;
-    Some(Needs::of(cut, rows, batches))
+/// How many rows the files of a load have together, about, if each is a regular file.
+pub fn rows_in_all<R: Files>(rt: &R, paths: &[&str]) -> Option<u64> {
+    let bytes = byte_count(rt, paths)?;
+    let mut beginning = [0; BEGINNING];
+    for path in paths {
+        let mut file = open_again(rt, path)?;
+        let count = file.read(&mut beginning).ok()?;
+        if count > 0 {
+            return Some(row_count(bytes, &beginning[..count]));
+        }
+    }
+    Some(0)
 }
 
 /// How many rows a text of so many bytes has, about, by its beginning. Nothing where it cannot be read.
@@ -163,25 +169,25 @@ pub fn rows_of<F: Read + Drop>(text: F, length: u64) -> Option<u64> {
     Some(row_count(length, &beginning[..count]))
 }
 
-/// What is known where no run of free sectors was long enough.
-pub fn room_hint<R: Files + AllocGlobal>(
-    rt: &R,
+/// What is known where no run of free sectors was long enough, with what a load needs.
+pub fn room_hint(
+    alloc: Global,
     given: &ArgMatches<'_>,
     room: Option<Room>,
-    batches: Option<u32>,
+    needs: Option<Needs>,
 ) -> Result<Option<String>, Fault> {
-    let (Some(room), Some(batches)) = (room, batches) else {
+    let Some(room) = room else {
         return Ok(None);
     };
     let path = path_of(given);
     let free = room.free();
-    let said = match needs_of(rt, given, batches) {
-        Some(needs) => format!(in rt.alloc();
+    let said = match needs {
+        Some(needs) => format!(in alloc;
             "{path}: no room for the next batch, which needs about {} sectors in a row; free sectors: {free}; create another warehouse with --sectors {}, and load all files into it",
             needs.batch,
             room.with(needs.whole)
         )?,
-        None => format!(in rt.alloc();
+        None => format!(in alloc;
             "{path}: no room for this change; free sectors: {free}; create a larger warehouse in another file, and load all files into it"
         )?,
     };

@@ -15,7 +15,6 @@ use record_formats::{Cell, Records};
 use report_formats::Format;
 use sector_device::Sectors;
 use std::alloc::{AllocError, Global};
-use std::io;
 use std::os::unix::fs::FileExt;
 use std::rt::{Clock, Files};
 use warehouse::{Session, Status};
@@ -34,7 +33,7 @@ where
 {
     let format = format_of(given);
     if format.is_none() && !given.get_flag("all") {
-        return perform_job(rt, given, Access::Read, Job::Status, io::empty());
+        return perform_job(rt, given, Access::Read, Job::Status);
     }
     match device::open(rt, given, Access::Read) {
         Ok(mut session) => match format {
@@ -55,7 +54,7 @@ where
     R::File: FileExt + LockFile,
 {
     let space = Space::of(rt.alloc(), session)?;
-    let status = done_in(rt, given, session, Job::Status, io::empty())?;
+    let status = done_in(rt, given, session, Job::Status)?;
     if status == DONE {
         print_space(rt, space)?;
     }

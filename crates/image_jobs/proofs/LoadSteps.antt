@@ -54,7 +54,7 @@ module _ {D : Type 0} (g : Ghosts D) (facts : Facts) (w : Warehouse) (first size
       (leaves_weaker _ (HoldsSome w first size text) (disk_of g opened) (disk_of g done) (λ k. then_some) load)
 
   -- the batches are those of their numbers then
-  held : {yes : Bool} → LoadHoldsItsBatches g → (load : jobs.Loads {A = Bool} g w first size (Some text) opened done before after (Ok yes)) → (place : ℕ) (rows : List LineOrder)
+  held : {yes : Bool} → LoadHoldsItsBatches Bool g → (load : jobs.Loads {A = Bool} g w first size (Some text) opened done before after (Ok yes)) → (place : ℕ) (rows : List LineOrder)
       → slice_get (jobs.batches_of load.trace) place ≡ Some rows → numbered (jobs.with_batches w first (jobs.batches_of load.trace)).batches (first + place) ≡ Some rows
   held {yes} law load place rows is = one_of (slice_get load.trace place) refl
     where
@@ -64,7 +64,7 @@ module _ {D : Type 0} (g : Ghosts D) (facts : Facts) (w : Warehouse) (first size
           law w first size (Some text) opened done before after (Ok yes) load place one some
           ∙ sym (slice_get-map (λ (one : jobs.Done g). one.rows) load.trace place ∙ ap (option_map (λ (one : jobs.Done g). one.rows)) some) ∙ is
 
-  pub loads_on : {yes : Bool} → LoadHoldsItsBatches g
+  pub loads_on : {yes : Bool} → LoadHoldsItsBatches Bool g
       → Leaves (disk g device) (disk_of g opened) (MayRepresentSince (disk g device) facts None)
       → jobs.Loads {A = Bool} g w first size (Some text) opened done before after (Ok yes)
       → LoadsOn g facts first size text device (device_of done)

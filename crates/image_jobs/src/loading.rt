@@ -74,7 +74,7 @@ fn load_on<D: Sectors + Drop>(
     ensures refused { IfErr result (λ fault. ((d : D) → D.keeps_word d) → (facts : Facts) → AllShow (disk D.Sectors device) (MayRepresent facts None)
         → LoadRefuses facts first rows lineorder.now fault) }
 {
-    load_holds_its_batches::<D>();
+    load_holds_its_batches::<D, bool>();
     let mut session = match open(alloc, device) {
         Ok(session) => session,
         Err((fault, _)) => return Err(named(fault)),

@@ -4,6 +4,7 @@ pub mod Partly
 pub mod Pieces
 pub mod ShortRows
 pub mod TableRows
-pub mod Tables
+pub mod TableSteps
 pub mod WholeText
 pub mod Taking
+pub mod KeptLines

@@ -8,9 +8,9 @@ use Rattle.cube_model.specs.declared.rows.DimRows.{DimRows}
 use Rattle.partial_reports.specs.declared.asked.PartAsked.{PartAsked}
 use Rattle.partial_reports.specs.Members.{member_cause}
 use Rattle.partial_reports.specs.Partial.{partial_text}
-use Rattle.ssb_eval.specs.Evaluation.{Gives, Texts, answer_of, dimensions_of}
+use Rattle.ssb_eval.specs.Evaluation.{Evaluates, Gives, Texts, answer_of, dimensions_of}
 use Rattle.ssb_eval.specs.Partial.{partial_of}
-use Rattle.ssb_eval.proofs.Tables.{gives-on, gives-stop}
+use Rattle.ssb_eval.proofs.TableSteps.{gives-on, gives-stop}
 
 abbrev text_if_plain : PartAsked → DimRows → Answer → Result (List ℕ) Fault
 text_if_plain asked dimensions found = unless (member_cause found) (Ok (partial_text asked dimensions found))
@@ -19,12 +19,12 @@ abbrev text_over : PartAsked → Texts → DimRows → Result (List ℕ) Fault
 text_over asked texts dimensions = and_then (answer_of asked.query dimensions texts.lineorder) (text_if_plain asked dimensions)
 
 -- the dimensions were refused
-pub partial-no_dims : (asked : PartAsked) (texts : Texts) (fault : Fault)
+partial-no_dims : (asked : PartAsked) (texts : Texts) (fault : Fault)
     → Gives (dimensions_of texts) (Err fault) → Gives (partial_of asked texts) (Err fault)
 partial-no_dims asked texts fault gives = gives-stop (dimensions_of texts) (text_over asked texts) fault (Err fault) (fault, refl, refl) gives
 
 -- the facts were refused
-pub partial-no_answer : (asked : PartAsked) (texts : Texts) (dimensions : DimRows) (fault : Fault)
+partial-no_answer : (asked : PartAsked) (texts : Texts) (dimensions : DimRows) (fault : Fault)
     → dimensions_of texts ≡ Ok dimensions → Gives (answer_of asked.query dimensions texts.lineorder) (Err fault) → Gives (partial_of asked texts) (Err fault)
 partial-no_answer asked texts dimensions fault is gives =
     gives-on (dimensions_of texts) (text_over asked texts) dimensions (Err fault) is
@@ -34,6 +34,12 @@ not_plain : (asked : PartAsked) (dimensions : DimRows) (found : Answer) (fault :
     → (fault ≡ Memory) ⊎ (member_cause found ≡ Some fault) → Gives (text_if_plain asked dimensions found) (Err fault)
 not_plain asked dimensions found fault (inl memory) = inl memory
 not_plain asked dimensions found fault (inr cause) = inr (inr (ap (λ one. unless one (Ok (partial_text asked dimensions found))) cause))
+
+-- the dimensions or the facts were refused
+pub partial-refused : (asked : PartAsked) (texts : Texts) (fault : Fault)
+    → Evaluates asked.query texts (Err fault) → Gives (partial_of asked texts) (Err fault)
+partial-refused asked texts fault (inl dims) = partial-no_dims asked texts fault dims
+partial-refused asked texts fault (inr (dimensions, is, facts)) = partial-no_answer asked texts dimensions fault is facts
 
 -- a member cannot be read back
 pub partial-not_plain : (asked : PartAsked) (texts : Texts) (dimensions : DimRows) (found : Answer) (fault : Fault)

@@ -1,5 +1,5 @@
 -- The rows of the four tables have short texts.
-use Rattle.std.proofs.Common.{◌≡◌, ◌∙◌, refl, ap, subst, sym, List, Result, Ok, Err}
+use Rattle.std.proofs.Common.{◌≡◌, refl, subst, List, Result, Ok, Err}
 use Rattle.batch_loader.specs.Lines.{lines_of}
 use Rattle.batch_loader.specs.Outcomes.{and_then}
 use Rattle.batch_loader.specs.Tables.{customer_row, supplier_row, part_row, date_row}

@@ -20,6 +20,7 @@ use Rattle.cube_query.specs.GroupLines.{answer_over}
 use Rattle.cube_query.specs.declared.finished.Groups.{Groups}
 use Rattle.report_formats.specs.declared.asked.Asked.{Asked}
 use Rattle.report_formats.specs.Fields.{formatted}
+use Rattle.ssb_eval.specs.declared.star.Evaluated.{Evaluated}
 use Rattle.ssb_reports.specs.Report.{report_of}
 use Rattle.ssb_reports.specs.Writing.{AppendsBeginning}
 
@@ -97,6 +98,13 @@ formatted_of asked texts = eval_as (formatted asked) asked.query texts
 abbrev pub Gives : {A : Type 0} → Result A Fault → Result A Fault → Type 0
 Gives outcome (Ok value) = outcome ≡ Ok value
 Gives outcome (Err fault) = (fault ≡ Memory) ⊎ ((fault ≡ Input) ⊎ (outcome ≡ Err fault))
+
+-- the dimensions and the groups of a query, which are those of texts, or the first refusal; or memory was refused, or a reader failed
+abbrev pub Evaluates : Query → Texts → Result Evaluated Fault → Type 0
+Evaluates query texts (Ok found) = (dimensions_of texts ≡ Ok found.dims) × (answer_of query found.dims texts.lineorder ≡ Ok (answer_over found.dims found.groups))
+Evaluates query texts (Err fault) =
+    Gives (dimensions_of texts) (Err fault)
+    ⊎ ((dimensions : DimRows) × (dimensions_of texts ≡ Ok dimensions) × Gives (answer_of query dimensions texts.lineorder) (Err fault))
 
 -- readers have the bytes of texts left
 pub record HaveTexts (customer supplier part date lineorder : Option (List ℕ)) (texts : Texts) : Type 0 where

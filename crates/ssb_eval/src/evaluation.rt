@@ -1,13 +1,11 @@
 //! A query over the texts of the five tables.
-ghost use Rattle.std.specs.Prelude.{◌≡◌, Ok, Err, IfOk};
+ghost use Rattle.std.specs.Prelude.{◌≡◌, Err};
 ghost use Rattle.std.specs.Io.KnownBytes.{Keeps};
 ghost use Rattle.cube_model.specs.Proper.{IsProper};
-ghost use Rattle.ssb_eval.specs.Evaluation.{HaveTexts, Reports, Texts, dimensions_of, eval_of};
+ghost use Rattle.ssb_eval.specs.Evaluation.{HaveTexts, Reports, Texts, eval_of};
 
-use crate::dimension_tables::read_dimensions;
-use crate::facts::group_facts;
+use crate::star::Tables;
 use cube_model::{Fault, Query};
-use dimensions::Dims;
 use ssb_reports::write_report;
 use std::alloc::Global;
 use std::io::{Read, Write};
@@ -42,44 +40,8 @@ pub fn eval_texts<
     // Any other query is refused before a text is read.
     ensures improper { (IsProper query.now → ⊥) → (result ≡ Err Fault.BadQuery) × Keeps (W.contents out.old) (W.contents out.new) }
 {
-    eval_keeping_dims(alloc, customer, supplier, part, date, lineorder, query, out)?;
-    Ok(())
-}
-
-/// Writes the report as `eval_texts` does, and returns the dimensions that the texts of customer, supplier, part and date spell.
-pub fn eval_keeping_dims<
-    C: Read + Drop,
-    S: Read + Drop,
-    P: Read + Drop,
-    D: Read + Drop,
-    L: Read + Drop,
-    W: Write,
->(
-    alloc: Global,
-    customer: C,
-    supplier: S,
-    part: P,
-    date: D,
-    lineorder: L,
-    query: &Query,
-    out: &mut W,
-) -> Result<Dims, Fault>
-    // Of a proper query the outcome is that of the texts.
-    ensures proper { IsProper query.now → (texts : Texts)
-        → HaveTexts (C.remaining customer) (S.remaining supplier) (P.remaining part) (D.remaining date) (L.remaining lineorder) texts
-        → Reports (W.contents out.old) (W.contents out.new) (eval_of query.now texts) result }
-
-    // The dimensions are those of the texts.
-    ensures dims { (texts : Texts)
-        → HaveTexts (C.remaining customer) (S.remaining supplier) (P.remaining part) (D.remaining date) (L.remaining lineorder) texts
-        → IfOk result (λ dims. dimensions_of texts ≡ Ok dims) }
-
-    // Any other query is refused before a text is read.
-    ensures improper { (IsProper query.now → ⊥) → (result ≡ Err Fault.BadQuery) × Keeps (W.contents out.old) (W.contents out.new) }
-{
     query.check()?;
-    let dims = read_dimensions(alloc, customer, supplier, part, date)?;
-    let groups = group_facts(alloc, &dims, query, lineorder)?;
-    write_report(query, &groups.over(&dims), out)?;
-    Ok(dims)
+    let mut tables = Tables::new(alloc, customer, supplier, part, date, lineorder)?;
+    let found = tables.evaluate(alloc, query)?;
+    write_report(query, &found.groups.over(&found.dims), out)
 }

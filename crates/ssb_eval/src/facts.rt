@@ -1,5 +1,6 @@
 //! The groups over the text of the fact table.
-ghost use Rattle.std.specs.Prelude.{◌≡◌, ◌+◌, ◌≤◌, ◌++◌, ℕ, List, Some, None, IfOk, IfErr, OnOk, length};
+ghost use Rattle.std.specs.Prelude.{◌≡◌, ◌+◌, ◌≤◌, ◌++◌, ℕ, List, None, IfOk, IfErr, IfSome, OnOk, length};
+ghost use Rattle.batch_loader.specs.Tables.{lineorder_row};
 ghost use Rattle.cube_model.specs.Proper.{IsProper};
 ghost use Rattle.cube_model.specs.declared.rows.LineOrder.{LineOrder};
 ghost use Rattle.cube_model.specs.Admission.{all_rows};
@@ -8,7 +9,9 @@ ghost use Rattle.cube_query.specs.GroupLines.{AreGroupsOver};
 ghost use Rattle.cube_query.specs.Groups.{Begins};
 ghost use Rattle.ssb_eval.specs.Evaluation.{Gives, answer_in, answer_of};
 ghost use Rattle.ssb_eval.specs.BatchLoop.{AreTaken, CanGoOn, FoldsFacts, IsDone, IsBegun, IsUnderWay, LooksAtNext, TakesNextBatch};
+ghost use Rattle.ssb_eval.specs.Tables.{IsInNoRow, IsUnread, KeepsLine};
 
+use crate::unknown::{UnknownKey, keep_unknown};
 use batch_admission::{Admission, Findings};
 use batch_loader::{Lines, read_batch_into};
 use cube_model::limits::MOST_BATCH_ROWS;
@@ -25,38 +28,25 @@ const PIECE_ROWS: usize = 4096;
 const BATCH_PIECES: usize = MOST_BATCH_ROWS / PIECE_ROWS;
 
 /// Reads the fact rows batch by batch, checks each batch, and folds it: the groups of the answer. Memory does not grow with
-/// the rows.
-pub fn group_facts<R: Read + Drop>(
-    alloc: Global,
-    dims: &Dims,
-    query: &Query,
-    lineorder: R,
-) -> Result<Groups, Fault>
-    requires proper { IsProper query.now }
-    ensures over { IfOk result (AreGroupsOver dims.now) }
-    ensures answer { (text : List ℕ) → R.remaining lineorder ≡ Some text
-        → Gives (answer_of query.now dims.now text) (answer_in dims.now result) }
-{
-    let mut lines = Lines::new(alloc, lineorder)?;
-    group_lines(alloc, dims, query, &mut lines)
-}
-
-/// The groups over all batches of lines of which none was read.
-fn group_lines<R: Read>(
+/// the rows. The key for which a batch is refused is kept.
+pub fn group_facts<R: Read>(
     alloc: Global,
     dims: &Dims,
     query: &Query,
     lines: &mut Lines<R>,
+    unknown: &mut Option<UnknownKey>,
 ) -> Result<Groups, Fault>
     requires proper { IsProper query.now }
-    requires number { lines.old.number ≡ 0 }
-    requires fault { lines.old.fault ≡ None }
     ensures over { IfOk result (AreGroupsOver dims.now) }
-    ensures answer { (text : List ℕ) → lines.old.left ≡ Some text
-        → Gives (answer_of query.now dims.now text) (answer_in dims.now result) }
+    ensures answer { (text : List ℕ) → IsUnread lines.old text → Gives (answer_of query.now dims.now text) (answer_in dims.now result) }
+    ensures unknown { IfSome unknown.old (IsInNoRow dims.now) → IfSome unknown.new (IsInNoRow dims.now) }
+    ensures line { lines.old.fault ≡ None → KeepsLine lineorder_row lines.new }
 {
+    if let Some(fault) = lines.fault() {
+        return Err(fault);
+    }
     let mut fold = Fold::new(alloc, dims, query)?;
-    fold_lines(alloc, dims, lines, &mut fold)?;
+    fold_lines(alloc, dims, lines, &mut fold, unknown)?;
     fold.into_groups(dims)
 }
 
@@ -66,16 +56,18 @@ fn fold_lines<R: Read>(
     dims: &Dims,
     lines: &mut Lines<R>,
     fold: &mut Fold,
+    unknown: &mut Option<UnknownKey>,
 ) -> Result<(), Fault>
     requires begins { Begins dims.now fold.old.query fold.old }
-    requires number { lines.old.number ≡ 0 }
     requires fault { lines.old.fault ≡ None }
     ensures folded { OnOk result (IsDone dims.now fold.old.query fold.new) }
-    ensures facts { (text : List ℕ) → lines.old.left ≡ Some text → FoldsFacts fold.old.query dims.now text fold.new result }
+    ensures facts { (text : List ℕ) → IsUnread lines.old text → FoldsFacts fold.old.query dims.now text fold.new result }
+    ensures unknown { IfSome unknown.old (IsInNoRow dims.now) → IfSome unknown.new (IsInNoRow dims.now) }
+    ensures line { KeepsLine lineorder_row lines.new }
 {
     let mut admission = Admission::new();
     loop {
-        let more = take_batch(alloc, dims, lines, &mut admission, fold)?;
+        let more = take_batch(alloc, dims, lines, &mut admission, fold, unknown)?;
         if !more {
             return Ok(());
         }
@@ -89,13 +81,16 @@ fn take_batch<R: Read>(
     lines: &mut Lines<R>,
     admission: &mut Admission,
     fold: &mut Fold,
+    unknown: &mut Option<UnknownKey>,
 ) -> Result<bool, Fault>
     requires goes_on { CanGoOn dims.now admission.old fold.old }
     requires fault { lines.old.fault ≡ None }
-    ensures { (batches : List (List LineOrder)) → AreTaken dims.now fold.old.query admission.old fold.old batches
+    ensures takes { (batches : List (List LineOrder)) → AreTaken dims.now fold.old.query admission.old fold.old batches
         → TakesNextBatch dims.now fold.old.query batches lines.old lines.new admission.new fold.new result }
+    ensures unknown { IfSome unknown.old (IsInNoRow dims.now) → IfSome unknown.new (IsInNoRow dims.now) }
+    ensures line { KeepsLine lineorder_row lines.new }
 {
-    let found = look_at_batch(alloc, dims, lines, admission, fold)?;
+    let found = look_at_batch(alloc, dims, lines, admission, fold, unknown)?;
     if found.row_count() == 0 {
         return Ok(false);
     }
@@ -112,17 +107,27 @@ fn look_at_batch<R: Read>(
     lines: &mut Lines<R>,
     admission: &Admission,
     fold: &mut Fold,
+    unknown: &mut Option<UnknownKey>,
 ) -> Result<Findings, Fault>
     requires goes_on { CanGoOn dims.now admission.now fold.old }
     requires fault { lines.old.fault ≡ None }
-    ensures { (batches : List (List LineOrder)) → AreTaken dims.now fold.old.query admission.now fold.old batches
+    ensures looks { (batches : List (List LineOrder)) → AreTaken dims.now fold.old.query admission.now fold.old batches
         → LooksAtNext dims.now fold.old.query (all_rows batches) lines.old lines.new fold.new result }
+    ensures unknown { IfSome unknown.old (IsInNoRow dims.now) → IfSome unknown.new (IsInNoRow dims.now) }
+    ensures line { KeepsLine lineorder_row lines.new }
 {
     let mut found = admission.findings();
     let mut rows = Items::new(alloc);
     for _ in 0..BATCH_PIECES {
         rows = read_batch_into(alloc, lines, PIECE_ROWS, rows)?;
         found = look_at_piece(dims, rows.as_slice(), found, fold)?;
+        keep_unknown(
+            dims,
+            found.cause(),
+            rows.as_slice(),
+            lines.number(),
+            unknown,
+        );
         if rows.len() < PIECE_ROWS {
             return Ok(found);
         }

@@ -2,17 +2,18 @@
 ghost use Rattle.std.specs.Prelude.{◌≡◌, Ok, Err, IfOk};
 ghost use Rattle.std.specs.Io.KnownBytes.{Keeps};
 ghost use Rattle.cube_model.specs.Proper.{IsProper};
-ghost use Rattle.ssb_eval.specs.Evaluation.{HaveTexts, Reports, Texts, dimensions_of, formatted_of};
+ghost use Rattle.ssb_eval.specs.Evaluation.{Reports, Texts, dimensions_of, formatted_of};
+ghost use Rattle.ssb_eval.specs.Tables.{IsFresh, IsUnreadStar, KeepsCause, KeepsUnknown};
 
-use crate::dimension_tables::read_dimensions;
-use crate::facts::group_facts;
+use crate::star::Tables;
 use cube_model::Fault;
 use dimensions::Dims;
 use report_formats::{Asked, write_formatted};
 use std::alloc::Global;
 use std::io::{Read, Write};
 
-/// Writes the report that is asked for as `eval_keeping_dims` writes one with bars, and returns the dimensions.
+/// Writes the report that is asked for as `eval_texts` writes one with bars, over tables of which nothing was read yet, and returns the
+/// dimensions.
 pub fn eval_formatted<
     C: Read + Drop,
     S: Read + Drop,
@@ -22,30 +23,26 @@ pub fn eval_formatted<
     W: Write,
 >(
     alloc: Global,
-    customer: C,
-    supplier: S,
-    part: P,
-    date: D,
-    lineorder: L,
+    tables: &mut Tables<C, S, P, D, L>,
     asked: &Asked,
     out: &mut W,
 ) -> Result<Dims, Fault>
     // Of a proper query the outcome is that of the texts.
-    ensures proper { IsProper asked.now.query → (texts : Texts)
-        → HaveTexts (C.remaining customer) (S.remaining supplier) (P.remaining part) (D.remaining date) (L.remaining lineorder) texts
+    ensures proper { IsProper asked.now.query → (texts : Texts) → IsUnreadStar tables.old texts
         → Reports (W.contents out.old) (W.contents out.new) (formatted_of asked.now texts) result }
 
     // The dimensions are those of the texts.
-    ensures dims { (texts : Texts)
-        → HaveTexts (C.remaining customer) (S.remaining supplier) (P.remaining part) (D.remaining date) (L.remaining lineorder) texts
-        → IfOk result (λ dims. dimensions_of texts ≡ Ok dims) }
+    ensures dims { (texts : Texts) → IsUnreadStar tables.old texts → IfOk result (λ dims. dimensions_of texts ≡ Ok dims) }
 
     // Any other query is refused before a text is read.
     ensures improper { (IsProper asked.now.query → ⊥) → (result ≡ Err Fault.BadQuery) × Keeps (W.contents out.old) (W.contents out.new) }
+
+    // After a refusal the tables have what was refused.
+    ensures cause { IsFresh tables.old → KeepsCause tables.new result }
+    ensures unknown { (texts : Texts) → IsUnreadStar tables.old texts → KeepsUnknown texts tables.new }
 {
     asked.query.check()?;
-    let dims = read_dimensions(alloc, customer, supplier, part, date)?;
-    let groups = group_facts(alloc, &dims, &asked.query, lineorder)?;
-    write_formatted(alloc, asked, &groups.over(&dims), out)?;
-    Ok(dims)
+    let found = tables.evaluate(alloc, &asked.query)?;
+    write_formatted(alloc, asked, &found.groups.over(&found.dims), out)?;
+    Ok(found.dims)
 }

@@ -2,19 +2,19 @@
 ghost use Rattle.std.specs.Prelude.{◌≡◌, Ok, Err, IfOk};
 ghost use Rattle.std.specs.Io.KnownBytes.{Keeps};
 ghost use Rattle.cube_model.specs.Proper.{IsProper};
-ghost use Rattle.ssb_eval.specs.Evaluation.{HaveTexts, Reports, Texts, dimensions_of};
+ghost use Rattle.ssb_eval.specs.Evaluation.{Reports, Texts, dimensions_of};
 ghost use Rattle.ssb_eval.specs.Partial.{partial_of};
+ghost use Rattle.ssb_eval.specs.Tables.{IsFresh, IsUnreadStar, KeepsCause, KeepsUnknown};
 
-use crate::dimension_tables::read_dimensions;
-use crate::facts::group_facts;
+use crate::star::Tables;
 use cube_model::Fault;
 use dimensions::Dims;
 use partial_reports::{PartAsked, begin_partial, write_partial};
 use std::alloc::Global;
 use std::io::{Read, Write};
 
-/// Writes the partial report that is asked for as `eval_keeping_dims` writes a whole one, and returns the dimensions. `BadLayout`
-/// comes last, where a member has a bar or a line feed or is the text ALL, and then nothing is written.
+/// Writes the partial report that is asked for as `eval_formatted` writes a whole one, and returns the dimensions. `BadLayout` comes
+/// last, where a member has a bar or a line feed or is the text ALL, and then nothing is written.
 pub fn eval_partial<
     C: Read + Drop,
     S: Read + Drop,
@@ -24,31 +24,27 @@ pub fn eval_partial<
     W: Write,
 >(
     alloc: Global,
-    customer: C,
-    supplier: S,
-    part: P,
-    date: D,
-    lineorder: L,
+    tables: &mut Tables<C, S, P, D, L>,
     asked: &PartAsked,
     out: &mut W,
 ) -> Result<Dims, Fault>
     // Of a proper query the outcome is that of the texts.
-    ensures proper { IsProper asked.now.query → (texts : Texts)
-        → HaveTexts (C.remaining customer) (S.remaining supplier) (P.remaining part) (D.remaining date) (L.remaining lineorder) texts
+    ensures proper { IsProper asked.now.query → (texts : Texts) → IsUnreadStar tables.old texts
         → Reports (W.contents out.old) (W.contents out.new) (partial_of asked.now texts) result }
 
     // The dimensions are those of the texts.
-    ensures dims { (texts : Texts)
-        → HaveTexts (C.remaining customer) (S.remaining supplier) (P.remaining part) (D.remaining date) (L.remaining lineorder) texts
-        → IfOk result (λ dims. dimensions_of texts ≡ Ok dims) }
+    ensures dims { (texts : Texts) → IsUnreadStar tables.old texts → IfOk result (λ dims. dimensions_of texts ≡ Ok dims) }
 
     // Any other query is refused before a text is read.
     ensures improper { (IsProper asked.now.query → ⊥) → (result ≡ Err Fault.BadQuery) × Keeps (W.contents out.old) (W.contents out.new) }
+
+    // After a refusal the tables have what was refused.
+    ensures cause { IsFresh tables.old → KeepsCause tables.new result }
+    ensures unknown { (texts : Texts) → IsUnreadStar tables.old texts → KeepsUnknown texts tables.new }
 {
     asked.query.check()?;
-    let dims = read_dimensions(alloc, customer, supplier, part, date)?;
-    let groups = group_facts(alloc, &dims, &asked.query, lineorder)?;
-    let head = begin_partial(alloc, asked, &dims, &groups.over(&dims))?;
-    write_partial(asked, head.as_slice(), &groups.over(&dims), out)?;
-    Ok(dims)
+    let found = tables.evaluate(alloc, &asked.query)?;
+    let head = begin_partial(alloc, asked, &found.dims, &found.groups.over(&found.dims))?;
+    write_partial(asked, head.as_slice(), &found.groups.over(&found.dims), out)?;
+    Ok(found.dims)
 }

@@ -18,10 +18,3 @@ table_of customers = Customer
 table_of suppliers = Supplier
 table_of parts = Part
 table_of dates = Date
-
--- the field of a fact line, from 1, that has the key of a dimension
-abbrev pub key_field : Axis → ℕ
-key_field customers = 3
-key_field suppliers = 5
-key_field parts = 4
-key_field dates = 6

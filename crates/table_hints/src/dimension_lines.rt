@@ -1,312 +1,284 @@
 //! A dimension row that breaks a rule of its table.
-use crate::facts::keys;
-use crate::files::{Table, TableFiles};
-use crate::lines::{field, line_of};
 use crate::quoted::Quoted;
-use batch_loader::Lines;
-use cube_model::{Attr, Axis, Fault};
+use crate::refusals::row_limits;
+use cube_model::{Attr, Axis, DimRows, Fault};
 use dimensions::Dims;
 use std::alloc::Global;
 use std::fmt;
-use std::io::Read;
 
-/// Two levels of a dimension: the fields of the lower and the upper member, with their names.
-#[derive(Clone, Copy)]
-struct Step {
-    lower: u8,
-    upper: u8,
-    lower_name: &'static str,
-    upper_name: &'static str,
+/// The rule that dimension rows break, as one line without its end: of which line, and what is wrong there. The rows are those of the
+/// file of the fault's dimension, of which the name is given, and come after those of a warehouse, if there is one. Nothing where the
+/// fault is none of such rows. It fails only when out of memory.
+pub fn rows_hint(
+    alloc: Global,
+    path: &str,
+    rows: &DimRows,
+    stored: Option<&Dims>,
+    fault: Fault,
+) -> Result<Option<String>, Fault> {
+    match fault {
+        Fault::DuplicateKey { axis, row } => key_hint(alloc, path, rows, axis, row),
+        Fault::HierarchyBroken { axis, row } => upper_hint(alloc, path, rows, stored, axis, row),
+        Fault::ReservedMember { row, .. } => reserved(alloc, path, row),
+        Fault::TooManyMembers { row, .. } => crowded(alloc, path, row),
+        Fault::TooManyRows if stored.is_some() => {
+            row_limits(alloc, "with the rows of the warehouse, ")
+        }
+        Fault::TooManyRows => row_limits(alloc, ""),
+        _ => Ok(None),
+    }
 }
 
-static PLACES: [Step; 2] = [
+fn reserved(alloc: Global, path: &str, row: u32) -> Result<Option<String>, Fault> {
+    let said = format!(in alloc;
+        "{path} line {row}: the text ALL is reserved: it means every member"
+    )?;
+    Ok(Some(said))
+}
+
+fn crowded(alloc: Global, path: &str, row: u32) -> Result<Option<String>, Fault> {
+    let said = format!(in alloc;
+        "{path} line {row}: the 65536th member of a column, and there may be 65535"
+    )?;
+    Ok(Some(said))
+}
+
+// Where the key of a row occurs before: in an earlier row, or else in the warehouse.
+fn key_hint(
+    alloc: Global,
+    path: &str,
+    rows: &DimRows,
+    axis: Axis,
+    row: u32,
+) -> Result<Option<String>, Fault> {
+    let place = (row as usize).saturating_sub(1);
+    let Some(key) = key_at(rows, axis, place) else {
+        return Ok(None);
+    };
+    let first = (0..place).find(|other| key_at(rows, axis, *other) == Some(key));
+    let said = match first {
+        Some(first) => format!(in alloc;
+            "{path} line {row}: duplicate {axis} key {key}, first in line {}",
+            first.saturating_add(1)
+        )?,
+        None => format!(in alloc;
+            "{path} line {row}: the warehouse has a {axis} row with the key {key} already"
+        )?,
+    };
+    Ok(Some(said))
+}
+
+// The key of a row of a dimension by its place from 0.
+fn key_at(rows: &DimRows, axis: Axis, place: usize) -> Option<u32> {
+    match axis {
+        Axis::Customer => Some(rows.customers.as_slice().get(place)?.key),
+        Axis::Supplier => Some(rows.suppliers.as_slice().get(place)?.key),
+        Axis::Part => Some(rows.parts.as_slice().get(place)?.key),
+        Axis::Date => Some(rows.dates.as_slice().get(place)?.key),
+    }
+}
+
+/// Two levels of a dimension, the lower and the upper one.
+#[derive(Clone, Copy)]
+struct Step {
+    lower: Attr,
+    upper: Attr,
+}
+
+static CUSTOMERS: [Step; 2] = [
     Step {
-        lower: 4,
-        upper: 5,
-        lower_name: "city",
-        upper_name: "nation",
+        lower: Attr::CustomerCity,
+        upper: Attr::CustomerNation,
     },
     Step {
-        lower: 5,
-        upper: 6,
-        lower_name: "nation",
-        upper_name: "region",
+        lower: Attr::CustomerNation,
+        upper: Attr::CustomerRegion,
+    },
+];
+
+static SUPPLIERS: [Step; 2] = [
+    Step {
+        lower: Attr::SupplierCity,
+        upper: Attr::SupplierNation,
+    },
+    Step {
+        lower: Attr::SupplierNation,
+        upper: Attr::SupplierRegion,
     },
 ];
 
 static PRODUCTS: [Step; 2] = [
     Step {
-        lower: 5,
-        upper: 4,
-        lower_name: "brand1",
-        upper_name: "category",
+        lower: Attr::PartBrand1,
+        upper: Attr::PartCategory,
     },
     Step {
-        lower: 4,
-        upper: 3,
-        lower_name: "category",
-        upper_name: "mfgr",
+        lower: Attr::PartCategory,
+        upper: Attr::PartMfgr,
     },
 ];
 
 static DAYS: [Step; 2] = [
     Step {
-        lower: 6,
-        upper: 5,
-        lower_name: "yearmonthnum",
-        upper_name: "year",
+        lower: Attr::DateYearmonthnum,
+        upper: Attr::DateYear,
     },
     Step {
-        lower: 6,
-        upper: 7,
-        lower_name: "yearmonthnum",
-        upper_name: "yearmonth",
+        lower: Attr::DateYearmonthnum,
+        upper: Attr::DateYearmonth,
     },
 ];
 
 fn steps(axis: Axis) -> &'static [Step; 2] {
     match axis {
-        Axis::Customer | Axis::Supplier => &PLACES,
+        Axis::Customer => &CUSTOMERS,
+        Axis::Supplier => &SUPPLIERS,
         Axis::Part => &PRODUCTS,
         Axis::Date => &DAYS,
     }
 }
 
-// The attributes of the lower and the upper member of each of these steps.
-fn attributes(axis: Axis) -> [(Attr, Attr); 2] {
-    match axis {
-        Axis::Customer => [
-            (Attr::CustomerCity, Attr::CustomerNation),
-            (Attr::CustomerNation, Attr::CustomerRegion),
-        ],
-        Axis::Supplier => [
-            (Attr::SupplierCity, Attr::SupplierNation),
-            (Attr::SupplierNation, Attr::SupplierRegion),
-        ],
-        Axis::Part => [
-            (Attr::PartBrand1, Attr::PartCategory),
-            (Attr::PartCategory, Attr::PartMfgr),
-        ],
-        Axis::Date => [
-            (Attr::DateYearmonthnum, Attr::DateYear),
-            (Attr::DateYearmonthnum, Attr::DateYearmonth),
-        ],
-    }
-}
-
-/// Where the key of a row occurred before.
-pub fn key_hint<T: TableFiles>(
+// Which member of a row has another upper member before it, and both: in an earlier row, or else in the warehouse.
+fn upper_hint(
     alloc: Global,
-    files: &T,
-    axis: Axis,
-    row: u32,
-) -> Result<Option<String>, Fault> {
-    let table = Table::of(axis);
-    let Some(keys) = keys(alloc, files, table)? else {
-        return Ok(None);
-    };
-    let Some((key, first)) = first_with_key_of(keys.as_slice(), row) else {
-        return Ok(None);
-    };
-    let path = files.path(table);
-    let said = format!(in alloc;
-        "{path} line {row}: duplicate {axis} key {key}, first in line {}",
-        first.saturating_add(1)
-    )?;
-    Ok(Some(said))
-}
-
-/// Where the key of a row that is added occurred before: in an earlier line, or else in the warehouse.
-pub fn added_key_hint<T: TableFiles>(
-    alloc: Global,
-    files: &T,
-    axis: Axis,
-    row: u32,
-) -> Result<Option<String>, Fault> {
-    let table = Table::of(axis);
-    let Some(keys) = keys(alloc, files, table)? else {
-        return Ok(None);
-    };
-    match first_with_key_of(keys.as_slice(), row) {
-        None => Ok(None),
-        Some((key, first)) if first.saturating_add(1) == row as usize => {
-            Ok(Some(stored_key(alloc, files.path(table), axis, row, key)?))
-        }
-        Some(_) => key_hint(alloc, files, axis, row),
-    }
-}
-
-// What is said of a key that the warehouse has.
-fn stored_key(alloc: Global, path: &str, axis: Axis, row: u32, key: u64) -> Result<String, Fault> {
-    let said = format!(in alloc;
-        "{path} line {row}: the warehouse has a {axis} row with the key {key} already"
-    )?;
-    Ok(said)
-}
-
-// The key of a row, and the first place that has it, from 0.
-fn first_with_key_of(keys: &[u64], row: u32) -> Option<(u64, usize)> {
-    let key = keys.get((row as usize).saturating_sub(1))?;
-    let first = keys.iter().position(|other| other == key)?;
-    Some((*key, first))
-}
-
-/// Which member of a row has another upper member in an earlier row, and both.
-pub fn upper_hint<T: TableFiles>(
-    alloc: Global,
-    files: &T,
-    axis: Axis,
-    row: u32,
-) -> Result<Option<String>, Fault> {
-    let table = Table::of(axis);
-    let Some(line) = line_of(alloc, files, table, u64::from(row))? else {
-        return Ok(None);
-    };
-    for step in steps(axis) {
-        let Some(reader) = files.open(table) else {
-            return Ok(None);
-        };
-        let path = files.path(table);
-        let found = step_hint(alloc, reader, path, line.as_slice(), step, row)?;
-        if found.is_some() {
-            return Ok(found);
-        }
-    }
-    Ok(None)
-}
-
-// The same of one step, by the lines of a reader.
-fn step_hint<R: Read + Drop>(
-    alloc: Global,
-    reader: R,
     path: &str,
-    line: &[u8],
-    step: &Step,
-    row: u32,
-) -> Result<Option<String>, Fault> {
-    let mut lines = Lines::new(alloc, reader)?;
-    match earlier_upper(alloc, &mut lines, line, step, row)? {
-        None => Ok(None),
-        Some((at, other)) => {
-            let place = Earlier::Line(at);
-            broken(alloc, path, step, line, row, place, other.as_slice())
-        }
-    }
-}
-
-/// Which member of a row that is added has another upper member before it, and both: in an earlier line, or else in the warehouse.
-pub fn added_upper_hint<T: TableFiles>(
-    alloc: Global,
-    files: &T,
-    dims: &Dims,
+    rows: &DimRows,
+    stored: Option<&Dims>,
     axis: Axis,
     row: u32,
 ) -> Result<Option<String>, Fault> {
-    let earlier = upper_hint(alloc, files, axis, row)?;
-    if earlier.is_some() {
-        return Ok(earlier);
+    let place = (row as usize).saturating_sub(1);
+    for step in steps(axis) {
+        if let Some(link) = link_at(rows, step, place) {
+            for earlier in 0..place {
+                if let Some(other) = other_upper(rows, step, earlier, &link) {
+                    return broken(alloc, path, row, &link, Earlier::Row(earlier), other);
+                }
+            }
+        }
     }
-    let table = Table::of(axis);
-    match line_of(alloc, files, table, u64::from(row))? {
+    match stored {
+        Some(dims) => stored_hint(alloc, path, rows, dims, axis, row),
         None => Ok(None),
-        Some(line) => stored_hint(alloc, files.path(table), dims, axis, line.as_slice(), row),
     }
 }
 
-// Which member of a line has another upper member in the warehouse, and both.
+// Which member of a row has another upper member in the warehouse, and both.
 fn stored_hint(
     alloc: Global,
     path: &str,
+    rows: &DimRows,
     dims: &Dims,
     axis: Axis,
-    line: &[u8],
     row: u32,
 ) -> Result<Option<String>, Fault> {
-    let attributes = attributes(axis);
-    for place in 0..2 {
-        let step = &steps(axis)[place];
-        if let Some(other) = stored_upper(dims, axis, attributes[place], line, step) {
-            return broken(alloc, path, step, line, row, Earlier::Warehouse, other);
+    let place = (row as usize).saturating_sub(1);
+    for step in steps(axis) {
+        if let Some(link) = link_at(rows, step, place) {
+            if let Some(other) = stored_upper(dims, axis, step, &link) {
+                return broken(alloc, path, row, &link, Earlier::Warehouse, other);
+            }
         }
     }
     Ok(None)
 }
 
-// The upper member in the warehouse of the lower member of a line, where that is another one than in the line.
-fn stored_upper<'d>(
-    dims: &'d Dims,
-    axis: Axis,
-    attributes: (Attr, Attr),
-    line: &[u8],
+// A member and its upper member.
+#[derive(Clone, Copy)]
+struct Link<'a> {
+    lower: Member<'a>,
+    upper: Member<'a>,
+}
+
+// The members of a row of the two levels of a step.
+fn link_at<'a>(rows: &'a DimRows, step: &Step, place: usize) -> Option<Link<'a>> {
+    Some(Link {
+        lower: member_at(rows, step.lower, place)?,
+        upper: member_at(rows, step.upper, place)?,
+    })
+}
+
+// The upper member in another row of a lower member, where that is another one.
+fn other_upper<'a>(
+    rows: &'a DimRows,
     step: &Step,
-) -> Option<&'d [u8]> {
-    let lower = field(line, step.lower);
-    let upper = field(line, step.upper);
+    place: usize,
+    link: &Link<'_>,
+) -> Option<&'a [u8]> {
+    let other = link_at(rows, step, place)?;
+    let differs = *other.lower.text == *link.lower.text && *other.upper.text != *link.upper.text;
+    differs.then_some(other.upper.text)
+}
+
+// The upper member in the warehouse of a lower member, where that is another one.
+fn stored_upper<'d>(dims: &'d Dims, axis: Axis, step: &Step, link: &Link<'_>) -> Option<&'d [u8]> {
     for key in dims.keys(axis) {
-        let own = dims.attribute(axis, *key, attributes.0)?;
-        let other = dims.attribute(axis, *key, attributes.1)?;
-        if *own == *lower && *other != *upper {
+        let own = dims.attribute(axis, *key, step.lower)?;
+        let other = dims.attribute(axis, *key, step.upper)?;
+        if *own == *link.lower.text && *other != *link.upper.text {
             return Some(other);
         }
     }
     None
 }
 
-// The first earlier line that has the same lower member under another upper one, and that one.
-fn earlier_upper<R: Read>(
-    alloc: Global,
-    lines: &mut Lines<R>,
-    line: &[u8],
-    step: &Step,
-    row: u32,
-) -> Result<Option<(u64, Vec<u8>)>, Fault> {
-    for at in 1..u64::from(row) {
-        let Some(earlier) = lines.next()? else {
-            return Ok(None);
-        };
-        let upper = field(earlier, step.upper);
-        if field(earlier, step.lower) == field(line, step.lower)
-            && upper != field(line, step.upper)
-        {
-            return Ok(Some((at, Vec::from_slice(alloc, upper)?)));
-        }
+// The member of a row at the level of an attribute, if the row is there and its table has the level.
+fn member_at(rows: &DimRows, attr: Attr, place: usize) -> Option<Member<'_>> {
+    let text = match attr {
+        Attr::CustomerCity => &rows.customers.as_slice().get(place)?.city,
+        Attr::CustomerNation => &rows.customers.as_slice().get(place)?.nation,
+        Attr::CustomerRegion => &rows.customers.as_slice().get(place)?.region,
+        Attr::SupplierCity => &rows.suppliers.as_slice().get(place)?.city,
+        Attr::SupplierNation => &rows.suppliers.as_slice().get(place)?.nation,
+        Attr::SupplierRegion => &rows.suppliers.as_slice().get(place)?.region,
+        Attr::PartBrand1 => &rows.parts.as_slice().get(place)?.brand1,
+        Attr::PartCategory => &rows.parts.as_slice().get(place)?.category,
+        Attr::PartMfgr => &rows.parts.as_slice().get(place)?.mfgr,
+        Attr::DateYearmonthnum => &rows.dates.as_slice().get(place)?.yearmonthnum,
+        Attr::DateYear => &rows.dates.as_slice().get(place)?.year,
+        Attr::DateYearmonth => &rows.dates.as_slice().get(place)?.yearmonth,
+        Attr::DateKey | Attr::DateWeeknuminyear => return None,
+    };
+    Some(Member {
+        level: level_of(attr),
+        text: text.as_slice(),
+    })
+}
+
+// The column of an attribute in its table.
+fn level_of(attr: Attr) -> &'static str {
+    let name = attr.name();
+    match name.split_once('_') {
+        Some((_, level)) => level,
+        None => name,
     }
-    Ok(None)
 }
 
 fn broken(
     alloc: Global,
     path: &str,
-    step: &Step,
-    line: &[u8],
     row: u32,
+    link: &Link<'_>,
     place: Earlier,
     other: &[u8],
 ) -> Result<Option<String>, Fault> {
-    let lower = Member {
-        level: step.lower_name,
-        text: field(line, step.lower),
-    };
-    let upper = Member {
-        level: step.upper_name,
-        text: field(line, step.upper),
-    };
+    let Link { lower, upper } = *link;
     let other = Quoted(other);
     let said = format!(in alloc; "{path} line {row}: {lower} has {upper}, and {other} in {place}")?;
     Ok(Some(said))
 }
 
-// Where a lower member has another upper member.
+// Where a lower member has another upper member: in the row at a place from 0, or in the warehouse.
 #[derive(Clone, Copy)]
 enum Earlier {
-    Line(u64),
+    Row(usize),
     Warehouse,
 }
 
 impl fmt::Display for Earlier {
     fn fmt<W: fmt::Write>(&self, f: &mut fmt::Formatter<W>) -> fmt::Result {
         match self {
-            Earlier::Line(at) => write!(f, "line {at}"),
+            Earlier::Row(place) => write!(f, "line {}", place.saturating_add(1)),
             Earlier::Warehouse => write!(f, "the warehouse"),
         }
     }

@@ -1,9 +1,8 @@
-//! The files of the tables.
+//! The tables by name.
 ghost use Rattle.std.specs.Prelude.{◌≡◌};
 ghost use Rattle.table_hints.specs.Tables.{table_name, table_of};
 
 use cube_model::Axis;
-use std::io::Read;
 
 /// One of the five tables.
 #[derive(Clone, Copy, Debug, PartialEq, Eq)]
@@ -49,15 +48,4 @@ impl Table {
             Axis::Date => Table::Date,
         }
     }
-}
-
-/// Files that can be read once more.
-pub trait TableFiles {
-    type Reader: Read + Drop;
-
-    /// What a table's file is called.
-    fn path(&self, table: Table) -> &str;
-
-    /// A table's file from its beginning, or nothing where it cannot be read again, as a pipe.
-    fn open(&self, table: Table) -> Option<Self::Reader>;
 }

@@ -1,11 +1,9 @@
-//! The cause of a refusal of the five tables: which file, which line of it, and which text or key.
+//! The cause of a refusal of the five tables: which line of which file, and which text or key, from what was kept of it.
 #![tactic(auto)]
 
-mod additions;
 mod beginnings;
 mod columns;
 mod dimension_lines;
-mod facts;
 mod files;
 mod lines;
 mod loads;
@@ -14,8 +12,9 @@ mod quoted;
 mod refusals;
 mod text_lines;
 
-pub use additions::addition_hint;
-pub use files::{Table, TableFiles};
-pub use loads::{Cut, load_hint};
+pub use dimension_lines::rows_hint;
+pub use files::Table;
+pub use loads::{Cut, KeyAt, key_hint, loaded_key_hint, number_hint};
 pub use needs::{Needs, row_count};
-pub use refusals::table_hint;
+pub use refusals::{limit_hint, row_limits};
+pub use text_lines::line_hint;

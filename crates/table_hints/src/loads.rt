@@ -1,12 +1,8 @@
-//! A fact row that a warehouse refuses.
-ghost use Rattle.std.specs.Prelude.{◌<◌, ◌≡◌, MatchOption};
-ghost use Rattle.table_hints.specs.Places.{line_at};
+//! A fact row that is refused.
+ghost use Rattle.std.specs.Prelude.{◌≡◌, ◌≤◌, ◌<◌, ◌^◌};
+ghost use Rattle.table_hints.specs.Places.{batch_of};
 
-use crate::facts::key_field;
-use crate::files::{Table, TableFiles};
-use crate::lines::{field, line_of, number};
-use crate::refusals::table_hint;
-use cube_model::limits::MOST_BATCHES;
+use cube_model::limits::{MOST_BATCH_ROWS, MOST_BATCHES};
 use cube_model::{Axis, Fault};
 use std::alloc::Global;
 
@@ -17,93 +13,65 @@ pub struct Cut {
     pub rows: u32,
 }
 
-/// The cause of a refusal of a load, as one line without its end. The warehouse has so many batches, so the batch
-/// that was refused is the next.
-///
-/// The file is read once more. It fails when out of memory, and where the file cannot be read again to its end.
-pub fn load_hint<T: TableFiles>(
-    alloc: Global,
-    files: &T,
-    fault: Fault,
-    cut: Cut,
-    batches: u32,
-) -> Result<Option<String>, Fault> {
-    let at = |row| Place {
-        cut,
-        batch: batches.saturating_add(1),
-        row,
-    };
-    match fault {
-        Fault::UnknownCustomer { row } => key_hint(alloc, files, Axis::Customer, at(row)),
-        Fault::UnknownSupplier { row } => key_hint(alloc, files, Axis::Supplier, at(row)),
-        Fault::UnknownPart { row } => key_hint(alloc, files, Axis::Part, at(row)),
-        Fault::UnknownDate { row } => key_hint(alloc, files, Axis::Date, at(row)),
-        Fault::Gap => gap_hint(alloc, cut, batches),
-        Fault::TooManyBatches => crowd_hint(alloc),
-        _ => table_hint(alloc, files, fault),
-    }
+/// A key of a fact row that no row of its dimension has, and its line, which counts from 1.
+#[derive(Clone, Copy, Debug, PartialEq, Eq)]
+pub struct KeyAt<'a> {
+    pub axis: Axis,
+    pub key: u32,
+    pub path: &'a str,
+    pub line: u64,
 }
 
-// A row of a batch of a load.
-#[derive(Clone, Copy)]
-struct Place {
-    cut: Cut,
-    batch: u32,
-    row: u32,
-}
-
-fn key_hint<T: TableFiles>(
-    alloc: Global,
-    files: &T,
-    axis: Axis,
-    place: Place,
-) -> Result<Option<String>, Fault> {
-    let Some(at) = line_at(place.cut, place.batch, place.row) else {
-        return Ok(None);
-    };
-    match key_at(alloc, files, axis, at)? {
-        None => Ok(None),
-        Some(key) => {
-            let path = files.path(Table::Lineorder);
-            Ok(Some(unknown_line(alloc, path, axis, place.batch, at, key)?))
-        }
-    }
-}
-
-// The key of a dimension in a line of the fact table, if the line can be read again.
-fn key_at<T: TableFiles>(
-    alloc: Global,
-    files: &T,
-    axis: Axis,
-    at: u64,
-) -> Result<Option<u64>, Fault> {
-    match line_of(alloc, files, Table::Lineorder, at)? {
-        None => Ok(None),
-        Some(line) => Ok(number(field(line.as_slice(), key_field(axis)))),
-    }
-}
-
-// What is said of a key that is unknown.
-fn unknown_line(
-    alloc: Global,
-    path: &str,
-    axis: Axis,
-    batch: u32,
-    at: u64,
-    key: u64,
-) -> Result<String, Fault> {
+/// What is said of a key that is in no row of a dimension table, which has a name, as one line without its end. It fails only when out
+/// of memory.
+pub fn key_hint(alloc: Global, at: KeyAt<'_>, table: &str) -> Result<String, Fault> {
+    let KeyAt {
+        axis,
+        key,
+        path,
+        line,
+    } = at;
+    let batch = batch_of(line);
     let said = format!(in alloc;
-        "batch {batch}, line {at} of {path}: {axis} {key} is in no {axis} row of the warehouse; ssbcube add adds one"
+        "batch {batch}, line {line} of {path}: {axis} {key} is in no row of {table}"
     )?;
     Ok(said)
 }
 
-// The line of a row of a batch in the file.
-fn line_at(cut: Cut, batch: u32, row: u32) -> Option<u64>
-    ensures { MatchOption result (batch < cut.first) (λ line. line ≡ line_at cut.first cut.rows batch row) }
+/// The same of a key that is in no dimension row of a warehouse, for which the batch of a number is refused.
+pub fn loaded_key_hint(alloc: Global, at: KeyAt<'_>, batch: u32) -> Result<String, Fault> {
+    let KeyAt {
+        axis,
+        key,
+        path,
+        line,
+    } = at;
+    let said = format!(in alloc;
+        "batch {batch}, line {line} of {path}: {axis} {key} is in no {axis} row of the warehouse; ssbcube add adds one"
+    )?;
+    Ok(said)
+}
+
+// The batch of a line.
+fn batch_of(line: u64) -> u64
+    ensures { result ≡ batch_of line }
 {
-    let before = batch.checked_sub(cut.first)?;
-    Some(u64::from(before) * u64::from(cut.rows) + u64::from(row))
+    line.saturating_sub(1) / MOST_BATCH_ROWS as u64 + 1
+}
+
+/// What is said of the number of a batch that a load begins with, where the warehouse has so many batches. Nothing where the fault is
+/// none of a number. It fails only when out of memory.
+pub fn number_hint(
+    alloc: Global,
+    fault: Fault,
+    cut: Cut,
+    batches: u32,
+) -> Result<Option<String>, Fault> {
+    match fault {
+        Fault::Gap => gap_hint(alloc, cut, batches),
+        Fault::TooManyBatches => crowd_hint(alloc),
+        _ => Ok(None),
+    }
 }
 
 fn gap_hint(alloc: Global, cut: Cut, batches: u32) -> Result<Option<String>, Fault> {

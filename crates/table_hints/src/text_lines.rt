@@ -1,68 +1,16 @@
-//! A line that spells no row.
+//! A line for which a table is refused.
 use crate::beginnings::beginning_hint;
 use crate::columns::Column;
-use crate::files::{Table, TableFiles};
-use crate::lines::{field, field_count, line_of, number, without_return};
+use crate::files::Table;
+use crate::lines::{field, field_count, without_return};
 use crate::quoted::Quoted;
 use cube_model::limits::{LONGEST_LINE, LONGEST_TEXT};
 use cube_model::{Fault, Place};
 use std::alloc::Global;
 
-/// What is wrong with the line that a fault names: the first table whose line of that number has the fault.
-pub fn line_hint<T: TableFiles>(
-    alloc: Global,
-    files: &T,
-    fault: Fault,
-    at: u64,
-) -> Result<Option<String>, Fault> {
-    for table in Table::ALL {
-        match line_of(alloc, files, table, at) {
-            Ok(None) => {}
-            Ok(Some(line)) => {
-                if has_fault(table, line.as_slice(), fault) {
-                    return said(alloc, files.path(table), table, line.as_slice(), fault);
-                }
-            }
-            Err(other) => {
-                if other == fault {
-                    return long_line(alloc, files.path(table), at);
-                }
-                return Err(other);
-            }
-        }
-    }
-    Ok(None)
-}
-
-// Whether a line of a table has a fault.
-fn has_fault(table: Table, line: &[u8], fault: Fault) -> bool {
-    match fault {
-        Fault::FieldCount { .. } => field_count(line) != table.columns().len(),
-        Fault::BadNumber { field: n, .. } => match table.column(n) {
-            Some((_, Column::Number(limit))) => !is_number(field(line, n), limit),
-            _ => false,
-        },
-        Fault::FieldTooLong { field: n, .. } => match table.column(n) {
-            Some((_, Column::Text)) => field(line, n).len() > LONGEST_TEXT,
-            _ => false,
-        },
-        _ => false,
-    }
-}
-
-fn is_number(field: &[u8], limit: u64) -> bool {
-    match number(field) {
-        Some(number) => number <= limit,
-        None => false,
-    }
-}
-
-fn long_line(alloc: Global, path: &str, at: u64) -> Result<Option<String>, Fault> {
-    let said = format!(in alloc; "{path} line {at}: more than {LONGEST_LINE} bytes")?;
-    Ok(Some(said))
-}
-
-fn said(
+/// What is wrong with a line of a table for which the table is refused, as one line without its end. Nothing where the fault is none
+/// of a line. It fails only when out of memory.
+pub fn line_hint(
     alloc: Global,
     path: &str,
     table: Table,
@@ -74,10 +22,19 @@ fn said(
         Fault::BadNumber { line: at, field: n } => number_said(alloc, path, table, line, at, n),
         Fault::FieldTooLong {
             place: Place::Line(at),
+            field: 0,
+        } => long_line(alloc, path, at),
+        Fault::FieldTooLong {
+            place: Place::Line(at),
             field: n,
         } => length_said(alloc, path, table, line, at, n),
         _ => Ok(None),
     }
+}
+
+fn long_line(alloc: Global, path: &str, at: u64) -> Result<Option<String>, Fault> {
+    let said = format!(in alloc; "{path} line {at}: more than {LONGEST_LINE} bytes")?;
+    Ok(Some(said))
 }
 
 fn count_said(

@@ -2,154 +2,49 @@
 use cube_model::{Axis, Fault};
 use query_words::{Known, QueryWords, read_query};
 use sample_sessions::sample_dims;
-use sample_star::{Pieces, TABLES, whole};
+use sample_star::{STAR, dim_rows};
 use std::alloc::Global;
 use std::test::Fail;
-use table_hints::{Cut, Table, TableFiles, addition_hint, load_hint, table_hint};
+use table_hints::{Cut, KeyAt, limit_hint, loaded_key_hint, number_hint, rows_hint};
 use word_hints::nearest;
 
-/// The sample tables.
-#[derive(Clone, Copy)]
-struct Sample;
+/// A fault of the sample's dimension rows, the name of their file, and what is said, first of the rows alone and then of rows that are
+/// added to a warehouse that has them.
+type RowsCase = (Fault, &'static str, &'static str, &'static str);
 
-impl TableFiles for Sample {
-    type Reader = Pieces<'static>;
-
-    fn path(&self, table: Table) -> &str {
-        match table {
-            Table::Customer => "customer.tbl",
-            Table::Supplier => "supplier.tbl",
-            Table::Part => "part.tbl",
-            Table::Date => "date.tbl",
-            Table::Lineorder => "lineorder.tbl",
-        }
-    }
-
-    fn open(&self, table: Table) -> Option<Pieces<'static>> {
-        let text = match table {
-            Table::Customer => TABLES.customer,
-            Table::Supplier => TABLES.supplier,
-            Table::Part => TABLES.part,
-            Table::Date => TABLES.date,
-            Table::Lineorder => TABLES.lineorder,
-        };
-        Some(whole(text))
-    }
-}
-
-/// A fault, of a load the cut of the file and how many batches are there, and what is said.
-type Case = (Fault, Option<(Cut, u32)>, &'static str);
-
-const ONE_EACH: Cut = Cut { first: 1, rows: 1 };
-
-static CASES: [Case; 11] = [
+static ROWS: [RowsCase; 6] = [
     (
         Fault::TooManyRows,
-        None,
+        "",
         "a customer, supplier or part table has at most 4194304 rows, and a date table 65535",
-    ),
-    (
-        Fault::TooManyBatches,
-        None,
-        "lineorder.tbl: more than 268435456 lines",
+        "with the rows of the warehouse, a customer, supplier or part table has at most 4194304 rows, and a date table 65535",
     ),
     (
         Fault::TooManyMembers {
             axis: Axis::Customer,
             row: 70_000,
         },
-        None,
+        "customer.tbl",
         "customer.tbl line 70000: the 65536th member of a column, and there may be 65535",
-    ),
-    (
-        Fault::TooManyMembers {
-            axis: Axis::Part,
-            row: 65_536,
-        },
-        None,
-        "part.tbl line 65536: the 65536th member of a column, and there may be 65535",
-    ),
-    (
-        Fault::UnknownCustomer { row: 2 },
-        Some((
-            Cut {
-                first: 1,
-                rows: 65_536,
-            },
-            0,
-        )),
-        "batch 1, line 2 of lineorder.tbl: customer 2 is in no customer row of the warehouse; ssbcube add adds one",
-    ),
-    (
-        Fault::UnknownDate { row: 1 },
-        Some((Cut { first: 5, rows: 2 }, 5)),
-        "batch 6, line 3 of lineorder.tbl: date 19971202 is in no date row of the warehouse; ssbcube add adds one",
-    ),
-    (
-        Fault::UnknownPart { row: 9 },
-        Some((Cut { first: 1, rows: 9 }, 0)),
-        "nothing",
-    ),
-    (
-        Fault::UnknownSupplier { row: 1 },
-        Some((Cut { first: 3, rows: 1 }, 1)),
-        "nothing",
-    ),
-    (
-        Fault::Gap,
-        Some((Cut { first: 4, rows: 1 }, 1)),
-        "--first 4: the next batch of the warehouse is 2",
-    ),
-    (
-        Fault::TooManyBatches,
-        Some((ONE_EACH, 4096)),
-        "a warehouse has at most 4096 batches; larger ones hold more rows",
-    ),
-    (Fault::Full, Some((ONE_EACH, 1)), "nothing"),
-];
-
-fn hint(alloc: Global, case: &Case) -> Result<Option<String>, Fault> {
-    match case.1 {
-        None => table_hint(alloc, &Sample, case.0),
-        Some((cut, batches)) => load_hint(alloc, &Sample, case.0, cut, batches),
-    }
-}
-
-// Whether just this is said.
-fn is_said(alloc: Global, case: &Case) -> Result<bool, Fault> {
-    match hint(alloc, case)? {
-        None => Ok(case.2 == "nothing"),
-        Some(hint) => Ok(hint.as_str() == case.2),
-    }
-}
-
-#[test]
-fn each_refusal_has_its_line(rt: HostRuntime) -> Result<(), Fail> {
-    for case in &CASES {
-        assert!(rt; is_said(rt.alloc(), case)?, "{}", case.2);
-    }
-    Ok(())
-}
-
-/// A fault of an addition of the sample's rows to a warehouse that has them, and what is said.
-static ADDITIONS: [(Fault, &str); 5] = [
-    (
-        Fault::TooManyRows,
-        "with the rows of the warehouse, a customer, supplier or part table has at most 4194304 rows, and a date table 65535",
-    ),
-    (
-        Fault::TooManyMembers {
-            axis: Axis::Supplier,
-            row: 9,
-        },
-        "supplier.tbl line 9: the 65536th member of a column, and there may be 65535",
+        "customer.tbl line 70000: the 65536th member of a column, and there may be 65535",
     ),
     (
         Fault::DuplicateKey {
             axis: Axis::Date,
             row: 2,
         },
+        "date.tbl",
         "date.tbl line 2: the warehouse has a date row with the key 19971202 already",
+        "date.tbl line 2: the warehouse has a date row with the key 19971202 already",
+    ),
+    (
+        Fault::DuplicateKey {
+            axis: Axis::Date,
+            row: 9,
+        },
+        "date.tbl",
+        "nothing",
+        "nothing",
     ),
     // The rows of the sample go together with themselves.
     (
@@ -157,26 +52,79 @@ static ADDITIONS: [(Fault, &str); 5] = [
             axis: Axis::Part,
             row: 1,
         },
+        "part.tbl",
+        "nothing",
         "nothing",
     ),
-    (Fault::Full, "nothing"),
+    (Fault::Full, "part.tbl", "nothing", "nothing"),
 ];
 
-// Whether just this is said of a fault of an addition.
-fn is_said_of_addition(alloc: Global, case: &(Fault, &'static str)) -> Result<bool, Fault> {
-    let (fault, said) = *case;
-    let dims = sample_dims(alloc)?;
-    match addition_hint(alloc, &Sample, &dims, fault)? {
-        None => Ok(said == "nothing"),
-        Some(hint) => Ok(hint.as_str() == said),
+// Whether just this is said.
+fn is_said(hint: Option<String>, said: &str) -> bool {
+    match hint {
+        None => said == "nothing",
+        Some(hint) => hint.as_str() == said,
     }
 }
 
+// Whether a fault of rows is said as it should be.
+fn are_said(alloc: Global, case: &RowsCase) -> Result<bool, Fault> {
+    let (fault, path, alone, added) = *case;
+    let rows = dim_rows(alloc, &STAR)?;
+    let dims = sample_dims(alloc)?;
+    let first = rows_hint(alloc, path, &rows, None, fault)?;
+    let second = rows_hint(alloc, path, &rows, Some(&dims), fault)?;
+    Ok(is_said(first, alone) && is_said(second, added))
+}
+
 #[test]
-fn each_refused_addition_has_its_line(rt: HostRuntime) -> Result<(), Fail> {
-    for case in &ADDITIONS {
-        assert!(rt; is_said_of_addition(rt.alloc(), case)?, "{}", case.1);
+fn each_refusal_of_rows_has_its_line(rt: HostRuntime) -> Result<(), Fail> {
+    for case in &ROWS {
+        assert!(rt; are_said(rt.alloc(), case)?, "{:?}", case.0);
     }
+    Ok(())
+}
+
+/// A fault of a load that begins with batch 4 into a warehouse of so many batches, and what is said.
+static NUMBERS: [(Fault, u32, &str); 3] = [
+    (
+        Fault::Gap,
+        1,
+        "--first 4: the next batch of the warehouse is 2",
+    ),
+    (
+        Fault::TooManyBatches,
+        4096,
+        "a warehouse has at most 4096 batches; larger ones hold more rows",
+    ),
+    (Fault::Full, 1, "nothing"),
+];
+
+#[test]
+fn each_refusal_of_a_number_has_its_line(rt: HostRuntime) -> Result<(), Fail> {
+    let cut = Cut { first: 4, rows: 1 };
+    for (fault, batches, said) in NUMBERS {
+        let hint = number_hint(rt.alloc(), fault, cut, batches)?;
+        assert!(rt; is_said(hint, said), "{said}");
+    }
+    Ok(())
+}
+
+#[test]
+fn a_limit_and_a_key_have_their_lines(rt: HostRuntime) -> Result<(), Fail> {
+    let limit = limit_hint(rt.alloc(), "lineorder.tbl", Fault::TooManyBatches)?;
+    assert!(rt; is_said(limit, "lineorder.tbl: more than 268435456 lines"));
+    let at = KeyAt {
+        axis: Axis::Date,
+        key: 19_971_202,
+        path: "lineorder.tbl",
+        line: 3,
+    };
+    let key = loaded_key_hint(rt.alloc(), at, 6)?;
+    assert_eq!(rt;
+        key.as_str(),
+        "batch 6, line 3 of lineorder.tbl: date 19971202 is in no date row of the warehouse; ssbcube add adds one"
+    );
     Ok(())
 }
 

@@ -10,6 +10,8 @@ mod hints;
 #[cfg(test)]
 mod jobs;
 #[cfg(test)]
+mod kept;
+#[cfg(test)]
 mod readers;
 #[cfg(test)]
 mod spelled_queries;

@@ -49,6 +49,13 @@ impl GrowingBatch {
         self.found.row_count()
     }
 
+    /// The first cause in its rows so far to refuse it: a text that is too long, an unknown key, or a sum past its limit.
+    pub fn cause(&self) -> Option<Fault>
+        ensures { result ≡ cause_of self.now.found }
+    {
+        self.found.cause()
+    }
+
     // A batch of no row after those of a root, with room for so many.
     fn behind(alloc: Global, root: &Root, rows: usize) -> Result<GrowingBatch, Fault>
         ensures ok { IfOk result (λ batch. (dimensions : DimRows) → IsGrown dimensions root.now [] batch) }

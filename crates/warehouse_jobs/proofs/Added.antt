@@ -1,5 +1,5 @@
 -- What the batches of a load come to.
-use Rattle.std.proofs.Common.{Bool, true, ◌≡◌, ⊎_elim, inl, ℕ, zero, suc, ◌+◌, ◌-◌, ◌≤◌, List, [], ◌∷◌, ◌++◌, length, take, drop, slice_get, Option, None, Some, Result, Ok, refl, sym, ap, subst, ◌∙◌, arith, append_assoc, append-nil, length-append, length-drop}
+use Rattle.std.proofs.Common.{◌≡◌, ⊎_elim, inl, ℕ, zero, suc, ◌+◌, ◌-◌, ◌≤◌, List, [], ◌∷◌, ◌++◌, length, take, drop, slice_get, Option, None, Some, Result, Ok, refl, sym, ap, subst, ◌∙◌, arith, append_assoc, append-nil, length-append, length-drop}
 use Rattle.std.proofs.Math.Seq.{take-append_seam}
 use Rattle.std.proofs.lemmas.Bool.{cases_lt}
 use Rattle.std.proofs.lemmas.List.{length_push, take_all}
@@ -117,13 +117,13 @@ each_is_held {D} g old before w number (first ∷ trace) does zero one is =
 each_is_held g old before w number (first ∷ trace) does (suc place) one is =
     later_held w number place first.rows one.rows (batches_of trace) (each_is_held g first.session first.written (with_batch w number first.rows) (number + 1) trace does.2 place one is)
 
-pub holds_its_batches : {D : Type 0} (g : Ghosts D) → LoadHoldsItsBatches g
-holds_its_batches g w first size text old new before after result loads = each_is_held g old before w first loads.trace loads.does
+pub holds_its_batches : {D : Type 0} (A : Type 0) (g : Ghosts D) → LoadHoldsItsBatches A g
+holds_its_batches A g w first size text old new before after result loads = each_is_held g old before w first loads.trace loads.does
 
 -- ---- a load that is stopped
 
 -- after some lines a crash leaves the batches of these lines
-leaves_after : {D : Type 0} (g : Ghosts D) (w : Warehouse) (first size : ℕ) (text : Option (List ℕ)) (old new : Session D g) (before after : Option (List ℕ)) (result : Result Bool Fault)
+leaves_after : {D A : Type 0} (g : Ghosts D) (w : Warehouse) (first size : ℕ) (text : Option (List ℕ)) (old new : Session D g) (before after : Option (List ℕ)) (result : Result A Fault)
     → (loads : Loads g w first size text old new before after result) → (lines : ℕ) → lines ≤ length loads.trace
     → Leaves (disk_of g (session_after old (take lines loads.trace))) (disk_of g new) (MayHold w first size text lines)
 leaves_after g w first size text old new before after result loads zero within = loads.leaves
@@ -134,8 +134,8 @@ leaves_after {D} g w first size text old new before after result loads (suc plac
     subst (λ n. Leaves (disk_of g (session_after old (take (suc place) loads.trace))) (disk_of g new) (MayHold w first size text n)) next
     (subst (λ (s : Session D g). Leaves (disk_of g s) (disk_of g new) (MayHold w first size text (place + 1))) (sym last) (loads.stay place got.0 got.1))
 
-pub stopped_load : {D : Type 0} (g : Ghosts D) → RestartedShows g → CrashedLoadIsFound g
-stopped_load {D} g shows_it w first size text old mid new before after result loads k lines within mid_is image left device restarted =
+pub stopped_load : {D : Type 0} (A : Type 0) (g : Ghosts D) → RestartedShows g → CrashedLoadIsFound A g
+stopped_load {D} A g shows_it w first size text old mid new before after result loads k lines within mid_is image left device restarted =
     let leaves = subst (λ (s : Session D g). Leaves (disk_of g s) (disk_of g new) (MayHold w first size text lines)) (sym mid_is) (leaves_after g w first size text old new before after result loads lines within) in
     let shown = (leaves.moments k).each image left in
     let may = shown.2 in
@@ -183,7 +183,7 @@ same_list (x ∷ xs) (y ∷ ys) many same =
     λ i. head i ∷ tail i
 
 -- the dimension rows stay
-same_rows : (w : Warehouse) (number : ℕ) (batches : List (List LineOrder)) → (with_batches w number batches).rows ≡ w.rows
+pub same_rows : (w : Warehouse) (number : ℕ) (batches : List (List LineOrder)) → (with_batches w number batches).rows ≡ w.rows
 same_rows w number [] = refl
 same_rows w number (rows ∷ batches) =
     same_rows (with_batch w number rows) (number + 1) batches
@@ -208,8 +208,8 @@ done_at [] place rows is = absurd cc
 done_at (one ∷ trace) zero rows is = let same : one.rows ≡ rows = cc in (one, refl, same)
 done_at (one ∷ trace) (suc place) rows is = done_at trace place rows is
 
-pub is_evaluated : {D : Type 0} (g : Ghosts D) → LoadedIsEvaluated g
-is_evaluated {D} g w text old new before after query loads no_more k =
+pub is_evaluated : {D : Type 0} (A : Type 0) (g : Ghosts D) → LoadedIsEvaluated A g
+is_evaluated {D} A g w text old new before after query value loads no_more k =
     let done = batches_of loads.trace in
     let count : length done ≡ length loads.trace = trace-count loads.trace in
     let v = with_batches w 1 done in
@@ -222,7 +222,7 @@ is_evaluated {D} g w text old new before after query loads no_more k =
     same_list v.batches done many (λ place rows is.
     let one = done_at loads.trace place rows is in
     let number : 1 + place ≡ suc place = omega arith in
-    ap (numbered v.batches) (sym number) ∙ holds_its_batches g w 1 most_batch_rows (Some text) old new before after (Ok true) loads place one.0 one.1 ∙ ap Some one.2) in
+    ap (numbered v.batches) (sym number) ∙ holds_its_batches A g w 1 most_batch_rows (Some text) old new before after (Ok value) loads place one.0 one.1 ∙ ap Some one.2) in
     let rows : v.rows ≡ w.rows = same_rows w 1 done in
     let order : AreInOrder w.rows done = subst (λ (bs : List (List LineOrder)). AreInOrder w.rows bs) same (subst (λ (r : DimRows). AreInOrder r v.batches) rows (at.represents k).batches) in
     let cut : AreCut 1 parts done loads.next [] = subst (λ l. AreCut 1 parts done loads.next l) loads.ends.none loads.cut in

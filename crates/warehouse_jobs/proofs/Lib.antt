@@ -12,3 +12,4 @@ mod Cuboids
 mod Written
 mod PlanLines
 mod Explained
+pub mod UnknownKeys

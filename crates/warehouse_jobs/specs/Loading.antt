@@ -2,11 +2,13 @@
 use Rattle.std.specs.Prelude.{◌≡◌, ◌≢◌, ◌⊎◌, ◌<◌, ◌≤◌, ⊤, ℕ, ◌+◌, nat_le, if◌then◌else◌, true, List, [], ◌∷◌, ◌++◌, length, map, slice_get, IfSome, Option, Some, Result, Ok, Err}
 use Rattle.std.specs.Io.KnownBytes.{Appends, Keeps}
 use Rattle.sector_device.specs.declared.device.Sectors.{Ghosts}
+use Rattle.batch_loader.specs.Unread.{Unread}
 use Rattle.cube_model.specs.declared.fault.Fault.{Fault}
 use Rattle.cube_model.specs.declared.fault.Fault.TheVariants.{Memory, Input, Output, Device, Repeated}
 use Rattle.cube_model.specs.declared.rows.LineOrder.{LineOrder}
 use Rattle.object_store.specs.Content.{Content}
 use Rattle.object_store.specs.Disk.{Leaves}
+use Rattle.ssb_eval.specs.declared.unknown.UnknownKey.{UnknownKey}
 use Rattle.ssb_reports.specs.Writing.{AppendsBeginning}
 use Rattle.warehouse_objects.specs.Facts.{Admits}
 use Rattle.warehouse_objects.specs.Warehouse.{Warehouse, loaded}
@@ -18,6 +20,13 @@ use Rattle.warehouse_jobs.specs.declared.taken.Taken.{Taken}
 use Rattle.warehouse_jobs.specs.declared.taken.Taken.TheVariants.{Added, Skipped}
 use Rattle.warehouse_jobs.specs.Cutting.{AreCutFrom, IsNextBatch, IsNextFault}
 use Rattle.warehouse_jobs.specs.Printed.{batch_line, count_line}
+
+-- the fact rows of a load, line by line, and what is kept of the batch that was read last: how many rows it has, and a key that no row of
+-- its dimension has
+pub record LoadLines : Type 0 where
+  pub lines : Unread
+  pub rows : ℕ
+  pub unknown : Option UnknownKey
 
 -- a batch that was done was passed over where its number was there already
 abbrev pub taken_of : Warehouse → ℕ → Taken

@@ -1,4 +1,5 @@
-//! Laws of loads: each function proves the statement that its contract names, and does nothing.
+//! Laws of loads: each function proves the statement that its contract names, and does nothing. They hold whatever a load returns
+//! where it succeeds, so of `load` and of `perform`.
 ghost use Rattle.warehouse_jobs.specs.Lawful.{LoadAddsTheOthers, LoadHoldsItsBatches, LoadedIsEvaluated, CrashedLoadIsFound};
 
 use sector_device::Sectors;
@@ -10,19 +11,19 @@ pub fn load_adds_the_others()
 {}
 
 /// Each batch that a load did is then the batch of its number, row by row.
-pub fn load_holds_its_batches<D: Sectors>()
-    ensures { LoadHoldsItsBatches D.Sectors }
+pub fn load_holds_its_batches<D: Sectors, A>()
+    ensures { LoadHoldsItsBatches A D.Sectors }
 {}
 
 /// However a load crashes after some of its lines were written: the restarted device has the batches of these lines, and by its
 /// contract opening finds them.
-pub fn crashed_load_is_found<D: Sectors>()
-    ensures { CrashedLoadIsFound D.Sectors }
+pub fn crashed_load_is_found<D: Sectors, A>()
+    ensures { CrashedLoadIsFound A D.Sectors }
 {
     restarted_shows::<D>();
 }
 
 /// What is reported over a text that was loaded whole is what is evaluated over it.
-pub fn loaded_is_evaluated<D: Sectors>()
-    ensures { LoadedIsEvaluated D.Sectors }
+pub fn loaded_is_evaluated<D: Sectors, A>()
+    ensures { LoadedIsEvaluated A D.Sectors }
 {}

@@ -24,5 +24,6 @@ pub use checking::check;
 pub use explaining::explain;
 pub use formatting::report_formatted;
 pub use job::{BatchNumber, BatchRows, Job};
+pub use loading::{LoadText, load};
 pub use partial::report_partial;
 pub use performing::perform;

@@ -12,7 +12,7 @@ ghost use Rattle.warehouse_jobs.specs.Printed.{audit_text};
 use crate::choosing::{choose, choose_for};
 use crate::job::Job;
 use crate::keeping::{audit, keep_up};
-use crate::loading::load;
+use crate::loading::load_from;
 use crate::reporting::report;
 use crate::telling::tell;
 use cube_model::Fault;
@@ -77,7 +77,7 @@ fn do_job<D: Sectors, R: Read + Drop, W: Write>(
     ensures word { D.keeps_word (device_of session.new) → D.keeps_word (device_of session.old) }
 {
     match job {
-        Job::Load { first, rows } => yes(load(alloc, session, first, rows, lineorder, out)),
+        Job::Load { first, rows } => yes(load_from(alloc, session, first, rows, lineorder, out)),
         Job::Report { as_of, query } => yes(report(alloc, session, as_of, &query, out)),
         Job::Status => yes(tell(session, out)),
         Job::Choose(k) => yes(choose(alloc, session, k, out)),

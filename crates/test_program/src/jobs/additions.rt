@@ -3,7 +3,7 @@ use cube_model::{Axis, Fault};
 use sample_sessions::fresh;
 use sample_star::{Taker, whole};
 use sector_device::MemDisk;
-use ssb_eval::read_rows;
+use ssb_eval::DimensionTables;
 use std::alloc::Global;
 use std::io::{self, Write};
 use std::test::Fail;
@@ -76,7 +76,8 @@ fn added<W: Write>(
     out: &mut W,
 ) -> Result<(), Fault> {
     let customers = whole(customers.as_bytes());
-    let rows = read_rows(alloc, customers, io::empty(), io::empty(), io::empty())?;
+    let mut tables = DimensionTables::new(alloc, customers, io::empty(), io::empty(), io::empty())?;
+    let rows = tables.rows(alloc)?;
     add(alloc, session, number, &rows, out)
 }
 

@@ -1,13 +1,15 @@
 use Rattle.std.proofs.lemmas.Result.{err_from_is_err_and}
 use Rattle.ssb_eval.specs.Evaluation.{tables_of, valid_rows}
-use Rattle.ssb_eval.proofs.Tables.{gives-on, gives-stop, gives-valid}
+use Rattle.ssb_eval.proofs.TableSteps.{gives-on, gives-stop, gives-valid}
 use Rattle.ssb_eval.proofs.dimension_tables.read_dimensions.Goals as goal
 
 pub returns-in_err-rows : goal.returns-in_err-rows
 returns-in_err-rows g c = λ texts customer supplier part date.
-    gives-stop (tables_of texts) valid_rows _ _ (err_from_is_err_and c.from_residual.result c.from_residual.ensures.1) (c.in_err-rows.ensures.tables texts customer supplier part date)
+    gives-stop (tables_of texts) valid_rows _ _ (err_from_is_err_and _ c.from_residual-in_err-rows.ensures.1)
+    (c.in_err-rows.ensures.tables texts (c.in_ok-tables.ensures.unread texts customer supplier part date))
 
 pub returns : goal.returns
 returns g c = λ texts customer supplier part date.
-    gives-on (tables_of texts) valid_rows c.in_ok-rows.rows _ (c.in_ok-rows.ensures.tables texts customer supplier part date)
+    gives-on (tables_of texts) valid_rows c.in_ok-rows.rows _
+    (c.in_ok-rows.ensures.tables texts (c.in_ok-tables.ensures.unread texts customer supplier part date))
     (gives-valid _ _ c.build.ensures.ok c.build.ensures.valid c.build.ensures.err)

@@ -16,17 +16,18 @@ loop-init g c = (
       let few : length batches ≤ most_batches = omega (arith, c.findings-found.ensures.few, taken.represents.count) in
       IsBegun-start c.args.dims.now c.args.fold.now.query c.args.admission.now c.args.fold.now batches c.findings-found.result taken few
       (c.findings-found.ensures.found c.args.dims.now) c.findings-found.ensures.clean,
+  λ none. none,
 )
 
-pub returns-in_err-rows : goal.returns-in_err-rows
-returns-in_err-rows g c = λ batches taken.
+pub returns-in_err-rows-clause-looks : goal.returns-in_err-rows-clause-looks
+returns-in_err-rows-clause-looks g c = λ batches taken.
     let within : c.loop.counter * 4096 + 4096 ≤ most_batch_rows = omega (arith, c.loop-test.true) in
     LooksAtNext-refused c.args.dims.now c.args.fold.now.query (all_rows batches) c.args.lines.now c.read_batch_into.new.lines c.loop.fold _ _
     (RefusesBatch-piece lineorder_row most_batch_rows 4096 c.args.lines.now c.loop.lines c.loop.invariant.0 (c.loop.counter * 4096) _ within
     (c.in_err-rows.ensures.refused c.loop.invariant.1.fault) c.loop.invariant.1) (err_from_is_err_and _ c.from_residual.ensures.1)
 
-pub returns-then-len-lt-PIECE_ROWS : goal.returns-then-len-lt-PIECE_ROWS
-returns-then-len-lt-PIECE_ROWS g c = λ batches taken.
+pub returns-then-len-lt-PIECE_ROWS-clause-looks : goal.returns-then-len-lt-PIECE_ROWS-clause-looks
+returns-then-len-lt-PIECE_ROWS-clause-looks g c = λ batches taken.
     let within : c.loop.counter * 4096 + 4096 ≤ most_batch_rows = omega (arith, c.loop-test.true) in
     let short : length c.in_ok-rows.rows < 4096 = omega (arith, c.if-len-lt-PIECE_ROWS.true, c.len.ensures) in (
       c.loop.invariant.0 ++ c.in_ok-rows.rows,
@@ -50,10 +51,11 @@ loop-preserved g c =
       λ batches taken.
           begun_more c.args.dims.now c.args.fold.now.query (all_rows batches) c.loop.invariant.0 c.in_ok-rows.rows c.loop.found c.in_ok-found.found c.loop.fold c.look_at_piece.new.fold
           (c.loop.invariant.2 batches taken) (rw c.as_slice.ensures at c.in_ok-found.ensures.ok),
+      λ none. c.keep_unknown.ensures (c.loop.invariant.3 none),
     )
 
-pub returns : goal.returns
-returns g c = λ batches taken.
+pub returns-clause-looks : goal.returns-clause-looks
+returns-clause-looks g c = λ batches taken.
     let all : c.loop.counter * 4096 ≡ most_batch_rows = omega (arith, c.loop-test.false, c.loop.auto.counter-end) in (
       c.loop.invariant.0,
       record {

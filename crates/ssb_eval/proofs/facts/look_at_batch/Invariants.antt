@@ -1,10 +1,12 @@
 use Rattle.std.proofs.Common.{◌*◌, List}
+use Rattle.std.specs.Prelude.{IfSome}
 use Rattle.batch_loader.specs.Tables.{lineorder_row}
 use Rattle.batch_loader.proofs.TakingRows.{IsTaking}
 use Rattle.cube_model.specs.declared.rows.LineOrder.{LineOrder}
 use Rattle.cube_model.specs.Admission.{all_rows}
 use Rattle.cube_model.specs.Limits.{most_batch_rows}
 use Rattle.ssb_eval.specs.BatchLoop.{AreTaken, IsBegun}
+use Rattle.ssb_eval.specs.Tables.{IsInNoRow}
 use Rattle.ssb_eval.proofs.facts.look_at_batch.Given as goal
 
 abbrev pub invariant-loop : goal.invariant-loop
@@ -13,3 +15,4 @@ invariant-loop g l =
     × IsTaking lineorder_row most_batch_rows l.fn.lines l.lines earlier (l.counter * 4096)
     × ((batches : List (List LineOrder)) → AreTaken l.dims l.fn.fold.query l.admission l.fn.fold batches
     → IsBegun l.dims l.fn.fold.query (all_rows batches) earlier l.found l.fold)
+    × (IfSome l.fn.unknown (IsInNoRow l.dims) → IfSome l.unknown (IsInNoRow l.dims))

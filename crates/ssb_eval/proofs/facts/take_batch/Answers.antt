@@ -6,14 +6,14 @@ use Rattle.ssb_eval.proofs.Pieces.{AreTaken-none, counted, found-behind}
 use Rattle.ssb_eval.proofs.Taking.{TakesNextBatch-unread, TakesNextBatch-refused, no_rows}
 use Rattle.ssb_eval.proofs.facts.take_batch.Goals as goal
 
-pub returns-in_err-found : goal.returns-in_err-found
-returns-in_err-found g c = λ batches taken.
+pub returns-in_err-found-clause-takes : goal.returns-in_err-found-clause-takes
+returns-in_err-found-clause-takes g c = λ batches taken.
     TakesNextBatch-unread c.args.dims.now c.args.fold.now.query batches c.args.lines.now c.look_at_batch.new.lines c.args.admission.now c.look_at_batch.new.fold _ _
-    (c.in_err-found.ensures batches taken) (err_from_is_err_and _ c.from_residual.ensures.1)
+    (c.in_err-found.ensures.looks batches taken) (err_from_is_err_and _ c.from_residual.ensures.1)
 
-pub returns-then-row_count-eq0 : goal.returns-then-row_count-eq0
-returns-then-row_count-eq0 g c = λ batches taken.
-    let looked = c.in_ok-found.ensures batches taken in
+pub returns-then-row_count-eq0-clause-takes : goal.returns-then-row_count-eq0-clause-takes
+returns-then-row_count-eq0-clause-takes g c = λ batches taken.
+    let looked = c.in_ok-found.ensures.looks batches taken in
     let none : c.in_ok-found.found.row_count ≡ 0 = search rules in
     let as_many = counted c.args.dims.now c.args.fold.now.query (all_rows batches) looked.0 c.in_ok-found.found c.look_at_batch.new.fold looked.1.begun in
     let empty : length looked.0 ≡ 0 = omega (arith, none, as_many) in (
@@ -21,9 +21,9 @@ returns-then-row_count-eq0 g c = λ batches taken.
       AreTaken-none c.args.dims.now c.args.fold.now.query c.args.admission.now c.args.fold.now c.look_at_batch.new.fold batches looked.0 c.in_ok-found.found taken looked.1.begun none,
     )
 
-pub returns-in_err-admit_found : goal.returns-in_err-admit_found
-returns-in_err-admit_found g c = λ batches taken.
-    let looked = c.in_ok-found.ensures batches taken in
+pub returns-in_err-admit_found-clause-takes : goal.returns-in_err-admit_found-clause-takes
+returns-in_err-admit_found-clause-takes g c = λ batches taken.
+    let looked = c.in_ok-found.ensures.looks batches taken in
     let as_many = counted c.args.dims.now c.args.fold.now.query (all_rows batches) looked.0 c.in_ok-found.found c.look_at_batch.new.fold looked.1.begun in
     let any : 1 ≤ c.in_ok-found.found.row_count = search rules in
     let some : 1 ≤ length looked.0 = omega (arith, any, as_many) in
@@ -33,9 +33,9 @@ returns-in_err-admit_found g c = λ batches taken.
     TakesNextBatch-refused c.args.dims.now c.args.fold.now.query batches c.args.lines.now c.look_at_batch.new.lines c.admit_found.new.self c.look_at_batch.new.fold looked.0 c.next_number-number.result _ _ some
     looked.1.read place refused.cause (err_from_is_err_and _ c.from_residual-in_err-admit_found.ensures.1)
 
-pub returns : goal.returns
-returns g c = λ batches taken.
-    let looked = c.in_ok-found.ensures batches taken in
+pub returns-clause-takes : goal.returns-clause-takes
+returns-clause-takes g c = λ batches taken.
+    let looked = c.in_ok-found.ensures.looks batches taken in
     let as_many = counted c.args.dims.now c.args.fold.now.query (all_rows batches) looked.0 c.in_ok-found.found c.look_at_batch.new.fold looked.1.begun in
     let any : 1 ≤ c.in_ok-found.found.row_count = search rules in
     let some : 1 ≤ length looked.0 = omega (arith, any, as_many) in

@@ -3,48 +3,61 @@ use Rattle.ssb_reports.specs.Report.{report_of}
 use Rattle.std.proofs.lemmas.Result.{err_from_is_err_and}
 use Rattle.cube_query.specs.GroupLines.{answer_over}
 use Rattle.ssb_eval.proofs.Endings.{reports-stop, reports-unwritten}
-use Rattle.ssb_eval.proofs.Partly.{partial-no_dims, partial-no_answer, partial-not_plain, partial-is}
+use Rattle.ssb_eval.proofs.KeptLines.{keeps-nothing, keeps-other, keeps-refused}
+use Rattle.ssb_eval.proofs.Partly.{partial-refused, partial-not_plain, partial-is}
 use Rattle.ssb_eval.proofs.partial.eval_partial.Goals as goal
 
-pub returns-in_err-dims-clause-proper : goal.returns-in_err-dims-clause-proper
-returns-in_err-dims-clause-proper g c = λ proper texts have.
-    reports-stop _ _ _ _ (err_from_is_err_and _ c.from_residual-in_err-dims.ensures.1)
-    (partial-no_dims c.args.asked.now texts _ (c.in_err-dims.ensures texts have.customer_left have.supplier_left have.part_left have.date_left))
-
-pub returns-in_err-groups-clause-proper : goal.returns-in_err-groups-clause-proper
-returns-in_err-groups-clause-proper g c = λ proper texts have.
-    reports-stop _ _ _ _ (err_from_is_err_and _ c.from_residual-in_err-groups.ensures.1)
-    (partial-no_answer c.args.asked.now texts c.in_ok-dims.dims _
-    (c.in_ok-dims.ensures texts have.customer_left have.supplier_left have.part_left have.date_left)
-    (c.in_err-groups.ensures.answer texts.lineorder have.lineorder_left))
+pub returns-in_err-found-clause-proper : goal.returns-in_err-found-clause-proper
+returns-in_err-found-clause-proper g c = λ proper texts unread.
+    reports-stop _ _ _ _ (err_from_is_err_and _ c.from_residual-in_err-found.ensures.1)
+    (partial-refused c.args.asked.now texts _ (c.in_err-found.ensures.evaluates texts unread))
 
 pub returns-in_err-head-clause-proper : goal.returns-in_err-head-clause-proper
-returns-in_err-head-clause-proper g c = λ proper texts have.
+returns-in_err-head-clause-proper g c = λ proper texts unread.
     reports-stop _ _ _ _ (err_from_is_err_and _ c.from_residual-in_err-head.ensures.1)
-    (partial-not_plain c.args.asked.now texts c.in_ok-dims.dims (answer_over c.in_ok-dims.dims c.in_ok-groups.groups) _
-    (c.in_ok-dims.ensures texts have.customer_left have.supplier_left have.part_left have.date_left)
-    (c.in_ok-groups.ensures.answer texts.lineorder have.lineorder_left)
+    (partial-not_plain c.args.asked.now texts c.in_ok-found.found.dims (answer_over c.in_ok-found.found.dims c.in_ok-found.found.groups) _
+    (c.in_ok-found.ensures.evaluates texts unread).0
+    (c.in_ok-found.ensures.evaluates texts unread).1
     (rw c.over.ensures at c.in_err-head.ensures.refused))
 
 pub returns-in_err-write_partial-clause-proper : goal.returns-in_err-write_partial-clause-proper
-returns-in_err-write_partial-clause-proper g c = λ proper texts have.
+returns-in_err-write_partial-clause-proper g c = λ proper texts unread.
     reports-unwritten _ _ _ _ _ _ (err_from_is_err_and _ c.from_residual-in_err-write_partial.ensures.1)
-    (partial-is c.args.asked.now texts c.in_ok-dims.dims (answer_over c.in_ok-dims.dims c.in_ok-groups.groups) _
-    (c.in_ok-dims.ensures texts have.customer_left have.supplier_left have.part_left have.date_left)
-    (c.in_ok-groups.ensures.answer texts.lineorder have.lineorder_left)
-    (rw c.over.ensures at c.in_ok-head.ensures.plain) (ap (λ l. l ++ report_of c.args.asked.now.query (answer_over c.in_ok-dims.dims c.in_ok-groups.groups)) (c.as_slice.ensures.value ∙ c.in_ok-head.ensures.ok)))
+    (partial-is c.args.asked.now texts c.in_ok-found.found.dims (answer_over c.in_ok-found.found.dims c.in_ok-found.found.groups) _
+    (c.in_ok-found.ensures.evaluates texts unread).0
+    (c.in_ok-found.ensures.evaluates texts unread).1
+    (rw c.over.ensures at c.in_ok-head.ensures.plain) (ap (λ l. l ++ report_of c.args.asked.now.query (answer_over c.in_ok-found.found.dims c.in_ok-found.found.groups)) (c.as_slice.ensures.value ∙ c.in_ok-head.ensures.ok)))
     (rw c.over-2.ensures at c.in_err-write_partial.ensures)
 
 pub returns-clause-proper : goal.returns-clause-proper
-returns-clause-proper g c = λ proper texts have. (
+returns-clause-proper g c = λ proper texts unread. (
   _,
-  (partial-is c.args.asked.now texts c.in_ok-dims.dims (answer_over c.in_ok-dims.dims c.in_ok-groups.groups) _
-      (c.in_ok-dims.ensures texts have.customer_left have.supplier_left have.part_left have.date_left)
-      (c.in_ok-groups.ensures.answer texts.lineorder have.lineorder_left)
-      (rw c.over.ensures at c.in_ok-head.ensures.plain) (ap (λ l. l ++ report_of c.args.asked.now.query (answer_over c.in_ok-dims.dims c.in_ok-groups.groups)) (c.as_slice.ensures.value ∙ c.in_ok-head.ensures.ok))),
+  (partial-is c.args.asked.now texts c.in_ok-found.found.dims (answer_over c.in_ok-found.found.dims c.in_ok-found.found.groups) _
+      (c.in_ok-found.ensures.evaluates texts unread).0
+      (c.in_ok-found.ensures.evaluates texts unread).1
+      (rw c.over.ensures at c.in_ok-head.ensures.plain) (ap (λ l. l ++ report_of c.args.asked.now.query (answer_over c.in_ok-found.found.dims c.in_ok-found.found.groups)) (c.as_slice.ensures.value ∙ c.in_ok-head.ensures.ok))),
   (rw c.over-2.ensures at c.in_ok-write_partial.ensures),
 )
 
 pub returns-clause-dims : goal.returns-clause-dims
-returns-clause-dims g c = λ texts have.
-    c.in_ok-dims.ensures texts have.customer_left have.supplier_left have.part_left have.date_left
+returns-clause-dims g c = λ texts unread.
+    (c.in_ok-found.ensures.evaluates texts unread).0
+
+pub returns-in_err-check-clause-cause : goal.returns-in_err-check-clause-cause
+returns-in_err-check-clause-cause g c = λ fresh. keeps-nothing _ _ fresh
+
+pub returns-in_err-found-clause-cause : goal.returns-in_err-found-clause-cause
+returns-in_err-found-clause-cause g c = λ fresh.
+    keeps-refused _ _ _ (err_from_is_err_and _ c.from_residual-in_err-found.ensures.1) (c.in_err-found.ensures.cause fresh)
+
+pub returns-in_err-head-clause-cause : goal.returns-in_err-head-clause-cause
+returns-in_err-head-clause-cause g c = λ fresh.
+    keeps-other _ _ _ (c.in_ok-found.ensures.cause fresh) (c.in_ok-found.ensures.whole fresh)
+
+pub returns-in_err-write_partial-clause-cause : goal.returns-in_err-write_partial-clause-cause
+returns-in_err-write_partial-clause-cause g c = λ fresh.
+    keeps-other _ _ _ (c.in_ok-found.ensures.cause fresh) (c.in_ok-found.ensures.whole fresh)
+
+pub returns-clause-cause : goal.returns-clause-cause
+returns-clause-cause g c = λ fresh.
+    keeps-other _ _ _ (c.in_ok-found.ensures.cause fresh) (c.in_ok-found.ensures.whole fresh)

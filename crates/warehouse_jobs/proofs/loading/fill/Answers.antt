@@ -12,6 +12,7 @@ loop-piece-init g c =
       [],
       subst (IsTaking lineorder_row c.args.size c.args.lines.now c.args.lines.now []) (sym none) (IsTaking-start lineorder_row c.args.size c.args.lines.now c.requires.fault),
       c.requires.none,
+      λ w at k none. none,
     )
 
 pub next_piece-requires : goal.next_piece-requires
@@ -56,6 +57,7 @@ loop-piece-preserved g c =
           (IsTaking-piece lineorder_row c.args.size c.min-most.result c.args.lines.now c.loop-piece.lines c.next_piece.new.lines c.loop-piece.invariant.0 c.in_ok-rows.rows from within whole
           c.in_ok-rows.ensures.taken before),
       c.in_ok-rows.ensures.grown c.loop-piece.invariant.0 c.loop-piece.invariant.2,
+      λ w at k none. c.in_ok-rows.ensures.unknown w at k (c.loop-piece.invariant.3 w at k none),
     )
 
 pub returns-clause-ok : goal.returns-clause-ok
@@ -65,3 +67,12 @@ returns-clause-ok g c =
       IsTaking-whole lineorder_row c.args.size c.args.lines.now c.loop-piece.lines c.loop-piece.invariant.0 _ all c.loop-piece.invariant.1,
       c.loop-piece.invariant.2,
     )
+
+pub returns-in_err-rows-clause-unknown : goal.returns-in_err-rows-clause-unknown
+returns-in_err-rows-clause-unknown g c w at k none = c.in_err-rows.ensures.unknown w at k (c.loop-piece.invariant.3 w at k none)
+
+pub returns-then-len-most-clause-unknown : goal.returns-then-len-most-clause-unknown
+returns-then-len-most-clause-unknown g c w at k none = c.in_ok-rows.ensures.unknown w at k (c.loop-piece.invariant.3 w at k none)
+
+pub returns-clause-unknown : goal.returns-clause-unknown
+returns-clause-unknown g c w at k none = c.loop-piece.invariant.3 w at k none

@@ -1,4 +1,6 @@
-use Rattle.std.proofs.Common.{◌≤◌, ◌+◌, length, arith, sym}
+use Rattle.std.proofs.Common.{◌≤◌, ◌+◌, length, arith, subst, sym}
+use Rattle.std.specs.Prelude.{IfSome}
+use Rattle.ssb_eval.specs.Tables.{IsInNoRow}
 use Rattle.warehouse_jobs.proofs.loading.next_piece.Goals as goal
 
 pub add_rows-requires : goal.add_rows-requires
@@ -9,3 +11,7 @@ add_rows-requires g c =
 
 pub returns-clause-grown : goal.returns-clause-grown
 returns-clause-grown g c before grown = rw c.as_slice.ensures at (c.in_ok-add_rows.ensures.ok before grown)
+
+pub returns-clause-unknown : goal.returns-clause-unknown
+returns-clause-unknown g c w at k =
+    subst (λ dimensions. IfSome c.args.unknown.now (IsInNoRow dimensions) → IfSome c.keep_unknown.new.unknown (IsInNoRow dimensions)) (c.dims.ensures w at k) c.keep_unknown.ensures

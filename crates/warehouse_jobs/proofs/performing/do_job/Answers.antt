@@ -7,7 +7,7 @@ use Rattle.warehouse_jobs.proofs.performing.do_job.Goals as goal
 
 pub returns-in-Load-clause-performs : goal.returns-in-Load-clause-performs
 returns-in-Load-clause-performs g c w at k =
-    rw c.in-Load.is (yes-loads g.D.Sectors w c.args.session.now c.load.new.session (g.W.Write.contents c.args.out.now) (g.W.Write.contents c.load.new.out) c.in-Load.first c.in-Load.rows (g.R.Read.remaining c.args.lineorder) c.load.result c.yes.result c.yes.ensures (c.load.ensures.loads w at k))
+    rw c.in-Load.is (yes-loads g.D.Sectors w c.args.session.now c.load_from.new.session (g.W.Write.contents c.args.out.now) (g.W.Write.contents c.load_from.new.out) c.in-Load.first c.in-Load.rows (g.R.Read.remaining c.args.lineorder) c.load_from.result c.yes.result c.yes.ensures (c.load_from.ensures.loads w at k))
 
 pub returns-in-Report-clause-performs : goal.returns-in-Report-clause-performs
 returns-in-Report-clause-performs g c w at k =

@@ -4,7 +4,7 @@ use Rattle.cube_query.specs.Groups.{IsFoldable}
 use Rattle.cube_query.proofs.CallerLemmas.{memory_alone}
 use Rattle.ssb_eval.specs.Evaluation.{Gives, answer_of}
 use Rattle.ssb_eval.proofs.Batches.{gives-groups, gives-no_groups}
-use Rattle.ssb_eval.proofs.facts.group_lines.Goals as goal
+use Rattle.ssb_eval.proofs.facts.group_facts.Goals as goal
 
 pub returns-in_err-fold_lines-clause-answer : goal.returns-in_err-fold_lines-clause-answer
 returns-in_err-fold_lines-clause-answer g c = λ text known.

@@ -1,0 +1,138 @@
+//! What is said of a refusal of a load.
+use crate::device::Device;
+use crate::job::met_in;
+use crate::load::LoadPlan;
+use crate::locating::{in_line, line_of, located};
+use crate::refusal::{Met, Refusal, explained};
+use crate::repeated::{StoredBatch, repeated_hint};
+use crate::table_paths::table_name;
+use crate::table_refusals::key_for;
+use clap::ArgMatches;
+use cube_model::Fault;
+use file_device::LockFile;
+use sector_device::Sectors;
+use ssb_eval::UnknownKey;
+use std::alloc::Global;
+use std::io::Read;
+use std::os::unix::fs::FileExt;
+use std::rt::{Clock, Files};
+use table_hints::{KeyAt, Needs, Table, limit_hint, line_hint, loaded_key_hint, number_hint};
+use warehouse::Session;
+use warehouse_jobs::LoadText;
+
+/// The refusal of a load after so many batches that were done, with what its text kept of it, or else with what the warehouse shows.
+pub fn refused<R: Files + AllocGlobal + Eprint + Clock, L: Read + Drop>(
+    rt: &R,
+    given: &ArgMatches<'_>,
+    plan: &LoadPlan,
+    session: &Session<Device<'_, R, R::File>>,
+    text: &LoadText<L>,
+    done: u32,
+    fault: Fault,
+) -> Refusal
+where
+    R::File: FileExt + LockFile,
+{
+    match hint_of(rt.alloc(), given, plan, session, text, done, fault) {
+        Ok(Some(hint)) => Refusal {
+            fault,
+            hint: Some(hint),
+        },
+        _ => {
+            let met = met_in(rt.alloc(), fault, session);
+            let needs = needs_of(plan, met.batches);
+            explained(rt, given, Met { needs, ..met })
+        }
+    }
+}
+
+// What a load needs, where the warehouse has so many batches.
+fn needs_of(plan: &LoadPlan, batches: Option<u32>) -> Option<Needs> {
+    Some(Needs::of(plan.cut, plan.rows?, batches?))
+}
+
+// The cause of a refusal of a load, as far as its text or the warehouse shows it.
+fn hint_of<D: Sectors, L: Read + Drop>(
+    alloc: Global,
+    given: &ArgMatches<'_>,
+    plan: &LoadPlan,
+    session: &Session<D>,
+    text: &LoadText<L>,
+    done: u32,
+    fault: Fault,
+) -> Result<Option<String>, Fault> {
+    if let Some(line) = line_of(fault) {
+        let at = located(alloc, given, plan.counts.as_slice(), line)?;
+        let fault = in_line(fault, at.line);
+        return line_hint(
+            alloc,
+            at.path.as_str(),
+            Table::Lineorder,
+            text.line(),
+            fault,
+        );
+    }
+    if let Some(unknown) = key_for(fault, text.unknown()) {
+        return unknown_hint(alloc, given, plan, session, unknown);
+    }
+    match fault {
+        Fault::Repeated => stored_hint(alloc, given, plan, session, text.rows(), done),
+        fault => batch_hint(alloc, given, plan, session, fault),
+    }
+}
+
+fn unknown_hint<D: Sectors>(
+    alloc: Global,
+    given: &ArgMatches<'_>,
+    plan: &LoadPlan,
+    session: &Session<D>,
+    unknown: UnknownKey,
+) -> Result<Option<String>, Fault> {
+    let UnknownKey { axis, key, line } = unknown;
+    let batch = session.status()?.batches.saturating_add(1);
+    let at = located(alloc, given, plan.counts.as_slice(), line)?;
+    let at = KeyAt {
+        axis,
+        key,
+        path: at.path.as_str(),
+        line: at.line,
+    };
+    Ok(Some(loaded_key_hint(alloc, at, batch)?))
+}
+
+// A batch of so many rows that is not the stored one of its number, after so many that were done.
+fn stored_hint<D: Sectors>(
+    alloc: Global,
+    given: &ArgMatches<'_>,
+    plan: &LoadPlan,
+    session: &Session<D>,
+    rows: u32,
+    done: u32,
+) -> Result<Option<String>, Fault> {
+    let number = plan.cut.first.saturating_add(done);
+    let Some(stored) = session.batch_rows(number) else {
+        return Ok(None);
+    };
+    let stored = StoredBatch {
+        number,
+        rows: stored,
+    };
+    let path = table_name(alloc, given, Table::Lineorder)?;
+    Ok(Some(repeated_hint(alloc, path.as_str(), rows, stored)?))
+}
+
+// The number of a batch, or a limit that its rows exceed.
+fn batch_hint<D: Sectors>(
+    alloc: Global,
+    given: &ArgMatches<'_>,
+    plan: &LoadPlan,
+    session: &Session<D>,
+    fault: Fault,
+) -> Result<Option<String>, Fault> {
+    let said = number_hint(alloc, fault, plan.cut, session.status()?.batches)?;
+    if said.is_some() {
+        return Ok(said);
+    }
+    let path = table_name(alloc, given, Table::Lineorder)?;
+    limit_hint(alloc, path.as_str(), fault)
+}

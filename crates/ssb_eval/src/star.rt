@@ -1,0 +1,147 @@
+//! The five tables while a query is answered over them. After a refusal they have what was refused.
+ghost use Rattle.std.specs.Prelude.{◌≡◌, None, Some, IfErr, IfNone, IfOk, IfSome, OnOk};
+ghost use Rattle.cube_model.specs.Proper.{IsProper};
+ghost use Rattle.cube_query.specs.GroupLines.{AreGroupsOver};
+ghost use Rattle.ssb_eval.specs.Evaluation.{Evaluates, Gives, HaveTexts, Texts, dimensions_of};
+ghost use Rattle.ssb_eval.specs.Tables.{AreFresh, AreUnread, IsFresh, IsRefusedFor, IsUnreadStar, KeepLines, KeepsBroken, KeepsCause, KeepsUnknown};
+
+use crate::facts::group_facts;
+use crate::tables::{DimensionTables, RefusedLine};
+use crate::unknown::UnknownKey;
+use batch_loader::Lines;
+use cube_model::{DimRows, Fault, Query};
+use cube_query::Groups;
+use dimensions::Dims;
+use std::alloc::Global;
+use std::io::Read;
+use std::marker::Model;
+
+/// The dimensions of the tables, and the groups of the answer to a query over them.
+#[derive(Drop)]
+pub struct Evaluated {
+    pub dims: Dims,
+    pub groups: Groups,
+}
+
+/// The five tables, line by line, and what is kept of a refusal.
+#[derive(Drop)]
+pub struct Tables<C: Read + Drop, S: Read + Drop, P: Read + Drop, D: Read + Drop, L: Read + Drop> {
+    dimensions: DimensionTables<C, S, P, D>,
+    lineorder: Lines<L>,
+    broken: Option<DimRows>,
+    unknown: Option<UnknownKey>,
+}
+
+impl<C: Read + Drop, S: Read + Drop, P: Read + Drop, D: Read + Drop, L: Read + Drop> Model
+    for Tables<C, S, P, D, L> {
+    ghost use Rattle.ssb_eval.specs.Tables.{StarLines};
+
+    ghost Value = { StarLines };
+
+    ghost view = { λ tables. record {
+      dimensions = tables.dimensions;
+      lineorder = tables.lineorder;
+      broken = tables.broken;
+      unknown = tables.unknown;
+    } };
+}
+
+impl<C: Read + Drop, S: Read + Drop, P: Read + Drop, D: Read + Drop, L: Read + Drop> Tables<
+    C,
+    S,
+    P,
+    D,
+    L,
+> {
+    /// The tables that five readers give. It can only fail when out of memory.
+    pub fn new(
+        alloc: Global,
+        customer: C,
+        supplier: S,
+        part: P,
+        date: D,
+        lineorder: L,
+    ) -> Result<Self, Fault>
+        ensures unread { IfOk result (λ tables. (texts : Texts)
+            → HaveTexts (C.remaining customer) (S.remaining supplier) (P.remaining part) (D.remaining date) (L.remaining lineorder) texts
+            → IsUnreadStar tables texts) }
+        ensures fresh { IfOk result IsFresh }
+        ensures err { IfErr result (λ fault. fault ≡ Fault.Memory) }
+    {
+        Ok(Tables {
+            dimensions: DimensionTables::new(alloc, customer, supplier, part, date)?,
+            lineorder: Lines::new(alloc, lineorder)?,
+            broken: None,
+            unknown: None,
+        })
+    }
+
+    /// Reads the four tables of the dimensions, and then checks their rows; checks the fact rows batch by batch, and folds them. The
+    /// first refusal decides.
+    pub(crate) fn evaluate(&mut self, alloc: Global, query: &Query) -> Result<Evaluated, Fault>
+        requires proper { IsProper query.now }
+        ensures over { IfOk result (λ found. AreGroupsOver found.dims found.groups) }
+        ensures evaluates { (texts : Texts) → IsUnreadStar self.old texts → Evaluates query.now texts result }
+        ensures cause { IsFresh self.old → KeepsCause self.new result }
+        ensures whole { IsFresh self.old → OnOk result (self.new.broken ≡ None) }
+        ensures unknown { (texts : Texts) → IsUnreadStar self.old texts → KeepsUnknown texts self.new }
+    {
+        let dims = self.read_dims(alloc)?;
+        let Tables {
+            lineorder,
+            unknown,
+            ..
+        } = self;
+        let groups = group_facts(alloc, &dims, query, lineorder, unknown)?;
+        Ok(Evaluated { dims, groups })
+    }
+
+    // Reads the four tables of the dimensions, and then checks their rows. Those that break a rule are kept.
+    fn read_dims(&mut self, alloc: Global) -> Result<Dims, Fault>
+        ensures dims { (texts : Texts) → AreUnread self.old.dimensions texts → Gives (dimensions_of texts) result }
+        ensures lines { IsFresh self.old → KeepLines self.new.dimensions }
+        ensures rest { (self.new.lineorder ≡ self.old.lineorder) × (self.new.unknown ≡ self.old.unknown) }
+        ensures broken { self.old.broken ≡ None → IfErr result (KeepsBroken self.new.broken) }
+        ensures whole { OnOk result (self.new.broken ≡ self.old.broken) }
+    {
+        let rows = self.dimensions.rows(alloc)?;
+        match Dims::build(alloc, &rows) {
+            Ok(dims) => Ok(dims),
+            Err(fault) => {
+                self.broken = Some(rows);
+                Err(fault)
+            }
+        }
+    }
+
+    /// The line for which a table of the dimensions is refused, of the first table that is.
+    pub fn refused(&self) -> Option<RefusedLine<'_>>
+        ensures some { IfSome result (λ line. IsRefusedFor self.now.dimensions line.axis line.text.now) }
+        ensures none { IfNone result (AreFresh self.now.dimensions) }
+    {
+        self.dimensions.refused()
+    }
+
+    /// The line of the fact table that was read last. Where the table is refused, it is the line that is, except where that is too long
+    /// or a read failed.
+    pub fn fact_line(&self) -> &[u8]
+        ensures { result.now ≡ self.now.lineorder.line }
+    {
+        self.lineorder.line()
+    }
+
+    /// The rows of the dimensions, where they break a rule.
+    pub fn broken(&self) -> Option<&DimRows>
+        ensures some { IfSome result (λ rows. self.now.broken ≡ Some rows.now) }
+        ensures none { IfNone result (self.now.broken ≡ None) }
+    {
+        self.broken.as_ref()
+    }
+
+    /// The key for which a batch of the fact table is refused.
+    pub fn unknown(&self) -> Option<UnknownKey>
+        ensures { result ≡ self.now.unknown }
+    {
+        self.unknown
+    }
+}
