@@ -1,5 +1,6 @@
 -- Answers and admissions after rows were added.
-use Rattle.std.proofs.Common.{◌≡◌, ◌∙◌, ap, refl, ℕ, ◌+◌, true, false, cond, nat_le, nat_lt, ◌&&◌, List, [], ◌∷◌, ◌++◌, map, length, All}
+use Rattle.std.proofs.Common.{◌≡◌, ◌∙◌, ap, refl, ℕ, ◌+◌, true, false, cond, nat_le, nat_lt, ◌&&◌, List, [], ◌∷◌, ◌++◌}
+use Rattle.std.proofs.Common.{map, length, All}
 use Rattle.std.specs.List.{flat_map, list_all, list_any}
 use Rattle.std.specs.Ordering.{eq_by_cmp}
 use Rattle.std.specs.Str.{bytes_eq}
@@ -30,18 +31,23 @@ use Rattle.added_rows.proofs.Known.{HasKeys, all_known, attribute_kept, axis_kep
 -- ---- one fact row
 module _ (rows more : DimRows) (row : LineOrder) (has : HasKeys rows row) where
   holds_kept : (condition : Cond) → holds_of (joined rows more) condition row ≡ holds_of rows condition row
-  holds_kept (OneOf attr texts) = ap (λ own. list_any (λ text. bytes_eq text own) texts) (attribute_kept rows more row has attr)
-  holds_kept (Between attr low high) = ap (λ own. text_le low own && text_le own high) (attribute_kept rows more row has attr)
+  holds_kept (OneOf attr texts) =
+      ap (λ own. list_any (λ text. bytes_eq text own) texts) (attribute_kept rows more row has attr)
+  holds_kept (Between attr low high) =
+      ap (λ own. text_le low own && text_le own high) (attribute_kept rows more row has attr)
   holds_kept (Quantity low high) = refl
   holds_kept (Discount low high) = refl
 
-  is_selected_kept : (conditions : List Cond) → is_selected (joined rows more) conditions row ≡ is_selected rows conditions row
+  is_selected_kept : (conditions : List Cond)
+      → is_selected (joined rows more) conditions row ≡ is_selected rows conditions row
   is_selected_kept conditions = λ i. list_all (λ condition. holds_kept condition i) conditions
 
-  under_kept : (columns : List Attr) (grouping : GroupingSet) → key_under (joined rows more) row columns grouping ≡ key_under rows row columns grouping
+  under_kept : (columns : List Attr) (grouping : GroupingSet) → key_under (joined rows more) row columns grouping
+      ≡ key_under rows row columns grouping
   under_kept [] grouping = refl
   under_kept (column ∷ columns) [] = refl
-  under_kept (column ∷ columns) (true ∷ grouping) = λ i. member.Text (attribute_kept rows more row has column i) ∷ under_kept columns grouping i
+  under_kept (column ∷ columns) (true ∷ grouping) = λ i. member.Text (attribute_kept rows more row has column i)
+      ∷ under_kept columns grouping i
   under_kept (column ∷ columns) (false ∷ grouping) = λ i. member.All ∷ under_kept columns grouping i
 
   keys_kept : (query : Query) → keys_of (joined rows more) query row ≡ keys_of rows query row
@@ -73,7 +79,8 @@ module _ (rows more : DimRows) where
       let rest = of_key_kept query key facts (All-tail (HasKeys rows) row facts all) in
       λ i. cond (list_any (eq_by_cmp key_cmp key) (here i)) (row ∷ rest i) (rest i)
 
-  unknown_kept : (number : ℕ) (facts : List LineOrder) → All (HasKeys rows) facts → unknown_key (joined rows more) number facts ≡ unknown_key rows number facts
+  unknown_kept : (number : ℕ) (facts : List LineOrder) → All (HasKeys rows) facts
+      → unknown_key (joined rows more) number facts ≡ unknown_key rows number facts
   unknown_kept number [] all = refl
   unknown_kept number (row ∷ facts) all =
       let here = axis_kept rows more row (All-head (HasKeys rows) row facts all) number in
@@ -86,7 +93,10 @@ answers_kept query rows more facts known =
     let chosen = selected rows query.conditions facts in
     let among : All (HasKeys rows) chosen = All-filter (is_selected rows query.conditions) (HasKeys rows) facts all in
     let keys = every_key_kept rows more query chosen among in
-    let over : List LineOrder → Answer = λ some. record { lines = in_order query.order (map (line_of (joined rows more) query some) (keys_among (joined rows more) query some)) } in
+    let over : List LineOrder → Answer = λ some. record {
+      lines = in_order query.order
+          (map (line_of (joined rows more) query some) (keys_among (joined rows more) query some));
+    } in
     ap over (selected_kept rows more query.conditions facts all)
     ∙ (λ i. record {
       lines = in_order query.order (map (λ key. record {
@@ -110,4 +120,5 @@ admissions_kept rows more batches number batch e =
     let four = both sizes (texts ∷ known ∷ sums) three.1 in
     let five = both texts (known ∷ sums) four.1 in
     let six = both known sums five.1 in
-    ap (λ cause. first_cause (repeated ∷ gaps ∷ counts ∷ sizes ∷ texts ∷ cause ∷ sums)) (unknown_kept rows more 1 batch (all_known rows 1 batch six.0)) ∙ e
+    ap (λ cause. first_cause (repeated ∷ gaps ∷ counts ∷ sizes ∷ texts ∷ cause ∷ sums))
+    (unknown_kept rows more 1 batch (all_known rows 1 batch six.0)) ∙ e

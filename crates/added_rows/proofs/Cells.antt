@@ -1,8 +1,11 @@
 -- Cells after rows were added.
-use Rattle.std.proofs.Common.{◌≡◌, ◌∙◌, sym, ap, refl, subst, ℕ, ◌<◌, ◌==◌, cond, List, [], ◌∷◌, length, get_or, Option, Some, None, All}
+use Rattle.std.proofs.Common.{◌≡◌, ◌∙◌, sym, ap, refl, subst, ℕ, ◌<◌, ◌==◌, cond, List, [], ◌∷◌, length, get_or, Option}
+use Rattle.std.proofs.Common.{Some, None, All}
 use Rattle.std.proofs.lemmas.List.Elements.{All-filter, All-head, All-tail}
 use Rattle.cube_model.specs.declared.attr.Attr.{Attr}
-use Rattle.cube_model.specs.declared.attr.Attr.TheVariants.{CustomerCity, CustomerNation, CustomerRegion, SupplierCity, SupplierNation, SupplierRegion, PartBrand1, PartCategory, PartMfgr, DateKey, DateYearmonthnum, DateYear}
+use Rattle.cube_model.specs.declared.attr.Attr.TheVariants.{CustomerCity, CustomerNation, CustomerRegion, SupplierCity}
+use Rattle.cube_model.specs.declared.attr.Attr.TheVariants.{SupplierNation, SupplierRegion, PartBrand1, PartCategory}
+use Rattle.cube_model.specs.declared.attr.Attr.TheVariants.{PartMfgr, DateKey, DateYearmonthnum, DateYear}
 use Rattle.cube_model.specs.declared.attr.Axis.{Axis}
 use Rattle.cube_model.specs.declared.attr.Axis.TheVariants.{Customer, Supplier, Part, Date}
 use Rattle.cube_model.specs.declared.rows.DimRows.{DimRows}
@@ -22,19 +25,22 @@ use Rattle.added_rows.specs.Lawful.{CellsStay}
 use Rattle.added_rows.proofs.Codes.{code_of_kept, index_kept, known_kept}
 
 module _ (rows more : DimRows) where
-  in_kept : (column : Option ℕ) (attr : Attr) (place : ℕ) → place < row_count_of rows (axis_of attr) → code_in column (joined rows more) attr place ≡ code_in column rows attr place
+  in_kept : (column : Option ℕ) (attr : Attr) (place : ℕ) → place < row_count_of rows (axis_of attr)
+      → code_in column (joined rows more) attr place ≡ code_in column rows attr place
   in_kept None attr place within = refl
   in_kept (Some column) attr place within = code_of_kept rows more attr place within
 
   of_kept : (attr : Attr) (axis : Axis) (row : LineOrder) → axis_of attr ≡ axis → IsKnownOn rows row axis
-      → code_of (Some attr) (joined rows more) (row_index_of (joined rows more) axis (key_on axis row)) ≡ code_of (Some attr) rows (row_index_of rows axis (key_on axis row))
+      → code_of (Some attr) (joined rows more) (row_index_of (joined rows more) axis (key_on axis row))
+      ≡ code_of (Some attr) rows (row_index_of rows axis (key_on axis row))
   of_kept attr axis row is within =
       let place = row_index_of rows axis (key_on axis row) in
       ap (code_of (Some attr) (joined rows more)) (index_kept rows more axis (key_on axis row) within)
       ∙ in_kept (attr_column attr) attr place (subst (λ (one : Axis). place < row_count_of rows one) (sym is) within)
 
   -- the code of a fact row's member at a level that is grouped, or that of ALL
-  level_kept : (axis : Axis) (at : Level) (row : LineOrder) → ((at ≡ level.All → ⊥) → IsKnownOn rows row axis) → code_on (joined rows more) axis at row ≡ code_on rows axis at row
+  level_kept : (axis : Axis) (at : Level) (row : LineOrder) → ((at ≡ level.All → ⊥) → IsKnownOn rows row axis)
+      → code_on (joined rows more) axis at row ≡ code_on rows axis at row
   level_kept axis level.All row known = refl
   level_kept Customer level.Lowest row known = of_kept CustomerCity Customer row refl (known (λ e. cc))
   level_kept Customer level.Middle row known = of_kept CustomerNation Customer row refl (known (λ e. cc))
@@ -51,15 +57,23 @@ module _ (rows more : DimRows) where
 
 module _ (rows more : DimRows) (modes : List (List ℕ)) (view : View) where
   members_kept : (row : LineOrder) → HasMembers rows modes view row → HasMembers (joined rows more) modes view row
-  members_kept row has = record { axes = λ axis grouped. known_kept rows more row axis (has.axes axis grouped); ship_mode = has.ship_mode }
+  members_kept row has =
+      record { axes = λ axis grouped. known_kept rows more row axis (has.axes axis grouped); ship_mode = has.ship_mode }
 
-  key_kept : (row : LineOrder) → HasMembers rows modes view row → key_of (joined rows more) modes view row ≡ key_of rows modes view row
+  key_kept : (row : LineOrder) → HasMembers rows modes view row
+      → key_of (joined rows more) modes view row ≡ key_of rows modes view row
   key_kept row has =
       let customer = level_kept rows more Customer view.customer row (has.axes Customer) in
       let supplier = level_kept rows more Supplier view.supplier row (has.axes Supplier) in
       let part = level_kept rows more Part view.part row (has.axes Part) in
       let date = level_kept rows more Date view.date row (has.axes Date) in
-      λ i. record { customer = customer i; supplier = supplier i; part = part i; date = date i; ship_mode = mode_code view.ship_mode modes row.shipmode }
+      λ i. record {
+        customer = customer i;
+        supplier = supplier i;
+        part = part i;
+        date = date i;
+        ship_mode = mode_code view.ship_mode modes row.shipmode;
+      }
 
   of_number_kept : (number : ℕ) (facts : List LineOrder) → All (HasMembers rows modes view) facts
       → rows_of (joined rows more) modes view number facts ≡ rows_of rows modes view number facts
@@ -69,7 +83,8 @@ module _ (rows more : DimRows) (modes : List (List ℕ)) (view : View) where
       let rest = of_number_kept number facts (All-tail (HasMembers rows modes view) row facts all) in
       λ i. cond (number_of (key i) == number) (row ∷ rest i) (rest i)
 
-  cell_kept : (facts : List LineOrder) → All (HasMembers rows modes view) facts → cell_over (joined rows more) modes view facts ≡ cell_over rows modes view facts
+  cell_kept : (facts : List LineOrder) → All (HasMembers rows modes view) facts
+      → cell_over (joined rows more) modes view facts ≡ cell_over rows modes view facts
   cell_kept [] all = refl
   cell_kept (row ∷ facts) all =
       let key = key_kept row (All-head (HasMembers rows modes view) row facts all) in
@@ -79,11 +94,14 @@ pub cells_kept : CellsStay
 cells_kept rows more modes facts plain represent =
     let view = plain.view in
     record {
-      known = λ place default within. members_kept rows more modes view (get_or facts place default) (represent.known place default within);
+      known = λ place default within. members_kept rows more modes view (get_or facts place default)
+          (represent.known place default within);
       ascending = represent.ascending;
       group = λ number.
           represent.group number
-          ∙ sym (ap (cell_over (joined rows more) modes view) (of_number_kept rows more modes view number facts represent.known)
+          ∙ sym (ap (cell_over (joined rows more) modes view)
+          (of_number_kept rows more modes view number facts represent.known)
           ∙ cell_kept rows more modes view (rows_of rows modes view number facts)
-          (All-filter (λ row. number_of (key_of rows modes view row) == number) (HasMembers rows modes view) facts represent.known));
+          (All-filter (λ row. number_of (key_of rows modes view row) == number) (HasMembers rows modes view) facts
+          represent.known));
     }

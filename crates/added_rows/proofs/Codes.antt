@@ -1,5 +1,6 @@
 -- The codes of members after rows were added: those that were there stay.
-use Rattle.std.proofs.Common.{◌≡◌, ◌∙◌, ap, refl, arith, ℕ, ◌<◌, ◌≤◌, true, List, [], ◌∷◌, ◌++◌, length, length-append, get_or}
+use Rattle.std.proofs.Common.{◌≡◌, ◌∙◌, ap, refl, arith, ℕ, ◌<◌, ◌≤◌, true, List, [], ◌∷◌, ◌++◌, length, length-append}
+use Rattle.std.proofs.Common.{get_or}
 use Rattle.std.specs.Prelude.{◌==◌, not}
 use Rattle.std.specs.List.{filter, list_any, position_or_len}
 use Rattle.std.specs.Fmt.{decimal}
@@ -7,7 +8,10 @@ use Rattle.std.specs.Str.{bytes_eq}
 use Rattle.std.proofs.lemmas.List.{get_or_append_left, length-map, map-append}
 use Rattle.std.proofs.lemmas.List.Elements.{filter-append}
 use Rattle.cube_model.specs.declared.attr.Attr.{Attr}
-use Rattle.cube_model.specs.declared.attr.Attr.TheVariants.{CustomerCity, CustomerNation, CustomerRegion, SupplierCity, SupplierNation, SupplierRegion, PartBrand1, PartCategory, PartMfgr, DateKey, DateYearmonthnum, DateYear, DateYearmonth, DateWeeknuminyear}
+use Rattle.cube_model.specs.declared.attr.Attr.TheVariants.{CustomerCity, CustomerNation, CustomerRegion, SupplierCity}
+use Rattle.cube_model.specs.declared.attr.Attr.TheVariants.{SupplierNation, SupplierRegion, PartBrand1, PartCategory}
+use Rattle.cube_model.specs.declared.attr.Attr.TheVariants.{PartMfgr, DateKey, DateYearmonthnum, DateYear}
+use Rattle.cube_model.specs.declared.attr.Attr.TheVariants.{DateYearmonth, DateWeeknuminyear}
 use Rattle.cube_model.specs.declared.attr.Axis.{Axis}
 use Rattle.cube_model.specs.declared.attr.Axis.TheVariants.{Customer, Supplier, Part, Date}
 use Rattle.cube_model.specs.declared.rows.DimRows.{DimRows}
@@ -22,11 +26,18 @@ use Rattle.dimensions.specs.Added.{joined}
 
 -- ---- places of rows
 module _ (rows more : DimRows) where
-  pub index_kept : (axis : Axis) (key : ℕ) → row_index_of rows axis key < row_count_of rows axis → row_index_of (joined rows more) axis key ≡ row_index_of rows axis key
-  index_kept Customer key within = place_append (λ row. row.key == key) rows.customers more.customers (place_seen (λ row. row.key == key) rows.customers within)
-  index_kept Supplier key within = place_append (λ row. row.key == key) rows.suppliers more.suppliers (place_seen (λ row. row.key == key) rows.suppliers within)
-  index_kept Part key within = place_append (λ row. row.key == key) rows.parts more.parts (place_seen (λ row. row.key == key) rows.parts within)
-  index_kept Date key within = place_append (λ row. row.key == key) rows.dates more.dates (place_seen (λ row. row.key == key) rows.dates within)
+  pub index_kept : (axis : Axis) (key : ℕ) → row_index_of rows axis key < row_count_of rows axis
+      → row_index_of (joined rows more) axis key ≡ row_index_of rows axis key
+  index_kept Customer key within =
+      place_append (λ row. row.key == key) rows.customers more.customers
+      (place_seen (λ row. row.key == key) rows.customers within)
+  index_kept Supplier key within =
+      place_append (λ row. row.key == key) rows.suppliers more.suppliers
+      (place_seen (λ row. row.key == key) rows.suppliers within)
+  index_kept Part key within =
+      place_append (λ row. row.key == key) rows.parts more.parts (place_seen (λ row. row.key == key) rows.parts within)
+  index_kept Date key within =
+      place_append (λ row. row.key == key) rows.dates more.dates (place_seen (λ row. row.key == key) rows.dates within)
 
   count_more : (axis : Axis) → row_count_of rows axis ≤ row_count_of (joined rows more) axis
   count_more Customer = omega (arith, length-append rows.customers more.customers)
@@ -40,19 +51,26 @@ module _ (rows more : DimRows) where
 -- ---- codes of texts
 
 -- the texts of a longer list begin with those of the shorter one
-firsts_begin : (texts others : List (List ℕ)) → (rest : List (List ℕ)) × (firsts (texts ++ others) ≡ firsts texts ++ rest)
+firsts_begin : (texts others : List (List ℕ)) → (rest : List (List ℕ))
+    × (firsts (texts ++ others) ≡ firsts texts ++ rest)
 firsts_begin [] others = (firsts others, refl)
 firsts_begin (text ∷ texts) others =
     let shorter = firsts_begin texts others in
-    let differs = λ (other : List ℕ). not (bytes_eq text other) in
-    (filter differs shorter.0, ap (λ l. text ∷ filter differs l) shorter.1 ∙ ap (λ l. text ∷ l) (filter-append differs (firsts texts) shorter.0))
+    let differs = λ (other : List ℕ). not (bytes_eq text other) in (
+      filter differs shorter.0,
+      ap (λ l. text ∷ filter differs l) shorter.1
+          ∙ ap (λ l. text ∷ l) (filter-append differs (firsts texts) shorter.0),
+    )
 
-pub code_kept : (texts others : List (List ℕ)) (row : ℕ) → row < length texts → code_at (texts ++ others) row ≡ code_at texts row
+pub code_kept : (texts others : List (List ℕ)) (row : ℕ) → row < length texts
+    → code_at (texts ++ others) row ≡ code_at texts row
 code_kept texts others row within =
     let text = get_or texts row [] in
     let longer = firsts_begin texts others in
-    let among : list_any (bytes_eq text) (firsts texts) ≡ true = list_any-firsts text texts ∙ list_any_here (bytes_eq text) texts row [] within (bytes_eq-refl text) in
-    ap (λ own. position_or_len (bytes_eq own) (firsts (texts ++ others))) (get_or_append_left texts others [] row within)
+    let among : list_any (bytes_eq text) (firsts texts) ≡ true = list_any-firsts text texts
+    ∙ list_any_here (bytes_eq text) texts row [] within (bytes_eq-refl text) in
+    ap (λ own. position_or_len (bytes_eq own) (firsts (texts ++ others)))
+    (get_or_append_left texts others [] row within)
     ∙ ap (position_or_len (bytes_eq text)) longer.1
     ∙ place_append (bytes_eq text) (firsts texts) longer.0 among
 
@@ -91,6 +109,8 @@ module _ (rows more : DimRows) where
   text_count DateWeeknuminyear = length-map rows.dates (λ row. row.weeknuminyear)
 
   -- the code of an attribute at a row that is there
-  pub code_of_kept : (attr : Attr) (row : ℕ) → row < row_count_of rows (axis_of attr) → code_at (texts_of (joined rows more) attr) row ≡ code_at (texts_of rows attr) row
+  pub code_of_kept : (attr : Attr) (row : ℕ) → row < row_count_of rows (axis_of attr)
+      → code_at (texts_of (joined rows more) attr) row ≡ code_at (texts_of rows attr) row
   code_of_kept attr row within =
-      ap (λ texts. code_at texts row) (texts_more attr) ∙ code_kept (texts_of rows attr) (texts_of more attr) row (omega (arith, within, text_count attr))
+      ap (λ texts. code_at texts row) (texts_more attr)
+      ∙ code_kept (texts_of rows attr) (texts_of more attr) row (omega (arith, within, text_count attr))

@@ -21,13 +21,16 @@ AreApart puts = AllPairs (λ (a : Put) (b : Put). a.0 ≢ b.0) puts
 
 module _ (rows : DimRows) (axis : Axis) (id : ℕ) where
   -- what holds of the put and of those after it
-  all_then : (P : Put → Type 0) (count : ℕ) (puts : List Put) → P (id, dimension_of rows axis) → All P puts → All P (put_of rows axis id count ++ puts)
+  all_then : (P : Put → Type 0) (count : ℕ) (puts : List Put) → P (id, dimension_of rows axis) → All P puts
+      → All P (put_of rows axis id count ++ puts)
   all_then P zero puts own rest = rest
   all_then P (suc count) puts own rest = All-cons P (id, dimension_of rows axis) puts own rest
 
-  apart_then : (count : ℕ) (puts : List Put) → All (λ (put : Put). id ≢ put.0) puts → AreApart puts → AreApart (put_of rows axis id count ++ puts)
+  apart_then : (count : ℕ) (puts : List Put) → All (λ (put : Put). id ≢ put.0) puts → AreApart puts
+      → AreApart (put_of rows axis id count ++ puts)
   apart_then zero puts other rest = rest
-  apart_then (suc count) puts other rest = AllPairs-cons (λ (a : Put) (b : Put). a.0 ≢ b.0) (id, dimension_of rows axis) puts other rest
+  apart_then (suc count) puts other rest =
+      AllPairs-cons (λ (a : Put) (b : Put). a.0 ≢ b.0) (id, dimension_of rows axis) puts other rest
 
   all_one : (P : Put → Type 0) (count : ℕ) → P (id, dimension_of rows axis) → All P (put_of rows axis id count)
   all_one P zero own = All-nil P
@@ -35,14 +38,16 @@ module _ (rows : DimRows) (axis : Axis) (id : ℕ) where
 
   apart_one : (count : ℕ) → AreApart (put_of rows axis id count)
   apart_one zero = AllPairs-nil (λ (a : Put) (b : Put). a.0 ≢ b.0)
-  apart_one (suc count) = AllPairs-cons (λ (a : Put) (b : Put). a.0 ≢ b.0) (id, dimension_of rows axis) [] (All-nil (λ (put : Put). id ≢ put.0)) (AllPairs-nil (λ (a : Put) (b : Put). a.0 ≢ b.0))
+  apart_one (suc count) = AllPairs-cons (λ (a : Put) (b : Put). a.0 ≢ b.0) (id, dimension_of rows axis) []
+      (All-nil (λ (put : Put). id ≢ put.0)) (AllPairs-nil (λ (a : Put) (b : Put). a.0 ≢ b.0))
 
   one_at_most : (count : ℕ) → length (put_of rows axis id count) ≤ 1
   one_at_most zero = omega arith
   one_at_most (suc count) = omega arith
 
 -- dimensions that may be put together may be put apart
-pub puts_widened : (rows more : DimRows) → ArePuts (dimension_puts (joined rows more)) → ArePuts (widening_puts rows more)
+pub puts_widened : (rows more : DimRows) → ArePuts (dimension_puts (joined rows more))
+    → ArePuts (widening_puts rows more)
 puts_widened rows more puts =
     let then_rows = joined rows more in
     let nc = length more.customers in
@@ -59,13 +64,17 @@ puts_widened rows more puts =
     let date = puts.each 3 none (omega arith) in
     record {
       each = all_then then_rows Customer 1 IsObject nc s customer
-          (all_then then_rows Supplier 2 IsObject ns p supplier (all_then then_rows Part 3 IsObject np d part (all_one then_rows Date 4 IsObject nd date)));
+          (all_then then_rows Supplier 2 IsObject ns p supplier
+          (all_then then_rows Part 3 IsObject np d part (all_one then_rows Date 4 IsObject nd date)));
       distinct = apart_then then_rows Customer 1 nc s
           (all_then then_rows Supplier 2 (λ put. 1 ≢ put.0) ns p (λ e. omega (arith, e))
-          (all_then then_rows Part 3 (λ put. 1 ≢ put.0) np d (λ e. omega (arith, e)) (all_one then_rows Date 4 (λ put. 1 ≢ put.0) nd (λ e. omega (arith, e)))))
+          (all_then then_rows Part 3 (λ put. 1 ≢ put.0) np d (λ e. omega (arith, e))
+          (all_one then_rows Date 4 (λ put. 1 ≢ put.0) nd (λ e. omega (arith, e)))))
           (apart_then then_rows Supplier 2 ns p
-          (all_then then_rows Part 3 (λ put. 2 ≢ put.0) np d (λ e. omega (arith, e)) (all_one then_rows Date 4 (λ put. 2 ≢ put.0) nd (λ e. omega (arith, e))))
-          (apart_then then_rows Part 3 np d (all_one then_rows Date 4 (λ put. 3 ≢ put.0) nd (λ e. omega (arith, e))) (apart_one then_rows Date 4 nd)));
+          (all_then then_rows Part 3 (λ put. 2 ≢ put.0) np d (λ e. omega (arith, e))
+          (all_one then_rows Date 4 (λ put. 2 ≢ put.0) nd (λ e. omega (arith, e))))
+          (apart_then then_rows Part 3 np d (all_one then_rows Date 4 (λ put. 3 ≢ put.0) nd (λ e. omega (arith, e)))
+          (apart_one then_rows Date 4 nd)));
     }
 
 -- there are four at most

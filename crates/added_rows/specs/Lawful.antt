@@ -22,9 +22,11 @@ abbrev pub AnswersStay : Type 0
 AnswersStay = (query : Query) (rows more : DimRows) (facts : List LineOrder) → HaveKnownKeys rows facts
     → answer query (joined rows more) facts ≡ answer query rows facts
 
--- and so has one over the first of the batches of a warehouse: a query that was started before has the answer that it would have after
+-- and so has one over the first of the batches of a warehouse: a query that was started before has the answer that it
+-- would have after
 abbrev pub AnswersAsOfStay : Type 0
-AnswersAsOfStay = (query : Query) (as_of : ℕ) (rows more : DimRows) (batches : List (List LineOrder)) → AreInOrder rows batches → as_of ≤ length batches
+AnswersAsOfStay = (query : Query) (as_of : ℕ) (rows more : DimRows) (batches : List (List LineOrder))
+    → AreInOrder rows batches → as_of ≤ length batches
     → answer_as_of query as_of (joined rows more) batches ≡ answer_as_of query as_of rows batches
 
 -- a batch that is admissible stays so
@@ -37,7 +39,11 @@ abbrev pub CellsStay : Type 0
 CellsStay = (rows more : DimRows) (modes : List (List ℕ)) (facts : List LineOrder) (plain : PlainCells)
     → RepresentRows rows modes facts plain → RepresentRows (joined rows more) modes facts plain
 
--- a commit of the dimensions with new rows and of the root with one addition more makes a content that represents the warehouse with them
+-- a commit of the dimensions with new rows and of the root with one addition more makes a content that represents the
+-- warehouse with them
 abbrev pub WideningRepresents : Type 0
-WideningRepresents = (c : Content) (w : Warehouse) (more : DimRows) → Represents c w → AreStorable (joined w.rows more) → w.additions < most_additions
-    → Represents (committed (widening_puts w.rows more) [] (roots.root_of (root_of (widened w more))) (number_of w.layout) c) (widened w more)
+WideningRepresents = (c : Content) (w : Warehouse) (more : DimRows) → Represents c w → AreStorable (joined w.rows more)
+    → w.additions < most_additions
+    → Represents
+    (committed (widening_puts w.rows more) [] (roots.root_of (root_of (widened w more))) (number_of w.layout) c)
+    (widened w more)

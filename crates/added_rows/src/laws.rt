@@ -21,8 +21,8 @@ pub fn cells_stay()
     ensures { CellsStay }
 {}
 
-/// A commit of the dimensions that have new rows, with a root that counts the addition, makes a content that represents the warehouse
-/// with these rows.
+/// A commit of the dimensions that have new rows, with a root that counts the addition, makes a content that represents
+/// the warehouse with these rows.
 pub fn widening_represents()
     ensures { WideningRepresents }
 {}

@@ -16,17 +16,20 @@ use Rattle.answer_merge.specs.Readable.{IsReadableAnswer}
 
 -- what was read are the partial answers
 read_are : (query : Query) (dimensions : DimRows) (parts : List (List LineOrder)) (reads : List Answer)
-    → AllByRecursion (λ part. IsReadableAnswer (partial_query query) (answer (partial_query query) dimensions part)) parts
+    → AllByRecursion (λ part. IsReadableAnswer (partial_query query) (answer (partial_query query) dimensions part))
+    parts
     → AreReadFrom query dimensions parts reads → reads ≡ map (answer (partial_query query) dimensions) parts
 read_are query dimensions [] [] all is = refl
 read_are query dimensions [] (read ∷ reads) all is = absurd is
 read_are query dimensions (part ∷ parts) [] all is = absurd is
 read_are query dimensions (part ∷ parts) (read ∷ reads) all is =
-    let here = reports_read_back (partial_query query) read (answer (partial_query query) dimensions part) is.0.0 all.0 is.0.1 in
+    let here = reports_read_back (partial_query query) read (answer (partial_query query) dimensions part) is.0.0 all.0
+    is.0.1 in
     let there = read_are query dimensions parts reads all.1 is.1 in
     λ i. here i ∷ there i
 
 pub merged_reports_are_the_report : MergedReportsAreTheReport
 merged_reports_are_the_report query dimensions parts reads all is =
-    ap (λ answers. report_of query (finished query (merged_all (partial_query query) answers))) (read_are query dimensions parts reads all is)
+    ap (λ answers. report_of query (finished query (merged_all (partial_query query) answers)))
+    (read_are query dimensions parts reads all is)
     ∙ ap (report_of query) (sym (parts_make_the_answer query dimensions parts))

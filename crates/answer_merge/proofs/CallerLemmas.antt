@@ -1,6 +1,7 @@
--- What callers need: of lines that are merged one by one, that the merge begins with the line of the lowest key; of lines that can be read
--- back, that a bar ends a field and a line feed a line.
-use Rattle.std.proofs.Common.{◌≡◌, ◌∙◌, sym, ap, refl, subst, ℕ, ◌+◌, ◌≤◌, ℤ, pos, negsuc, ◌+ℤ◌, Bool, true, false, cond, Option, Some, None, List, [], ◌∷◌, ◌++◌, map, arith}
+-- What callers need: of lines that are merged one by one, that the merge begins with the line of the lowest key; of
+-- lines that can be read back, that a bar ends a field and a line feed a line.
+use Rattle.std.proofs.Common.{◌≡◌, ◌∙◌, sym, ap, refl, subst, ℕ, ◌+◌, ◌≤◌, ℤ, pos, negsuc, ◌+ℤ◌, Bool, true, false}
+use Rattle.std.proofs.Common.{cond, Option, Some, None, List, [], ◌∷◌, ◌++◌, map, arith}
 use Rattle.std.specs.Prelude.{◌||◌, nat_abs, int_lt}
 use Rattle.std.specs.Int.{int_max, int_min}
 use Rattle.std.specs.List.{AllByRecursion, list_any}
@@ -12,7 +13,8 @@ use Rattle.cube_model.specs.declared.answer.Line.{Line}
 use Rattle.cube_model.specs.declared.answer.Member.{Member}
 use Rattle.cube_model.specs.declared.answer.Value.{Value}
 use Rattle.cube_model.specs.declared.measure.Agg.{Agg}
-use Rattle.cube_model.specs.Ascending.{ascending, by_order, insert_once, IsAscending, IsAscending-ascending, list_any-ascending}
+use Rattle.cube_model.specs.Ascending.{ascending, by_order, insert_once, IsAscending, IsAscending-ascending}
+use Rattle.cube_model.specs.Ascending.{list_any-ascending}
 use Rattle.cube_model.specs.Keys.{key_cmp}
 use Rattle.cube_model.specs.Order.{key_cmp_total, key_cmp-IsAntisymmetric}
 use Rattle.cube_model.specs.Orders.{answer_cmp}
@@ -28,10 +30,12 @@ KeyIs key (Some line) = line.key ≡ key
 
 found_key : (key : List Member) (lines : List Line) → KeyIs key (line_of_key key lines)
 found_key key [] = tt
-found_key key (line ∷ lines) = (elim (same_key key line.key) as (λ b. same_key key line.key ≡ b → KeyIs key (cond b (Some line) (line_of_key key lines))) [
-  | true ↦ λ e. sym (same_key-is key line.key e)
-  | false ↦ λ e. found_key key lines
-]) refl
+found_key key (line ∷ lines) =
+    (elim (same_key key line.key) as (λ b. same_key key line.key ≡ b
+    → KeyIs key (cond b (Some line) (line_of_key key lines))) [
+      | true ↦ λ e. sym (same_key-is key line.key e)
+      | false ↦ λ e. found_key key lines
+    ]) refl
 
 merged_key : (aggs : List Agg) (key : List Member) (one other : Option Line) → KeyIs key one → KeyIs key other
     → KeyIs key (merged_line_if_any aggs one other)
@@ -54,17 +58,21 @@ own_or_none key None is = refl
 own_or_none key (Some line) is = ap (λ k. Some (record { key = k; values = line.values })) (sym is)
 
 -- each item of a list is in it in order
-all_inserted : (P : List Member → Type 0) (key : List Member) (keys : List (List Member)) → P key → AllByRecursion P keys
+all_inserted : (P : List Member → Type 0) (key : List Member) (keys : List (List Member)) → P key
+    → AllByRecursion P keys
     → AllByRecursion P (insert_once key_cmp key keys)
 all_inserted P key [] here all = (here, all)
 all_inserted P key (first ∷ others) here all =
-    elim (key_cmp key first) as (λ r. AllByRecursion P (by_order r (key ∷ first ∷ others) (first ∷ others) (first ∷ insert_once key_cmp key others))) [
+    elim (key_cmp key first) as
+    (λ r. AllByRecursion P
+    (by_order r (key ∷ first ∷ others) (first ∷ others) (first ∷ insert_once key_cmp key others))) [
       | Less ↦ (here, all)
       | Equal ↦ all
       | Greater ↦ (all.0, all_inserted P key others here all.1)
     ]
 
-all_ascending : (P : List Member → Type 0) (keys : List (List Member)) → AllByRecursion P keys → AllByRecursion P (ascending key_cmp keys)
+all_ascending : (P : List Member → Type 0) (keys : List (List Member)) → AllByRecursion P keys
+    → AllByRecursion P (ascending key_cmp keys)
 all_ascending P [] all = tt
 all_ascending P (key ∷ keys) all = all_inserted P key (ascending key_cmp keys) all.0 (all_ascending P keys all.1)
 
@@ -96,20 +104,24 @@ module _ (aggs : List Agg) (ones others : List Line) where
       ∙ sym (list_any-ascending key_cmp key_cmp_total key_cmp-IsAntisymmetric key (keys_in ones ++ keys_in others))
 
   key_is : (key : List Member) → KeyIs key (found key)
-  key_is key = merged_key aggs key (line_of_key key ones) (line_of_key key others) (found_key key ones) (found_key key others)
+  key_is key = merged_key aggs key (line_of_key key ones) (line_of_key key others) (found_key key ones)
+      (found_key key others)
 
   by_keys : merged_lines aggs ones others ≡ map own keys
   by_keys = map_some found own keys (λ key is. own_line key (found key) (key_is key) (is_found key ∙ is))
 
   -- the line of a key in the merge is the merge of its lines
-  pub line_of_key-merged : (key : List Member) → line_of_key key (merged_lines aggs ones others) ≡ merged_line_if_any aggs (line_of_key key ones) (line_of_key key others)
+  pub line_of_key-merged : (key : List Member)
+      → line_of_key key (merged_lines aggs ones others) ≡ merged_line_if_any aggs (line_of_key key ones)
+      (line_of_key key others)
   line_of_key-merged key =
       ap (line_of_key key) by_keys
       ∙ line_of_key-map own (λ k. refl) key keys
       ∙ ap (λ b. cond b (Some (own key)) None) (sym (is_found key))
       ∙ own_or_none key (found key) (key_is key)
 
-  own_above : (key : List Member) (more : List (List Member)) → AllByRecursion (λ other. key_cmp key other ≡ Less) more → AreAbove key (map own more)
+  own_above : (key : List Member) (more : List (List Member)) → AllByRecursion (λ other. key_cmp key other ≡ Less) more
+      → AreAbove key (map own more)
   own_above key [] all = tt
   own_above key (next ∷ more) all = (all.0, own_above key more all.1)
 
@@ -121,73 +133,97 @@ module _ (aggs : List Agg) (ones others : List Line) where
   pub merged_lines-rise : IsAscending (answer_cmp None) (merged_lines aggs ones others)
   merged_lines-rise =
       subst (IsAscending (answer_cmp None)) (sym by_keys)
-      (own_rise keys (IsAscending-ascending key_cmp key_cmp_total key_cmp-IsAntisymmetric (keys_in ones ++ keys_in others)))
+      (own_rise keys
+      (IsAscending-ascending key_cmp key_cmp_total key_cmp-IsAntisymmetric (keys_in ones ++ keys_in others)))
 
   -- a key below those of both is below those of the merge
-  merged_above : (key : List Member) → AreAbove key ones → AreAbove key others → AreAbove key (merged_lines aggs ones others)
+  merged_above : (key : List Member) → AreAbove key ones → AreAbove key others
+      → AreAbove key (merged_lines aggs ones others)
   merged_above key first second =
       subst (AreAbove key) (sym by_keys)
-      (own_above key keys (all_ascending (λ other. key_cmp key other ≡ Less) (keys_in ones ++ keys_in others) (keys_above key ones others first second)))
+      (own_above key keys
+      (all_ascending (λ other. key_cmp key other ≡ Less) (keys_in ones ++ keys_in others)
+      (keys_above key ones others first second)))
 
 -- a key below those of lines has none of them
 none_above : (key : List Member) (lines : List Line) → AreAbove key lines → line_of_key key lines ≡ None
 none_above key [] all = refl
-none_above key (line ∷ lines) all = ap (λ r. cond (is_eq r) (Some line) (line_of_key key lines)) all.0 ∙ none_above key lines all.1
+none_above key (line ∷ lines) all = ap (λ r. cond (is_eq r) (Some line) (line_of_key key lines)) all.0
+    ∙ none_above key lines all.1
 
-only_one : (aggs : List Agg) (line : Line) (other : Option Line) → other ≡ None → Some line ≡ merged_line_if_any aggs (Some line) other
+only_one : (aggs : List Agg) (line : Line) (other : Option Line) → other ≡ None
+    → Some line ≡ merged_line_if_any aggs (Some line) other
 only_one aggs line other none = ap (merged_line_if_any aggs (Some line)) (sym none)
 
-only_other : (aggs : List Agg) (line : Line) (one : Option Line) → one ≡ None → Some line ≡ merged_line_if_any aggs one (Some line)
+only_other : (aggs : List Agg) (line : Line) (one : Option Line) → one ≡ None
+    → Some line ≡ merged_line_if_any aggs one (Some line)
 only_other aggs line one none = ap (λ o. merged_line_if_any aggs o (Some line)) (sym none)
 
-both_or_rest : (aggs : List Agg) (one other : Line) (found first second : Option Line) (b : Bool) → found ≡ merged_line_if_any aggs first second
-    → cond b (Some (merged_line aggs one other)) found ≡ merged_line_if_any aggs (cond b (Some one) first) (cond b (Some other) second)
+both_or_rest : (aggs : List Agg) (one other : Line) (found first second : Option Line) (b : Bool)
+    → found ≡ merged_line_if_any aggs first second
+    → cond b (Some (merged_line aggs one other)) found ≡ merged_line_if_any aggs (cond b (Some one) first)
+    (cond b (Some other) second)
 both_or_rest aggs one other found first second true is = refl
 both_or_rest aggs one other found first second false is = is
 
 -- the merge begins with a line whose key is below all others
-pub merged_lines-one : (aggs : List Agg) (line : Line) (ones others : List Line) → AreAbove line.key ones → AreAbove line.key others
+pub merged_lines-one : (aggs : List Agg) (line : Line) (ones others : List Line) → AreAbove line.key ones
+    → AreAbove line.key others
     → merged_lines aggs (line ∷ ones) others ≡ line ∷ merged_lines aggs ones others
-merged_lines-one aggs line ones others first second = sym (merge_is_the_one aggs (line ∷ ones) others (line ∷ merged_lines aggs ones others) (record {
-  in_order = (merged_above aggs ones others line.key first second, merged_lines-rise aggs ones others);
-  by_key = λ key. (elim (same_key key line.key) as (λ b. same_key key line.key ≡ b
-      → cond b (Some line) (line_of_key key (merged_lines aggs ones others)) ≡ merged_line_if_any aggs (cond b (Some line) (line_of_key key ones)) (line_of_key key others)) [
-        | true ↦ λ e. only_one aggs line (line_of_key key others) (ap (λ k. line_of_key k others) (same_key-is key line.key e) ∙ none_above line.key others second)
-        | false ↦ λ e. line_of_key-merged aggs ones others key
-      ]) refl;
-}))
+merged_lines-one aggs line ones others first second =
+    sym (merge_is_the_one aggs (line ∷ ones) others (line ∷ merged_lines aggs ones others) (record {
+      in_order = (merged_above aggs ones others line.key first second, merged_lines-rise aggs ones others);
+      by_key = λ key. (elim (same_key key line.key) as (λ b. same_key key line.key ≡ b
+          → cond b (Some line) (line_of_key key (merged_lines aggs ones others))
+          ≡ merged_line_if_any aggs (cond b (Some line) (line_of_key key ones)) (line_of_key key others)) [
+            | true ↦ λ e. only_one aggs line (line_of_key key others)
+                (ap (λ k. line_of_key k others) (same_key-is key line.key e) ∙ none_above line.key others second)
+            | false ↦ λ e. line_of_key-merged aggs ones others key
+          ]) refl;
+    }))
 
-pub merged_lines-other : (aggs : List Agg) (line : Line) (ones others : List Line) → AreAbove line.key ones → AreAbove line.key others
+pub merged_lines-other : (aggs : List Agg) (line : Line) (ones others : List Line) → AreAbove line.key ones
+    → AreAbove line.key others
     → merged_lines aggs ones (line ∷ others) ≡ line ∷ merged_lines aggs ones others
-merged_lines-other aggs line ones others first second = sym (merge_is_the_one aggs ones (line ∷ others) (line ∷ merged_lines aggs ones others) (record {
-  in_order = (merged_above aggs ones others line.key first second, merged_lines-rise aggs ones others);
-  by_key = λ key. (elim (same_key key line.key) as (λ b. same_key key line.key ≡ b
-      → cond b (Some line) (line_of_key key (merged_lines aggs ones others)) ≡ merged_line_if_any aggs (line_of_key key ones) (cond b (Some line) (line_of_key key others))) [
-        | true ↦ λ e. only_other aggs line (line_of_key key ones) (ap (λ k. line_of_key k ones) (same_key-is key line.key e) ∙ none_above line.key ones first)
-        | false ↦ λ e. line_of_key-merged aggs ones others key
-      ]) refl;
-}))
+merged_lines-other aggs line ones others first second =
+    sym (merge_is_the_one aggs ones (line ∷ others) (line ∷ merged_lines aggs ones others) (record {
+      in_order = (merged_above aggs ones others line.key first second, merged_lines-rise aggs ones others);
+      by_key = λ key. (elim (same_key key line.key) as (λ b. same_key key line.key ≡ b
+          → cond b (Some line) (line_of_key key (merged_lines aggs ones others))
+          ≡ merged_line_if_any aggs (line_of_key key ones) (cond b (Some line) (line_of_key key others))) [
+            | true ↦ λ e. only_other aggs line (line_of_key key ones)
+                (ap (λ k. line_of_key k ones) (same_key-is key line.key e) ∙ none_above line.key ones first)
+            | false ↦ λ e. line_of_key-merged aggs ones others key
+          ]) refl;
+    }))
 
 -- or with the merge of the first lines, where both have the same key
-pub merged_lines-both : (aggs : List Agg) (one other : Line) (ones others : List Line) → key_cmp one.key other.key ≡ Equal
+pub merged_lines-both : (aggs : List Agg) (one other : Line) (ones others : List Line)
+    → key_cmp one.key other.key ≡ Equal
     → AreAbove one.key ones → AreAbove other.key others
     → merged_lines aggs (one ∷ ones) (other ∷ others) ≡ merged_line aggs one other ∷ merged_lines aggs ones others
 merged_lines-both aggs one other ones others same first second =
     let key_is : one.key ≡ other.key = key_cmp-IsAntisymmetric one.key other.key same in
     let above : AreAbove one.key others = subst (λ k. AreAbove k others) (sym key_is) second in
-    sym (merge_is_the_one aggs (one ∷ ones) (other ∷ others) (merged_line aggs one other ∷ merged_lines aggs ones others) (record {
+    sym (merge_is_the_one aggs (one ∷ ones) (other ∷ others)
+    (merged_line aggs one other ∷ merged_lines aggs ones others) (record {
       in_order = (merged_above aggs ones others one.key first above, merged_lines-rise aggs ones others);
       by_key = λ key.
-          both_or_rest aggs one other (line_of_key key (merged_lines aggs ones others)) (line_of_key key ones) (line_of_key key others) (same_key key one.key) (line_of_key-merged aggs ones others key)
-          ∙ ap (λ k. merged_line_if_any aggs (cond (same_key key one.key) (Some one) (line_of_key key ones)) (cond (same_key key k) (Some other) (line_of_key key others))) key_is;
+          both_or_rest aggs one other (line_of_key key (merged_lines aggs ones others)) (line_of_key key ones)
+          (line_of_key key others) (same_key key one.key) (line_of_key-merged aggs ones others key)
+          ∙ ap (λ k. merged_line_if_any aggs (cond (same_key key one.key) (Some one) (line_of_key key ones))
+          (cond (same_key key k) (Some other) (line_of_key key others))) key_is;
     }))
 
-all_further : (key first : List Member) (lines : List Line) → key_cmp key first ≡ Less → AreAbove first lines → AreAbove key lines
+all_further : (key first : List Member) (lines : List Line) → key_cmp key first ≡ Less → AreAbove first lines
+    → AreAbove key lines
 all_further key first [] less all = tt
-all_further key first (next ∷ lines) less all = (key_cmp_total.trans key first next.key less all.0, all_further key first lines less all.1)
+all_further key first (next ∷ lines) less all =
+    (key_cmp_total.trans key first next.key less all.0, all_further key first lines less all.1)
 
 -- a key below that of the first of lines in order is below those of all
-pub above_first : (key : List Member) (first : Line) (lines : List Line) → key_cmp key first.key ≡ Less → IsAscending (answer_cmp None) (first ∷ lines)
+pub above_first : (key : List Member) (first : Line) (lines : List Line) → key_cmp key first.key ≡ Less
+    → IsAscending (answer_cmp None) (first ∷ lines)
     → AreAbove key (first ∷ lines)
 above_first key first lines less rise = (less, all_further key first.key lines less rise.0)
 

@@ -25,7 +25,8 @@ all_among : (keys : List (List Member)) → AllByRecursion (IsAmong keys) keys
 all_among [] = tt
 all_among (key ∷ keys) = (
   ap (λ b. b || list_any (same_key key) keys) (same_key-refl key),
-  each (IsAmong keys) (IsAmong (key ∷ keys)) (λ q is. ap (λ b. same_key q key || b) is ∙ or_true (same_key q key)) keys (all_among keys),
+  each (IsAmong keys) (IsAmong (key ∷ keys)) (λ q is. ap (λ b. same_key q key || b) is ∙ or_true (same_key q key)) keys
+      (all_among keys),
 )
 
 -- some rows are one at least
@@ -38,12 +39,18 @@ partial_answers_can_be_finished query dimensions rows range few =
     let partial = partial_query query in
     let chosen = selected dimensions query.conditions rows in
     let keys = keys_among dimensions partial chosen in
-    all-map (λ line. CountsRows line.values × AllByRecursion IsWholeNumber line.values) (line_of dimensions partial chosen) keys
+    all-map (λ line. CountsRows line.values × AllByRecursion IsWholeNumber line.values)
+    (line_of dimensions partial chosen) keys
     (each (IsAmong keys)
-    (λ key. CountsRows (line_of dimensions partial chosen key).values × AllByRecursion IsWholeNumber (line_of dimensions partial chosen key).values)
+    (λ key. CountsRows (line_of dimensions partial chosen key).values
+    × AllByRecursion IsWholeNumber (line_of dimensions partial chosen key).values)
     (λ key is. (
     let own = rows_of_key dimensions partial key chosen in
-    let own_range : AreInRange own = AreInRange-filter _ chosen (AreInRange-filter (is_selected dimensions query.conditions) rows range) in
-    let own_few : length own < 2 ^ 63 = few-filter _ chosen (few-filter (is_selected dimensions query.conditions) rows few) in
-    (some_rows own (sym (has_rows partial dimensions key chosen) ∙ is), (own_few, aggregates_fit query.aggregates own own_range own_few))))
+    let own_range : AreInRange own =
+    AreInRange-filter _ chosen (AreInRange-filter (is_selected dimensions query.conditions) rows range) in
+    let own_few : length own < 2 ^ 63 =
+    few-filter _ chosen (few-filter (is_selected dimensions query.conditions) rows few) in (
+      some_rows own (sym (has_rows partial dimensions key chosen) ∙ is),
+      (own_few, aggregates_fit query.aggregates own own_range own_few),
+    )))
     keys (all_among keys))

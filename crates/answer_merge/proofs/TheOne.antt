@@ -24,17 +24,21 @@ has (Some x) = true
 -- a key has a line exactly where it is among the keys
 pub has_line : (q : List Member) (lines : List Line) → has (line_of_key q lines) ≡ list_any (same_key q) (keys_in lines)
 has_line q [] = refl
-has_line q (line ∷ lines) = elim (same_key q line.key) as (λ b. has (cond b (Some line) (line_of_key q lines)) ≡ (b || list_any (same_key q) (keys_in lines))) [
-  | true ↦ refl
-  | false ↦ has_line q lines
-]
+has_line q (line ∷ lines) =
+    elim (same_key q line.key) as
+    (λ b. has (cond b (Some line) (line_of_key q lines)) ≡ (b || list_any (same_key q) (keys_in lines))) [
+      | true ↦ refl
+      | false ↦ has_line q lines
+    ]
 
-pub has_merged : (aggs : List Agg) (one other : Option Line) → has (merged_line_if_any aggs one other) ≡ (has one || has other)
+pub has_merged : (aggs : List Agg) (one other : Option Line)
+    → has (merged_line_if_any aggs one other) ≡ (has one || has other)
 has_merged aggs None other = refl
 has_merged aggs (Some one) None = refl
 has_merged aggs (Some one) (Some other) = refl
 
-below_keys : (line : Line) (lines : List Line) → AllByRecursion (λ other. answer_cmp None line other ≡ Less) lines → AllByRecursion (λ key. key_cmp line.key key ≡ Less) (keys_in lines)
+below_keys : (line : Line) (lines : List Line) → AllByRecursion (λ other. answer_cmp None line other ≡ Less) lines
+    → AllByRecursion (λ key. key_cmp line.key key ≡ Less) (keys_in lines)
 below_keys line [] all = tt
 below_keys line (other ∷ lines) all = (all.0, below_keys line lines all.1)
 
@@ -46,24 +50,31 @@ keys_rise (line ∷ lines) sorted = (below_keys line lines sorted.0, keys_rise l
 not_before : (key other : List Member) → key_cmp key other ≡ Less → same_key other key ≡ false
 not_before key other less = ap is_eq (key_cmp_total.antisymm other key ∙ ap ordering_reverse less)
 
-found_alike : (f g : List Member → Option Line) (lines : List Line) → AllByRecursion (λ line. f line.key ≡ g line.key) lines
+found_alike : (f g : List Member → Option Line) (lines : List Line)
+    → AllByRecursion (λ line. f line.key ≡ g line.key) lines
     → filter_map f (keys_in lines) ≡ filter_map g (keys_in lines)
 found_alike f g [] all = refl
 found_alike f g (line ∷ lines) all = λ i. cons_option (all.0 i) (found_alike f g lines all.1 i)
 
-behind_first : (line : Line) (lines others : List Line) → AllByRecursion (λ other. answer_cmp None line other ≡ Less) others
+after_first : (line : Line) (lines others : List Line)
+    → AllByRecursion (λ other. answer_cmp None line other ≡ Less) others
     → AllByRecursion (λ other. line_of_key other.key (line ∷ lines) ≡ line_of_key other.key lines) others
-behind_first line lines [] all = tt
-behind_first line lines (other ∷ others) all =
-    (ap (λ b. cond b (Some line) (line_of_key other.key lines)) (not_before line.key other.key all.0), behind_first line lines others all.1)
+after_first line lines [] all = tt
+after_first line lines (other ∷ others) all = (
+  ap (λ b. cond b (Some line) (line_of_key other.key lines)) (not_before line.key other.key all.0),
+  after_first line lines others all.1,
+)
 
 -- the lines at the keys of lines in order are these lines
-lines_themselves : (lines : List Line) → IsAscending (answer_cmp None) lines → filter_map (λ key. line_of_key key lines) (keys_in lines) ≡ lines
+lines_themselves : (lines : List Line) → IsAscending (answer_cmp None) lines
+    → filter_map (λ key. line_of_key key lines) (keys_in lines) ≡ lines
 lines_themselves [] sorted = refl
 lines_themselves (line ∷ lines) sorted =
-    ap (λ b. cons_option (cond b (Some line) (line_of_key line.key lines)) (filter_map (λ key. line_of_key key (line ∷ lines)) (keys_in lines))) (same_key-refl line.key)
+    ap (λ b. cons_option (cond b (Some line) (line_of_key line.key lines))
+    (filter_map (λ key. line_of_key key (line ∷ lines)) (keys_in lines))) (same_key-refl line.key)
     ∙ ap (λ rest. line ∷ rest)
-    (found_alike (λ key. line_of_key key (line ∷ lines)) (λ key. line_of_key key lines) lines (behind_first line lines lines sorted.0)
+    (found_alike (λ key. line_of_key key (line ∷ lines)) (λ key. line_of_key key lines) lines
+    (after_first line lines lines sorted.0)
     ∙ lines_themselves lines sorted.1)
 
 every : (P : Line → Type 0) → ((line : Line) → P line) → (lines : List Line) → AllByRecursion P lines
@@ -75,12 +86,16 @@ merge_is_the_one aggs ones others lines is =
     let o = key_cmp_total in
     let same = key_cmp-IsAntisymmetric in
     let both = keys_in ones ++ keys_in others in
-    let g : List Member → Option Line = λ key. merged_line_if_any aggs (line_of_key key ones) (line_of_key key others) in
+    let g : List Member → Option Line =
+    λ key. merged_line_if_any aggs (line_of_key key ones) (line_of_key key others) in
     let keys : keys_in lines ≡ ascending key_cmp both =
-    IsAscending-unique key_cmp o same (keys_in lines) (ascending key_cmp both) (keys_rise lines is.in_order) (IsAscending-ascending key_cmp o same both)
+    IsAscending-unique key_cmp o same (keys_in lines) (ascending key_cmp both) (keys_rise lines is.in_order)
+    (IsAscending-ascending key_cmp o same both)
     (λ q. sym (has_line q lines) ∙ ap has (is.by_key q) ∙ has_merged aggs (line_of_key q ones) (line_of_key q others)
-    ∙ (λ i. has_line q ones i || has_line q others i) ∙ sym (list_any-append (same_key q) (keys_in ones) (keys_in others))
+    ∙ (λ i. has_line q ones i || has_line q others i)
+    ∙ sym (list_any-append (same_key q) (keys_in ones) (keys_in others))
     ∙ sym (list_any-ascending key_cmp o same q both)) in
     sym (lines_themselves lines is.in_order)
-    ∙ found_alike (λ key. line_of_key key lines) g lines (every (λ line. line_of_key line.key lines ≡ g line.key) (λ line. is.by_key line.key) lines)
+    ∙ found_alike (λ key. line_of_key key lines) g lines
+    (every (λ line. line_of_key line.key lines ≡ g line.key) (λ line. is.by_key line.key) lines)
     ∙ ap (filter_map g) keys

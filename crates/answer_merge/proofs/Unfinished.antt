@@ -10,7 +10,8 @@ use Rattle.answer_merge.specs.Finishing.{FinishRefuses, LineRefuses}
 use Rattle.answer_merge.specs.Wide.{line_of, lines_of}
 
 -- it is one of the lines
-pub refused_at : (aggs : List Agg) (lines : List WideLine) (place : ℕ) (line : WideLine) (fault : Fault) → place < length lines → line ≡ get_or lines place line
+pub refused_at : (aggs : List Agg) (lines : List WideLine) (place : ℕ) (line : WideLine) (fault : Fault)
+    → place < length lines → line ≡ get_or lines place line
     → (fault ≡ Memory) ⊎ LineRefuses aggs fault (line_of line) → FinishRefuses aggs (lines_of lines) fault
 refused_at aggs lines place line fault within is (inl memory) = inl memory
 refused_at aggs lines place line fault within is (inr refuses) = inr (

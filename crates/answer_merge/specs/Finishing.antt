@@ -16,7 +16,8 @@ use Rattle.answer_merge.specs.Wide.{range_fault}
 abbrev pub IsPastRange : Fault → List Agg → List Value → Type 0
 IsPastRange fault [] values = ⊥
 IsPastRange fault (agg ∷ aggs) [] = ⊥
-IsPastRange fault (agg ∷ aggs) (value ∷ values) = ((fault ≡ range_fault agg) × (IsWholeNumber value → ⊥)) ⊎ IsPastRange fault aggs values
+IsPastRange fault (agg ∷ aggs) (value ∷ values) = ((fault ≡ range_fault agg) × (IsWholeNumber value → ⊥))
+    ⊎ IsPastRange fault aggs values
 
 -- the count, which is the first of a line's values, is less than 1
 abbrev pub CountsNoRow : List Value → Type 0
@@ -25,7 +26,8 @@ CountsNoRow (count ∷ kept) = value_number count ≤ℤ pos 0
 
 -- a line counts no row, or one of its numbers passes 64 bits
 abbrev pub LineRefuses : List Agg → Fault → Line → Type 0
-LineRefuses aggs fault line = ((fault ≡ BadLayout) × CountsNoRow line.values) ⊎ IsPastRange fault (Count ∷ aggs) line.values
+LineRefuses aggs fault line = ((fault ≡ BadLayout) × CountsNoRow line.values)
+    ⊎ IsPastRange fault (Count ∷ aggs) line.values
 
 -- memory ran out, or one of the lines is such a line
 abbrev pub FinishRefuses : List Agg → List Line → Fault → Type 0
@@ -38,4 +40,5 @@ CountsRows (count ∷ kept) = pos 1 ≤ℤ value_number count
 
 -- each line of an answer does, and its numbers have 64 bits
 abbrev pub CanBeFinished : Answer → Type 0
-CanBeFinished partial = AllByRecursion (λ line. CountsRows line.values × AllByRecursion IsWholeNumber line.values) partial.lines
+CanBeFinished partial = AllByRecursion (λ line. CountsRows line.values × AllByRecursion IsWholeNumber line.values)
+    partial.lines

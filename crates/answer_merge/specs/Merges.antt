@@ -15,7 +15,8 @@ use Rattle.cube_model.specs.Ascending.{ascending}
 use Rattle.cube_model.specs.Keys.{key_cmp}
 use Rattle.answer_merge.specs.Parts.{value_number}
 
--- two numbers of one aggregate as one: counts and sums are added, of least and greatest one is taken. Averages are not merged
+-- two numbers of one aggregate as one: counts and sums are added, of least and greatest one is taken. Averages are not
+-- merged
 abbrev pub merged_number : Agg → ℤ → ℤ → ℤ
 merged_number Count one other = one +ℤ other
 merged_number (Sum measure) one other = one +ℤ other
@@ -52,7 +53,8 @@ keys_in lines = map (λ line. line.key) lines
 -- for each key of either the merge of its lines, in the order of the keys
 abbrev pub merged_lines : List Agg → List Line → List Line → List Line
 merged_lines aggs ones others =
-    filter_map (λ key. merged_line_if_any aggs (line_of_key key ones) (line_of_key key others)) (ascending key_cmp (keys_in ones ++ keys_in others))
+    filter_map (λ key. merged_line_if_any aggs (line_of_key key ones) (line_of_key key others))
+    (ascending key_cmp (keys_in ones ++ keys_in others))
 
 -- two answers as one
 abbrev pub merged_answer : Query → Answer → Answer → Answer

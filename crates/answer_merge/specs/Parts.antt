@@ -1,5 +1,5 @@
--- Partial answers: what is kept of some of the fact rows, so that a query over all of them can be answered. A partial answer is
--- the answer to another query. Our own.
+-- Partial answers: what is kept of some of the fact rows, so that a query over all of them can be answered. A partial
+-- answer is the answer to another query. Our own.
 use Rattle.std.specs.Prelude.{ℤ, nat_abs, List, [], ◌∷◌, map, None}
 use Rattle.cube_model.specs.declared.answer.Answer.{Answer}
 use Rattle.cube_model.specs.declared.answer.Line.{Line}
@@ -19,7 +19,8 @@ partial_agg (Min measure) = Min measure
 partial_agg (Max measure) = Max measure
 partial_agg (Avg measure) = Sum measure
 
--- the query whose answers are a query's partial answers: the count, then what is kept of each aggregate, in the order of the keys
+-- the query whose answers are a query's partial answers: the count, then what is kept of each aggregate, in the order
+-- of the keys
 abbrev pub partial_query : Query → Query
 partial_query query = record {
   kind = query.kind;

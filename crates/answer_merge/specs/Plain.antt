@@ -13,8 +13,8 @@ IsUnbroken text = HasNoByte 124 text × HasNoByte 10 text
 abbrev pub AreUnbroken : {Row : Type 0} → Rules Row → List Row → Type 0
 AreUnbroken rules rows = AllByRecursion (λ row. AllByRecursion (λ text. IsUnbroken (text row)) rules.texts) rows
 
--- No member of the four dimensions has, and days have numbers of 32 bits. Rows of tables keep both: bars and line feeds part the
--- fields of a table.
+-- No member of the four dimensions has, and days have numbers of 32 bits. Rows of tables keep both: bars and line feeds
+-- part the fields of a table.
 pub record HaveUnbrokenTexts (rows : DimRows) : Type 0 where
   pub customers : AreUnbroken customer_rules rows.customers
   pub suppliers : AreUnbroken supplier_rules rows.suppliers

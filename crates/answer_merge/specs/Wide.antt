@@ -26,8 +26,10 @@ abbrev pub Rise : List WideLine → Type 0
 Rise lines = IsAscending (answer_cmp None) (lines_of lines)
 
 -- the first line of the merge of two lists, and what is left of both
-pub record IsStep (aggs : List Agg) (ones others : List WideLine) (line : WideLine) (ones_left others_left : List WideLine) : Type 0 where
-  pub merges : merged_lines aggs (lines_of ones) (lines_of others) ≡ line_of line ∷ merged_lines aggs (lines_of ones_left) (lines_of others_left)
+pub record IsStep (aggs : List Agg) (ones others : List WideLine) (line : WideLine)
+    (ones_left others_left : List WideLine) : Type 0 where
+  pub merges : merged_lines aggs (lines_of ones) (lines_of others) ≡ line_of line
+      ∷ merged_lines aggs (lines_of ones_left) (lines_of others_left)
   pub ones_rise : Rise ones_left
   pub others_rise : Rise others_left
 

@@ -13,8 +13,8 @@ use std::alloc::Global;
 
 /// Each line with the values that a query asks for: averages of sums and counts. The lines keep their order.
 ///
-/// `SumRange` where what is kept of a measure passes 64 bits, `TooManyRows` where a count does, `BadLayout` where a line counts no
-/// row; or `Memory`.
+/// `SumRange` where what is kept of a measure passes 64 bits, `TooManyRows` where a count does, `BadLayout` where a
+/// line counts no row; or `Memory`.
 pub fn finished_lines(
     alloc: Global,
     aggs: &[Agg],
@@ -46,7 +46,8 @@ fn finished_line(alloc: Global, aggs: &[Agg], line: WideLine) -> Result<Line, Fa
 fn row_count(count: i128) -> Result<u64, Fault>
     ensures ok { IfOk result (λ rows. count ≡ pos rows) }
     ensures some { IfOk result (λ rows. 1 ≤ rows) }
-    ensures refused { IfErr result (λ fault. ((fault ≡ Fault.BadLayout) × (count ≤ℤ pos 0)) ⊎ ((fault ≡ Fault.TooManyRows) × (IsWholeNumber (Whole count) → ⊥))) }
+    ensures refused { IfErr result (λ fault. ((fault ≡ Fault.BadLayout) × (count ≤ℤ pos 0))
+        ⊎ ((fault ≡ Fault.TooManyRows) × (IsWholeNumber (Whole count) → ⊥))) }
 {
     if count < 1 {
         return Err(Fault::BadLayout);
@@ -65,7 +66,8 @@ fn push_values(
     values: &mut Items<Value>,
 ) -> Result<(), Fault>
     requires { 1 ≤ count }
-    ensures ok { OnOk result (values.new ≡ values.old ++ finished_values aggs.now (Whole (pos count)) (map Whole kept.now)) }
+    ensures ok { OnOk result
+        (values.new ≡ values.old ++ finished_values aggs.now (Whole (pos count)) (map Whole kept.now)) }
     ensures refused { IfErr result (λ fault. (fault ≡ Fault.Memory) ⊎ IsPastRange fault aggs.now (map Whole kept.now)) }
 {
     let Some((agg, aggs)) = aggs.split_first() else {

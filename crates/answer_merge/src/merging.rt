@@ -12,7 +12,8 @@ use std::alloc::Global;
 use std::cmp::Ordering;
 use std::collections::VecDeque;
 
-/// The lines of two partial answers as one: the line of a key is the merge of the lines of that key. No line of one key alone is copied.
+/// The lines of two partial answers as one: the line of a key is the merge of the lines of that key. No line of one key
+/// alone is copied.
 ///
 /// `Memory`; and `TooManyRows` where a number would pass 128 bits, which those of 1,024 parts do not.
 #[tactic(auto, using(crate::proofs::Steps::went_on, crate::proofs::Steps::all_merged, crate::proofs::Steps::merged_rise))]
@@ -24,7 +25,8 @@ pub fn merge(
 ) -> Result<Vec<WideLine>, Fault>
     requires ones { Rise ones.items }
     requires others { Rise others.items }
-    ensures ok { IfOk result (λ lines. lines_of lines.items ≡ merged_lines aggs.now (lines_of ones.items) (lines_of others.items)) }
+    ensures ok { IfOk result
+        (λ lines. lines_of lines.items ≡ merged_lines aggs.now (lines_of ones.items) (lines_of others.items)) }
     ensures rising { IfOk result (λ lines. Rise lines.items) }
     ensures only { IfErr result (λ fault. (fault ≡ Fault.Memory) ⊎ (fault ≡ Fault.TooManyRows)) }
 {
@@ -52,7 +54,9 @@ pub fn merge_in(
 ) -> Result<Vec<WideLine>, Fault>
     requires merged { Rise merged.items }
     requires answer { IsAscending (answer_cmp None) answer.lines }
-    ensures ok { IfOk result (λ lines. lines_of lines.items ≡ (merged_answer query.now (record { lines = lines_of merged.items }) answer).lines) }
+    ensures ok { IfOk result
+        (λ lines. lines_of lines.items
+        ≡ (merged_answer query.now (record { lines = lines_of merged.items }) answer).lines) }
     ensures rising { IfOk result (λ lines. Rise lines.items) }
 {
     let others = widened(alloc, answer.lines)?;
@@ -68,7 +72,9 @@ fn next_line(
 ) -> Result<Option<WideLine>, Fault>
     requires ones { Rise ones.old.items }
     requires others { Rise others.old.items }
-    ensures some { IfOk result (λ line. IfSome line (λ line. IsStep aggs.now ones.old.items others.old.items line ones.new.items others.new.items)) }
+    ensures some { IfOk result
+        (λ line. IfSome line
+        (λ line. IsStep aggs.now ones.old.items others.old.items line ones.new.items others.new.items)) }
     ensures none { IfOk result (λ line. IfNone line ((ones.old.items ≡ []) × (others.old.items ≡ []))) }
     ensures only { IfErr result (λ fault. (fault ≡ Fault.Memory) ⊎ (fault ≡ Fault.TooManyRows)) }
 {
@@ -134,7 +140,9 @@ fn push_merged(
     others: &[i128],
     numbers: &mut Items<i128>,
 ) -> Result<(), Fault>
-    ensures ok { OnOk result (map Whole numbers.new ≡ map Whole numbers.old ++ merged_values aggs.now (map Whole ones.now) (map Whole others.now)) }
+    ensures ok { OnOk result
+        (map Whole numbers.new ≡ map Whole numbers.old
+        ++ merged_values aggs.now (map Whole ones.now) (map Whole others.now)) }
     ensures only { IfErr result (λ fault. (fault ≡ Fault.Memory) ⊎ (fault ≡ Fault.TooManyRows)) }
 {
     let Some((agg, aggs)) = aggs.split_first() else {

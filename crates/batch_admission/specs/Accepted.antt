@@ -27,8 +27,8 @@ number_cause count number = first_cause (
     ∷ cause_if (nat_lt (count + 1) number) Gap
     ∷ cause_if (nat_le most_batches count) TooManyBatches ∷ [])
 
--- rows can be a batch with a number after so many batches: it is the next one, not past the last, they are not too many,
--- and no text of theirs is too long
+-- rows can be a batch with a number after so many batches: it is the next one, not past the last, they are not too
+-- many, and no text of theirs is too long
 pub record CanFollow (count number : ℕ) (rows : List LineOrder) : Type 0 where
   pub next : number ≡ count + 1
   pub last : number ≤ most_batches
@@ -36,7 +36,8 @@ pub record CanFollow (count number : ℕ) (rows : List LineOrder) : Type 0 where
   pub texts : long_text 1 rows ≡ None
 
 -- a batch was taken in after accepted ones exactly if it is not refused there; the first cause is the answer
-pub record Admits (dimensions : DimRows) (old new : Accepted) (number : ℕ) (rows : List LineOrder) (answer : Option Fault)
+pub record Admits (dimensions : DimRows) (old new : Accepted) (number : ℕ) (rows : List LineOrder)
+    (answer : Option Fault)
     (batches : List (List LineOrder)) : Type 0 where
   pub cause : answer ≡ refusal dimensions batches number rows
   pub taken : MatchOption answer (HasAccepted new (batches ++ rows ∷ [])) (λ fault. new ≡ old)

@@ -18,8 +18,8 @@ lacks dimensions Supplier key = is_none (supplier_of dimensions key)
 lacks dimensions Part key = is_none (part_of dimensions key)
 lacks dimensions Date key = is_none (date_of dimensions key)
 
--- of some rows of a batch: their number, the first text that is too long, the first unknown key, and the totals with those
--- of the batches before it
+-- of some rows of a batch: their number, the first text that is too long, the first unknown key, and the totals with
+-- those of the batches before it
 pub record Found : Type 0 where
   pub row_count : ℕ
   pub long_text : Option Fault

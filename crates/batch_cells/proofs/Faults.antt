@@ -12,13 +12,16 @@ use Rattle.batch_cells.specs.Grouped.{IsAddFaultOf, RepresentSomeRows}
 
 module _ (dimensions : DimRows) (cells : PlainCells) (rows : List LineOrder) where
   -- a read was refused, where the object is there
-  pub read_refused : (fault : Fault) → (fault ≡ Memory) ⊎ ((fault ≡ Device) ⊎ (fault ≡ BadLayout)) → (fault ≡ Device → ⊥) → (fault ≡ BadLayout → ⊥) → IsAddFaultOf dimensions cells rows fault
+  pub read_refused : (fault : Fault) → (fault ≡ Memory) ⊎ ((fault ≡ Device) ⊎ (fault ≡ BadLayout))
+      → (fault ≡ Device → ⊥) → (fault ≡ BadLayout → ⊥) → IsAddFaultOf dimensions cells rows fault
   read_refused fault causes other there so_far represent =
       ⊎_elim (λ (memory : fault ≡ Memory). inl memory)
-      (λ (two : (fault ≡ Device) ⊎ (fault ≡ BadLayout)). absurd (⊎_elim (λ (device : fault ≡ Device). other device) (λ (bad : fault ≡ BadLayout). there bad) two)) causes
+      (λ (two : (fault ≡ Device) ⊎ (fault ≡ BadLayout)). absurd
+      (⊎_elim (λ (device : fault ≡ Device). other device) (λ (bad : fault ≡ BadLayout). there bad) two)) causes
 
   -- bytes were refused, where they are those of a batch
-  pub decode_refused : {P : Type 0} (fault : Fault) → (fault ≡ Memory) ⊎ ((fault ≡ BadLayout) × P) → (P → ⊥) → IsAddFaultOf dimensions cells rows fault
+  pub decode_refused : {P : Type 0} (fault : Fault) → (fault ≡ Memory) ⊎ ((fault ≡ BadLayout) × P) → (P → ⊥)
+      → IsAddFaultOf dimensions cells rows fault
   decode_refused {P} fault causes not so_far represent =
       ⊎_elim (λ (memory : fault ≡ Memory). inl memory) (λ (bad : (fault ≡ BadLayout) × P). absurd (not bad.1)) causes
 
@@ -32,16 +35,21 @@ module _ (dimensions : DimRows) (cells : PlainCells) (rows : List LineOrder) whe
   pub never_device_here : RepresentSomeRows dimensions cells → IsAddFaultOf dimensions cells rows Device → ⊥
   never_device_here some why =
       ⊎_elim (λ (memory : Device ≡ Memory). absurd cc)
-      (⊎_elim (λ bad. let no_fault : Device ≡ BadLayout = bad.0 in absurd cc) (λ many. let no_fault : Device ≡ TooManyCells (index_of cells.view) = many.0 in absurd cc))
+      (⊎_elim (λ bad. let no_fault : Device ≡ BadLayout = bad.0 in absurd cc)
+      (λ many. let no_fault : Device ≡ TooManyCells (index_of cells.view) = many.0 in absurd cc))
       (why some.0 some.1)
 
-module _ (dimensions : DimRows) (view : View) (rows : List LineOrder) (fault : Fault) (why : IsAddFault dimensions [] view rows fault) where
+module _ (dimensions : DimRows) (view : View) (rows : List LineOrder) (fault : Fault)
+    (why : IsAddFault dimensions [] view rows fault) where
   pub unfit : fault ≡ BadLayout → AreUnfit dimensions [] view rows
   unfit is =
       ⊎_elim (λ (memory : fault ≡ Memory). let no_fault : BadLayout ≡ Memory = sym is ∙ memory in absurd cc)
-      (⊎_elim (λ bad. bad.1) (λ many. let no_fault : BadLayout ≡ TooManyCells (index_of view) = sym is ∙ many.0 in absurd cc)) why
+      (⊎_elim (λ bad. bad.1) (λ many. let no_fault : BadLayout ≡ TooManyCells (index_of view) = sym is
+      ∙ many.0 in absurd cc)) why
 
   pub too_many_of : fault ≡ TooManyCells (index_of view) → HaveTooMany dimensions [] view rows
   too_many_of is =
-      ⊎_elim (λ (memory : fault ≡ Memory). let no_fault : TooManyCells (index_of view) ≡ Memory = sym is ∙ memory in absurd cc)
-      (⊎_elim (λ bad. let no_fault : TooManyCells (index_of view) ≡ BadLayout = sym is ∙ bad.0 in absurd cc) (λ many. many.1)) why
+      ⊎_elim (λ (memory : fault ≡ Memory). let no_fault : TooManyCells (index_of view) ≡ Memory = sym is
+      ∙ memory in absurd cc)
+      (⊎_elim (λ bad. let no_fault : TooManyCells (index_of view) ≡ BadLayout = sym is ∙ bad.0 in absurd cc)
+      (λ many. many.1)) why

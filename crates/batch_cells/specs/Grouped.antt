@@ -15,12 +15,15 @@ abbrev pub RepresentSomeRows : DimRows → PlainCells → Type 0
 RepresentSomeRows dimensions cells = (rows : List LineOrder) × RepresentRows dimensions [] rows cells
 
 -- Fact rows were grouped into cells: whatever rows these represented, they represent them and for these after them.
-pub record GroupsMore (dimensions : DimRows) (old : PlainCells) (rows : List LineOrder) (new : PlainCells) : Type 0 where
-  pub represent : (so_far : List LineOrder) → RepresentRows dimensions [] so_far old → RepresentRows dimensions [] (so_far ++ rows) new
+pub record GroupsMore (dimensions : DimRows) (old : PlainCells) (rows : List LineOrder) (new : PlainCells) : Type 0
+  where
+    pub represent : (so_far : List LineOrder) → RepresentRows dimensions [] so_far old
+        → RepresentRows dimensions [] (so_far ++ rows) new
 
--- Fact rows were grouped into cells. Where the device keeps its word and the content is that of a warehouse, whatever the
--- cells of its cuboids are, they are those of the batch after so many others.
-pub record GroupsBatch (dimensions : DimRows) (old new : PlainCells) (before : ℕ) (keeps : Type 0) (content : Content) : Type 0 where
+-- Fact rows were grouped into cells. Where the device keeps its word and the content is that of a warehouse, whatever
+-- the cells of its cuboids are, they are those of the batch after so many others.
+pub record GroupsBatch (dimensions : DimRows) (old new : PlainCells) (before : ℕ) (keeps : Type 0)
+    (content : Content) : Type 0 where
   pub some : (rows : List LineOrder) × GroupsMore dimensions old rows new
   pub own : keeps → (w : Warehouse) → IsLaidOut content w
       → (batch : List LineOrder) × (slice_get w.batches before ≡ Some batch) × GroupsMore dimensions old batch new

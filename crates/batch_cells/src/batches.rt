@@ -1,14 +1,15 @@
 //! Grouping the batches of a store by a view.
-ghost use Rattle.std.specs.Prelude.{◌≡◌, ◌⊎◌, ◌<◌, ◌≤◌, List, Some, false, length, slice_get, IfErr, IfOk, IsErrOf, OnOk};
+ghost use Rattle.std.specs.Prelude.{◌≡◌, ◌⊎◌, ◌<◌, ◌≤◌, List, Some, false, length, slice_get, IfErr, IfOk, IsErrOf};
+ghost use Rattle.std.specs.Prelude.{OnOk};
 ghost use Rattle.cube_model.specs.declared.fault.Fault.TheVariants.{BadLayout, Device, Memory, TooManyCells};
 ghost use Rattle.cube_model.specs.declared.rows.LineOrder.{LineOrder};
 ghost use Rattle.cube_model.specs.Limits.{most_batch_rows, most_batches};
-ghost use Rattle.object_store.specs.Disk.{Leaves};
-ghost use Rattle.object_store.specs.Store.{Breaks, IsStill, content_of, device_of, disk_of, has_failed};
+ghost use Rattle.object_store.specs.Store.{content_of, device_of, has_failed};
 ghost use Rattle.lattice.specs.Views.{index_of};
 ghost use Rattle.cuboid_upkeep.specs.Grouping.{RepresentRows};
 ghost use Rattle.cuboid_upkeep.specs.Steps.{HaveTooMany};
 ghost use Rattle.warehouse_objects.specs.Warehouse.{Warehouse, modes_of};
+ghost use Rattle.warehouse_objects.specs.Reads.{ReadsOnly};
 ghost use Rattle.warehouse_objects.specs.Represents.{IsLaidOut, root_of, rows_in};
 ghost use Rattle.cuboid_upkeep.specs.Growing.{GrowOver, grown};
 ghost use Rattle.batch_cells.specs.Grouped.{GroupsBatch, GroupsMore, IsAddFaultOf, RepresentSomeRows};
@@ -30,9 +31,9 @@ use warehouse_root::{Root, segment_id};
 
 /// The cells of a view for the fact rows of some batches of a store. One batch is in memory at a time, and the cells.
 ///
-/// `TooManyCells` where the rows have more than 262,144 cells. `BadLayout` where a batch has another number than its place,
-/// or another count of rows than the root says, and where its rows have no cells. It can also fail when out of memory, or
-/// because the device does.
+/// `TooManyCells` where the rows have more than 262,144 cells. `BadLayout` where a batch has another number than its
+/// place, or another count of rows than the root says, and where its rows have no cells. It can also fail when out of
+/// memory, or because the device does.
 pub fn cells_of_batches<D: Sectors>(
     alloc: Global,
     store: &mut Store<D>,
@@ -46,20 +47,23 @@ pub fn cells_of_batches<D: Sectors>(
     requires few { span.to ≤ length root.now.batches }
 
     // Then they represent the rows of these batches, whatever the stored cuboids hold.
-    ensures ok { IfOk result (λ cells. D.keeps_word (device_of store.new) → (w : Warehouse) → IsLaidOut (content_of D.Sectors store.old) w
+    ensures ok { IfOk result (λ cells. D.keeps_word (device_of store.new) → (w : Warehouse)
+        → IsLaidOut (content_of D.Sectors store.old) w
         → dims.now ≡ w.rows → RepresentRows w.rows (modes_of w) (rows_in w.batches span) cells) }
     ensures view { IfOk result (λ cells. cells.view ≡ view) }
     ensures large { IsErrOf result (TooManyCells (index_of view)) → D.keeps_word (device_of store.new) → (w : Warehouse)
-        → IsLaidOut (content_of D.Sectors store.old) w → root.now ≡ root_of w → dims.now ≡ w.rows → view.ship_mode ≡ false
+        → IsLaidOut (content_of D.Sectors store.old) w → root.now ≡ root_of w → dims.now ≡ w.rows
+        → view.ship_mode ≡ false
         → HaveTooMany w.rows (modes_of w) view (rows_in w.batches span) }
     ensures refused { IsErrOf result BadLayout → D.keeps_word (device_of store.new) → (w : Warehouse)
-        → IsLaidOut (content_of D.Sectors store.old) w → root.now ≡ root_of w → dims.now ≡ w.rows → view.ship_mode ≡ false → ⊥ }
+        → IsLaidOut (content_of D.Sectors store.old) w → root.now ≡ root_of w → dims.now ≡ w.rows
+        → view.ship_mode ≡ false → ⊥ }
 
     // The content stays, at each moment.
-    ensures leaves { Leaves (disk_of D.Sectors store.old) (disk_of D.Sectors store.new) (λ c. c ≡ content_of D.Sectors store.old) }
-    ensures stays { (IsErrOf result Device → ⊥) → IsStill D.Sectors store.old store.new }
-    ensures device { IsErrOf result Device → Breaks D.Sectors store.old store.new }
-    ensures causes { IfErr result (λ fault. (fault ≡ Memory) ⊎ ((fault ≡ Device) ⊎ ((fault ≡ BadLayout) ⊎ (fault ≡ TooManyCells (index_of view))))) }
+    ensures reads { ReadsOnly D.Sectors store.old store.new result }
+    ensures causes { IfErr result
+        (λ fault. (fault ≡ Memory)
+        ⊎ ((fault ≡ Device) ⊎ ((fault ≡ BadLayout) ⊎ (fault ≡ TooManyCells (index_of view))))) }
 {
     rows_in_range_fit();
     rows_have_cells();
@@ -88,16 +92,19 @@ fn add_batch<D: Sectors>(
     requires few { before < most_batches }
     requires some { RepresentSomeRows dims.now (grown cells.old) }
     requires over { GrowOver dims.now cells.old }
-    ensures ok { OnOk result (GroupsBatch dims.now (grown cells.old) (grown cells.new) before (D.keeps_word (device_of store.new)) (content_of D.Sectors store.old)) }
+    ensures ok { OnOk result
+        (GroupsBatch dims.now (grown cells.old) (grown cells.new) before (D.keeps_word (device_of store.new))
+        (content_of D.Sectors store.old)) }
     ensures over { OnOk result (GrowOver dims.now cells.new) }
     ensures view { (grown cells.new).view ≡ (grown cells.old).view }
     ensures refused { IfErr result (λ fault. (fault ≡ Device → ⊥) → D.keeps_word (device_of store.new) → (w : Warehouse)
-        → IsLaidOut (content_of D.Sectors store.old) w → (batch : List LineOrder) → slice_get w.batches before ≡ Some batch → count ≡ length batch
+        → IsLaidOut (content_of D.Sectors store.old) w → (batch : List LineOrder)
+        → slice_get w.batches before ≡ Some batch → count ≡ length batch
         → IsAddFaultOf dims.now (grown cells.old) batch fault) }
-    ensures leaves { Leaves (disk_of D.Sectors store.old) (disk_of D.Sectors store.new) (λ c. c ≡ content_of D.Sectors store.old) }
-    ensures stays { (IsErrOf result Device → ⊥) → IsStill D.Sectors store.old store.new }
-    ensures device { IsErrOf result Device → Breaks D.Sectors store.old store.new }
-    ensures causes { IfErr result (λ fault. (fault ≡ Memory) ⊎ ((fault ≡ Device) ⊎ ((fault ≡ BadLayout) ⊎ (fault ≡ TooManyCells (index_of (grown cells.old).view))))) }
+    ensures reads { ReadsOnly D.Sectors store.old store.new result }
+    ensures causes { IfErr result
+        (λ fault. (fault ≡ Memory)
+        ⊎ ((fault ≡ Device) ⊎ ((fault ≡ BadLayout) ⊎ (fault ≡ TooManyCells (index_of (grown cells.old).view))))) }
 {
     let number = before + 1;
     let bytes = read_object(alloc, store, segment_id(number))?;

@@ -1,5 +1,6 @@
 -- What the parts of a line spell.
-use Rattle.std.proofs.Common.{◌≡◌, ◌∙◌, sym, ap, subst, refl, ℕ, ◌<◌, Bool, true, false, cond, List, [], ◌∷◌, ◌++◌, length, arith, Some, None, inl, inr, append_assoc, length-append}
+use Rattle.std.proofs.Common.{◌≡◌, ◌∙◌, sym, ap, subst, refl, ℕ, ◌<◌, Bool, true, false, cond, List, [], ◌∷◌, ◌++◌}
+use Rattle.std.proofs.Common.{length, arith, Some, None, inl, inr, append_assoc, length-append}
 use Rattle.std.specs.Prelude.{◌==◌, ◌⊎◌, suc, zero, Option}
 use Rattle.std.specs.List.{AllByRecursion, All, join_with_byte, onto_first}
 use Rattle.std.specs.Option.{option_map}
@@ -10,7 +11,8 @@ use Rattle.batch_loader.specs.Grammar.{HasNoBar, SpellsFields}
 abbrev is_bar : ℕ → Bool
 is_bar byte = byte == 124
 
-no_bar-onto : (byte : ℕ) (parts : List (List ℕ)) → is_bar byte ≡ false → AllByRecursion HasNoBar parts → AllByRecursion HasNoBar (onto_first byte parts)
+no_bar-onto : (byte : ℕ) (parts : List (List ℕ)) → is_bar byte ≡ false → AllByRecursion HasNoBar parts
+    → AllByRecursion HasNoBar (onto_first byte parts)
 no_bar-onto byte [] other none = ((other, tt), tt)
 no_bar-onto byte (part ∷ parts) other none = ((other, none.0), none.1)
 
@@ -18,7 +20,9 @@ no_bar-onto byte (part ∷ parts) other none = ((other, none.0), none.1)
 parts-no_bar : (text : List ℕ) → AllByRecursion HasNoBar (between_bars text)
 parts-no_bar [] = (tt, tt)
 parts-no_bar (byte ∷ text) =
-    (elim (is_bar byte) as (λ b. is_bar byte ≡ b → AllByRecursion HasNoBar (cond b ([] ∷ between_bars text) (onto_first byte (between_bars text)))) [
+    (elim (is_bar byte) as
+    (λ b. is_bar byte ≡ b
+    → AllByRecursion HasNoBar (cond b ([] ∷ between_bars text) (onto_first byte (between_bars text)))) [
       | true ↦ λ is. (tt, parts-no_bar text)
       | false ↦ λ is. no_bar-onto byte (between_bars text) is (parts-no_bar text)
     ]) refl
@@ -27,7 +31,8 @@ parts-no_bar (byte ∷ text) =
 IsFirst : ℕ → List (List ℕ) → List (List ℕ) → Type 0
 IsFirst n parts fields = (length fields ≡ n) × ((parts ≡ fields) ⊎ (parts ≡ fields ++ [] ∷ []))
 
-first-more : (n : ℕ) (part : List ℕ) (parts others : List (List ℕ)) → IsFirst n parts others → IsFirst (suc n) (part ∷ parts) (part ∷ others)
+first-more : (n : ℕ) (part : List ℕ) (parts others : List (List ℕ)) → IsFirst n parts others
+    → IsFirst (suc n) (part ∷ parts) (part ∷ others)
 unfolding IsFirst
 first-more n part parts others (count, inl is) = (ap suc count, inl (ap (λ rest. part ∷ rest) is))
 first-more n part parts others (count, inr is) = (ap suc count, inr (ap (λ rest. part ∷ rest) is))
@@ -42,27 +47,35 @@ first_parts-is zero ([] ∷ part ∷ parts) fields is = absurd (cc)
 first_parts-is zero ((byte ∷ part) ∷ parts) fields is = absurd (cc)
 first_parts-is (suc n) [] fields is = absurd (cc)
 first_parts-is (suc n) (part ∷ parts) [] is =
-    absurd ((elim (first_parts n parts) as (λ found. option_map (λ others. part ∷ others) found ≡ Some [] → ⊥) [ None ↦ λ e. cc | Some others ↦ λ e. cc ]) is)
+    absurd ((elim (first_parts n parts) as (λ found. option_map (λ others. part ∷ others) found ≡ Some [] → ⊥) [
+      | None ↦ λ e. cc
+      | Some others ↦ λ e. cc
+    ]) is)
 first_parts-is (suc n) (part ∷ parts) (field ∷ fields) is =
     subst (λ first. IsFirst (suc n) (part ∷ parts) (first ∷ fields)) (head (first_parts n parts) is)
     (first-more n part parts fields (first_parts-is n parts fields (rest (first_parts n parts) is)))
   where
-    head : (found : Option (List (List ℕ))) → option_map (λ others. part ∷ others) found ≡ Some (field ∷ fields) → part ≡ field
+    head : (found : Option (List (List ℕ))) → option_map (λ others. part ∷ others) found ≡ Some (field ∷ fields)
+        → part ≡ field
     head None e = absurd (cc)
     head (Some others) e = cc
 
-    rest : (found : Option (List (List ℕ))) → option_map (λ others. part ∷ others) found ≡ Some (field ∷ fields) → found ≡ Some fields
+    rest : (found : Option (List (List ℕ))) → option_map (λ others. part ∷ others) found ≡ Some (field ∷ fields)
+        → found ≡ Some fields
     rest None e = absurd (cc)
     rest (Some others) e = cc
 
 -- one empty field more is one bar more
-join-empty : (fields : List (List ℕ)) → 0 < length fields → join_with_byte 124 (fields ++ [] ∷ []) ≡ join_with_byte 124 fields ++ 124 ∷ []
+join-empty : (fields : List (List ℕ)) → 0 < length fields
+    → join_with_byte 124 (fields ++ [] ∷ []) ≡ join_with_byte 124 fields ++ 124 ∷ []
 join-empty [] some = absurd (omega arith)
 join-empty (field ∷ []) some = refl
 join-empty (field ∷ next ∷ fields) some =
-    ap (λ rest. field ++ 124 ∷ rest) (join-empty (next ∷ fields) (omega arith)) ∙ sym (append_assoc field (124 ∷ join_with_byte 124 (next ∷ fields)) (124 ∷ []))
+    ap (λ rest. field ++ 124 ∷ rest) (join-empty (next ∷ fields) (omega arith))
+    ∙ sym (append_assoc field (124 ∷ join_with_byte 124 (next ∷ fields)) (124 ∷ []))
 
-all-front : (fields others : List (List ℕ)) → AllByRecursion HasNoBar (fields ++ others) → AllByRecursion HasNoBar fields
+all-front : (fields others : List (List ℕ)) → AllByRecursion HasNoBar (fields ++ others)
+    → AllByRecursion HasNoBar fields
 all-front [] others none = tt
 all-front (field ∷ fields) others none = (none.0, all-front fields others none.1)
 
@@ -70,7 +83,8 @@ all-empty : (fields : List (List ℕ)) → AllByRecursion HasNoBar fields → Al
 all-empty [] none = (tt, tt)
 all-empty (field ∷ fields) none = (none.0, all-empty fields none.1)
 
-spelled-by : (n : ℕ) (line : List ℕ) (fields : List (List ℕ)) → 0 < n → IsFirst n (between_bars (without_cr line)) fields → SpellsFields n line fields
+spelled-by : (n : ℕ) (line : List ℕ) (fields : List (List ℕ)) → 0 < n
+    → IsFirst n (between_bars (without_cr line)) fields → SpellsFields n line fields
 unfolding IsFirst
 spelled-by n line fields some (count, inl is) = record {
   count = count;
@@ -80,11 +94,14 @@ spelled-by n line fields some (count, inl is) = record {
 spelled-by n line fields some (count, inr is) = record {
   count = count;
   no_bar = all-front fields ([] ∷ []) (subst (AllByRecursion HasNoBar) is (parts-no_bar (without_cr line)));
-  joined = inr (sym (join_with_byte-slice_split 124 (without_cr line)) ∙ ap (join_with_byte 124) is ∙ join-empty fields (omega (arith, count, some)));
+  joined = inr (sym (join_with_byte-slice_split 124 (without_cr line)) ∙ ap (join_with_byte 124) is
+      ∙ join-empty fields (omega (arith, count, some)));
 }
 
-pub fields-spelled : (n : ℕ) (line : List ℕ) (fields : List (List ℕ)) → 0 < n → fields_of n line ≡ Some fields → SpellsFields n line fields
-fields-spelled n line fields some is = spelled-by n line fields some (first_parts-is n (between_bars (without_cr line)) fields is)
+pub fields-spelled : (n : ℕ) (line : List ℕ) (fields : List (List ℕ)) → 0 < n → fields_of n line ≡ Some fields
+    → SpellsFields n line fields
+fields-spelled n line fields some is =
+    spelled-by n line fields some (first_parts-is n (between_bars (without_cr line)) fields is)
 
 -- the same, said of each place
 all : (field : List ℕ) → HasNoBar field → All (λ byte. is_bar byte ≡ false) field
@@ -93,7 +110,8 @@ all (byte ∷ field) none zero default below = none.0
 all (byte ∷ field) none (suc k) default below = all field none.1 k default (omega arith)
 
 -- fields that have no bar are the parts of the fields joined by bars
-parts-join : (fields : List (List ℕ)) → 0 < length fields → AllByRecursion HasNoBar fields → between_bars (join_with_byte 124 fields) ≡ fields
+parts-join : (fields : List (List ℕ)) → 0 < length fields → AllByRecursion HasNoBar fields
+    → between_bars (join_with_byte 124 fields) ≡ fields
 parts-join [] some none = absurd (omega arith)
 parts-join (field ∷ []) some none = slice_split_none is_bar field (all field none.0)
 parts-join (field ∷ next ∷ fields) some none =
@@ -104,22 +122,31 @@ first_parts-exact : (n : ℕ) (fields : List (List ℕ)) → length fields ≡ n
 first_parts-exact zero [] count = refl
 first_parts-exact zero (field ∷ fields) count = absurd (omega (arith, count))
 first_parts-exact (suc n) [] count = absurd (omega (arith, count))
-first_parts-exact (suc n) (field ∷ fields) count = ap (option_map (λ others. field ∷ others)) (first_parts-exact n fields (omega (arith, count)))
+first_parts-exact (suc n) (field ∷ fields) count =
+    ap (option_map (λ others. field ∷ others)) (first_parts-exact n fields (omega (arith, count)))
 
-first_parts-empty : (n : ℕ) (fields : List (List ℕ)) → length fields ≡ n → first_parts n (fields ++ [] ∷ []) ≡ Some fields
+first_parts-empty : (n : ℕ) (fields : List (List ℕ)) → length fields ≡ n
+    → first_parts n (fields ++ [] ∷ []) ≡ Some fields
 first_parts-empty zero [] count = refl
 first_parts-empty zero (field ∷ fields) count = absurd (omega (arith, count))
 first_parts-empty (suc n) [] count = absurd (omega (arith, count))
-first_parts-empty (suc n) (field ∷ fields) count = ap (option_map (λ others. field ∷ others)) (first_parts-empty n fields (omega (arith, count)))
+first_parts-empty (suc n) (field ∷ fields) count =
+    ap (option_map (λ others. field ∷ others)) (first_parts-empty n fields (omega (arith, count)))
 
-fields-by : (n : ℕ) (line : List ℕ) (fields : List (List ℕ)) → 0 < n → length fields ≡ n → AllByRecursion HasNoBar fields
-    → (without_cr line ≡ join_with_byte 124 fields) ⊎ (without_cr line ≡ join_with_byte 124 fields ++ 124 ∷ []) → fields_of n line ≡ Some fields
+fields-by : (n : ℕ) (line : List ℕ) (fields : List (List ℕ)) → 0 < n → length fields ≡ n
+    → AllByRecursion HasNoBar fields
+    → (without_cr line ≡ join_with_byte 124 fields) ⊎ (without_cr line ≡ join_with_byte 124 fields ++ 124 ∷ [])
+    → fields_of n line ≡ Some fields
 fields-by n line fields some count none (inl is) =
-    ap (λ text. first_parts n (between_bars text)) is ∙ ap (first_parts n) (parts-join fields (omega (arith, count, some)) none) ∙ first_parts-exact n fields count
+    ap (λ text. first_parts n (between_bars text)) is
+    ∙ ap (first_parts n) (parts-join fields (omega (arith, count, some)) none) ∙ first_parts-exact n fields count
 fields-by n line fields some count none (inr is) =
     ap (λ text. first_parts n (between_bars text)) (is ∙ sym (join-empty fields (omega (arith, count, some))))
-    ∙ ap (first_parts n) (parts-join (fields ++ [] ∷ []) (omega (arith, count, some, length-append fields ([] ∷ []))) (all-empty fields none))
+    ∙ ap (first_parts n)
+    (parts-join (fields ++ [] ∷ []) (omega (arith, count, some, length-append fields ([] ∷ [])))
+    (all-empty fields none))
     ∙ first_parts-empty n fields count
 
-pub spelled-fields : (n : ℕ) (line : List ℕ) (fields : List (List ℕ)) → 0 < n → SpellsFields n line fields → fields_of n line ≡ Some fields
+pub spelled-fields : (n : ℕ) (line : List ℕ) (fields : List (List ℕ)) → 0 < n → SpellsFields n line fields
+    → fields_of n line ≡ Some fields
 spelled-fields n line fields some spells = fields-by n line fields some spells.count spells.no_bar spells.joined

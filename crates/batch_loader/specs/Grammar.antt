@@ -8,7 +8,8 @@ use Rattle.batch_loader.specs.Lines.{lines_of}
 abbrev pub HasNoBar : List ℕ → Type 0
 HasNoBar text = AllByRecursion (λ byte. (byte == 124) ≡ false) text
 
--- a line spells n fields, none of which has a bar: less its CR it is the fields joined by bars, with or without one more bar
+-- a line spells n fields, none of which has a bar: less its CR it is the fields joined by bars, with or without one
+-- more bar
 pub record SpellsFields (n : ℕ) (line : List ℕ) (fields : List (List ℕ)) : Type 0 where
   pub count : length fields ≡ n
   pub no_bar : AllByRecursion HasNoBar fields
@@ -17,7 +18,8 @@ pub record SpellsFields (n : ℕ) (line : List ℕ) (fields : List (List ℕ)) :
 -- the fields of a line are the fields that it spells
 abbrev pub FieldsAreSpelled : Type 0
 FieldsAreSpelled = (n : ℕ) (line : List ℕ) (fields : List (List ℕ)) → 0 < n
-    → (fields_of n line ≡ Some fields → SpellsFields n line fields) × (SpellsFields n line fields → fields_of n line ≡ Some fields)
+    → (fields_of n line ≡ Some fields → SpellsFields n line fields)
+    × (SpellsFields n line fields → fields_of n line ≡ Some fields)
 
 -- a line has no LF (10)
 abbrev pub HasNoLf : List ℕ → Type 0
@@ -36,11 +38,13 @@ pub record EndsWithoutLf (text : List ℕ) (lines : List (List ℕ)) : Type 0 wh
   pub text_is : text ≡ ended front ++ last
   pub some : 0 < length last
 
--- a text spells lines, none of which has an LF: each is followed by LF, save that a last line that is not empty may go without
+-- a text spells lines, none of which has an LF: each is followed by LF, save that a last line that is not empty may go
+-- without
 pub record SpellsLines (text : List ℕ) (lines : List (List ℕ)) : Type 0 where
   pub no_lf : AllByRecursion HasNoLf lines
   pub spelled : (text ≡ ended lines) ⊎ EndsWithoutLf text lines
 
 -- the lines of a text are the lines that it spells
 abbrev pub LinesAreSpelled : Type 0
-LinesAreSpelled = (text : List ℕ) (lines : List (List ℕ)) → (lines_of text ≡ lines → SpellsLines text lines) × (SpellsLines text lines → lines_of text ≡ lines)
+LinesAreSpelled = (text : List ℕ) (lines : List (List ℕ)) → (lines_of text ≡ lines → SpellsLines text lines)
+    × (SpellsLines text lines → lines_of text ≡ lines)

@@ -16,9 +16,11 @@ FitsColumn Skipped value number = ⊤
 abbrev pub AreNumbers : ℕ → List Column → List (List ℕ) → List ℕ → Type 0
 AreNumbers place [] fields numbers = ⊤
 AreNumbers place (column ∷ columns) fields numbers =
-    FitsColumn column (number_in fields place) (slice_index numbers place) × AreNumbers (suc place) columns fields numbers
+    FitsColumn column (number_in fields place) (slice_index numbers place)
+    × AreNumbers (suc place) columns fields numbers
 
--- a field fits its column: in a number column it spells a number, up to the column's limit, and a kept text is short enough
+-- a field fits its column: in a number column it spells a number, up to the column's limit, and a kept text is short
+-- enough
 abbrev pub ReadsField : Column → List ℕ → ℕ → Type 0
 ReadsField (Number limit) text number = Some number ≡ number_of limit text
 ReadsField Text text number = length text ≤ longest_text
@@ -28,7 +30,8 @@ ReadsField Skipped text number = ⊤
 abbrev pub ReadsFields : ℕ → List Column → List (List ℕ) → List ℕ → Type 0
 ReadsFields place [] fields numbers = ⊤
 ReadsFields place (column ∷ columns) fields numbers =
-    ReadsField column (text_in fields place) (slice_index numbers place) × ReadsFields (suc place) columns fields numbers
+    ReadsField column (text_in fields place) (slice_index numbers place)
+    × ReadsFields (suc place) columns fields numbers
 
 -- the same of columns whose numbers are in a list of their own
 abbrev pub ReadsEach : ℕ → List Column → List (List ℕ) → List ℕ → Type 0

@@ -1,5 +1,6 @@
 -- What is taken from a text that is read line by line.
-use Rattle.std.specs.Prelude.{◌≡◌, ◌<◌, ◌≤◌, ◌⊎◌, ℕ, ⊤, Bool, true, false, List, [], ◌∷◌, ◌++◌, take, drop, length, Option, Some, None}
+use Rattle.std.specs.Prelude.{◌≡◌, ◌<◌, ◌≤◌, ◌⊎◌, ℕ, ⊤, Bool, true, false, List, [], ◌∷◌, ◌++◌, take, drop, length}
+use Rattle.std.specs.Prelude.{Option, Some, None}
 use Rattle.std.specs.Prelude.{Result, Ok, Err}
 use Rattle.std.specs.Borrow.{Bor}
 use Rattle.std.specs.Io.KnownBytes.{IsAtEnd}
@@ -20,7 +21,8 @@ TakesLine (Some text) (Some rest) line = lines_of text ≡ line ∷ lines_of res
 -- the first line of the text that was left is longer than a limit
 abbrev pub IsLongLine : Option (List ℕ) → ℕ → Type 0
 IsLongLine None limit = ⊤
-IsLongLine (Some text) limit = (line : List ℕ) × (others : List (List ℕ)) × (lines_of text ≡ line ∷ others) × (limit < length line)
+IsLongLine (Some text) limit = (line : List ℕ) × (others : List (List ℕ)) × (lines_of text ≡ line ∷ others)
+    × (limit < length line)
 
 -- a line was taken: it is short enough, and counted
 pub record TakesNext (old new : Unread) (line : List ℕ) : Type 0 where
@@ -43,7 +45,8 @@ pub record IsAllTaken (old new : Unread) : Type 0 where
 
 -- no line was taken: a read failed, or the next line is too long
 abbrev pub RefusesNext : Unread → Fault → Type 0
-RefusesNext old fault = (fault ≡ Input) ⊎ ((fault ≡ FieldTooLong (Line (next_number old.number)) 0) × IsLongLine old.left longest_line)
+RefusesNext old fault = (fault ≡ Input)
+    ⊎ ((fault ≡ FieldTooLong (Line (next_number old.number)) 0) × IsLongLine old.left longest_line)
 
 -- what the next line is, and what is left
 abbrev pub NextGives : Unread → Unread → Result (Option (Bor (List ℕ))) Fault → Type 0
@@ -57,28 +60,33 @@ PushesRow (Ok row) old new = new ≡ old ++ row ∷ []
 PushesRow (Err fault) old new = ⊥
 
 -- the row of the next line comes after some rows, or the text was at its end
-abbrev pub PushesNext : {Row : Type 0} → (ℕ → List ℕ → Result Row Fault) → Unread → Unread → List Row → List Row → Bool → Type 0
-PushesNext row old new before after true = TakesNext old new new.line × PushesRow (row (next_number old.number) new.line) before after
+abbrev pub PushesNext : {Row : Type 0} → (ℕ → List ℕ → Result Row Fault) → Unread → Unread → List Row → List Row → Bool
+    → Type 0
+PushesNext row old new before after true = TakesNext old new new.line
+    × PushesRow (row (next_number old.number) new.line) before after
 PushesNext row old new before after false = IsAllTaken old new × (after ≡ before)
 
 -- a fault is that of the next line
 abbrev pub IsNextFault : {Row : Type 0} → (ℕ → List ℕ → Result Row Fault) → ℕ → Option (List ℕ) → Fault → Type 0
 IsNextFault row number None fault = ⊤
 IsNextFault row number (Some text) fault =
-    (line : List ℕ) × (others : List (List ℕ)) × (lines_of text ≡ line ∷ others) × (row (next_number number) line ≡ Err fault)
+    (line : List ℕ) × (others : List (List ℕ)) × (lines_of text ≡ line ∷ others)
+    × (row (next_number number) line ≡ Err fault)
 
 -- no row was taken: memory was refused, a read failed, or it is the fault of the next line
 abbrev pub RefusesRow : {Row : Type 0} → (ℕ → List ℕ → Result Row Fault) → Unread → Fault → Type 0
 RefusesRow row old fault = (fault ≡ Memory) ⊎ ((fault ≡ Input) ⊎ IsNextFault row old.number old.left fault)
 
--- the line that was taken last is the one that is refused: a fault is that of its row, or says that the line is too long. Or memory was
--- refused, or a read failed
+-- the line that was taken last is the one that is refused: a fault is that of its row, or says that the line is too
+-- long. Or memory was refused, or a read failed
 abbrev pub RefusesLine : {Row : Type 0} → (ℕ → List ℕ → Result Row Fault) → Unread → Fault → Type 0
 RefusesLine row new fault =
-    (fault ≡ Memory) ⊎ ((fault ≡ Input) ⊎ ((fault ≡ FieldTooLong (Line new.number) 0) ⊎ (row new.number new.line ≡ Err fault)))
+    (fault ≡ Memory)
+    ⊎ ((fault ≡ Input) ⊎ ((fault ≡ FieldTooLong (Line new.number) 0) ⊎ (row new.number new.line ≡ Err fault)))
 
 -- the rows of the next lines, at most so many, were taken, and the other lines are left
-abbrev pub TakesRows : {Row : Type 0} → (ℕ → List ℕ → Result Row Fault) → ℕ → ℕ → Option (List ℕ) → Option (List ℕ) → List Row → Type 0
+abbrev pub TakesRows : {Row : Type 0} → (ℕ → List ℕ → Result Row Fault) → ℕ → ℕ → Option (List ℕ) → Option (List ℕ)
+    → List Row → Type 0
 TakesRows row max number None new rows = ⊤
 TakesRows row max number (Some text) None rows = ⊥
 TakesRows row max number (Some text) (Some rest) rows =
@@ -90,7 +98,8 @@ IsFirstFault row max number None fault = ⊤
 IsFirstFault row max number (Some text) fault = rows_of row (next_number number) (take max (lines_of text)) ≡ Err fault
 
 -- a batch of rows was taken: those of the next lines, fewer than the most only at the end of the text
-pub record TakesBatch {Row : Type 0} (row : ℕ → List ℕ → Result Row Fault) (max : ℕ) (old new : Unread) (rows : List Row) : Type 0 where
+pub record TakesBatch {Row : Type 0} (row : ℕ → List ℕ → Result Row Fault) (max : ℕ) (old new : Unread)
+    (rows : List Row) : Type 0 where
   pub taken : TakesRows row max old.number old.left new.left rows
   pub few : length rows ≤ max
   pub end : length rows < max → IsAtEnd new.left
@@ -112,11 +121,12 @@ IsFaultOf row number None fault = ⊤
 IsFaultOf row number (Some text) fault = rows_of row (next_number number) (lines_of text) ≡ Err fault
 
 -- a whole table was taken
-pub record TakesTable {Row : Type 0} (row : ℕ → List ℕ → Result Row Fault) (old new : Unread) (rows : List Row) : Type 0 where
-  pub taken : AreRowsOf row old.number old.left rows
-  pub end : IsAtEnd new.left
-  pub number : new.number ≡ number_after (length rows) old.number
-  pub fault : new.fault ≡ None
+pub record TakesTable {Row : Type 0} (row : ℕ → List ℕ → Result Row Fault) (old new : Unread) (rows : List Row) : Type 0
+  where
+    pub taken : AreRowsOf row old.number old.left rows
+    pub end : IsAtEnd new.left
+    pub number : new.number ≡ number_after (length rows) old.number
+    pub fault : new.fault ≡ None
 
 -- no table was taken: memory was refused, a read failed, or it is the first fault of the lines that were left
 abbrev pub RefusesTable : {Row : Type 0} → (ℕ → List ℕ → Result Row Fault) → Unread → Fault → Type 0

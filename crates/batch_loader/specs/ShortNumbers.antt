@@ -4,7 +4,8 @@ use Rattle.std.specs.Simd.Lanes.{Each1, number_l}
 
 -- so many bytes of a text from a place on are digits
 abbrev pub AreDigits : List ℕ → ℕ → ℕ → Type 0
-AreDigits text start count = (k : ℕ) → k < count → (48 ≤ slice_index text (start + k)) × (slice_index text (start + k) ≤ 57)
+AreDigits text start count = (k : ℕ) → k < count → (48 ≤ slice_index text (start + k))
+    × (slice_index text (start + k) ≤ 57)
 
 -- the eight bytes of a number, the lowest first, are digits from 0 to 9
 pub record IsSpread (number : ℕ) (digits : List ℕ) : Type 0 where

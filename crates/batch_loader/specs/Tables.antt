@@ -1,4 +1,5 @@
--- The five tables of the Star Schema Benchmark: their columns, of which not all are kept, and their rows. Limits are our own.
+-- The five tables of the Star Schema Benchmark: their columns, of which not all are kept, and their rows. Limits are
+-- our own.
 use Rattle.std.specs.Prelude.{ℕ, List, [], ◌∷◌, Result}
 use Rattle.cube_model.specs.declared.fault.Fault.{Fault}
 use Rattle.cube_model.specs.declared.rows.CustomerRow.{CustomerRow}
@@ -56,7 +57,8 @@ part_of_fields fields = record {
   mfgr = text_in fields 2;
 }
 
--- datekey, date, dayofweek, month, year, yearmonthnum, yearmonth, daynuminweek, daynuminmonth, daynuminyear, monthnuminyear, weeknuminyear, sellingseason, lastdayinweekfl, lastdayinmonthfl, holidayfl, weekdayfl
+-- datekey, date, dayofweek, month, year, yearmonthnum, yearmonth, daynuminweek, daynuminmonth, daynuminyear,
+-- monthnuminyear, weeknuminyear, sellingseason, lastdayinweekfl, lastdayinmonthfl, holidayfl, weekdayfl
 abbrev pub date_columns : List Column
 date_columns =
     key ∷ Skipped ∷ Skipped ∷ Skipped ∷ Text ∷ Text ∷ Text ∷ Skipped ∷ Skipped ∷ Skipped ∷ Skipped ∷ Text
@@ -71,7 +73,8 @@ date_of_fields fields = record {
   weeknuminyear = text_in fields 11;
 }
 
--- orderkey, linenumber, custkey, partkey, suppkey, orderdate, orderpriority, shippriority, quantity, extendedprice, ordtotalprice, discount, revenue, supplycost, tax, commitdate, shipmode
+-- orderkey, linenumber, custkey, partkey, suppkey, orderdate, orderpriority, shippriority, quantity, extendedprice,
+-- ordtotalprice, discount, revenue, supplycost, tax, commitdate, shipmode
 abbrev pub lineorder_columns : List Column
 lineorder_columns =
     amount ∷ key ∷ key ∷ key ∷ key ∷ key ∷ Text ∷ Text ∷ small ∷ amount ∷ amount ∷ small ∷ amount ∷ amount ∷ small

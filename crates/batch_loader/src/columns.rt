@@ -92,7 +92,8 @@ fn read_field<const N: usize>(
     requires place { place < N }
     ensures fits { IfOk result (λ _. field_fault line (place + 1) column (text_in (texts_of fields.now) place) ≡ None) }
     ensures number { IfOk result (FitsColumn column (number_in (texts_of fields.now) place)) }
-    ensures refused { IfErr result (λ fault. field_fault line (place + 1) column (text_in (texts_of fields.now) place) ≡ Some fault) }
+    ensures refused { IfErr result (λ fault. field_fault line (place + 1) column (text_in (texts_of fields.now) place)
+        ≡ Some fault) }
 {
     let field = place as u8 + 1;
     match column {

@@ -1,5 +1,6 @@
 //! The lines of a text, one by one.
-ghost use Rattle.std.specs.Prelude.{◌≡◌, ◌⊎◌, ◌+◌, Some, None, MatchBool, MatchOption, MatchResult, IfOk, IfErr, IfSome, min, length, ◌≤◌};
+ghost use Rattle.std.specs.Prelude.{◌≡◌, ◌⊎◌, ◌+◌, Some, None, MatchBool, MatchOption, MatchResult, IfOk, IfErr};
+ghost use Rattle.std.specs.Prelude.{IfSome, min, length, ◌≤◌};
 ghost use Rattle.std.specs.Io.KnownBytes.{IsAtEnd, Keeps};
 ghost use Rattle.batch_loader.specs.Reading.{TakesNext, IsAllTaken, RefusesNext, NextGives};
 ghost use Rattle.batch_loader.specs.Rows.{next_number};
@@ -16,7 +17,8 @@ use std::marker::Model;
 
 /// The lines of what a reader has left.
 ///
-/// The line that was taken last lies in front of the window still, with its LF, if any byte is taken there, and else in the buffer.
+/// The line that was taken last lies in front of the window still, with its LF, if any byte is taken there, and else in
+/// the buffer.
 #[derive(Drop)]
 pub struct Lines<R: Read> {
     reader: R,
@@ -68,8 +70,8 @@ impl<R: Read> Lines<R> {
         })
     }
 
-    /// The line that was taken last, without its LF. After a refusal it is the line that is refused, except where that is too long or a
-    /// read failed.
+    /// The line that was taken last, without its LF. After a refusal it is the line that is refused, except where that
+    /// is too long or a read failed.
     pub fn line(&self) -> &[u8]
         ensures { result.now ≡ self.now.line }
     {
@@ -108,7 +110,8 @@ impl<R: Read> Lines<R> {
         // After a refusal the same comes again.
         ensures again { IfSome self.old.fault (λ fault. result ≡ Err fault) }
         ensures held { IfErr result (λ fault. self.new.fault ≡ Some fault) }
-        ensures found { IfOk result (λ found. MatchBool found (TakesNext self.old self.new self.new.line) (IsAllTaken self.old self.new)) }
+        ensures found { IfOk result
+            (λ found. MatchBool found (TakesNext self.old self.new self.new.line) (IsAllTaken self.old self.new)) }
         ensures refused { self.old.fault ≡ None → IfErr result (RefusesNext self.old) }
         ensures number { self.old.fault ≡ None → IfErr result (λ _. self.new.number ≡ next_number self.old.number) }
     {

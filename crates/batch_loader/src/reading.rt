@@ -27,10 +27,13 @@ pub fn read_line<R: Read>(
 ) -> Result<bool, LineFault>
     requires { LINE_LIMIT ≤ vec_capacity line.old }
     ensures found { IfOk result (λ found. MatchBool found
-        (TakesLine (prepend_known window.old (R.remaining reader.old)) (prepend_known window.new (R.remaining reader.new)) line.new.items)
-        (StaysAtEnd (prepend_known window.old (R.remaining reader.old)) (prepend_known window.new (R.remaining reader.new)))) }
+        (TakesLine (prepend_known window.old (R.remaining reader.old))
+        (prepend_known window.new (R.remaining reader.new)) line.new.items)
+        (StaysAtEnd (prepend_known window.old (R.remaining reader.old))
+        (prepend_known window.new (R.remaining reader.new)))) }
     ensures short { IfOk result (λ _. length line.new.items ≤ LINE_LIMIT) }
-    ensures long { IfErr result (λ fault. fault ≡ Long → IsLongLine (prepend_known window.old (R.remaining reader.old)) LINE_LIMIT) }
+    ensures long { IfErr result
+        (λ fault. fault ≡ Long → IsLongLine (prepend_known window.old (R.remaining reader.old)) LINE_LIMIT) }
     ensures room { LINE_LIMIT ≤ vec_capacity line.new }
 {
     line.clear();

@@ -1,5 +1,6 @@
 //! How a line becomes a row.
-ghost use Rattle.std.specs.Prelude.{◌≡◌, ◌⊎◌, ◌≤◌, ◌∷◌, [], ℕ, Some, None, Ok, Err, MatchResult, IfSome, IfOk, IfErr, drop, length, take};
+ghost use Rattle.std.specs.Prelude.{◌≡◌, ◌⊎◌, ◌≤◌, ◌∷◌, [], ℕ, Some, None, Ok, Err, MatchResult, IfSome, IfOk, IfErr};
+ghost use Rattle.std.specs.Prelude.{drop, length, take};
 ghost use Rattle.batch_loader.specs.Columns.{fields_fault, row_of, text_in};
 ghost use Rattle.batch_loader.specs.LineFields.{fields_at};
 ghost use Rattle.batch_loader.specs.Parsing.{AreNumbers, ReadsEach};
@@ -144,7 +145,8 @@ impl TableRow for LineOrder {
 fn line_order_numbers(fields: &FieldsInPlace<'_, '_, 17>, line: u64) -> Result<[u64; 17], Fault>
     ensures fits { IfOk result (λ _. fields_fault line 1 lineorder_columns (fields_at fields.now) ≡ None) }
     ensures numbers { IfOk result (AreNumbers 0 lineorder_columns (fields_at fields.now)) }
-    ensures refused { IfErr result (λ fault. fields_fault line 1 lineorder_columns (fields_at fields.now) ≡ Some fault) }
+    ensures refused { IfErr result
+        (λ fault. fields_fault line 1 lineorder_columns (fields_at fields.now) ≡ Some fault) }
 {
     match fitting_numbers(fields) {
         Some(numbers) => Ok(numbers),
@@ -152,10 +154,12 @@ fn line_order_numbers(fields: &FieldsInPlace<'_, '_, 17>, line: u64) -> Result<[
     }
 }
 
-// The numbers of a fact row's fields, or nothing where a field does not fit its column. A loop over the columns would tell them apart anew in each row.
+// The numbers of a fact row's fields, or nothing where a field does not fit its column. A loop over the columns would
+// tell them apart anew in each row.
 #[inline(always)]
 fn fitting_numbers(fields: &FieldsInPlace<'_, '_, 17>) -> Option<[u64; 17]>
-    ensures fits { IfSome result (λ _. (line : ℕ) → fields_fault line 1 lineorder_columns (fields_at fields.now) ≡ None) }
+    ensures fits { IfSome result
+        (λ _. (line : ℕ) → fields_fault line 1 lineorder_columns (fields_at fields.now) ≡ None) }
     ensures numbers { IfSome result (AreNumbers 0 lineorder_columns (fields_at fields.now)) }
 {
     let keys = fitting_keys(fields)?;
@@ -219,7 +223,8 @@ fn fitting_amounts(fields: &FieldsInPlace<'_, '_, 17>) -> Option<(u64, u64, u64,
 fn numbers_by_columns(fields: &FieldsInPlace<'_, '_, 17>, line: u64) -> Result<[u64; 17], Fault>
     ensures fits { IfOk result (λ _. fields_fault line 1 lineorder_columns (fields_at fields.now) ≡ None) }
     ensures numbers { IfOk result (AreNumbers 0 lineorder_columns (fields_at fields.now)) }
-    ensures refused { IfErr result (λ fault. fields_fault line 1 lineorder_columns (fields_at fields.now) ≡ Some fault) }
+    ensures refused { IfErr result
+        (λ fault. fields_fault line 1 lineorder_columns (fields_at fields.now) ≡ Some fault) }
 {
     numbers_of(&LINEORDER, &fields.copied(), line)
 }
@@ -263,7 +268,8 @@ fn line_order_texts(
     alloc: Global,
     fields: &FieldsInPlace<'_, '_, 17>,
 ) -> Result<(RowText, RowText, RowText, RowText), Fault>
-    ensures ok { IfOk result (λ texts. (texts.0 ≡ text_in (fields_at fields.now) 6) × (texts.1 ≡ text_in (fields_at fields.now) 7)
+    ensures ok { IfOk result (λ texts. (texts.0 ≡ text_in (fields_at fields.now) 6)
+        × (texts.1 ≡ text_in (fields_at fields.now) 7)
         × (texts.2 ≡ text_in (fields_at fields.now) 15) × (texts.3 ≡ text_in (fields_at fields.now) 16)) }
     ensures err { IfErr result (λ fault. fault ≡ Fault.Memory) }
 {

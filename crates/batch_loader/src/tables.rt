@@ -2,7 +2,8 @@
 ghost use Rattle.std.specs.Prelude.{◌≡◌, ◌⊎◌, ◌≤◌, None, IfOk, OnOk, IfErr, IfSome, Err, length};
 ghost use Rattle.cube_model.specs.Limits.{longest_line};
 ghost use Rattle.batch_loader.specs.Columns.{row_of};
-ghost use Rattle.batch_loader.specs.Reading.{PushesNext, PushesRow, RefusesLine, RefusesRow, TakesBatch, RefusesBatch, TakesTable, RefusesTable};
+ghost use Rattle.batch_loader.specs.Reading.{PushesNext, PushesRow, RefusesLine, RefusesRow, TakesBatch, RefusesBatch};
+ghost use Rattle.batch_loader.specs.Reading.{TakesTable, RefusesTable};
 ghost use Rattle.batch_loader.specs.Tables.{customer_row, supplier_row, part_row, date_row, lineorder_row};
 
 use crate::lines::Lines;
@@ -122,7 +123,8 @@ fn read_rows<T: TableRow + Drop, R: Read>(
     ensures again { IfSome lines.old.fault (λ fault. result ≡ Err fault) }
     ensures held { IfErr result (λ fault. lines.new.fault ≡ Some fault) }
     ensures taken { IfOk result (TakesBatch (row_of T.columns T.of_fields) max lines.old lines.new) }
-    ensures refused { lines.old.fault ≡ None → IfErr result (RefusesBatch (row_of T.columns T.of_fields) max lines.old) }
+    ensures refused { lines.old.fault ≡ None
+        → IfErr result (RefusesBatch (row_of T.columns T.of_fields) max lines.old) }
     ensures line { lines.old.fault ≡ None → IfErr result (RefusesLine (row_of T.columns T.of_fields) lines.new) }
 {
     if let Some(fault) = lines.fault() {
@@ -167,7 +169,8 @@ fn push_line<T: TableRow + Drop>(
 ) -> Result<(), Fault>
     requires { length line.now ≤ longest_line }
     ensures ok { OnOk result (PushesRow (row_of T.columns T.of_fields number line.now) rows.old rows.new) }
-    ensures err { IfErr result (λ fault. (fault ≡ Fault.Memory) ⊎ (row_of T.columns T.of_fields number line.now ≡ Err fault)) }
+    ensures err { IfErr result
+        (λ fault. (fault ≡ Fault.Memory) ⊎ (row_of T.columns T.of_fields number line.now ≡ Err fault)) }
 {
     let row = T::read(alloc, line, number)?;
     rows.push(row)?;

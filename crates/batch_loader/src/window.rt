@@ -1,5 +1,6 @@
 //! Bytes that were read ahead.
-ghost use Rattle.std.specs.Prelude.{◌≡◌, ◌<◌, ◌≤◌, ◌+◌, ◌-◌, ℕ, List, [], Option, Ok, false, MatchBool, IfOk, length, take, drop};
+ghost use Rattle.std.specs.Prelude.{◌≡◌, ◌<◌, ◌≤◌, ◌+◌, ◌-◌, ℕ, List, [], Option, Ok, false, MatchBool, IfOk, length};
+ghost use Rattle.std.specs.Prelude.{take, drop};
 ghost use Rattle.std.specs.Vec.{vec_capacity};
 ghost use Rattle.std.specs.Io.KnownBytes.{IsAtEnd, Keeps, prepend_known};
 ghost use Rattle.batch_loader.specs.Fronts.{IsFront, TakesPart};
@@ -29,7 +30,8 @@ impl Model for Window {
 
     ghost view = { λ window. slice_range window.bytes.items window.from window.to };
 
-    ghost invariant = { λ window. (window.from ≤ window.to) × (window.to ≤ length window.bytes.items) × (0 < length window.bytes.items) };
+    ghost invariant = { λ window. (window.from ≤ window.to) × (window.to ≤ length window.bytes.items)
+        × (0 < length window.bytes.items) };
 }
 
 impl Window {
@@ -63,8 +65,11 @@ impl Window {
 
     /// Where there are no bytes, reads some. It gives false at the end of the text.
     pub fn refill<R: Read>(&mut self, reader: &mut R) -> Result<bool, ()>
-        ensures keeps { Keeps (prepend_known self.old (R.remaining reader.old)) (prepend_known self.new (R.remaining reader.new)) }
-        ensures more { IfOk result (λ more. MatchBool more (0 < length self.new) (IsAtEnd (prepend_known self.old (R.remaining reader.old)) × IsAtEnd (prepend_known self.new (R.remaining reader.new)))) }
+        ensures keeps { Keeps (prepend_known self.old (R.remaining reader.old))
+            (prepend_known self.new (R.remaining reader.new)) }
+        ensures more { IfOk result
+            (λ more. MatchBool more (0 < length self.new) (IsAtEnd (prepend_known self.old (R.remaining reader.old))
+            × IsAtEnd (prepend_known self.new (R.remaining reader.new)))) }
     {
         if self.from < self.to {
             return Ok(true);
@@ -84,7 +89,9 @@ impl Window {
 pub fn line_at_front(window: &Window) -> usize
     ensures within { result ≤ length window.now }
     ensures short { result ≤ LINE_LIMIT + 1 }
-    ensures line { (left : Option (List ℕ)) → 0 < result → TakesLine (prepend_known window.now left) (prepend_known (drop result window.now) left) (take (result - 1) window.now) }
+    ensures line { (left : Option (List ℕ)) → 0 < result
+        → TakesLine (prepend_known window.now left) (prepend_known (drop result window.now) left)
+        (take (result - 1) window.now) }
 {
     match memchr(b'\n', window.rest()) {
         Some(at) if at <= LINE_LIMIT => at + 1,
@@ -92,11 +99,13 @@ pub fn line_at_front(window: &Window) -> usize
     }
 }
 
-/// Puts the bytes before the next LF after a line, or all, and takes them and the LF. It gives true where there is an LF, and an error for a line that is too long.
+/// Puts the bytes before the next LF after a line, or all, and takes them and the LF. It gives true where there is an
+/// LF, and an error for a line that is too long.
 pub fn take_part(window: &mut Window, line: &mut Vec<u8>) -> Result<bool, ()>
     requires room { LINE_LIMIT ≤ vec_capacity line.old }
     requires short { length line.old.items ≤ LINE_LIMIT }
-    ensures part { (old left : Option (List ℕ)) → IsFront old (prepend_known window.old left) line.old.items → TakesPart old (prepend_known window.new left) line.new.items LINE_LIMIT result }
+    ensures part { (old left : Option (List ℕ)) → IsFront old (prepend_known window.old left) line.old.items
+        → TakesPart old (prepend_known window.new left) line.new.items LINE_LIMIT result }
     ensures short { length line.new.items ≤ LINE_LIMIT }
     ensures room { LINE_LIMIT ≤ vec_capacity line.new }
     ensures grows { result ≡ Ok false → 0 < length window.old → length line.old.items < length line.new.items }

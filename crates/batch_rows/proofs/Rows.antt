@@ -1,5 +1,6 @@
 -- The rows of a batch, by what its root and its object say.
-use Rattle.std.proofs.Common.{◌≡◌, ◌⊎◌, ⊎_elim, ◌∙◌, ℕ, ◌+◌, ◌<◌, List, length, Option, Some, None, slice_get, refl, sym, ap, subst, arith}
+use Rattle.std.proofs.Common.{◌≡◌, ◌⊎◌, ⊎_elim, ◌∙◌, ℕ, ◌+◌, ◌<◌, List, length, Option, Some, None, slice_get, refl}
+use Rattle.std.proofs.Common.{sym, ap, subst, arith}
 use Rattle.std.specs.Option.{option_map}
 use Rattle.std.proofs.lemmas.Option.{slice_get-map}
 use Rattle.cube_model.specs.declared.fault.Fault.{Fault}
@@ -26,36 +27,47 @@ module _ (w : Warehouse) (root : PlainRoot) (rooted : root ≡ root_of w) (befor
     where
       by : (o : Option (List LineOrder)) → slice_get w.batches before ≡ o → None ≡ slice_get w.batches before
       by None e = sym e
-      by (Some batch) e = let both : None ≡ Some (length batch) = sym none ∙ said ∙ ap (option_map length) e in absurd cc
+      by (Some batch) e = let both : None ≡ Some (length batch) = sym none ∙ said ∙ ap (option_map length) e in
+          absurd cc
 
   -- how many rows, where there is one
-  pub count_said : (count : ℕ) → slice_get root.batches before ≡ Some count → (batch : List LineOrder) × (slice_get w.batches before ≡ Some batch) × (length batch ≡ count)
+  pub count_said : (count : ℕ) → slice_get root.batches before ≡ Some count → (batch : List LineOrder)
+      × (slice_get w.batches before ≡ Some batch) × (length batch ≡ count)
   count_said count is = by (slice_get w.batches before) refl
     where
-      by : (o : Option (List LineOrder)) → slice_get w.batches before ≡ o → (batch : List LineOrder) × (slice_get w.batches before ≡ Some batch) × (length batch ≡ count)
+      by : (o : Option (List LineOrder)) → slice_get w.batches before ≡ o → (batch : List LineOrder)
+          × (slice_get w.batches before ≡ Some batch) × (length batch ≡ count)
       by None e = let both : Some count ≡ None = sym is ∙ said ∙ ap (option_map length) e in absurd cc
       by (Some batch) e = (batch, e, some_one (length batch) count (sym (ap (option_map length) e) ∙ sym said ∙ is))
 
 module _ (c : Content) (w : Warehouse) (represents : Represents c w) (before : ℕ) (low : before < 65535) where
   -- the rows of its object are those of the batch
-  pub rows_are : (rows : List LineOrder) → HoldsBatch c (65536 + (before + 1)) (before + 1) rows → Some rows ≡ slice_get w.batches before
-  rows_are rows held = sym (found_at c w represents before (before + 1) (65536 + (before + 1)) refl refl low held.bytes rows held.there held.segment)
+  pub rows_are : (rows : List LineOrder) → HoldsBatch c (65536 + (before + 1)) (before + 1) rows
+      → Some rows ≡ slice_get w.batches before
+  rows_are rows held =
+      sym (found_at c w represents before (before + 1) (65536 + (before + 1)) refl refl low held.bytes rows held.there
+      held.segment)
 
   -- the object of a batch is not that of none
   pub never_none : (root : PlainRoot) → root ≡ root_of w → (count : ℕ) → slice_get root.batches before ≡ Some count
       → HoldsNoneOf (bytes_of c (65536 + (before + 1))) (before + 1) count → ⊥
   never_none root rooted count is none =
       let got = count_said w root rooted before count is in
-      none_there c w represents before (before + 1) (65536 + (before + 1)) refl refl low got.0 got.1 (subst (HoldsNoneOf (bytes_of c (65536 + (before + 1))) (before + 1)) (sym got.2) none)
+      none_there c w represents before (before + 1) (65536 + (before + 1)) refl refl low got.0 got.1
+      (subst (HoldsNoneOf (bytes_of c (65536 + (before + 1))) (before + 1)) (sym got.2) none)
 
 -- no object is that of no batch
 pub missing : (text : Option (List ℕ)) (number count : ℕ) → text ≡ None → HoldsNoneOf text number count
 missing text number count none bytes rows at many segment = let both : None ≡ Some bytes = sym none ∙ at in cc
 
 -- nor are bytes that were refused
-pub refused : (text : Option (List ℕ)) (bytes : List ℕ) (number count : ℕ) (fault : Fault) → text ≡ Some bytes → fault ≡ BadLayout
-    → (fault ≡ Memory) ⊎ ((fault ≡ BadLayout) × ((rows : List LineOrder) → length rows ≡ count → IsSegment bytes number rows → ⊥)) → HoldsNoneOf text number count
+pub refused : (text : Option (List ℕ)) (bytes : List ℕ) (number count : ℕ) (fault : Fault) → text ≡ Some bytes
+    → fault ≡ BadLayout
+    → (fault ≡ Memory)
+    ⊎ ((fault ≡ BadLayout) × ((rows : List LineOrder) → length rows ≡ count → IsSegment bytes number rows → ⊥))
+    → HoldsNoneOf text number count
 refused text bytes number count fault there is why others rows at many segment =
     let same : others ≡ bytes = some_one others bytes (sym at ∙ there) in
     ⊎_elim (λ (memory : fault ≡ Memory). let both : BadLayout ≡ Memory = sym is ∙ memory in absurd cc)
-    (λ (bad : (fault ≡ BadLayout) × ((l : List LineOrder) → length l ≡ count → IsSegment bytes number l → ⊥)). bad.1 rows many (subst (λ (b : List ℕ). IsSegment b number rows) same segment)) why
+    (λ (bad : (fault ≡ BadLayout) × ((l : List LineOrder) → length l ≡ count → IsSegment bytes number l → ⊥)). bad.1
+    rows many (subst (λ (b : List ℕ). IsSegment b number rows) same segment)) why

@@ -3,11 +3,11 @@ ghost use Rattle.std.specs.Prelude.{◌≡◌, ◌⊎◌, ◌<◌, ◌≤◌, fa
 ghost use Rattle.cube_model.specs.declared.fault.Fault.TheVariants.{BadLayout, Device, Memory};
 ghost use Rattle.cube_model.specs.Limits.{most_batches};
 ghost use Rattle.object_store.specs.Content.{bytes_of};
-ghost use Rattle.object_store.specs.Disk.{Leaves};
-ghost use Rattle.object_store.specs.Store.{Breaks, IsStill, content_of, device_of, disk_of, has_failed};
+ghost use Rattle.object_store.specs.Store.{content_of, device_of, has_failed};
 ghost use Rattle.column_segment.specs.Projected.{HoldsNoneOf};
 ghost use Rattle.warehouse_root.specs.Objects.{segment_id};
 ghost use Rattle.warehouse_objects.specs.Warehouse.{Warehouse};
+ghost use Rattle.warehouse_objects.specs.Reads.{ReadsOnly};
 ghost use Rattle.warehouse_objects.specs.Represents.{Represents, root_of};
 ghost use Rattle.batch_rows.specs.Stored.{HoldsBatch};
 
@@ -19,11 +19,11 @@ use std::alloc::Global;
 use warehouse_objects::{decoded_batch, read_object};
 use warehouse_root::{Root, segment_id};
 
-/// The fact rows of the batch after so many others in a store, in their order, or nothing where its root has no such batch. They
-/// are in memory all together, a whole batch of at most 65,536.
+/// The fact rows of the batch after so many others in a store, in their order, or nothing where its root has no such
+/// batch. They are in memory all together, a whole batch of at most 65,536.
 ///
-/// `BadLayout` where the batch has another number than its place, or another count of rows than the root says. It can also
-/// fail when out of memory, or because the device does.
+/// `BadLayout` where the batch has another number than its place, or another count of rows than the root says. It can
+/// also fail when out of memory, or because the device does.
 pub fn read_rows<D: Sectors>(
     alloc: Global,
     store: &mut Store<D>,
@@ -33,15 +33,15 @@ pub fn read_rows<D: Sectors>(
     requires fine { has_failed store.old ≡ false }
 
     // The rows are those of that batch of the warehouse, and there are none exactly where it has no such batch.
-    ensures rows { IfOk result (λ found. D.keeps_word (device_of store.new) → (w : Warehouse) → Represents (content_of D.Sectors store.old) w
+    ensures rows { IfOk result (λ found. D.keeps_word (device_of store.new) → (w : Warehouse)
+        → Represents (content_of D.Sectors store.old) w
         → root.now ≡ root_of w → found ≡ slice_get w.batches before) }
-    ensures refused { IsErrOf result BadLayout → D.keeps_word (device_of store.new) → (w : Warehouse) → Represents (content_of D.Sectors store.old) w
+    ensures refused { IsErrOf result BadLayout → D.keeps_word (device_of store.new) → (w : Warehouse)
+        → Represents (content_of D.Sectors store.old) w
         → root.now ≡ root_of w → ⊥ }
 
     // The content stays, at each moment.
-    ensures leaves { Leaves (disk_of D.Sectors store.old) (disk_of D.Sectors store.new) (λ c. c ≡ content_of D.Sectors store.old) }
-    ensures stays { (IsErrOf result Device → ⊥) → IsStill D.Sectors store.old store.new }
-    ensures device { IsErrOf result Device → Breaks D.Sectors store.old store.new }
+    ensures reads { ReadsOnly D.Sectors store.old store.new result }
     ensures causes { IfErr result (λ fault. (fault ≡ Memory) ⊎ ((fault ≡ Device) ⊎ (fault ≡ BadLayout))) }
 {
     let _usable = store.is_broken();
@@ -73,12 +73,11 @@ fn read_batch<D: Sectors>(
 ) -> Result<Items<LineOrder>, Fault>
     requires fine { has_failed store.old ≡ false }
     requires few { number ≤ most_batches }
-    ensures rows { IfOk result (λ rows. D.keeps_word (device_of store.new) → HoldsBatch (content_of D.Sectors store.old) (segment_id number) number rows) }
+    ensures rows { IfOk result (λ rows. D.keeps_word (device_of store.new)
+        → HoldsBatch (content_of D.Sectors store.old) (segment_id number) number rows) }
     ensures refused { IsErrOf result BadLayout → D.keeps_word (device_of store.new)
         → HoldsNoneOf (bytes_of (content_of D.Sectors store.old) (segment_id number)) number count }
-    ensures leaves { Leaves (disk_of D.Sectors store.old) (disk_of D.Sectors store.new) (λ c. c ≡ content_of D.Sectors store.old) }
-    ensures stays { (IsErrOf result Device → ⊥) → IsStill D.Sectors store.old store.new }
-    ensures device { IsErrOf result Device → Breaks D.Sectors store.old store.new }
+    ensures reads { ReadsOnly D.Sectors store.old store.new result }
     ensures causes { IfErr result (λ fault. (fault ≡ Memory) ⊎ ((fault ≡ Device) ⊎ (fault ≡ BadLayout))) }
 {
     let bytes = read_object(alloc, store, segment_id(number))?;

@@ -11,20 +11,30 @@ use Rattle.report_formats.specs.declared.layout.Layout.{Layout}
 use Rattle.report_words.specs.Words.{IsReportOf}
 use Rattle.warehouse_objects.specs.Facts.{Facts}
 
-module _ (image : List ℕ) (words : Words) (format : List ℕ) (as_of : ℤ) (prefix : Option ℕ) (layout : Layout) (asked : Asked)
+module _ (image : List ℕ) (words : Words) (format : List ℕ) (as_of : ℤ) (prefix : Option ℕ) (layout : Layout)
+    (asked : Asked)
     (over : prefix ≡ prefix_of as_of) (named : (format_named format ≡ Some layout.format) × (layout.decimals ≡ None))
     (spelled : IsReportOf words layout asked) where
   asks : AsksFor words format asked
   asks = record { layout = layout; named = named.0; fractions = named.1; spelled = spelled }
 
-  pub reports : (text : List ℕ) → ((facts : Facts) → Holds image facts → Answers facts prefix asked text) → Reports image words format as_of text
+  pub reports : (text : List ℕ) → ((facts : Facts) → Holds image facts → Answers facts prefix asked text)
+      → Reports image words format as_of text
   reports text answers =
-      record { asked = asked; asks = asks; answers = λ facts holds. subst (λ (p : Option ℕ). Answers facts p asked text) over (answers facts holds) }
+      record {
+        asked = asked;
+        asks = asks;
+        answers = λ facts holds. subst (λ (p : Option ℕ). Answers facts p asked text)
+            over (answers facts holds);
+      }
 
-  pub refuses : (fault : Fault) → ((facts : Facts) → Holds image facts → IsNoDevice image fault ⊎ AnswerRefuses facts prefix asked fault) → Refuses image words format as_of fault
+  pub refuses : (fault : Fault)
+      → ((facts : Facts) → Holds image facts → IsNoDevice image fault ⊎ AnswerRefuses facts prefix asked fault)
+      → Refuses image words format as_of fault
   refuses fault why =
       inr (inr (record {
         asked = asked;
         asks = asks;
-        refused = λ facts holds. subst (λ (p : Option ℕ). IsNoDevice image fault ⊎ AnswerRefuses facts p asked fault) over (why facts holds);
+        refused = λ facts holds. subst (λ (p : Option ℕ). IsNoDevice image fault ⊎ AnswerRefuses facts p asked fault)
+            over (why facts holds);
       }))

@@ -11,4 +11,5 @@ IsCut first rows = (1 ≤ first) × ((1 ≤ rows) × (rows ≤ most_batch_rows))
 
 -- they are no such numbers; or the load is refused
 abbrev pub RefusesChange : List ℕ → (first rows : ℕ) → List ℕ → Fault → Type 0
-RefusesChange image first rows lineorder fault = ((fault ≡ BadQuery) × (IsCut first rows → ⊥)) ⊎ RefusesLoad image first rows lineorder fault
+RefusesChange image first rows lineorder fault = ((fault ≡ BadQuery) × (IsCut first rows → ⊥))
+    ⊎ RefusesLoad image first rows lineorder fault

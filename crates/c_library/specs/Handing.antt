@@ -21,9 +21,11 @@ pub record HandsFault (fault : Fault) (before after : List ℕ) (answer : ℤ) :
 -- a text with P is handed over, or a fault with Q
 abbrev pub Hands : (List ℕ → Type 0) → (Fault → Type 0) → (before after : List ℕ) → ℤ → Type 0
 Hands P Q before after answer =
-    ((text : List ℕ) × P text × HandsOver text before after answer) ⊎ ((fault : Fault) × Q fault × HandsFault fault before after answer)
+    ((text : List ℕ) × P text × HandsOver text before after answer)
+    ⊎ ((fault : Fault) × Q fault × HandsFault fault before after answer)
 
--- The room for a message after a text was put in it: its beginning where it is too long, and a zero byte. Then what was there
+-- The room for a message after a text was put in it: its beginning where it is too long, and a zero byte. Then what was
+-- there
 abbrev pub said_in : (before text : List ℕ) → List ℕ
 said_in [] text = []
 said_in (b ∷ before) text = take (length before) text ++ 0 ∷ drop (length (take (length before) text)) before

@@ -33,7 +33,8 @@ pub record Reports (image : List ℕ) (words : Words) (format : List ℕ) (as_of
 pub record IsRefused (image : List ℕ) (words : Words) (format : List ℕ) (as_of : ℤ) (fault : Fault) : Type 0 where
   pub asked : Asked
   pub asks : AsksFor words format asked
-  pub refused : (facts : Facts) → Holds image facts → IsNoDevice image fault ⊎ AnswerRefuses facts (prefix_of as_of) asked fault
+  pub refused : (facts : Facts) → Holds image facts → IsNoDevice image fault
+      ⊎ AnswerRefuses facts (prefix_of as_of) asked fault
 
 -- There is no memory, or the words ask for no report; no warehouse has so many batches; or the report is refused.
 abbrev pub Refuses : List ℕ → Words → List ℕ → ℤ → Fault → Type 0

@@ -14,9 +14,9 @@ use warehouse_jobs::{BatchNumber, BatchRows};
 /// The journal that makes a warehouse without batches of the bytes of a file, such as those of a new file of zeros. The
 /// dimensions are the rows of four tables, in the lines of the benchmark.
 ///
-/// The answer is the length of the journal in bytes, or the number of a fault with a minus. Where `out` is shorter than the
-/// journal, or at a fault, nothing is put in it. At a fault `message` gets the line that the program prints of it, cut to its
-/// length, and a zero byte.
+/// The answer is the length of the journal in bytes, or the number of a fault with a minus. Where `out` is shorter than
+/// the journal, or at a fault, nothing is put in it. At a fault `message` gets the line that the program prints of it,
+/// cut to its length, and a zero byte.
 #[unsafe(no_mangle)]
 pub extern "C" fn ssbcube_create(
     alloc: Global,
@@ -28,7 +28,9 @@ pub extern "C" fn ssbcube_create(
     out: &mut [u8],
     message: &mut [u8],
 ) -> i64
-    ensures { HandsSaying (IsCreateJournal image.now customer.now supplier.now part.now date.now) (RefusesCreate image.now customer.now supplier.now part.now date.now) out.old out.new message.old message.new result }
+    ensures { HandsSaying (IsCreateJournal image.now customer.now supplier.now part.now date.now)
+        (RefusesCreate image.now customer.now supplier.now part.now date.now) out.old out.new message.old message.new
+        result }
 {
     match create(alloc, image, customer, supplier, part, date) {
         Ok(journal) => put(journal.as_slice(), out),
@@ -48,7 +50,8 @@ pub extern "C" fn ssbcube_load(
     out: &mut [u8],
     message: &mut [u8],
 ) -> i64
-    ensures { HandsSaying (IsLoadJournal image.now first rows lineorder.now) (RefusesChange image.now first rows lineorder.now) out.old out.new message.old message.new result }
+    ensures { HandsSaying (IsLoadJournal image.now first rows lineorder.now)
+        (RefusesChange image.now first rows lineorder.now) out.old out.new message.old message.new result }
 {
     match load_rows(alloc, image, first, rows, lineorder) {
         Ok(journal) => put(journal.as_slice(), out),

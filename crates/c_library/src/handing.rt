@@ -22,8 +22,8 @@ pub(crate) fn number_of(fault: Fault) -> i64
     -i64::from(fault.code())
 }
 
-/// Puts the line that the program prints of a fault in the room for a message, and answers the number of the fault with a
-/// minus. Where there is no memory for the line it is an empty one.
+/// Puts the line that the program prints of a fault in the room for a message, and answers the number of the fault with
+/// a minus. Where there is no memory for the line it is an empty one.
 pub(crate) fn refuse(alloc: Global, fault: Fault, message: &mut [u8]) -> i64
     ensures number { result ≡ fault_number fault }
     ensures said { IsSaid message.old message.new }

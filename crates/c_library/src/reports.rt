@@ -11,11 +11,11 @@ use image_jobs::answer;
 use report_words::{asked_benchmark, asked_cube, layout_of};
 use std::alloc::Global;
 
-/// The report of a query of the benchmark, by its number such as 1.1, over so many batches, or over all where `as_of` is
-/// below 0. The format is bars, csv, tsv or json.
+/// The report of a query of the benchmark, by its number such as 1.1, over so many batches, or over all where `as_of`
+/// is below 0. The format is bars, csv, tsv or json.
 ///
-/// The answer is the length of the text in bytes, or the number of a fault with a minus. Where `out` is shorter than the
-/// text, or at a fault, nothing is put in it.
+/// The answer is the length of the text in bytes, or the number of a fault with a minus. Where `out` is shorter than
+/// the text, or at a fault, nothing is put in it.
 #[unsafe(no_mangle)]
 pub extern "C" fn ssbcube_report(
     alloc: Global,
@@ -25,7 +25,8 @@ pub extern "C" fn ssbcube_report(
     format: &[u8],
     out: &mut [u8],
 ) -> i64
-    ensures { Hands (Reports image.now (benchmark_words number.now) format.now as_of) (Refuses image.now (benchmark_words number.now) format.now as_of) out.old out.new result }
+    ensures { Hands (Reports image.now (benchmark_words number.now) format.now as_of)
+        (Refuses image.now (benchmark_words number.now) format.now as_of) out.old out.new result }
 {
     match benchmark_report(alloc, image, number, as_of, format) {
         Ok(text) => put(text.as_slice(), out),
@@ -47,7 +48,8 @@ pub extern "C" fn ssbcube_cube(
     format: &[u8],
     out: &mut [u8],
 ) -> i64
-    ensures { Hands (Reports image.now (cube_words set.now by.now agg.now conditions.now) format.now as_of) (Refuses image.now (cube_words set.now by.now agg.now conditions.now) format.now as_of) out.old out.new result }
+    ensures { Hands (Reports image.now (cube_words set.now by.now agg.now conditions.now) format.now as_of)
+        (Refuses image.now (cube_words set.now by.now agg.now conditions.now) format.now as_of) out.old out.new result }
 {
     match cube_report(alloc, image, (set, by, agg, conditions), as_of, format) {
         Ok(text) => put(text.as_slice(), out),
@@ -80,8 +82,12 @@ fn cube_report(
     as_of: i64,
     format: &[u8],
 ) -> Result<Vec<u8>, Fault>
-    ensures ok { IfOk result (λ text. Reports image.now (cube_words words.entry.0.now words.entry.1.now words.entry.2.now words.entry.3.now) format.now as_of text.items) }
-    ensures refused { IfErr result (Refuses image.now (cube_words words.entry.0.now words.entry.1.now words.entry.2.now words.entry.3.now) format.now as_of) }
+    ensures ok { IfOk result
+        (λ text. Reports image.now (cube_words words.entry.0.now words.entry.1.now words.entry.2.now words.entry.3.now)
+        format.now as_of text.items) }
+    ensures refused { IfErr result
+        (Refuses image.now (cube_words words.entry.0.now words.entry.1.now words.entry.2.now words.entry.3.now)
+        format.now as_of) }
 {
     let prefix = prefix(as_of)?;
     let layout = layout_of(format)?;

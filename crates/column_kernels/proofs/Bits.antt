@@ -1,5 +1,6 @@
 -- The bits of a word as truth values.
-use Rattle.std.proofs.Common.{◌≡◌, ℕ, zero, suc, ◌+◌, ◌*◌, ◌/◌, ◌%◌, ◌^◌, ◌<◌, ◌≤◌, ◌==◌, Bool, true, false, cond, List, [], ◌∷◌, ◌++◌, length, get_or, refl, sym, subst, ap, ◌∙◌, arith, add-one}
+use Rattle.std.proofs.Common.{◌≡◌, ℕ, zero, suc, ◌+◌, ◌*◌, ◌/◌, ◌%◌, ◌^◌, ◌<◌, ◌≤◌, ◌==◌, Bool, true, false, cond, List}
+use Rattle.std.proofs.Common.{[], ◌∷◌, ◌++◌, length, get_or, refl, sym, subst, ap, ◌∙◌, arith, add-one}
 use Rattle.std.proofs.lemmas.List.{map-id}
 use Rattle.std.proofs.lemmas.Nat.Bits.{bit_at-suc, bit_at_lowest}
 use Rattle.std.proofs.lemmas.Simd.{ones-mask_l, mask_l-mod}
@@ -49,7 +50,8 @@ mask_l-bits_of (suc count) word lt =
 -- how many bits are set
 pub ones_of : (count word : ℕ) → word < 2 ^ count → count_ones word ≡ count_by (λ (b : Bool). b) (bits_of count word)
 ones_of count word lt =
-    ap count_ones (sym (mask_l-bits_of count word lt)) ∙ ap (λ (l : List Bool). count_ones (mask_l l)) (sym (map-id (bits_of count word)))
+    ap count_ones (sym (mask_l-bits_of count word lt))
+    ∙ ap (λ (l : List Bool). count_ones (mask_l l)) (sym (map-id (bits_of count word)))
     ∙ ones-mask_l (λ (b : Bool). b) (bits_of count word)
 
 -- a bit by its place
@@ -57,20 +59,24 @@ pub bits_of-at : (count word i : ℕ) (d : Bool) → i < count → get_or (bits_
 unfolding bits_of
 bits_of-at zero word i d lt = absurd (omega (arith, lt))
 bits_of-at (suc count) word zero d lt = ap (λ (n : ℕ). n == 1) (sym (bit_at_lowest word))
-bits_of-at (suc count) word (suc i) d lt = bits_of-at count (word / 2) i d (omega (arith, lt)) ∙ ap (λ (n : ℕ). n == 1) (sym (bit_at-suc word i))
+bits_of-at (suc count) word (suc i) d lt = bits_of-at count (word / 2) i d (omega (arith, lt))
+    ∙ ap (λ (n : ℕ). n == 1) (sym (bit_at-suc word i))
 
 -- one bit more
 pub bits_of-suc : (count word : ℕ) → bits_of (suc count) word ≡ bits_of count word ++ (bit_at word count == 1) ∷ []
 unfolding bits_of
 bits_of-suc zero word = ap (λ (n : ℕ). (n == 1) ∷ []) (sym (bit_at_lowest word))
 bits_of-suc (suc count) word =
-    ap (λ (l : List Bool). (word % 2 == 1) ∷ l) (bits_of-suc count (word / 2) ∙ ap (λ (n : ℕ). bits_of count (word / 2) ++ (n == 1) ∷ []) (sym (bit_at-suc word count)))
+    ap (λ (l : List Bool). (word % 2 == 1) ∷ l)
+    (bits_of-suc count (word / 2)
+    ∙ ap (λ (n : ℕ). bits_of count (word / 2) ++ (n == 1) ∷ []) (sym (bit_at-suc word count)))
 
 pub bits_of-next : (count word : ℕ) → bits_of (count + 1) word ≡ bits_of count word ++ (bit_at word count == 1) ∷ []
 bits_of-next count word = ap (λ (n : ℕ). bits_of n word) (add-one count) ∙ bits_of-suc count word
 
 -- a truth value more
-pub mask_l-next : (marks : List Bool) (b : Bool) → mask_l (marks ++ b ∷ []) ≡ mask_l marks + cond b 1 0 * 2 ^ length marks
+pub mask_l-next : (marks : List Bool) (b : Bool)
+    → mask_l (marks ++ b ∷ []) ≡ mask_l marks + cond b 1 0 * 2 ^ length marks
 mask_l-next [] true = refl
 mask_l-next [] false = refl
 mask_l-next (m ∷ marks) true =
@@ -83,4 +89,5 @@ pub mask_l-small : (marks : List Bool) → length marks ≤ 32 → mask_l marks 
 mask_l-small marks few = omega (arith, mask_l-mod marks 32 few)
 
 pub ones_few : (word : ℕ) → word < 2 ^ 32 → count_ones word ≤ 32
-ones_few word lt = omega (arith, ones_of 32 word lt, count_by-le-length (λ (b : Bool). b) (bits_of 32 word), length-bits_of 32 word)
+ones_few word lt =
+    omega (arith, ones_of 32 word lt, count_by-le-length (λ (b : Bool). b) (bits_of 32 word), length-bits_of 32 word)

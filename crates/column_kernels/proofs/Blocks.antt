@@ -1,5 +1,7 @@
 -- A mask in blocks of 32 rows and what is after them.
-use Rattle.std.proofs.Common.{◌≡◌, ℕ, zero, suc, ◌+◌, ◌*◌, ◌^◌, ◌<◌, ◌≤◌, ◌==◌, Bool, true, false, cond, Some, List, [], ◌∷◌, ◌++◌, length, length-append, take, drop, get_or, slice_get, refl, sym, ap, ◌∙◌, arith, length-take-le, append-nil, append_assoc}
+use Rattle.std.proofs.Common.{◌≡◌, ℕ, zero, suc, ◌+◌, ◌*◌, ◌^◌, ◌<◌, ◌≤◌, ◌==◌, Bool, true, false, cond, Some, List, []}
+use Rattle.std.proofs.Common.{◌∷◌, ◌++◌, length, length-append, take, drop, get_or, slice_get, refl, sym, ap, ◌∙◌}
+use Rattle.std.proofs.Common.{arith, length-take-le, append-nil, append_assoc}
 use Rattle.std.proofs.Math.Seq.{take-add}
 use Rattle.std.proofs.lemmas.List.{take_more, take-append-drop, get_or_append_left, length-drop, length-take}
 use Rattle.std.proofs.lemmas.Grind.{flat_map-append}
@@ -12,34 +14,40 @@ use Rattle.std.specs.List.{flat_map, count_by, sum}
 use Rattle.std.specs.Simd.{first_chunks}
 use Rattle.std.specs.Simd.Lanes.{mask_l, zip2, chunk}
 use Rattle.column_kernels.specs.Masks.{bits_of, selected}
-use Rattle.column_kernels.proofs.Bits.{length-bits_of, bits_of-mask_l_at, bits_of-next, bits_of-at, ones_of, mask_l-next, mask_l-small}
+use Rattle.column_kernels.proofs.Bits.{length-bits_of, bits_of-mask_l_at, bits_of-next, bits_of-at, ones_of}
+use Rattle.column_kernels.proofs.Bits.{mask_l-next, mask_l-small}
 use Rattle.column_kernels.proofs.Chunks.{zip2-append, zip2_parts, next_pair}
 use Rattle.column_kernels.proofs.Selecting.{selected-append, sum-append, one_selected}
 
 pub length_words : (words : List ℕ) → length (flat_map (bits_of 32) words) ≡ 32 * length words
 length_words [] = refl
 length_words (word ∷ words) =
-    length-append (bits_of 32 word) (flat_map (bits_of 32) words) ∙ omega (arith, length-bits_of 32 word, length_words words)
+    length-append (bits_of 32 word) (flat_map (bits_of 32) words)
+    ∙ omega (arith, length-bits_of 32 word, length_words words)
 
 pub next_word : (words : List ℕ) (i : ℕ) → i < length words
     → flat_map (bits_of 32) (take (i + 1) words) ≡ flat_map (bits_of 32) (take i words) ++ bits_of 32 (get_or words i 0)
 next_word words i lt =
-    ap (flat_map (bits_of 32)) (take_more words i 0 lt) ∙ flat_map-append (bits_of 32) (take i words) (get_or words i 0 ∷ [])
+    ap (flat_map (bits_of 32)) (take_more words i 0 lt)
+    ∙ flat_map-append (bits_of 32) (take i words) (get_or words i 0 ∷ [])
     ∙ ap (λ (l : List Bool). flat_map (bits_of 32) (take i words) ++ l) (append-nil (bits_of 32 (get_or words i 0)))
 
 -- a block more
 pub more_blocks : (words : List ℕ) (i : ℕ) (numbers : List ℕ) → i < length words → 32 * length words ≤ length numbers
     → sum (selected (flat_map (bits_of 32) (take (i + 1) words)) (take (32 * (i + 1)) numbers))
-    ≡ sum (selected (flat_map (bits_of 32) (take i words)) (take (32 * i) numbers)) + sum (selected (bits_of 32 (get_or words i 0)) (chunk (32 * i) 32 numbers))
+    ≡ sum (selected (flat_map (bits_of 32) (take i words)) (take (32 * i) numbers))
+    + sum (selected (bits_of 32 (get_or words i 0)) (chunk (32 * i) 32 numbers))
 more_blocks words i numbers lt room =
     let before : List Bool = flat_map (bits_of 32) (take i words) in
     let next : List Bool = bits_of 32 (get_or words i 0) in
     let step : 32 * (i + 1) ≡ 32 * i + 32 = omega arith in
     let count : length (take i words) ≡ i = length-take-le i words (omega (arith, lt)) in
     let rows : length (take (32 * i) numbers) ≡ 32 * i = length-take-le (32 * i) numbers (omega (arith, lt, room)) in
-    let long : length before ≡ length (take (32 * i) numbers) = omega (arith, length_words (take i words), count, rows) in
+    let long : length before ≡ length (take (32 * i) numbers) =
+    omega (arith, length_words (take i words), count, rows) in
     ap (λ (l : List Bool). sum (selected l (take (32 * (i + 1)) numbers))) (next_word words i lt)
-    ∙ ap (λ (l : List ℕ). sum (selected (before ++ next) l)) (ap (λ (m : ℕ). take m numbers) step ∙ take-add (32 * i) 32 numbers)
+    ∙ ap (λ (l : List ℕ). sum (selected (before ++ next) l))
+    (ap (λ (m : ℕ). take m numbers) step ∙ take-add (32 * i) 32 numbers)
     ∙ ap sum (selected-append before next (take (32 * i) numbers) (chunk (32 * i) 32 numbers) long)
     ∙ sum-append (selected before (take (32 * i) numbers)) (selected next (chunk (32 * i) 32 numbers))
 
@@ -61,7 +69,8 @@ more_rest word i numbers lt =
 -- the blocks and what is after them
 pub whole_sum : (words : List ℕ) (rest n : ℕ) (numbers : List ℕ) → length numbers ≡ 32 * length words + n
     → sum (selected (flat_map (bits_of 32) words ++ bits_of n rest) numbers)
-    ≡ sum (selected (flat_map (bits_of 32) words) (take (32 * length words) numbers)) + sum (selected (bits_of n rest) (drop (32 * length words) numbers))
+    ≡ sum (selected (flat_map (bits_of 32) words) (take (32 * length words) numbers))
+    + sum (selected (bits_of n rest) (drop (32 * length words) numbers))
 whole_sum words rest n numbers room =
     let m : ℕ = 32 * length words in
     let blocks : List Bool = flat_map (bits_of 32) words in
@@ -83,59 +92,71 @@ set_count-append [] ns = omega arith
 set_count-append (true ∷ ms) ns = omega (arith, set_count-append ms ns)
 set_count-append (false ∷ ms) ns = set_count-append ms ns
 
-pub count-append : (ms ns : List Bool) → count_by (λ (b : Bool). b) (ms ++ ns) ≡ count_by (λ (b : Bool). b) ms + count_by (λ (b : Bool). b) ns
+pub count-append : (ms ns : List Bool) → count_by (λ (b : Bool). b) (ms ++ ns) ≡ count_by (λ (b : Bool). b) ms
+    + count_by (λ (b : Bool). b) ns
 count-append ms ns = omega (arith, set_count_is (ms ++ ns), set_count_is ms, set_count_is ns, set_count-append ms ns)
 
 pub count_next : (words : List ℕ) (i word : ℕ) → i < length words → get_or words i 0 ≡ word → word < 2 ^ 32
-    → count_by (λ (b : Bool). b) (flat_map (bits_of 32) (take (i + 1) words)) ≡ count_by (λ (b : Bool). b) (flat_map (bits_of 32) (take i words)) + count_ones word
+    → count_by (λ (b : Bool). b) (flat_map (bits_of 32) (take (i + 1) words))
+    ≡ count_by (λ (b : Bool). b) (flat_map (bits_of 32) (take i words)) + count_ones word
 count_next words i word lt is small =
-    ap (count_by (λ (b : Bool). b)) (next_word words i lt ∙ ap (λ (w : ℕ). flat_map (bits_of 32) (take i words) ++ bits_of 32 w) is)
+    ap (count_by (λ (b : Bool). b))
+    (next_word words i lt ∙ ap (λ (w : ℕ). flat_map (bits_of 32) (take i words) ++ bits_of 32 w) is)
     ∙ count-append (flat_map (bits_of 32) (take i words)) (bits_of 32 word)
-    ∙ ap (λ (n : ℕ). count_by (λ (b : Bool). b) (flat_map (bits_of 32) (take i words)) + n) (sym (ones_of 32 word small))
+    ∙ ap (λ (n : ℕ). count_by (λ (b : Bool). b) (flat_map (bits_of 32) (take i words)) + n)
+    (sym (ones_of 32 word small))
 
 -- the words of the whole blocks of two columns
 pub words_of_blocks : (f : ℕ → ℕ → Bool) (k : ℕ) (xs ys : List ℕ) → k * 32 ≤ length xs → k * 32 ≤ length ys
-    → flat_map (bits_of 32) (zip2 (λ x y. mask_l (zip2 f x y)) (first_chunks 32 k xs) (first_chunks 32 k ys)) ≡ zip2 f (take (k * 32) xs) (take (k * 32) ys)
+    → flat_map (bits_of 32) (zip2 (λ x y. mask_l (zip2 f x y)) (first_chunks 32 k xs) (first_chunks 32 k ys))
+    ≡ zip2 f (take (k * 32) xs) (take (k * 32) ys)
 words_of_blocks f zero xs ys room other = refl
 words_of_blocks f (suc k) xs ys room other =
     let x_rows : length (take 32 xs) ≡ 32 = length-take-le 32 xs (omega (arith, room)) in
     let y_rows : length (take 32 ys) ≡ 32 = length-take-le 32 ys (omega (arith, other)) in
-    let one : length (zip2 f (take 32 xs) (take 32 ys)) ≡ 32 = length-zip2 f (take 32 xs) (take 32 ys) (x_rows ∙ sym y_rows) ∙ x_rows in
+    let one : length (zip2 f (take 32 xs) (take 32 ys)) ≡ 32 =
+    length-zip2 f (take 32 xs) (take 32 ys) (x_rows ∙ sym y_rows) ∙ x_rows in
     let step : 32 + k * 32 ≡ suc k * 32 = omega arith in
-    let whole : zip2 f (take (suc k * 32) xs) (take (suc k * 32) ys) ≡ zip2 f (take 32 xs) (take 32 ys) ++ zip2 f (take (k * 32) (drop 32 xs)) (take (k * 32) (drop 32 ys))
+    let whole : zip2 f (take (suc k * 32) xs) (take (suc k * 32) ys) ≡ zip2 f (take 32 xs) (take 32 ys)
+    ++ zip2 f (take (k * 32) (drop 32 xs)) (take (k * 32) (drop 32 ys))
     = ap (λ (m : ℕ). zip2 f (take m xs) (take m ys)) (sym step)
     ∙ ap (λ (l : List ℕ). zip2 f l (take (32 + k * 32) ys)) (take-add 32 (k * 32) xs)
     ∙ ap (zip2 f (take 32 xs ++ take (k * 32) (drop 32 xs))) (take-add 32 (k * 32) ys)
-    ∙ zip2-append f (take 32 xs) (take (k * 32) (drop 32 xs)) (take 32 ys) (take (k * 32) (drop 32 ys)) (x_rows ∙ sym y_rows) in
+    ∙ zip2-append f (take 32 xs) (take (k * 32) (drop 32 xs)) (take 32 ys) (take (k * 32) (drop 32 ys))
+    (x_rows ∙ sym y_rows) in
     let left : k * 32 ≤ length (drop 32 xs) = omega (arith, room, length-drop 32 xs) in
     let right : k * 32 ≤ length (drop 32 ys) = omega (arith, other, length-drop 32 ys) in
     let others : List Bool = zip2 f (take (k * 32) (drop 32 xs)) (take (k * 32) (drop 32 ys)) in
-    ap (λ (l : List Bool). bits_of 32 (mask_l (zip2 f (take 32 xs) (take 32 ys))) ++ l) (words_of_blocks f k (drop 32 xs) (drop 32 ys) left right)
+    ap (λ (l : List Bool). bits_of 32 (mask_l (zip2 f (take 32 xs) (take 32 ys))) ++ l)
+    (words_of_blocks f k (drop 32 xs) (drop 32 ys) left right)
     ∙ ap (λ (l : List Bool). l ++ others) (bits_of-mask_l_at (zip2 f (take 32 xs) (take 32 ys)) 32 one)
     ∙ sym whole
 
 -- the mask of two columns, from the words of their blocks and of what is after them
-pub mask_of : (f : ℕ → ℕ → Bool) (k : ℕ) (xs ys : List ℕ) (words : List ℕ) (rest n : ℕ) → k * 32 ≤ length xs → length ys ≡ length xs
+pub mask_of : (f : ℕ → ℕ → Bool) (k : ℕ) (xs ys : List ℕ) (words : List ℕ) (rest n : ℕ) → k * 32 ≤ length xs
+    → length ys ≡ length xs
     → words ≡ zip2 (λ x y. mask_l (zip2 f x y)) (first_chunks 32 k xs) (first_chunks 32 k ys)
     → rest ≡ mask_l (zip2 f (drop (k * 32) xs) (drop (k * 32) ys)) → n ≡ length (drop (k * 32) xs)
     → flat_map (bits_of 32) words ++ bits_of n rest ≡ zip2 f xs ys
 mask_of f k xs ys words rest n room same words_are rest_is many =
     let m : ℕ = k * 32 in
-    let behind : List Bool = zip2 f (drop m xs) (drop m ys) in
+    let after : List Bool = zip2 f (drop m xs) (drop m ys) in
     let equal : length (drop m xs) ≡ length (drop m ys) = omega (arith, length-drop m xs, length-drop m ys, same) in
-    let long : length behind ≡ n = length-zip2 f (drop m xs) (drop m ys) equal ∙ sym many in
+    let long : length after ≡ n = length-zip2 f (drop m xs) (drop m ys) equal ∙ sym many in
     ap (λ (l : List ℕ). flat_map (bits_of 32) l ++ bits_of n rest) words_are
     ∙ ap (λ (l : List Bool). l ++ bits_of n rest) (words_of_blocks f k xs ys room (omega (arith, room, same)))
-    ∙ ap (λ (l : List Bool). zip2 f (take m xs) (take m ys) ++ l) (ap (bits_of n) rest_is ∙ bits_of-mask_l_at behind n long)
+    ∙ ap (λ (l : List Bool). zip2 f (take m xs) (take m ys) ++ l)
+    (ap (bits_of n) rest_is ∙ bits_of-mask_l_at after n long)
     ∙ sym (zip2_parts f m xs ys (omega (arith, room)) (omega (arith, room, same)))
 
-slice_get_behind : (front behind : List Bool) (i : ℕ) → slice_get (front ++ behind) (length front + i) ≡ slice_get behind i
-slice_get_behind [] behind i =
+slice_get_after : (front after : List Bool) (i : ℕ)
+    → slice_get (front ++ after) (length front + i) ≡ slice_get after i
+slice_get_after [] after i =
     let at : 0 + i ≡ i = omega arith in
-    ap (slice_get behind) at
-slice_get_behind (b ∷ front) behind i =
+    ap (slice_get after) at
+slice_get_after (b ∷ front) after i =
     let at : suc (length front) + i ≡ suc (length front + i) = omega arith in
-    ap (slice_get (b ∷ (front ++ behind))) at ∙ slice_get_behind front behind i
+    ap (slice_get (b ∷ (front ++ after))) at ∙ slice_get_after front after i
 
 -- a truth value by its row
 pub get_block : (words : List ℕ) (block i d : ℕ) (tail : List Bool) → block < length words → i < 32
@@ -143,19 +164,19 @@ pub get_block : (words : List ℕ) (block i d : ℕ) (tail : List Bool) → bloc
 get_block [] block i d tail lt in_block = absurd (omega (arith, lt))
 get_block (word ∷ words) zero i d tail lt in_block =
     let here : List Bool = bits_of 32 word in
-    let behind : List Bool = flat_map (bits_of 32) words ++ tail in
+    let after : List Bool = flat_map (bits_of 32) words ++ tail in
     let at : 32 * 0 + i ≡ i = omega arith in
     let inside : i < length here = omega (arith, length-bits_of 32 word, in_block) in
-    let room : i < length (here ++ behind) = omega (arith, length-append here behind, inside) in
+    let room : i < length (here ++ after) = omega (arith, length-append here after, inside) in
     ap (λ (l : List Bool). slice_get l (32 * 0 + i)) (append_assoc here (flat_map (bits_of 32) words) tail)
-    ∙ ap (slice_get (here ++ behind)) at ∙ slice_get-get_or (here ++ behind) i false room
-    ∙ ap (λ (b : Bool). Some b) (get_or_append_left here behind false i inside ∙ bits_of-at 32 word i false in_block)
+    ∙ ap (slice_get (here ++ after)) at ∙ slice_get-get_or (here ++ after) i false room
+    ∙ ap (λ (b : Bool). Some b) (get_or_append_left here after false i inside ∙ bits_of-at 32 word i false in_block)
 get_block (word ∷ words) (suc block) i d tail lt in_block =
     let here : List Bool = bits_of 32 word in
     let at : 32 * suc block + i ≡ length here + (32 * block + i) = omega (arith, length-bits_of 32 word) in
     ap (λ (l : List Bool). slice_get l (32 * suc block + i)) (append_assoc here (flat_map (bits_of 32) words) tail)
     ∙ ap (slice_get (here ++ (flat_map (bits_of 32) words ++ tail))) at
-    ∙ slice_get_behind here (flat_map (bits_of 32) words ++ tail) (32 * block + i)
+    ∙ slice_get_after here (flat_map (bits_of 32) words ++ tail) (32 * block + i)
     ∙ get_block words block i d tail (omega (arith, lt)) in_block
 
 -- a truth value of the rows after the blocks
@@ -164,13 +185,15 @@ pub get_rest : (words : List ℕ) (rest n i : ℕ) → i < n
 get_rest words rest n i lt =
     let blocks : List Bool = flat_map (bits_of 32) words in
     let at : 32 * length words + i ≡ length blocks + i = omega (arith, length_words words) in
-    ap (slice_get (blocks ++ bits_of n rest)) at ∙ slice_get_behind blocks (bits_of n rest) i
+    ap (slice_get (blocks ++ bits_of n rest)) at ∙ slice_get_after blocks (bits_of n rest) i
     ∙ slice_get-get_or (bits_of n rest) i false (omega (arith, length-bits_of n rest, lt))
     ∙ ap (λ (b : Bool). Some b) (bits_of-at n rest i false lt)
 
-pub view_long : (words : List ℕ) (rest n : ℕ) → length (flat_map (bits_of 32) words ++ bits_of n rest) ≡ 32 * length words + n
+pub view_long : (words : List ℕ) (rest n : ℕ) → length (flat_map (bits_of 32) words ++ bits_of n rest)
+    ≡ 32 * length words + n
 view_long words rest n =
-    length-append (flat_map (bits_of 32) words) (bits_of n rest) ∙ omega (arith, length_words words, length-bits_of n rest)
+    length-append (flat_map (bits_of 32) words) (bits_of n rest)
+    ∙ omega (arith, length_words words, length-bits_of n rest)
 
 set_or_0 : (b : Bool) (n : ℕ) → cond b 1 0 * n ≡ cond b n 0
 set_or_0 true n = omega arith
@@ -185,9 +208,11 @@ rest_next f xs ys i word bit b lt same word_is b_is bit_is =
     let whole : length (zip2 f xs ys) ≡ length xs = length-zip2 f xs ys (sym same) in
     let long : length marks ≡ i = length-take-le i (zip2 f xs ys) (omega (arith, whole, lt)) in
     let next : mask_l (take (i + 1) (zip2 f xs ys)) ≡ mask_l (marks ++ b ∷ [])
-    = ap mask_l (next_pair f xs ys i 0 0 lt (omega (arith, lt, same))) ∙ ap (λ (c : Bool). mask_l (marks ++ c ∷ [])) (sym b_is) in
+    = ap mask_l (next_pair f xs ys i 0 0 lt (omega (arith, lt, same)))
+    ∙ ap (λ (c : Bool). mask_l (marks ++ c ∷ [])) (sym b_is) in
     let more : mask_l (marks ++ b ∷ []) ≡ mask_l marks + cond b (2 ^ i) 0
-    = mask_l-next marks b ∙ ap (λ (n : ℕ). mask_l marks + n) (ap (λ (n : ℕ). cond b 1 0 * 2 ^ n) long ∙ set_or_0 b (2 ^ i)) in
+    = mask_l-next marks b
+    ∙ ap (λ (n : ℕ). mask_l marks + n) (ap (λ (n : ℕ). cond b 1 0 * 2 ^ n) long ∙ set_or_0 b (2 ^ i)) in
     omega (arith, next, more, word_is, bit_is)
 
 pub take_small : (marks : List Bool) (i : ℕ) → i ≤ 32 → mask_l (take i marks) < 2 ^ 32

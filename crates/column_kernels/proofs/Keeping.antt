@@ -1,5 +1,7 @@
 -- The least and the greatest that are kept of selected numbers.
-use Rattle.std.proofs.Common.{◌≡◌, ℕ, zero, suc, ◌+◌, ◌*◌, ◌^◌, ◌<◌, ◌≤◌, ◌==◌, ◌<ℤ◌, ℤ, pos, negsuc, Bool, true, false, cond, List, [], ◌∷◌, ◌++◌, length, length-append, take, drop, get_or, refl, sym, ap, ◌∙◌, arith, length-take-le, append-nil, append_assoc, FitsSigned, Some, None}
+use Rattle.std.proofs.Common.{◌≡◌, ℕ, zero, suc, ◌+◌, ◌*◌, ◌^◌, ◌<◌, ◌≤◌, ◌==◌, ◌<ℤ◌, ℤ, pos, negsuc, Bool, true, false}
+use Rattle.std.proofs.Common.{cond, List, [], ◌∷◌, ◌++◌, length, length-append, take, drop, get_or, refl, sym, ap, ◌∙◌}
+use Rattle.std.proofs.Common.{arith, length-take-le, append-nil, append_assoc, FitsSigned, Some, None}
 use Rattle.std.proofs.Math.Seq.{take-add}
 use Rattle.std.proofs.lemmas.Int.{ints, fold-int_min_bounds, fold-int_max_bounds}
 use Rattle.std.proofs.lemmas.List.{take_more, take-append-drop, length-drop}
@@ -22,12 +24,17 @@ max_self x = grind (arith, ints)
 
 -- a number that is not selected changes nothing
 pub with_if_is : (kept : Extremes) (b : Bool) (number : ℤ)
-    → record { least = int_min kept.least (cond b number kept.least); greatest = int_max kept.greatest (cond b number kept.greatest) } ≡ cond b (kept_with kept number) kept
+    → record {
+      least = int_min kept.least (cond b number kept.least);
+      greatest =
+          int_max kept.greatest (cond b number kept.greatest);
+    } ≡ cond b (kept_with kept number) kept
 with_if_is kept true number = refl
 with_if_is kept false number = λ i. record { least = min_self kept.least i; greatest = max_self kept.greatest i }
 
 -- a number more
-kept_next : (numbers : List ℤ) (number : ℤ) → FitsSigned w128 number → kept_with (kept_of numbers) number ≡ kept_of (numbers ++ number ∷ [])
+kept_next : (numbers : List ℤ) (number : ℤ) → FitsSigned w128 number
+    → kept_with (kept_of numbers) number ≡ kept_of (numbers ++ number ∷ [])
 kept_next [] (pos n) fits =
     let below : n < 2 ^ 127 = fits.sfits in
     let low : int_min (pos 170141183460469231731687303715884105727) (pos n) ≡ pos n = grind (arith, ints, below) in
@@ -36,14 +43,19 @@ kept_next [] (pos n) fits =
 kept_next [] (negsuc n) fits =
     let below : n < 2 ^ 127 = fits.sfits in
     let low : int_min (pos 170141183460469231731687303715884105727) (negsuc n) ≡ negsuc n = grind (arith, ints) in
-    let high : int_max (negsuc 170141183460469231731687303715884105727) (negsuc n) ≡ negsuc n = grind (arith, ints, below) in
+    let high : int_max (negsuc 170141183460469231731687303715884105727) (negsuc n) ≡ negsuc n =
+    grind (arith, ints, below) in
     λ i. record { least = low i; greatest = high i }
 kept_next (first ∷ numbers) number fits =
-    λ i. record { least = sym (fold-append int_min first numbers (number ∷ [])) i; greatest = sym (fold-append int_max first numbers (number ∷ [])) i }
+    λ i. record {
+      least = sym (fold-append int_min first numbers (number ∷ [])) i;
+      greatest = sym (fold-append int_max first numbers (number ∷ [])) i;
+    }
 
 -- a row more
 kept_next_if : (numbers : List ℤ) (b : Bool) (number : ℤ) → FitsSigned w128 number
-    → cond b (kept_with (kept_of numbers) number) (kept_of numbers) ≡ kept_of (numbers ++ selected (b ∷ []) (number ∷ []))
+    → cond b (kept_with (kept_of numbers) number) (kept_of numbers)
+    ≡ kept_of (numbers ++ selected (b ∷ []) (number ∷ []))
 kept_next_if numbers true number fits = kept_next numbers number fits
 kept_next_if numbers false number fits = ap kept_of (sym (append-nil numbers))
 
@@ -60,19 +72,23 @@ selected_next word i numbers lt =
     ∙ ap (λ (l : List ℤ). selected (bits_of i word ++ bit ∷ []) l) (take_more numbers i (pos 0) lt)
     ∙ selected-append (bits_of i word) (bit ∷ []) (take i numbers) (x ∷ []) long
 
-pub kept_row : (before : List ℤ) (word i : ℕ) (numbers : List ℤ) (kept : Extremes) (number : ℤ) → i < length numbers → FitsSigned w128 number → number ≡ get_or numbers i (pos 0)
+pub kept_row : (before : List ℤ) (word i : ℕ) (numbers : List ℤ) (kept : Extremes) (number : ℤ) → i < length numbers
+    → FitsSigned w128 number → number ≡ get_or numbers i (pos 0)
     → kept ≡ kept_of (before ++ selected (bits_of i word) (take i numbers))
-    → cond (bit_at word i == 1) (kept_with kept number) kept ≡ kept_of (before ++ selected (bits_of (i + 1) word) (take (i + 1) numbers))
+    → cond (bit_at word i == 1) (kept_with kept number) kept
+    ≡ kept_of (before ++ selected (bits_of (i + 1) word) (take (i + 1) numbers))
 kept_row before word i numbers kept number lt fits number_is kept_is =
     let bit : Bool = bit_at word i == 1 in
     let so_far : List ℤ = selected (bits_of i word) (take i numbers) in
     ap (λ (k : Extremes). cond bit (kept_with k number) k) kept_is ∙ kept_next_if (before ++ so_far) bit number fits
     ∙ ap kept_of (append_assoc before so_far (selected (bit ∷ []) (number ∷ []))
-    ∙ ap (λ (l : List ℤ). before ++ l) (ap (λ (n : ℤ). so_far ++ selected (bit ∷ []) (n ∷ [])) number_is ∙ sym (selected_next word i numbers lt)))
+    ∙ ap (λ (l : List ℤ). before ++ l) (ap (λ (n : ℤ). so_far ++ selected (bit ∷ []) (n ∷ [])) number_is
+    ∙ sym (selected_next word i numbers lt)))
 
 -- a block more
 pub kept_block : (words : List ℕ) (i : ℕ) (numbers : List ℤ) → i < length words → 32 * length words ≤ length numbers
-    → selected (flat_map (bits_of 32) (take i words)) (take (32 * i) numbers) ++ selected (bits_of 32 (get_or words i 0)) (chunk (32 * i) 32 numbers)
+    → selected (flat_map (bits_of 32) (take i words)) (take (32 * i) numbers)
+    ++ selected (bits_of 32 (get_or words i 0)) (chunk (32 * i) 32 numbers)
     ≡ selected (flat_map (bits_of 32) (take (i + 1) words)) (take (32 * (i + 1)) numbers)
 kept_block words i numbers lt room =
     let before : List Bool = flat_map (bits_of 32) (take i words) in
@@ -80,9 +96,11 @@ kept_block words i numbers lt room =
     let step : 32 * (i + 1) ≡ 32 * i + 32 = omega arith in
     let count : length (take i words) ≡ i = length-take-le i words (omega (arith, lt)) in
     let rows : length (take (32 * i) numbers) ≡ 32 * i = length-take-le (32 * i) numbers (omega (arith, lt, room)) in
-    let long : length before ≡ length (take (32 * i) numbers) = omega (arith, length_words (take i words), count, rows) in
+    let long : length before ≡ length (take (32 * i) numbers) =
+    omega (arith, length_words (take i words), count, rows) in
     sym (ap (λ (l : List Bool). selected l (take (32 * (i + 1)) numbers)) (next_word words i lt)
-    ∙ ap (λ (l : List ℤ). selected (before ++ next) l) (ap (λ (m : ℕ). take m numbers) step ∙ take-add (32 * i) 32 numbers)
+    ∙ ap (λ (l : List ℤ). selected (before ++ next) l)
+    (ap (λ (m : ℕ). take m numbers) step ∙ take-add (32 * i) 32 numbers)
     ∙ selected-append before next (take (32 * i) numbers) (chunk (32 * i) 32 numbers) long)
 
 take_whole : (n : ℕ) (numbers : List ℤ) → length numbers ≡ n → take n numbers ≡ numbers
@@ -93,20 +111,23 @@ take_whole (suc n) (x ∷ numbers) long = ap (λ (l : List ℤ). x ∷ l) (take_
 
 -- the blocks and what is after them
 pub kept_whole : (words : List ℕ) (rest n : ℕ) (numbers : List ℤ) → length numbers ≡ 32 * length words + n
-    → selected (flat_map (bits_of 32) words) (take (32 * length words) numbers) ++ selected (bits_of n rest) (take n (drop (32 * length words) numbers))
+    → selected (flat_map (bits_of 32) words) (take (32 * length words) numbers)
+    ++ selected (bits_of n rest) (take n (drop (32 * length words) numbers))
     ≡ selected (flat_map (bits_of 32) words ++ bits_of n rest) numbers
 kept_whole words rest n numbers room =
     let m : ℕ = 32 * length words in
     let blocks : List Bool = flat_map (bits_of 32) words in
     let rows : length (take m numbers) ≡ m = length-take-le m numbers (omega (arith, room)) in
     let long : length blocks ≡ length (take m numbers) = length_words words ∙ sym rows in
-    let behind : take n (drop m numbers) ≡ drop m numbers = take_whole n (drop m numbers) (omega (arith, room, length-drop m numbers)) in
-    ap (λ (l : List ℤ). selected blocks (take m numbers) ++ selected (bits_of n rest) l) behind
+    let after : take n (drop m numbers) ≡ drop m numbers =
+    take_whole n (drop m numbers) (omega (arith, room, length-drop m numbers)) in
+    ap (λ (l : List ℤ). selected blocks (take m numbers) ++ selected (bits_of n rest) l) after
     ∙ sym (selected-append blocks (bits_of n rest) (take m numbers) (drop m numbers) long)
     ∙ ap (selected (blocks ++ bits_of n rest)) (take-append-drop m numbers)
 
 -- the ends are the wrong way round only where there is no number
-pub none_found : (numbers : List ℤ) (kept : Extremes) → kept.greatest <ℤ kept.least → kept ≡ kept_of numbers → None ≡ extremes_of numbers
+pub none_found : (numbers : List ℤ) (kept : Extremes) → kept.greatest <ℤ kept.least → kept ≡ kept_of numbers
+    → None ≡ extremes_of numbers
 none_found [] kept above is = refl
 none_found (x ∷ numbers) kept above is =
     let low = (fold-int_min_bounds x numbers (fold int_min x numbers) refl).0 in
@@ -115,9 +136,11 @@ none_found (x ∷ numbers) kept above is =
     let least_is : kept.least ≡ fold int_min x numbers = ap (λ (k : Extremes). k.least) is in
     absurd (omega (arith, ints, low, high, above, greatest_is, least_is))
 
-pub some_found : (numbers : List ℤ) (kept : Extremes) → (kept.greatest <ℤ kept.least → ⊥) → kept ≡ kept_of numbers → Some (kept.least, kept.greatest) ≡ extremes_of numbers
+pub some_found : (numbers : List ℤ) (kept : Extremes) → (kept.greatest <ℤ kept.least → ⊥) → kept ≡ kept_of numbers
+    → Some (kept.least, kept.greatest) ≡ extremes_of numbers
 some_found [] kept right is =
-    let greatest_is : kept.greatest ≡ negsuc 170141183460469231731687303715884105727 = ap (λ (k : Extremes). k.greatest) is in
+    let greatest_is : kept.greatest ≡ negsuc 170141183460469231731687303715884105727 =
+    ap (λ (k : Extremes). k.greatest) is in
     let least_is : kept.least ≡ pos 170141183460469231731687303715884105727 = ap (λ (k : Extremes). k.least) is in
     absurd (right (omega (arith, ints, greatest_is, least_is)))
 some_found (x ∷ numbers) kept right is = ap (λ (k : Extremes). Some (k.least, k.greatest)) is

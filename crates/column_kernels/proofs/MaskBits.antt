@@ -1,5 +1,6 @@
 -- Masks of lanes as numbers, and two masks at once.
-use Rattle.std.proofs.Common.{◌≡◌, ℕ, ◌+◌, ◌-◌, ◌*◌, ◌^◌, ◌%◌, ◌<◌, ◌≤◌, Bool, true, false, ◌&&◌, cond, List, [], ◌∷◌, length, map, replicate, refl, subst, ap, ◌∙◌, arith}
+use Rattle.std.proofs.Common.{◌≡◌, ℕ, ◌+◌, ◌-◌, ◌*◌, ◌^◌, ◌%◌, ◌<◌, ◌≤◌, Bool, true, false, ◌&&◌, cond, List, [], ◌∷◌}
+use Rattle.std.proofs.Common.{length, map, replicate, refl, subst, ap, ◌∙◌, arith}
 use Rattle.std.proofs.lemmas.List.{length-map}
 use mir.Syntax.{Width}
 use mir.Val.{bits, hbits}
@@ -23,7 +24,8 @@ and_masks (m ∷ ms) [] = and_comm (mask_l (m ∷ ms)) 0 ∙ and_zero_l (mask_l 
 and_masks (m ∷ ms) (n ∷ ns) =
     let left : cond m 1 0 + 2 * mask_l ms ≡ mask_l ms * 2 ^ 1 + cond m 1 0 = omega arith in
     let right : cond n 1 0 + 2 * mask_l ns ≡ mask_l ns * 2 ^ 1 + cond n 1 0 = omega arith in
-    let both : bit_and (cond m 1 0 + 2 * mask_l ms) (cond n 1 0 + 2 * mask_l ns) ≡ bit_and (mask_l ms) (mask_l ns) * 2 ^ 1 + bit_and (cond m 1 0) (cond n 1 0)
+    let both : bit_and (cond m 1 0 + 2 * mask_l ms) (cond n 1 0 + 2 * mask_l ns)
+    ≡ bit_and (mask_l ms) (mask_l ns) * 2 ^ 1 + bit_and (cond m 1 0) (cond n 1 0)
     = ap (λ (a : ℕ). bit_and a (cond n 1 0 + 2 * mask_l ns)) left ∙ ap (bit_and (mask_l ms * 2 ^ 1 + cond m 1 0)) right
     ∙ and_block 1 (mask_l ms) (mask_l ns) (cond m 1 0) (cond n 1 0) (low_bit m) (low_bit n) in
     omega (arith, both, and_masks ms ns, low_bits m n)
@@ -44,7 +46,8 @@ zip2_splat h y (x ∷ xs) = ap (λ l. h y x ∷ l) (zip2_splat h y xs)
 
 -- `to_bitmask` of a comparison with a splat on the left
 pub bitmask_splat_left : (w : Width) (t : ℕ → ℕ → Bool) (xs : List ℕ) (n y : ℕ) → length xs ≡ n → n ≤ 64
-    → mask_l (map (top (hbits w)) (zip2 (λ a b. cond (t a b) (2 ^ bits w - 1) 0) (replicate n y) xs)) % 2 ^ 64 ≡ mask_l (map (t y) xs)
+    → mask_l (map (top (hbits w)) (zip2 (λ a b. cond (t a b) (2 ^ bits w - 1) 0) (replicate n y) xs)) % 2 ^ 64
+    ≡ mask_l (map (t y) xs)
 bitmask_splat_left w t xs n y long few =
     let lanes : ℕ → List ℕ = λ m. zip2 (λ a b. cond (t a b) (2 ^ bits w - 1) 0) (replicate m y) xs in
     let whole : mask_l (map (top (hbits w)) (lanes (length xs))) ≡ mask_l (map (t y) xs)
@@ -62,9 +65,11 @@ range_bits f g xs a b one two =
 pub row_bits : (f g : ℕ → Bool) (xs ys : List ℕ) (a b : ℕ) → a ≡ mask_l (map f xs) → b ≡ mask_l (map g ys)
     → bit_and a b ≡ mask_l (zip2 (λ x y. f x && g y) xs ys)
 row_bits f g xs ys a b one two =
-    ap (λ (n : ℕ). bit_and n b) one ∙ ap (bit_and (mask_l (map f xs))) two ∙ and_masks (map f xs) (map g ys) ∙ ap mask_l (zip2_maps f g xs ys)
+    ap (λ (n : ℕ). bit_and n b) one ∙ ap (bit_and (mask_l (map f xs))) two ∙ and_masks (map f xs) (map g ys)
+    ∙ ap mask_l (zip2_maps f g xs ys)
 
 pub few_bits : (f : ℕ → Bool) (xs : List ℕ) (a b n : ℕ) → a ≡ mask_l (map f xs) → length xs ≡ n → bit_and a b < 2 ^ n
 few_bits f xs a b n one long =
-    let below : mask_l (map f xs) < 2 ^ n = subst (λ (m : ℕ). mask_l (map f xs) < 2 ^ m) (length-map xs f ∙ long) (mask_l-lt (map f xs)) in
+    let below : mask_l (map f xs) < 2 ^ n =
+    subst (λ (m : ℕ). mask_l (map f xs) < 2 ^ m) (length-map xs f ∙ long) (mask_l-lt (map f xs)) in
     omega (arith, and_le_l a b, one, below)

@@ -1,5 +1,6 @@
 -- The lanes whose bit is set in a word.
-use Rattle.std.proofs.Common.{◌≡◌, ℕ, zero, suc, ◌-◌, ◌*◌, ◌/◌, ◌^◌, ◌<◌, ◌==◌, Bool, not, cond, List, [], ◌∷◌, map, replicate, bit_and, refl, sym, ap, ◌∙◌, arith}
+use Rattle.std.proofs.Common.{◌≡◌, ℕ, zero, suc, ◌-◌, ◌*◌, ◌/◌, ◌^◌, ◌<◌, ◌==◌, Bool, not, cond, List, [], ◌∷◌, map}
+use Rattle.std.proofs.Common.{replicate, bit_and, refl, sym, ap, ◌∙◌, arith}
 use Rattle.std.proofs.Math.Nat.{div-div-eq-div-mul}
 use Rattle.std.proofs.lemmas.Nat.Bits.{and_pow, bit_at-lt}
 use Rattle.std.proofs.lemmas.Simd.{tops_compared, zip2_splat, zip2_splat_left, map-map}
@@ -24,21 +25,26 @@ power_positive (suc k) = omega (arith, power_positive k)
 
 -- the test of a bit by its power
 bit_test : (word k : ℕ) → not (bit_and word (2 ^ k) == 0) ≡ (bit_at word k == 1)
-bit_test word k = ap (λ (n : ℕ). not (n == 0)) (and_pow word k) ∙ set_or_not (bit_at word k) (2 ^ k) (bit_at-lt word k) (power_positive k)
+bit_test word k = ap (λ (n : ℕ). not (n == 0)) (and_pow word k)
+    ∙ set_or_not (bit_at word k) (2 ^ k) (bit_at-lt word k) (power_positive k)
 
-bits_from : (word from count : ℕ) → map (λ (power : ℕ). not (bit_and word power == 0)) (powers from count) ≡ bits_of count (word / 2 ^ from)
+bits_from : (word from count : ℕ) → map (λ (power : ℕ). not (bit_and word power == 0)) (powers from count)
+    ≡ bits_of count (word / 2 ^ from)
 unfolding bits_of
 bits_from word from zero = refl
 bits_from word from (suc count) =
     let more : 2 ^ from * 2 ≡ 2 ^ suc from = omega arith in
     let next : word / 2 ^ suc from ≡ word / 2 ^ from / 2
     = ap (λ (n : ℕ). word / n) (sym more) ∙ sym (div-div-eq-div-mul word (2 ^ from) 2) in
-    ap (λ (b : Bool). b ∷ map (λ (power : ℕ). not (bit_and word power == 0)) (powers (suc from) count)) (bit_test word from)
+    ap (λ (b : Bool). b ∷ map (λ (power : ℕ). not (bit_and word power == 0)) (powers (suc from) count))
+    (bit_test word from)
     ∙ ap (λ (l : List Bool). (bit_at word from == 1) ∷ l) (bits_from word (suc from) count ∙ ap (bits_of count) next)
 
 -- what `select` reads of the powers under a word
 pub chosen_lanes : (word : ℕ)
-    → map (top 63) (zip2 (λ a b. cond (not (a == b)) (2 ^ 64 - 1) 0) (zip2 bit_and (replicate 32 word) (powers 0 32)) (replicate 32 0)) ≡ bits_of 32 word
+    → map (top 63)
+    (zip2 (λ a b. cond (not (a == b)) (2 ^ 64 - 1) 0) (zip2 bit_and (replicate 32 word) (powers 0 32))
+    (replicate 32 0)) ≡ bits_of 32 word
 chosen_lanes word =
     let tests : List ℕ = zip2 bit_and (replicate 32 word) (powers 0 32) in
     tops_compared w64 (λ (a b : ℕ). not (a == b)) tests (replicate 32 0)

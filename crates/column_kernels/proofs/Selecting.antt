@@ -1,5 +1,6 @@
 -- The selected ones of some numbers, and their sum.
-use Rattle.std.proofs.Common.{◌≡◌, ℕ, ◌+◌, ◌*◌, ◌<◌, ◌≤◌, Bool, true, false, cond, List, [], ◌∷◌, ◌++◌, length, map, replicate, refl, sym, ap, ◌∙◌, arith, ℤ, pos, negsuc, ◌^◌, FitsSigned, ◌+ℤ◌, ◌-ℤ◌}
+use Rattle.std.proofs.Common.{◌≡◌, ℕ, ◌+◌, ◌*◌, ◌<◌, ◌≤◌, Bool, true, false, cond, List, [], ◌∷◌, ◌++◌, length, map}
+use Rattle.std.proofs.Common.{replicate, refl, sym, ap, ◌∙◌, arith, ℤ, pos, negsuc, ◌^◌, FitsSigned, ◌+ℤ◌, ◌-ℤ◌}
 use Rattle.std.proofs.lemmas.List.Sums.{sum_by-cons, sum_by-append}
 use Rattle.std.proofs.lemmas.Int.{ints}
 use Rattle.std.specs.Int.{w128}
@@ -26,7 +27,8 @@ pub sum-append : (xs ys : List ℕ) → sum (xs ++ ys) ≡ sum xs + sum ys
 sum-append xs ys = sum_by-append (λ (n : ℕ). n) xs ys
 
 -- lanes that are not selected count as 0
-pub sum_chosen : (marks : List Bool) (xs : List ℕ) → length marks ≡ length xs → sum_l (sel_l marks xs (replicate (length xs) 0)) ≡ sum_l (selected marks xs)
+pub sum_chosen : (marks : List Bool) (xs : List ℕ) → length marks ≡ length xs
+    → sum_l (sel_l marks xs (replicate (length xs) 0)) ≡ sum_l (selected marks xs)
 sum_chosen [] [] long = refl
 sum_chosen [] (x ∷ xs) long = absurd (omega (arith, long))
 sum_chosen (m ∷ marks) [] long = absurd (omega (arith, long))
@@ -41,7 +43,8 @@ selected-le (false ∷ marks) (x ∷ xs) = omega (arith, selected-le marks xs)
 
 -- the halves are added up apart
 pub by_halves : (marks : List Bool) (xs : List ℕ)
-    → sum_l (selected marks xs) ≡ sum_l (selected marks (map low xs)) + sum_l (selected marks (map high xs)) * 4294967296
+    → sum_l (selected marks xs) ≡ sum_l (selected marks (map low xs)) + sum_l (selected marks (map high xs)) *
+    4294967296
 by_halves [] xs = refl
 by_halves (m ∷ marks) [] = refl
 by_halves (true ∷ marks) (x ∷ xs) = omega (arith, by_halves marks xs)
@@ -53,7 +56,8 @@ times_halves x f =
     ap (λ (n : ℕ). n * f) whole ∙ grind arith
 
 pub products_by_halves : (marks : List Bool) (xs fs : List ℕ)
-    → sum_l (selected marks (products xs fs)) ≡ sum_l (selected marks (products (map low xs) fs)) + sum_l (selected marks (products (map high xs) fs)) * 4294967296
+    → sum_l (selected marks (products xs fs)) ≡ sum_l (selected marks (products (map low xs) fs))
+    + sum_l (selected marks (products (map high xs) fs)) * 4294967296
 products_by_halves [] xs fs = refl
 products_by_halves (m ∷ marks) [] fs = refl
 products_by_halves (m ∷ marks) (x ∷ xs) [] = refl
@@ -84,24 +88,41 @@ one_selected true x = omega arith
 one_selected false x = refl
 
 -- the lanes that are added up
-pub chosen_sum : (marks : List Bool) (xs : List ℕ) (n : ℕ) → length marks ≡ n → length xs ≡ n → sum_l (sel_l marks xs (replicate n 0)) ≡ sum (selected marks xs)
+pub chosen_sum : (marks : List Bool) (xs : List ℕ) (n : ℕ) → length marks ≡ n → length xs ≡ n
+    → sum_l (sel_l marks xs (replicate n 0)) ≡ sum (selected marks xs)
 chosen_sum marks xs n many long =
-    ap (λ (m : ℕ). sum_l (sel_l marks xs (replicate m 0))) (sym long) ∙ sum_chosen marks xs (many ∙ sym long) ∙ sym (sum_is (selected marks xs))
+    ap (λ (m : ℕ). sum_l (sel_l marks xs (replicate m 0))) (sym long) ∙ sum_chosen marks xs (many ∙ sym long)
+    ∙ sym (sum_is (selected marks xs))
 
-pub sum_by_halves : (marks : List Bool) (xs : List ℕ) → sum (selected marks xs) ≡ sum (selected marks (map low xs)) + sum (selected marks (map high xs)) * 4294967296
+pub sum_by_halves : (marks : List Bool) (xs : List ℕ) → sum (selected marks xs) ≡ sum (selected marks (map low xs))
+    + sum (selected marks (map high xs)) * 4294967296
 sum_by_halves marks xs =
-    omega (arith, by_halves marks xs, sum_is (selected marks xs), sum_is (selected marks (map low xs)), sum_is (selected marks (map high xs)))
+    omega (
+      arith,
+      by_halves marks xs,
+      sum_is (selected marks xs),
+      sum_is (selected marks (map low xs)),
+      sum_is (selected marks (map high xs)),
+    )
 
 pub product_sum_by_halves : (marks : List Bool) (xs fs : List ℕ)
-    → sum (selected marks (products xs fs)) ≡ sum (selected marks (products (map low xs) fs)) + sum (selected marks (products (map high xs) fs)) * 4294967296
+    → sum (selected marks (products xs fs)) ≡ sum (selected marks (products (map low xs) fs))
+    + sum (selected marks (products (map high xs) fs)) * 4294967296
 product_sum_by_halves marks xs fs =
-    omega (arith, products_by_halves marks xs fs, sum_is (selected marks (products xs fs)), sum_is (selected marks (products (map low xs) fs)), sum_is (selected marks (products (map high xs) fs)))
+    omega (
+      arith,
+      products_by_halves marks xs fs,
+      sum_is (selected marks (products xs fs)),
+      sum_is (selected marks (products (map low xs) fs)),
+      sum_is (selected marks (products (map high xs) fs)),
+    )
 
 pub difference_of_sums : (marks : List Bool) (xs ys : List ℕ) → length xs ≡ length ys
     → pos (sum (selected marks xs)) -ℤ pos (sum (selected marks ys)) ≡ total (selected marks (differences xs ys))
 difference_of_sums marks xs ys long =
     ap (λ (n : ℕ). pos n -ℤ pos (sum (selected marks ys))) (sum_is (selected marks xs))
-    ∙ ap (λ (n : ℕ). pos (sum_l (selected marks xs)) -ℤ pos n) (sum_is (selected marks ys)) ∙ sym (total_of_differences marks xs ys long)
+    ∙ ap (λ (n : ℕ). pos (sum_l (selected marks xs)) -ℤ pos n) (sum_is (selected marks ys))
+    ∙ sym (total_of_differences marks xs ys long)
 
 fits_small : (z : ℤ) → nat_abs z < 2 ^ 127 → FitsSigned w128 z
 fits_small (pos n) h = record { sfits = h }

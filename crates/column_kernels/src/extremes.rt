@@ -1,5 +1,6 @@
 //! The least and the greatest of columns over selected rows.
-ghost use Rattle.std.specs.Prelude.{◌≡◌, ◌≤◌, ◌<◌, ◌+◌, ◌*◌, ◌++◌, ◌↔◌, ◌<ℤ◌, ℤ, IsTrue, [], List, cond, length, take, drop};
+ghost use Rattle.std.specs.Prelude.{◌≡◌, ◌≤◌, ◌<◌, ◌+◌, ◌*◌, ◌++◌, ◌↔◌, ◌<ℤ◌, ℤ, IsTrue, [], List, cond, length, take};
+ghost use Rattle.std.specs.Prelude.{drop};
 ghost use Rattle.std.specs.List.{flat_map};
 ghost use Rattle.column_kernels.specs.Masks.{bits_of, selected};
 ghost use Rattle.column_kernels.specs.Sums.{numbers_of, products, differences};
@@ -65,7 +66,8 @@ impl Mask {
     ) -> Option<(i128, i128)>
         requires rows { length column.now ≡ length self.now }
         requires others { length others.now ≡ length self.now }
-        ensures { result ≡ extremes_of (selected self.now (differences (numbers_of column.now) (numbers_of others.now))) }
+        ensures { result
+            ≡ extremes_of (selected self.now (differences (numbers_of column.now) (numbers_of others.now))) }
     {
         selected_extremes(self, &Differences { column, others })
     }
@@ -82,7 +84,8 @@ impl Extremes {
         }
     }
 
-    // With one number more, if it is selected. It does not branch on that: the number is what was there already, if not.
+    // With one number more, if it is selected. It does not branch on that: the number is what was there already, if
+    // not.
     fn with_if(self, is_selected: bool, number: i128) -> Self
         ensures { result ≡ cond is_selected (kept_with self number) self }
     {
@@ -119,7 +122,8 @@ fn selected_extremes<C: WholeColumn>(mask: &Mask, column: &C) -> Option<(i128, i
 fn kept_of_blocks<C: WholeColumn>(words: &[u32], column: &C) -> Extremes
     requires rows { 32 * length words.now ≤ length (C.wholes column.now) }
     requires few { length words.now ≤ 2048 }
-    ensures { result ≡ kept_of (selected (flat_map (bits_of 32) words.now) (take (32 * length words.now) (C.wholes column.now))) }
+    ensures { result
+        ≡ kept_of (selected (flat_map (bits_of 32) words.now) (take (32 * length words.now) (C.wholes column.now))) }
 {
     let mut kept = Extremes::none();
     for i in 0..words.len() {

@@ -1,5 +1,6 @@
 //! Masks: one truth value a row.
-ghost use Rattle.std.specs.Prelude.{◌≡◌, ◌≤◌, ◌<◌, ◌^◌, ◌+◌, ◌*◌, ◌++◌, ◌==◌, ◌-ℤ◌, pos, if◌then◌else◌, length, take, drop, slice_get, sum, count_by, IfOk, IfErr};
+ghost use Rattle.std.specs.Prelude.{◌≡◌, ◌≤◌, ◌<◌, ◌^◌, ◌+◌, ◌*◌, ◌++◌, ◌==◌, ◌-ℤ◌, pos, if◌then◌else◌, length, take};
+ghost use Rattle.std.specs.Prelude.{drop, slice_get, sum, count_by, IfOk, IfErr};
 ghost use Rattle.std.specs.Int.{bit_at};
 ghost use Rattle.std.specs.List.{flat_map};
 ghost use Rattle.std.specs.Simd.Lanes.{mask_l, zip2};

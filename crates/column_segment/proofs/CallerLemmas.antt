@@ -1,5 +1,6 @@
 -- What the bytes of a batch determine, for the proofs of other crates too.
-use Rattle.std.proofs.Common.{◌≡◌, ℕ, ◌^◌, ◌<◌, ◌≤◌, List, [], ◌∷◌, ◌++◌, length, map, codes, All, refl, sym, ap, ◌∙◌, arith, append_assoc, append-nil}
+use Rattle.std.proofs.Common.{◌≡◌, ℕ, ◌^◌, ◌<◌, ◌≤◌, List, [], ◌∷◌, ◌++◌, length, map, codes, All, refl, sym, ap, ◌∙◌}
+use Rattle.std.proofs.Common.{arith, append_assoc, append-nil}
 use Rattle.std.specs.List.{AllByRecursion, flat_map}
 use Rattle.std.proofs.lemmas.List.{append_cancel_left, length-map}
 use Rattle.std.proofs.lemmas.List.Elements.{All-head, All-map, All-tail}
@@ -11,20 +12,24 @@ use Rattle.wire.proofs.CallerLemmas.{spelling-one}
 use Rattle.dictionary.specs.Dictionary.{firsts}
 use Rattle.dictionary.specs.Spelling.{AreShort, texts_spelling}
 use Rattle.dictionary.specs.Columns.{codes_of, codes_spelling, column_spelling, text_at}
-use Rattle.dictionary.proofs.ColumnLaws.{AreCodes-below, AreProper-firsts, column_has_codes, length-firsts, texts_spelling-one}
+use Rattle.dictionary.proofs.ColumnLaws.{AreCodes-below, AreProper-firsts, column_has_codes, length-firsts}
+use Rattle.dictionary.proofs.ColumnLaws.{texts_spelling-one}
 use Rattle.column_segment.specs.Columns.{Column, FitsColumn, number_columns, text_columns, text_of}
 use Rattle.column_segment.specs.Segment.{IsBatch, IsSegment, header_of, number_column, text_column}
 use Rattle.column_segment.specs.declared.columns.TextColumn.{TextColumn}
 
 -- bytes begin with one list of so many numbers at most
-numbers-one : (n : ℕ) (some others : List ℕ) (xs ys : List ℕ) → length some ≡ length others → AllByRecursion (λ x. x < 256 ^ n) some → AllByRecursion (λ x. x < 256 ^ n) others
+numbers-one : (n : ℕ) (some others : List ℕ) (xs ys : List ℕ) → length some ≡ length others
+    → AllByRecursion (λ x. x < 256 ^ n) some → AllByRecursion (λ x. x < 256 ^ n) others
     → flat_map (spelling n) some ++ xs ≡ flat_map (spelling n) others ++ ys → (some ≡ others) × (xs ≡ ys)
 numbers-one n [] [] xs ys many fit also same = (refl, same)
 numbers-one n [] (y ∷ others) xs ys many fit also same = absurd (omega arith)
 numbers-one n (x ∷ some) [] xs ys many fit also same = absurd (omega arith)
 numbers-one n (x ∷ some) (y ∷ others) xs ys many fit also same =
-    let parts = sym (append_assoc (spelling n x) (flat_map (spelling n) some) xs) ∙ same ∙ append_assoc (spelling n y) (flat_map (spelling n) others) ys in
-    let first = spelling-one n x y (flat_map (spelling n) some ++ xs) (flat_map (spelling n) others ++ ys) fit.0 also.0 parts in
+    let parts = sym (append_assoc (spelling n x) (flat_map (spelling n) some) xs) ∙ same
+    ∙ append_assoc (spelling n y) (flat_map (spelling n) others) ys in
+    let first = spelling-one n x y (flat_map (spelling n) some ++ xs) (flat_map (spelling n) others ++ ys) fit.0 also.0
+    parts in
     let rest = numbers-one n some others xs ys (omega arith) fit.1 also.1 first.1 in
     (cons x y some others first.0 rest.0, rest.1)
   where
@@ -32,7 +37,8 @@ numbers-one n (x ∷ some) (y ∷ others) xs ys many fit also same =
     cons a b as_ bs head tail = rw (head, tail) refl
 
 -- bytes begin with one column of so many texts at most
-pub texts-one : (column others : List (List ℕ)) (xs ys : List ℕ) → length column ≡ length others → length column ≤ most_batch_rows → AreShort column → AreShort others
+pub texts-one : (column others : List (List ℕ)) (xs ys : List ℕ) → length column ≡ length others
+    → length column ≤ most_batch_rows → AreShort column → AreShort others
     → column_spelling column ++ xs ≡ column_spelling others ++ ys → (column ≡ others) × (xs ≡ ys)
 texts-one column others xs ys many few short also same =
     let c1 : List ℕ = codes_of column in
@@ -41,19 +47,24 @@ texts-one column others xs ys many few short also same =
     let count2 = length-firsts others in
     let has1 = column_has_codes column in
     let has2 = column_has_codes others in
-    let parts = sym (append_assoc (texts_spelling (firsts column)) (codes_spelling c1) xs) ∙ same ∙ append_assoc (texts_spelling (firsts others)) (codes_spelling c2) ys in
-    let texts = texts_spelling-one most_batch_rows (firsts column) (firsts others) (codes_spelling c1 ++ xs) (codes_spelling c2 ++ ys) (omega arith)
-    (AreProper-firsts most_batch_rows column short (omega arith)) (AreProper-firsts most_batch_rows others also (omega arith)) parts in
+    let parts = sym (append_assoc (texts_spelling (firsts column)) (codes_spelling c1) xs) ∙ same
+    ∙ append_assoc (texts_spelling (firsts others)) (codes_spelling c2) ys in
+    let texts = texts_spelling-one most_batch_rows (firsts column) (firsts others) (codes_spelling c1 ++ xs)
+    (codes_spelling c2 ++ ys) (omega arith)
+    (AreProper-firsts most_batch_rows column short (omega arith))
+    (AreProper-firsts most_batch_rows others also (omega arith)) parts in
     let len1 : length c1 ≡ length column = length-map column _ in
     let len2 : length c2 ≡ length others = length-map others _ in
     let below1 = weaker (length (firsts column)) c1 (omega arith) (AreCodes-below (length (firsts column)) c1 has1.0) in
     let below2 = weaker (length (firsts others)) c2 (omega arith) (AreCodes-below (length (firsts others)) c2 has2.0) in
     let same_codes = numbers-one 2 c1 c2 xs ys (len1 ∙ many ∙ sym len2) below1 below2 texts.1 in (
-      sym has1.1 ∙ ap (λ (t : List (List ℕ)). map (text_at t) c1) texts.0 ∙ ap (map (text_at (firsts others))) same_codes.0 ∙ has2.1,
+      sym has1.1 ∙ ap (λ (t : List (List ℕ)). map (text_at t) c1) texts.0
+          ∙ ap (map (text_at (firsts others))) same_codes.0 ∙ has2.1,
       same_codes.1,
     )
   where
-    weaker : (count : ℕ) (list : List ℕ) → count ≤ 65536 → AllByRecursion (λ x. x < count) list → AllByRecursion (λ x. x < 256 ^ 2) list
+    weaker : (count : ℕ) (list : List ℕ) → count ≤ 65536 → AllByRecursion (λ x. x < count) list
+        → AllByRecursion (λ x. x < 256 ^ 2) list
     weaker count [] le all = tt
     weaker count (x ∷ list) le all = (omega (arith, all.0), weaker count list le all.1)
 
@@ -72,22 +83,28 @@ below : (column : Column) (rows : List LineOrder) → column.limit ≤ 256 ^ col
     → AllByRecursion (λ x. x < 256 ^ column.width) (map column.value rows)
 below column [] wide fit = tt
 below column (row ∷ rows) wide fit =
-    let head = All-head (FitsColumn column) row rows fit in (omega (arith, head, wide), below column rows wide (All-tail (FitsColumn column) row rows fit))
+    let head = All-head (FitsColumn column) row rows fit in
+    (omega (arith, head, wide), below column rows wide (All-tail (FitsColumn column) row rows fit))
 
 -- a column of numbers has one list of them
-pub column-one : (column : Column) (rows others : List LineOrder) → length rows ≡ length others → column.limit ≤ 256 ^ column.width → All (FitsColumn column) rows → All (FitsColumn column) others
+pub column-one : (column : Column) (rows others : List LineOrder) → length rows ≡ length others
+    → column.limit ≤ 256 ^ column.width → All (FitsColumn column) rows → All (FitsColumn column) others
     → number_column rows column ≡ number_column others column → map column.value rows ≡ map column.value others
 column-one column rows others many wide fit also same =
     let a : List ℕ = flat_map (spelling column.width) (map column.value rows) in
     let b : List ℕ = flat_map (spelling column.width) (map column.value others) in
     let a_is : a ≡ number_column rows column = flat_map-map (spelling column.width) column.value rows in
     let b_is : b ≡ number_column others column = flat_map-map (spelling column.width) column.value others in
-    let len : length (map column.value rows) ≡ length (map column.value others) = length-map rows column.value ∙ many ∙ sym (length-map others column.value) in
-    (numbers-one column.width (map column.value rows) (map column.value others) [] [] len (below column rows wide fit) (below column others wide also)
+    let len : length (map column.value rows) ≡ length (map column.value others) = length-map rows column.value ∙ many
+    ∙ sym (length-map others column.value) in
+    (numbers-one column.width (map column.value rows) (map column.value others) [] [] len (below column rows wide fit)
+    (below column others wide also)
     (ap (λ (l : List ℕ). l ++ []) (a_is ∙ same ∙ sym b_is))).0
 
-columns-one : (columns : List Column) (rows others : List LineOrder) (xs ys : List ℕ) → length rows ≡ length others → Wide columns → Fit columns rows → Fit columns others
-    → flat_map (number_column rows) columns ++ xs ≡ flat_map (number_column others) columns ++ ys → Same columns rows others × (xs ≡ ys)
+columns-one : (columns : List Column) (rows others : List LineOrder) (xs ys : List ℕ) → length rows ≡ length others
+    → Wide columns → Fit columns rows → Fit columns others
+    → flat_map (number_column rows) columns ++ xs ≡ flat_map (number_column others) columns ++ ys
+    → Same columns rows others × (xs ≡ ys)
 columns-one [] rows others xs ys many wide fit also same = (tt, same)
 columns-one (column ∷ columns) rows others xs ys many wide fit also same =
     let a : List ℕ = flat_map (spelling column.width) (map column.value rows) in
@@ -97,23 +114,31 @@ columns-one (column ∷ columns) rows others xs ys many wide fit also same =
     let rest1 : List ℕ = flat_map (number_column rows) columns ++ xs in
     let rest2 : List ℕ = flat_map (number_column others) columns ++ ys in
     let parts : a ++ rest1 ≡ b ++ rest2 =
-    ap (λ (l : List ℕ). l ++ rest1) a_is ∙ sym (append_assoc (number_column rows column) (flat_map (number_column rows) columns) xs) ∙ same
-    ∙ append_assoc (number_column others column) (flat_map (number_column others) columns) ys ∙ ap (λ (l : List ℕ). l ++ rest2) (sym b_is) in
-    let len : length (map column.value rows) ≡ length (map column.value others) = length-map rows column.value ∙ many ∙ sym (length-map others column.value) in
-    let first = numbers-one column.width (map column.value rows) (map column.value others) rest1 rest2 len (below column rows wide.0 fit.0) (below column others wide.0 also.0) parts in
+    ap (λ (l : List ℕ). l ++ rest1) a_is
+    ∙ sym (append_assoc (number_column rows column) (flat_map (number_column rows) columns) xs) ∙ same
+    ∙ append_assoc (number_column others column) (flat_map (number_column others) columns) ys
+    ∙ ap (λ (l : List ℕ). l ++ rest2) (sym b_is) in
+    let len : length (map column.value rows) ≡ length (map column.value others) = length-map rows column.value ∙ many
+    ∙ sym (length-map others column.value) in
+    let first = numbers-one column.width (map column.value rows) (map column.value others) rest1 rest2 len
+    (below column rows wide.0 fit.0) (below column others wide.0 also.0) parts in
     let more = columns-one columns rows others xs ys many wide.1 fit.1 also.1 first.1 in
     ((first.0, more.0), more.1)
 
 -- ---- the columns of texts
 
 abbrev SameTexts : List TextColumn → List LineOrder → List LineOrder → Type 0
-SameTexts columns rows others = AllByRecursion (λ column. map (text_of column) rows ≡ map (text_of column) others) columns
+SameTexts columns rows others = AllByRecursion (λ column. map (text_of column) rows ≡ map (text_of column) others)
+    columns
 
 pub shorts : (rows : List LineOrder) → IsBatch rows → (column : TextColumn) → AreShort (map (text_of column) rows)
-shorts rows batch column = All-map (λ (text : List ℕ). length text ≤ longest_text) (text_of column) rows (batch.short column)
+shorts rows batch column =
+    All-map (λ (text : List ℕ). length text ≤ longest_text) (text_of column) rows (batch.short column)
 
-text_columns-one : (columns : List TextColumn) (rows others : List LineOrder) (xs ys : List ℕ) → length rows ≡ length others → IsBatch rows → IsBatch others
-    → flat_map (text_column rows) columns ++ xs ≡ flat_map (text_column others) columns ++ ys → SameTexts columns rows others × (xs ≡ ys)
+text_columns-one : (columns : List TextColumn) (rows others : List LineOrder) (xs ys : List ℕ)
+    → length rows ≡ length others → IsBatch rows → IsBatch others
+    → flat_map (text_column rows) columns ++ xs ≡ flat_map (text_column others) columns ++ ys
+    → SameTexts columns rows others × (xs ≡ ys)
 text_columns-one [] rows others xs ys many batch also same = (tt, same)
 text_columns-one (column ∷ columns) rows others xs ys many batch also same =
     let rest1 : List ℕ = flat_map (text_column rows) columns ++ xs in
@@ -123,7 +148,8 @@ text_columns-one (column ∷ columns) rows others xs ys many batch also same =
     ∙ append_assoc (text_column others column) (flat_map (text_column others) columns) ys in
     let len1 : length (map (text_of column) rows) ≡ length rows = length-map rows (text_of column) in
     let len2 : length (map (text_of column) others) ≡ length others = length-map others (text_of column) in
-    let first = texts-one (map (text_of column) rows) (map (text_of column) others) rest1 rest2 (len1 ∙ many ∙ sym len2) (omega (arith, batch.few))
+    let first = texts-one (map (text_of column) rows) (map (text_of column) others) rest1 rest2 (len1 ∙ many ∙ sym len2)
+    (omega (arith, batch.few))
     (shorts rows batch column) (shorts others also column) parts in
     let more = text_columns-one columns rows others xs ys many batch also first.1 in
     ((first.0, more.0), more.1)
@@ -172,29 +198,35 @@ row_of one other n t =
       shipmode = shipmode i;
     }
 
-heads : (columns : List Column) (one other : LineOrder) (rows others : List LineOrder) → Same columns (one ∷ rows) (other ∷ others)
+heads : (columns : List Column) (one other : LineOrder) (rows others : List LineOrder)
+    → Same columns (one ∷ rows) (other ∷ others)
     → AllByRecursion (λ column. column.value one ≡ column.value other) columns × Same columns rows others
 heads [] one other rows others same = (tt, tt)
 heads (column ∷ columns) one other rows others same =
-    let parts = split (column.value one) (column.value other) (map column.value rows) (map column.value others) same.0 in
+    let parts = split (column.value one) (column.value other) (map column.value rows) (map column.value others)
+    same.0 in
     let rest = heads columns one other rows others same.1 in
     ((parts.0, rest.0), (parts.1, rest.1))
   where
     split : (a b : ℕ) (xs ys : List ℕ) → a ∷ xs ≡ b ∷ ys → (a ≡ b) × (xs ≡ ys)
     split a b xs ys e = (cc, cc)
 
-text_heads : (columns : List TextColumn) (one other : LineOrder) (rows others : List LineOrder) → SameTexts columns (one ∷ rows) (other ∷ others)
+text_heads : (columns : List TextColumn) (one other : LineOrder) (rows others : List LineOrder)
+    → SameTexts columns (one ∷ rows) (other ∷ others)
     → AllByRecursion (λ column. text_of column one ≡ text_of column other) columns × SameTexts columns rows others
 text_heads [] one other rows others same = (tt, tt)
 text_heads (column ∷ columns) one other rows others same =
-    let parts = split (text_of column one) (text_of column other) (map (text_of column) rows) (map (text_of column) others) same.0 in
+    let parts =
+    split (text_of column one) (text_of column other) (map (text_of column) rows) (map (text_of column) others)
+    same.0 in
     let rest = text_heads columns one other rows others same.1 in
     ((parts.0, rest.0), (parts.1, rest.1))
   where
     split : (a b : List ℕ) (xs ys : List (List ℕ)) → a ∷ xs ≡ b ∷ ys → (a ≡ b) × (xs ≡ ys)
     split a b xs ys e = (cc, cc)
 
-rows-one : (rows others : List LineOrder) → length rows ≡ length others → Same number_columns rows others → SameTexts text_columns rows others → rows ≡ others
+rows-one : (rows others : List LineOrder) → length rows ≡ length others → Same number_columns rows others
+    → SameTexts text_columns rows others → rows ≡ others
 rows-one [] [] many same texts = refl
 rows-one [] (other ∷ others) many same texts = absurd (omega arith)
 rows-one (one ∷ rows) [] many same texts = absurd (omega arith)
@@ -208,24 +240,48 @@ rows-one (one ∷ rows) (other ∷ others) many same texts =
 -- ---- the whole
 
 -- the name, the number and how many rows, one after the other
-pub header-append : (n c : ℕ) (rest : List ℕ) → header_of n c ++ rest ≡ codes "SEG1" ++ (spelling 4 n ++ (spelling 4 c ++ rest))
-header-append n c rest = append_assoc (codes "SEG1") (spelling 4 n ++ spelling 4 c) rest ∙ ap (λ (part : List ℕ). codes "SEG1" ++ part) (append_assoc (spelling 4 n) (spelling 4 c) rest)
+pub header-append : (n c : ℕ) (rest : List ℕ)
+    → header_of n c ++ rest ≡ codes "SEG1" ++ (spelling 4 n ++ (spelling 4 c ++ rest))
+header-append n c rest = append_assoc (codes "SEG1") (spelling 4 n ++ spelling 4 c) rest
+    ∙ ap (λ (part : List ℕ). codes "SEG1" ++ part) (append_assoc (spelling 4 n) (spelling 4 c) rest)
 
-pub header-one : (number count others other : ℕ) (xs ys : List ℕ) → number < 2 ^ 32 → count < 2 ^ 32 → others < 2 ^ 32 → other < 2 ^ 32
+pub header-one : (number count others other : ℕ) (xs ys : List ℕ) → number < 2 ^ 32 → count < 2 ^ 32 → others < 2 ^ 32
+    → other < 2 ^ 32
     → header_of number count ++ xs ≡ header_of others other ++ ys → (number ≡ others) × (count ≡ other) × (xs ≡ ys)
 header-one number count others other xs ys fit1 fit2 fit3 fit4 same =
-    let parts : codes "SEG1" ++ (spelling 4 number ++ (spelling 4 count ++ xs)) ≡ codes "SEG1" ++ (spelling 4 others ++ (spelling 4 other ++ ys)) =
+    let parts : codes "SEG1" ++ (spelling 4 number ++ (spelling 4 count ++ xs)) ≡ codes "SEG1"
+    ++ (spelling 4 others ++ (spelling 4 other ++ ys)) =
     sym (header-append number count xs) ∙ same ∙ header-append others other ys in
-    let left = append_cancel_left (codes "SEG1") (spelling 4 number ++ (spelling 4 count ++ xs)) (spelling 4 others ++ (spelling 4 other ++ ys)) parts in
+    let left = append_cancel_left (codes "SEG1") (spelling 4 number ++ (spelling 4 count ++ xs))
+    (spelling 4 others ++ (spelling 4 other ++ ys)) parts in
     let first = spelling-one 4 number others (spelling 4 count ++ xs) (spelling 4 other ++ ys) fit1 fit3 left in
     let second = spelling-one 4 count other xs ys fit2 fit4 first.1 in
     (first.0, second.0, second.1)
 
 wide : Wide number_columns
-wide = (omega arith, (omega arith, (omega arith, (omega arith, (omega arith, (omega arith, (omega arith, (omega arith, (omega arith, (omega arith, (omega arith, (omega arith, (omega arith, tt)))))))))))))
+wide = (
+  omega arith,
+  (
+    omega arith,
+    (
+      omega arith,
+      (
+        omega arith,
+        (
+          omega arith,
+          (
+            omega arith,
+            (omega arith, (omega arith, (omega arith, (omega arith, (omega arith, (omega arith, (omega arith, tt))))))),
+          ),
+        ),
+      ),
+    ),
+  ),
+)
 
 -- bytes are one batch at most
-pub IsSegment-one : (text : List ℕ) (number other : ℕ) (rows others : List LineOrder) → IsSegment text number rows → IsSegment text other others → (number ≡ other) × (rows ≡ others)
+pub IsSegment-one : (text : List ℕ) (number other : ℕ) (rows others : List LineOrder) → IsSegment text number rows
+    → IsSegment text other others → (number ≡ other) × (rows ≡ others)
 IsSegment-one text number other rows others is also =
     let same = sym is.spelled ∙ also.spelled in
     let mid1 : List ℕ = flat_map (number_column rows) number_columns in

@@ -1,10 +1,13 @@
 -- Numbers of one width, one after the other, cut into chunks and read back. Our own.
-use Rattle.std.proofs.Common.{◌≡◌, ℕ, zero, suc, ◌+◌, ◌*◌, ◌^◌, ◌<◌, ◌≤◌, List, [], ◌∷◌, ◌++◌, length, map, take, drop, slice_index, refl, sym, ap, subst, ◌∙◌, arith, append_assoc, length-append, length-drop, ◌%◌}
+use Rattle.std.proofs.Common.{◌≡◌, ℕ, zero, suc, ◌+◌, ◌*◌, ◌^◌, ◌<◌, ◌≤◌, List, [], ◌∷◌, ◌++◌, length, map, take, drop}
+use Rattle.std.proofs.Common.{slice_index, refl, sym, ap, subst, ◌∙◌, arith, append_assoc, length-append, length-drop}
+use Rattle.std.proofs.Common.{◌%◌}
 use Rattle.std.specs.Int.{from_le_bytes, w16, w32, w64}
 use Rattle.std.specs.List.{AllByRecursion, flat_map}
 use Rattle.std.specs.Simd.{first_chunks}
 use Rattle.std.proofs.lemmas.List.{drop_at, get_or-drop, length-map, length-take-le, take-append-drop, take_at}
-use Rattle.std.proofs.lemmas.Nat.{from_le_bytes-to_le_bytes_2, from_le_bytes-to_le_bytes_8, le_bytes_2, le_bytes_4, le_bytes_8}
+use Rattle.std.proofs.lemmas.Nat.{from_le_bytes-to_le_bytes_2, from_le_bytes-to_le_bytes_8, le_bytes_2, le_bytes_4}
+use Rattle.std.proofs.lemmas.Nat.{le_bytes_8}
 use Rattle.wire.specs.Spelling.{spelling}
 
 -- ---- bytes
@@ -38,21 +41,27 @@ none_left [] none = refl
 none_left (x ∷ xs) none = absurd (omega (arith, none))
 
 -- the numbers of chunks have the chunks as their spelling
-module _ (width : ℕ) (read : List ℕ → ℕ) (back : (chunk : List ℕ) → length chunk ≡ width → AreBytes chunk → spelling width (read chunk) ≡ chunk) where
-  pub chunks_back : (n : ℕ) (xs : List ℕ) → length xs ≡ width * n → AreBytes xs → flat_map (spelling width) (map read (first_chunks width n xs)) ≡ xs
+module _ (width : ℕ) (read : List ℕ → ℕ) (back : (chunk : List ℕ) → length chunk ≡ width → AreBytes chunk
+    → spelling width (read chunk) ≡ chunk) where
+  pub chunks_back : (n : ℕ) (xs : List ℕ) → length xs ≡ width * n → AreBytes xs
+      → flat_map (spelling width) (map read (first_chunks width n xs)) ≡ xs
   chunks_back zero xs many are = none_left xs (omega (arith, many))
   chunks_back (suc n) xs many are =
       let more : width * suc n ≡ width + width * n = omega arith in
-      let front : spelling width (read (take width xs)) ≡ take width xs = back (take width xs) (length-take-le width xs (omega (arith, many, more))) (AreBytes-take width xs are) in
+      let front : spelling width (read (take width xs)) ≡ take width xs =
+      back (take width xs) (length-take-le width xs (omega (arith, many, more))) (AreBytes-take width xs are) in
       let rest : flat_map (spelling width) (map read (first_chunks width n (drop width xs))) ≡ drop width xs =
       chunks_back n (drop width xs) (omega (arith, many, more, length-drop width xs)) (AreBytes-drop width xs are) in
       (λ i. front i ++ rest i) ∙ take-append-drop width xs
 
 -- what holds of the number of each chunk
-module _ (width : ℕ) (read : List ℕ → ℕ) (limit : ℕ) (below : (chunk : List ℕ) → AreBytes chunk → read chunk < limit) where
-  pub read_below : (n : ℕ) (xs : List ℕ) → AreBytes xs → AllByRecursion (λ x. x < limit) (map read (first_chunks width n xs))
-  read_below zero xs are = tt
-  read_below (suc n) xs are = (below (take width xs) (AreBytes-take width xs are), read_below n (drop width xs) (AreBytes-drop width xs are))
+module _ (width : ℕ) (read : List ℕ → ℕ) (limit : ℕ) (below : (chunk : List ℕ) → AreBytes chunk → read chunk < limit)
+  where
+    pub read_below : (n : ℕ) (xs : List ℕ) → AreBytes xs
+        → AllByRecursion (λ x. x < limit) (map read (first_chunks width n xs))
+    read_below zero xs are = tt
+    read_below (suc n) xs are =
+        (below (take width xs) (AreBytes-take width xs are), read_below n (drop width xs) (AreBytes-drop width xs are))
 
 -- the chunks of what is as long for each item
 module _ {X : Type 0} (width : ℕ) (part : X → List ℕ) (long : (x : X) → length (part x) ≡ width) where
@@ -62,15 +71,20 @@ module _ {X : Type 0} (width : ℕ) (part : X → List ℕ) (long : (x : X) → 
       let more : width * suc (length xs) ≡ width + width * length xs = omega arith in
       omega (arith, length-append (part x) (flat_map part xs), long x, length-parts xs, more)
 
-  pub chunks_of : (n : ℕ) (xs : List X) (rest : List ℕ) → length xs ≡ n → first_chunks width n (flat_map part xs ++ rest) ≡ map part xs
+  pub chunks_of : (n : ℕ) (xs : List X) (rest : List ℕ) → length xs ≡ n
+      → first_chunks width n (flat_map part xs ++ rest) ≡ map part xs
   chunks_of zero [] rest many = refl
   chunks_of zero (x ∷ xs) rest many = absurd (omega (arith, many))
   chunks_of (suc n) [] rest many = absurd (omega (arith, many))
   chunks_of (suc n) (x ∷ xs) rest many =
-      let split : (part x ++ flat_map part xs) ++ rest ≡ part x ++ (flat_map part xs ++ rest) = append_assoc (part x) (flat_map part xs) rest in
-      let head : take width ((part x ++ flat_map part xs) ++ rest) ≡ part x = ap (take width) split ∙ take_at (part x) (flat_map part xs ++ rest) width (long x) in
-      let left : drop width ((part x ++ flat_map part xs) ++ rest) ≡ flat_map part xs ++ rest = ap (drop width) split ∙ drop_at (part x) (flat_map part xs ++ rest) width (long x) in
-      let tail : first_chunks width n (drop width ((part x ++ flat_map part xs) ++ rest)) ≡ map part xs = ap (first_chunks width n) left ∙ chunks_of n xs rest (omega (arith, many)) in
+      let split : (part x ++ flat_map part xs) ++ rest ≡ part x ++ (flat_map part xs ++ rest) =
+      append_assoc (part x) (flat_map part xs) rest in
+      let head : take width ((part x ++ flat_map part xs) ++ rest) ≡ part x = ap (take width) split
+      ∙ take_at (part x) (flat_map part xs ++ rest) width (long x) in
+      let left : drop width ((part x ++ flat_map part xs) ++ rest) ≡ flat_map part xs ++ rest = ap (drop width) split
+      ∙ drop_at (part x) (flat_map part xs ++ rest) width (long x) in
+      let tail : first_chunks width n (drop width ((part x ++ flat_map part xs) ++ rest)) ≡ map part xs =
+      ap (first_chunks width n) left ∙ chunks_of n xs rest (omega (arith, many)) in
       λ i. head i ∷ tail i
 
 -- ---- the three widths

@@ -1,5 +1,6 @@
 -- Bytes over whose front that of a text was read. Our own.
-use Rattle.std.proofs.Common.{◌≡◌, ℕ, ◌+◌, ◌*◌, ◌<◌, ◌≤◌, Option, Some, None, List, [], ◌∷◌, ◌++◌, All, length, take, drop, slice_index, refl, sym, ap, subst, ◌∙◌, arith}
+use Rattle.std.proofs.Common.{◌≡◌, ℕ, ◌+◌, ◌*◌, ◌<◌, ◌≤◌, Option, Some, None, List, [], ◌∷◌, ◌++◌, All, length, take}
+use Rattle.std.proofs.Common.{drop, slice_index, refl, sym, ap, subst, ◌∙◌, arith}
 use Rattle.std.specs.List.{AllByRecursion}
 use Rattle.std.specs.Option.{IsSomeAnd}
 use Rattle.std.proofs.Math.Seq.{take-append_seam}
@@ -13,11 +14,13 @@ use Rattle.column_segment.proofs.OneColumn.{column_part, column_within, fits_sha
 use Rattle.column_segment.proofs.Passes.{length-header}
 
 -- a header goes with the first twelve bytes
-header_moved : (some others : List ℕ) (number rows : ℕ) → take 12 some ≡ take 12 others → HasHeader some number rows → HasHeader others number rows
+header_moved : (some others : List ℕ) (number rows : ℕ) → take 12 some ≡ take 12 others → HasHeader some number rows
+    → HasHeader others number rows
 header_moved some others number rows same has =
     let head : List ℕ = header_of number rows in
     let first : take 12 some ≡ head =
-    ap (take 12) has.spelled ∙ ap (λ (n : ℕ). take n (head ++ drop 12 some)) (sym (length-header number rows)) ∙ take-append_seam head (drop 12 some) in
+    ap (take 12) has.spelled ∙ ap (λ (n : ℕ). take n (head ++ drop 12 some)) (sym (length-header number rows))
+    ∙ take-append_seam head (drop 12 some) in
     record {
       spelled = sym (take-append-drop 12 others) ∙ ap (λ (l : List ℕ). l ++ drop 12 others) (sym same ∙ first);
       fits = has.fits;
@@ -32,10 +35,13 @@ each_of P each (x ∷ xs) = (each x, each_of P each xs)
 module _ (new text : List ℕ) (rows : ℕ) (room : 12 + 63 * rows ≤ length new) (enough : 12 + 63 * rows ≤ length text)
     (inside : (place : ℕ) → place < 12 + 63 * rows → slice_index new (0 + place) ≡ slice_index text (0 + place)) where
   here : (place : ℕ) → place < 12 + 63 * rows → slice_index new place ≡ slice_index text place
-  here place below = let same : 0 + place ≡ place = omega arith in subst (λ (i : ℕ). slice_index new i ≡ slice_index text i) same (inside place below)
+  here place below = let same : 0 + place ≡ place = omega arith in
+      subst (λ (i : ℕ). slice_index new i ≡ slice_index text i) same (inside place below)
 
   first_same : take 12 new ≡ take 12 text
-  first_same = part_same 0 12 new text (omega (arith, room)) (omega (arith, enough)) (λ place below. inside place (omega (arith, below)))
+  first_same =
+      part_same 0 12 new text (omega (arith, room)) (omega (arith, enough))
+      (λ place below. inside place (omega (arith, below)))
 
   front_shares : (column : FactColumn) → ShareColumn rows new text column
   front_shares column =
@@ -43,16 +49,20 @@ module _ (new text : List ℕ) (rows : ℕ) (room : 12 + 63 * rows ≤ length ne
       let at : ℕ = 12 + place_of column * rows in
       let count : ℕ = width_of column * rows in
       column_part column rows new
-      ∙ part_same at count new text (omega (arith, within, room)) (omega (arith, within, enough)) (λ place below. here (at + place) (omega (arith, within, below)))
+      ∙ part_same at count new text (omega (arith, within, room)) (omega (arith, within, enough))
+      (λ place below. here (at + place) (omega (arith, within, below)))
       ∙ sym (column_part column rows text)
 
-  front_read : (number : ℕ) (columns : List FactColumn) → HasHeader new number rows × All (FitsColumnIn new rows) columns
-      → HasColumns text number rows × (AllByRecursion (ShareColumn rows new text) columns × AllByRecursion (FitsColumnIn text rows) columns)
+  front_read : (number : ℕ) (columns : List FactColumn) → HasHeader new number rows
+      × All (FitsColumnIn new rows) columns
+      → HasColumns text number rows
+      × (AllByRecursion (ShareColumn rows new text) columns × AllByRecursion (FitsColumnIn text rows) columns)
   front_read number columns own = (
     record { header = header_moved new text number rows first_same own.0; room = enough },
     (
       each_of (ShareColumn rows new text) front_shares columns,
-      recursion_from_All (FitsColumnIn text rows) columns (λ i d lt. fits_shared text new rows _ (sym (front_shares _)) (own.1 i d lt)),
+      recursion_from_All (FitsColumnIn text rows) columns
+          (λ i d lt. fits_shared text new rows _ (sym (front_shares _)) (own.1 i d lt)),
     ),
   )
 
@@ -64,11 +74,14 @@ module _ (new text : List ℕ) (rows : ℕ) (room : 12 + 63 * rows ≤ length ne
   )
 
 -- the same of the text at an id, if there is one
-pub front_found : (new : List ℕ) (rows : ℕ) (text : Option (List ℕ)) → 12 + 63 * rows ≤ length new → IsSomeAnd text (λ t. 12 + 63 * rows ≤ length t)
-    → ((t : List ℕ) → text ≡ Some t → (place : ℕ) → place < 12 + 63 * rows → slice_index new (0 + place) ≡ slice_index t (0 + place))
+pub front_found : (new : List ℕ) (rows : ℕ) (text : Option (List ℕ)) → 12 + 63 * rows ≤ length new
+    → IsSomeAnd text (λ t. 12 + 63 * rows ≤ length t)
+    → ((t : List ℕ) → text ≡ Some t → (place : ℕ) → place < 12 + 63 * rows
+    → slice_index new (0 + place) ≡ slice_index t (0 + place))
     → (number : ℕ) (columns : List FactColumn) → HasHeader new number rows × All (FitsColumnIn new rows) columns
     → IsSomeAnd text (λ t. HasColumns t number rows × AllByRecursion (ShareColumn rows new t) columns)
     × IsSomeAnd text (λ t. HasColumns t number rows × AllByRecursion (FitsColumnIn t rows) columns)
 front_found new rows None room enough inside number columns own = absurd enough
 front_found new rows (Some text) room enough inside number columns own =
-    let read = front_read new text rows room enough (inside text refl) number columns own in ((read.0, read.1.0), (read.0, read.1.1))
+    let read = front_read new text rows room enough (inside text refl) number columns own in
+    ((read.0, read.1.0), (read.0, read.1.1))

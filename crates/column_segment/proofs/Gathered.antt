@@ -1,5 +1,6 @@
 -- Columns that were gathered, numbers piece by piece and texts row by row. Our own.
-use Rattle.std.proofs.Common.{◌≡◌, ◌<◌, ◌≤◌, ◌+◌, ◌-◌, ◌∙◌, sym, ap, refl, arith, ℕ, List, [], ◌∷◌, ◌++◌, map, length, take, get_or, slice_range, length-append, append_assoc}
+use Rattle.std.proofs.Common.{◌≡◌, ◌<◌, ◌≤◌, ◌+◌, ◌-◌, ◌∙◌, sym, ap, refl, arith, ℕ, List, [], ◌∷◌, ◌++◌, map, length}
+use Rattle.std.proofs.Common.{take, get_or, slice_range, length-append, append_assoc}
 use Rattle.std.specs.List.{flat_map}
 use Rattle.std.proofs.Math.Seq.{take-add}
 use Rattle.std.proofs.lemmas.List.{flat_map_more, length-map, length-take-le, map-append, take_more}
@@ -12,35 +13,45 @@ use Rattle.column_segment.specs.Segment.{number_column}
 use Rattle.column_segment.specs.declared.coding.Coding.{Coding}
 use Rattle.column_segment.specs.declared.coding.Texts.{Texts}
 use Rattle.column_segment.specs.declared.columns.TextColumn.{TextColumn}
-use Rattle.column_segment.specs.declared.columns.TextColumn.TheVariants.{OrderPriority, ShipPriority, CommitDate, ShipMode}
+use Rattle.column_segment.specs.declared.columns.TextColumn.TheVariants.{OrderPriority, ShipPriority, CommitDate}
+use Rattle.column_segment.specs.declared.columns.TextColumn.TheVariants.{ShipMode}
 use Rattle.column_segment.proofs.Coded.{has_room}
 
 -- ---- numbers
 
-flat_chunks : (column : Column) (rows : List LineOrder) → flat_map (λ chunk. chunk) (number_chunks column rows) ≡ number_column rows column
+flat_chunks : (column : Column) (rows : List LineOrder) → flat_map (λ chunk. chunk) (number_chunks column rows)
+    ≡ number_column rows column
 flat_chunks column [] = refl
-flat_chunks column (row ∷ rows) = ap (λ (l : List ℕ). spelling column.width (column.value row) ++ l) (flat_chunks column rows)
+flat_chunks column (row ∷ rows) =
+    ap (λ (l : List ℕ). spelling column.width (column.value row) ++ l) (flat_chunks column rows)
 
 -- the bytes of all rows, one after the other, are the column
-pub column_behind : (column : Column) (rows : List LineOrder) (items slice : List (List ℕ)) (s0 s1 : List ℕ) → items ≡ number_chunks column rows → slice ≡ items
+pub column_after : (column : Column) (rows : List LineOrder) (items slice : List (List ℕ)) (s0 s1 : List ℕ)
+    → items ≡ number_chunks column rows → slice ≡ items
     → s1 ≡ s0 ++ flat_map (λ chunk. chunk) slice → s1 ≡ s0 ++ number_column rows column
-column_behind column rows items slice s0 s1 are same put =
-    put ∙ ap (λ (l : List (List ℕ)). s0 ++ flat_map (λ chunk. chunk) l) (same ∙ are) ∙ ap (λ (l : List ℕ). s0 ++ l) (flat_chunks column rows)
+column_after column rows items slice s0 s1 are same put =
+    put ∙ ap (λ (l : List (List ℕ)). s0 ++ flat_map (λ chunk. chunk) l) (same ∙ are)
+    ∙ ap (λ (l : List ℕ). s0 ++ l) (flat_chunks column rows)
 
 -- ---- texts
 
 -- the bytes of one code more
-pub flat_more : (old new : List (List ℕ)) (chunk : List ℕ) → new ≡ old ++ chunk ∷ [] → flat_map (λ code. code) new ≡ flat_map (λ code. code) old ++ chunk
-flat_more old new chunk put = ap (flat_map (λ code. code)) put ∙ sym (flat_map_more (λ (code : List ℕ). code) [] old chunk)
+pub flat_more : (old new : List (List ℕ)) (chunk : List ℕ) → new ≡ old ++ chunk ∷ []
+    → flat_map (λ code. code) new ≡ flat_map (λ code. code) old ++ chunk
+flat_more old new chunk put = ap (flat_map (λ code. code)) put
+    ∙ sym (flat_map_more (λ (code : List ℕ). code) [] old chunk)
 
-one_room : (column : TextColumn) (rows : List LineOrder) (coding : Coding) → IsCoding (map (text_of column) rows) coding → length rows < most_batch_rows → HasRoom coding
+one_room : (column : TextColumn) (rows : List LineOrder) (coding : Coding) → IsCoding (map (text_of column) rows) coding
+    → length rows < most_batch_rows → HasRoom coding
 one_room column rows coding are few = record {
-  room = has_room (map (text_of column) rows) coding.texts (flat_map (λ code. code) coding.codes.items) are (omega (arith, length-map rows (text_of column), few));
+  room = has_room (map (text_of column) rows) coding.texts (flat_map (λ code. code) coding.codes.items) are
+      (omega (arith, length-map rows (text_of column), few));
   limit = omega (arith, are.limit);
 }
 
 -- after fewer rows than a batch may have there is room for one more
-pub room_left : (rows : List LineOrder) (texts : Texts) → HaveTexts rows texts → length rows < most_batch_rows → HaveRoom texts
+pub room_left : (rows : List LineOrder) (texts : Texts) → HaveTexts rows texts → length rows < most_batch_rows
+    → HaveRoom texts
 room_left rows texts have few = record {
   orderpriority = one_room OrderPriority rows texts.orderpriority have.orderpriority few;
   shippriority = one_room ShipPriority rows texts.shippriority have.shippriority few;
@@ -49,25 +60,33 @@ room_left rows texts have few = record {
 }
 
 -- so many of further rows after the rows before them
-pub length_behind : (before rows : List LineOrder) (i : ℕ) → i ≤ length rows → length (before ++ take i rows) ≡ length before + i
-length_behind before rows i le = length-append before (take i rows) ∙ ap (λ (n : ℕ). length before + n) (length-take-le i rows le)
+pub length_after : (before rows : List LineOrder) (i : ℕ) → i ≤ length rows
+    → length (before ++ take i rows) ≡ length before + i
+length_after before rows i le = length-append before (take i rows)
+    ∙ ap (λ (n : ℕ). length before + n) (length-take-le i rows le)
 
 -- ---- pieces of rows
 
 -- the bytes of a piece after those of the rows before
-pub chunks_behind : (column : Column) (before piece : List LineOrder) (old new : List (List ℕ)) → old ≡ number_chunks column before → new ≡ old ++ number_chunks column piece
+pub chunks_after : (column : Column) (before piece : List LineOrder) (old new : List (List ℕ))
+    → old ≡ number_chunks column before → new ≡ old ++ number_chunks column piece
     → new ≡ number_chunks column (before ++ piece)
-chunks_behind column before piece old new are put =
+chunks_after column before piece old new are put =
     put ∙ ap (λ (l : List (List ℕ)). l ++ number_chunks column piece) are
     ∙ sym (map-append (λ (r : LineOrder). spelling column.width (column.value r)) before piece)
 
 -- one row more of further rows
-pub one_behind : (before rows : List LineOrder) (i : ℕ) (row : LineOrder) → i < length rows → row ≡ get_or rows i row → (before ++ take i rows) ++ row ∷ [] ≡ before ++ take (i + 1) rows
-one_behind before rows i row lt is = append_assoc before (take i rows) (row ∷ []) ∙ ap (λ (l : List LineOrder). before ++ l) (ap (λ (r : LineOrder). take i rows ++ r ∷ []) is ∙ sym (take_more rows i row lt))
+pub one_after : (before rows : List LineOrder) (i : ℕ) (row : LineOrder) → i < length rows → row ≡ get_or rows i row
+    → (before ++ take i rows) ++ row ∷ [] ≡ before ++ take (i + 1) rows
+one_after before rows i row lt is = append_assoc before (take i rows) (row ∷ [])
+    ∙ ap (λ (l : List LineOrder). before ++ l) (ap (λ (r : LineOrder). take i rows ++ r ∷ []) is
+    ∙ sym (take_more rows i row lt))
 
 -- one piece more of them
-pub piece_behind : (before rows : List LineOrder) (from to : ℕ) → from ≤ to → (before ++ take from rows) ++ slice_range rows from to ≡ before ++ take to rows
-piece_behind before rows from to order =
+pub piece_after : (before rows : List LineOrder) (from to : ℕ) → from ≤ to
+    → (before ++ take from rows) ++ slice_range rows from to ≡ before ++ take to rows
+piece_after before rows from to order =
     let width : from + (to - from) ≡ to = omega (arith, order) in
     append_assoc before (take from rows) (slice_range rows from to)
-    ∙ ap (λ (l : List LineOrder). before ++ l) (sym (take-add from (to - from) rows) ∙ ap (λ (n : ℕ). take n rows) width)
+    ∙ ap (λ (l : List LineOrder). before ++ l)
+    (sym (take-add from (to - from) rows) ∙ ap (λ (n : ℕ). take n rows) width)

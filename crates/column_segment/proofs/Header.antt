@@ -1,5 +1,6 @@
 -- What the parts of a header that were read say of the bytes. Our own.
-use Rattle.std.proofs.Common.{◌≡◌, ℕ, Bool, true, false, not, ◌<◌, ◌≤◌, List, ◌++◌, length, take, drop, codes, refl, sym, ap, ◌∙◌, arith, length-append, true≢false}
+use Rattle.std.proofs.Common.{◌≡◌, ℕ, Bool, true, false, not, ◌<◌, ◌≤◌, List, ◌++◌, length, take, drop, codes, refl}
+use Rattle.std.proofs.Common.{sym, ap, ◌∙◌, arith, length-append, true≢false}
 use Rattle.std.proofs.Math.Seq.{take-append_seam}
 use Rattle.std.proofs.lemmas.List.{append_cancel_left}
 use Rattle.std.specs.Str.{bytes_eq}
@@ -11,11 +12,12 @@ use Rattle.dictionary.proofs.CallerLemmas.{bytes_eq-refl, bytes_eq-same}
 use Rattle.column_segment.specs.Reading.{HasHeader}
 use Rattle.column_segment.specs.Segment.{header_of}
 use Rattle.column_segment.proofs.CallerLemmas.{header-append}
-use Rattle.column_segment.proofs.Passes.{header_stands}
+use Rattle.column_segment.proofs.Passes.{header_holds}
 
 -- what a comparison of a name says
 pub other_name : (name own : List ℕ) (differ : Bool) → differ ≡ not (bytes_eq name own) → differ ≡ true → name ≡ own → ⊥
-other_name name own differ is so same = true≢false (sym so ∙ is ∙ ap (λ (l : List ℕ). not (bytes_eq l own)) same ∙ ap not (bytes_eq-refl own))
+other_name name own differ is so same =
+    true≢false (sym so ∙ is ∙ ap (λ (l : List ℕ). not (bytes_eq l own)) same ∙ ap not (bytes_eq-refl own))
 
 pub own_name : (name own : List ℕ) (differ : Bool) → differ ≡ not (bytes_eq name own) → differ ≡ false → name ≡ own
 own_name name own differ is so = by (bytes_eq name own) refl
@@ -25,45 +27,66 @@ own_name name own differ is so = by (bytes_eq name own) refl
     by false apart = absurd (true≢false (sym (ap not apart) ∙ sym is ∙ so))
 
 module _ (old r0 name : List ℕ) (taken : TakesBytes 4 old r0 name) where
-  in_parts : (number rows : ℕ) → HasHeader old number rows → old ≡ codes "SEG1" ++ (spelling 4 number ++ (spelling 4 rows ++ drop 12 old))
+  in_parts : (number rows : ℕ) → HasHeader old number rows
+      → old ≡ codes "SEG1" ++ (spelling 4 number ++ (spelling 4 rows ++ drop 12 old))
   in_parts number rows is = is.spelled ∙ header-append number rows (drop 12 old)
 
   name_is : (number rows : ℕ) → HasHeader old number rows → name ≡ codes "SEG1"
   name_is number rows is =
-      sym (take-append_seam name r0) ∙ ap (λ (n : ℕ). take n (name ++ r0)) taken.many ∙ ap (take 4) (sym taken.spelled ∙ in_parts number rows is)
+      sym (take-append_seam name r0) ∙ ap (λ (n : ℕ). take n (name ++ r0)) taken.many
+      ∙ ap (take 4) (sym taken.spelled ∙ in_parts number rows is)
 
-  behind_name : (number rows : ℕ) → HasHeader old number rows → r0 ≡ spelling 4 number ++ (spelling 4 rows ++ drop 12 old)
-  behind_name number rows is =
+  after_name : (number rows : ℕ) → HasHeader old number rows
+      → r0 ≡ spelling 4 number ++ (spelling 4 rows ++ drop 12 old)
+  after_name number rows is =
       append_cancel_left (codes "SEG1") r0 (spelling 4 number ++ (spelling 4 rows ++ drop 12 old))
-      (ap (λ (front : List ℕ). front ++ r0) (sym (name_is number rows is)) ∙ sym taken.spelled ∙ in_parts number rows is)
+      (ap (λ (front : List ℕ). front ++ r0) (sym (name_is number rows is)) ∙ sym taken.spelled
+      ∙ in_parts number rows is)
 
   pub none_name : (name ≡ codes "SEG1" → ⊥) → (number rows : ℕ) → HasHeader old number rows → ⊥
   none_name differs = λ number rows is. differs (name_is number rows is)
 
   pub none_number : length r0 < 4 → (number rows : ℕ) → HasHeader old number rows → ⊥
   none_number short = λ number rows is.
-      absurd (omega (arith, ap length (behind_name number rows is), length-append (spelling 4 number) (spelling 4 rows ++ drop 12 old), length-spelling 4 number, short))
+      absurd (omega (
+        arith,
+        ap length (after_name number rows is),
+        length-append (spelling 4 number) (spelling 4 rows ++ drop 12 old),
+        length-spelling 4 number,
+        short,
+      ))
 
   module _ (r1 : List ℕ) (n : ℕ) (numbered : ReadsNumber 4 r0 r1 n) where
-    behind_number : (number rows : ℕ) → HasHeader old number rows → r1 ≡ spelling 4 rows ++ drop 12 old
-    behind_number number rows is = (numbered.reads_back number (spelling 4 rows ++ drop 12 old) (omega (arith, is.fits)) (behind_name number rows is)).1
+    after_number : (number rows : ℕ) → HasHeader old number rows → r1 ≡ spelling 4 rows ++ drop 12 old
+    after_number number rows is =
+        (numbered.reads_back number (spelling 4 rows ++ drop 12 old) (omega (arith, is.fits))
+        (after_name number rows is)).1
 
     pub none_rows : length r1 < 4 → (number rows : ℕ) → HasHeader old number rows → ⊥
     none_rows short = λ number rows is.
-        absurd (omega (arith, ap length (behind_number number rows is), length-append (spelling 4 rows) (drop 12 old), length-spelling 4 rows, short))
+        absurd (omega (
+          arith,
+          ap length (after_number number rows is),
+          length-append (spelling 4 rows) (drop 12 old),
+          length-spelling 4 rows,
+          short,
+        ))
 
     module _ (r2 : List ℕ) (k : ℕ) (counted : ReadsNumber 4 r1 r2 k) where
       pub none_many : most_batch_rows < k → (number rows : ℕ) → HasHeader old number rows → ⊥
       none_many many = λ number rows is.
-          let back = counted.reads_back rows (drop 12 old) (omega (arith, is.few)) (behind_number number rows is) in absurd (omega (arith, back.0, is.few, many))
+          let back = counted.reads_back rows (drop 12 old) (omega (arith, is.few)) (after_number number rows is) in
+          absurd (omega (arith, back.0, is.few, many))
 
       pub header_is : name ≡ codes "SEG1" → k ≤ most_batch_rows → HasHeader old n k
       header_is own few =
           let parts : old ≡ header_of n k ++ r2 =
-          taken.spelled ∙ ap (λ (front : List ℕ). front ++ r0) own ∙ ap (λ (l : List ℕ). codes "SEG1" ++ l) (numbered.spelled ∙ ap (λ (l : List ℕ). spelling 4 n ++ l) counted.spelled)
+          taken.spelled ∙ ap (λ (front : List ℕ). front ++ r0) own
+          ∙ ap (λ (l : List ℕ). codes "SEG1" ++ l)
+          (numbered.spelled ∙ ap (λ (l : List ℕ). spelling 4 n ++ l) counted.spelled)
           ∙ sym (header-append n k r2) in
           record {
-            spelled = parts ∙ ap (λ (l : List ℕ). header_of n k ++ l) (sym (header_stands old r2 n k parts));
+            spelled = parts ∙ ap (λ (l : List ℕ). header_of n k ++ l) (sym (header_holds old r2 n k parts));
             fits = omega (arith, numbered.fits);
             few = few;
           }

@@ -1,5 +1,5 @@
 pub mod CallerLemmas
-mod Behind
+mod After
 mod Gathered
 mod Chunked
 mod Coded

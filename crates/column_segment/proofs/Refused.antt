@@ -13,6 +13,7 @@ weaker fault so (inl memory) = inl memory
 weaker fault so (inr bad) = inr (bad.0, so bad.1)
 
 -- the refusal of a call is that of its caller
-pub refused : {T A B : Type 0} (result : Result T Fault) (fault : Fault) → IsErrAnd result (λ own. own ≡ fault) → (A → B) → Says A fault → IfErr result (Says B)
+pub refused : {T A B : Type 0} (result : Result T Fault) (fault : Fault) → IsErrAnd result (λ own. own ≡ fault)
+    → (A → B) → Says A fault → IfErr result (Says B)
 refused (Ok value) fault is so says = absurd is
 refused {A = A} (Err own) fault is so says = weaker own so (rw is says)

@@ -1,5 +1,7 @@
 -- Bytes that were checked are those of a batch. Our own.
-use Rattle.std.proofs.Common.{◌≡◌, ℕ, zero, suc, ◌+◌, ◌*◌, ◌^◌, ◌<◌, ◌≤◌, Bool, true, false, nat_lt, List, [], ◌∷◌, ◌++◌, length, map, take, drop, All, refl, sym, ap, subst, ◌∙◌, arith, ◌&&◌, true≢false, append_assoc, length-drop, drop-drop}
+use Rattle.std.proofs.Common.{◌≡◌, ℕ, zero, suc, ◌+◌, ◌*◌, ◌^◌, ◌<◌, ◌≤◌, Bool, true, false, nat_lt, List, [], ◌∷◌}
+use Rattle.std.proofs.Common.{◌++◌, length, map, take, drop, All, refl, sym, ap, subst, ◌∙◌, arith, ◌&&◌, true≢false}
+use Rattle.std.proofs.Common.{append_assoc, length-drop, drop-drop}
 use Rattle.std.specs.Int.{from_le_bytes, w16}
 use Rattle.std.specs.List.{AllByRecursion, flat_map, list_all}
 use Rattle.std.proofs.Math.Seq.{take-add}
@@ -12,11 +14,14 @@ use Rattle.dictionary.specs.Columns.{codes_spelling, column_spelling, text_at}
 use Rattle.dictionary.specs.Spelling.{AreShort, texts_spelling}
 use Rattle.dictionary.proofs.ColumnLaws.{AreCodes-below, one_column}
 use Rattle.column_segment.specs.declared.columns.AmountColumn.{AmountColumn}
-use Rattle.column_segment.specs.declared.columns.AmountColumn.TheVariants.{OrderKey, ExtendedPrice, OrdTotalPrice, Revenue, SupplyCost}
-use Rattle.column_segment.specs.declared.columns.NumberColumn.TheVariants.{LineNumber, CustKey, PartKey, SuppKey, OrderDate}
+use Rattle.column_segment.specs.declared.columns.AmountColumn.TheVariants.{OrderKey, ExtendedPrice, OrdTotalPrice}
+use Rattle.column_segment.specs.declared.columns.AmountColumn.TheVariants.{Revenue, SupplyCost}
+use Rattle.column_segment.specs.declared.columns.NumberColumn.TheVariants.{LineNumber, CustKey, PartKey, SuppKey}
+use Rattle.column_segment.specs.declared.columns.NumberColumn.TheVariants.{OrderDate}
 use Rattle.column_segment.specs.declared.columns.ByteColumn.TheVariants.{Quantity, Discount, Tax}
 use Rattle.column_segment.specs.declared.columns.TextColumn.{TextColumn}
-use Rattle.column_segment.specs.declared.columns.TextColumn.TheVariants.{OrderPriority, ShipPriority, CommitDate, ShipMode}
+use Rattle.column_segment.specs.declared.columns.TextColumn.TheVariants.{OrderPriority, ShipPriority, CommitDate}
+use Rattle.column_segment.specs.declared.columns.TextColumn.TheVariants.{ShipMode}
 use Rattle.column_segment.specs.declared.layout.Coded.{Coded}
 use Rattle.column_segment.specs.declared.layout.Layout.{Layout}
 use Rattle.column_segment.specs.Columns.{Column, FitsColumn, amounts, number_columns, text_columns, text_of}
@@ -24,7 +29,8 @@ use Rattle.column_segment.specs.Decoded.{HasCodes, IsDecoded, amounts_in, codes_
 use Rattle.column_segment.specs.Reading.{HasColumn, HasHeader, HasNumbers, HasTexts}
 use Rattle.column_segment.specs.Segment.{FitColumns, header_of, number_column, text_column}
 use Rattle.column_segment.proofs.Chunked.{AreBytes, AreBytes-drop, AreBytes-take, back_2, chunks_back, length-read}
-use Rattle.column_segment.proofs.Values.{All-unmap, amounts_fit, amounts_stand, bytes_fit, bytes_stand, numbers_fit, numbers_stand, rows_many, text_values}
+use Rattle.column_segment.proofs.Values.{All-unmap, amounts_fit, amounts_hold, bytes_fit, bytes_hold, numbers_fit}
+use Rattle.column_segment.proofs.Values.{numbers_hold, rows_many, text_values}
 
 -- ---- columns of numbers, one after the other
 
@@ -34,7 +40,8 @@ total (column ∷ columns) = column.width + total columns
 
 abbrev pieces : List Column → ℕ → ℕ → List ℕ → List ℕ
 pieces [] place n xs = []
-pieces (column ∷ columns) place n xs = take (column.width * n) (drop (place * n) xs) ++ pieces columns (place + column.width) n xs
+pieces (column ∷ columns) place n xs = take (column.width * n) (drop (place * n) xs)
+    ++ pieces columns (place + column.width) n xs
 
 pub sum_times : (a b n : ℕ) → (a + b) * n ≡ a * n + b * n
 sum_times a b zero = omega arith
@@ -44,12 +51,14 @@ sum_times a b (suc n) =
     let second : b * suc n ≡ b + b * n = omega arith in
     omega (arith, sum_times a b n, left, first, second)
 
-pieces_whole : (columns : List Column) (place n : ℕ) (xs : List ℕ) → pieces columns place n xs ≡ take (total columns * n) (drop (place * n) xs)
+pieces_whole : (columns : List Column) (place n : ℕ) (xs : List ℕ)
+    → pieces columns place n xs ≡ take (total columns * n) (drop (place * n) xs)
 pieces_whole [] place n xs = let none : 0 ≡ 0 * n = omega arith in ap (λ (m : ℕ). take m (drop (place * n) xs)) none
 pieces_whole (column ∷ columns) place n xs =
     let next : drop ((place + column.width) * n) xs ≡ drop (column.width * n) (drop (place * n) xs) =
     ap (λ (m : ℕ). drop m xs) (sum_times place column.width n) ∙ sym (drop-drop (column.width * n) (place * n) xs) in
-    ap (λ (l : List ℕ). take (column.width * n) (drop (place * n) xs) ++ l) (pieces_whole columns (place + column.width) n xs)
+    ap (λ (l : List ℕ). take (column.width * n) (drop (place * n) xs) ++ l)
+    (pieces_whole columns (place + column.width) n xs)
     ∙ ap (λ (l : List ℕ). take (column.width * n) (drop (place * n) xs) ++ take (total columns * n) l) next
     ∙ sym (take-add (column.width * n) (total columns * n) (drop (place * n) xs))
     ∙ ap (λ (m : ℕ). take m (drop (place * n) xs)) (sym (sum_times column.width (total columns) n))
@@ -58,38 +67,44 @@ below_of : (limit : ℕ) (xs : List ℕ) → all_below limit xs ≡ true → All
 below_of limit [] fine = tt
 below_of limit (x ∷ xs) fine = by (λ all. below_of limit xs all) (nat_lt x limit) refl fine
   where
-    by : (list_all (λ y. nat_lt y limit) xs ≡ true → AllByRecursion (λ y. y < limit) xs) → (first : Bool) → nat_lt x limit ≡ first
+    by : (list_all (λ y. nat_lt y limit) xs ≡ true → AllByRecursion (λ y. y < limit) xs) → (first : Bool)
+        → nat_lt x limit ≡ first
         → (first && list_all (λ y. nat_lt y limit) xs) ≡ true → AllByRecursion (λ y. y < limit) (x ∷ xs)
     by more true is both = (ltb-true x limit is, more both)
     by more false is both = absurd (true≢false (sym both))
 
 module _ (text : List ℕ) (layout : Layout) (are : AreBytes text) (numbers_are : HasNumbers text layout.rows) where
-  keys_stand : flat_map (number_column (rows_in text layout)) number_columns ≡ take (63 * layout.rows) (drop 12 text)
-  keys_stand =
+  keys_hold : flat_map (number_column (rows_in text layout)) number_columns ≡ take (63 * layout.rows) (drop 12 text)
+  keys_hold =
       let room = numbers_are.room in
-      let c1 = amounts_stand text layout room are OrderKey (omega arith) in
-      let c2 = numbers_stand text layout room are LineNumber (omega arith) in
-      let c3 = numbers_stand text layout room are CustKey (omega arith) in
-      let c4 = numbers_stand text layout room are PartKey (omega arith) in
-      let c5 = numbers_stand text layout room are SuppKey (omega arith) in
-      let c6 = numbers_stand text layout room are OrderDate (omega arith) in
-      let c7 = bytes_stand text layout room are Quantity in
-      let c8 = amounts_stand text layout room are ExtendedPrice (omega arith) in
-      let c9 = amounts_stand text layout room are OrdTotalPrice (omega arith) in
-      let c10 = bytes_stand text layout room are Discount in
-      let c11 = amounts_stand text layout room are Revenue (omega arith) in
-      let c12 = amounts_stand text layout room are SupplyCost (omega arith) in
-      let c13 = bytes_stand text layout room are Tax in
-      let cut : flat_map (number_column (rows_in text layout)) number_columns ≡ pieces number_columns 0 layout.rows (drop 12 text) =
-      λ i. c1 i ++ (c2 i ++ (c3 i ++ (c4 i ++ (c5 i ++ (c6 i ++ (c7 i ++ (c8 i ++ (c9 i ++ (c10 i ++ (c11 i ++ (c12 i ++ (c13 i ++ [])))))))))))) in
+      let c1 = amounts_hold text layout room are OrderKey (omega arith) in
+      let c2 = numbers_hold text layout room are LineNumber (omega arith) in
+      let c3 = numbers_hold text layout room are CustKey (omega arith) in
+      let c4 = numbers_hold text layout room are PartKey (omega arith) in
+      let c5 = numbers_hold text layout room are SuppKey (omega arith) in
+      let c6 = numbers_hold text layout room are OrderDate (omega arith) in
+      let c7 = bytes_hold text layout room are Quantity in
+      let c8 = amounts_hold text layout room are ExtendedPrice (omega arith) in
+      let c9 = amounts_hold text layout room are OrdTotalPrice (omega arith) in
+      let c10 = bytes_hold text layout room are Discount in
+      let c11 = amounts_hold text layout room are Revenue (omega arith) in
+      let c12 = amounts_hold text layout room are SupplyCost (omega arith) in
+      let c13 = bytes_hold text layout room are Tax in
+      let cut : flat_map (number_column (rows_in text layout)) number_columns
+      ≡ pieces number_columns 0 layout.rows (drop 12 text) =
+      λ i. c1 i ++ (c2 i
+      ++ (c3 i ++ (c4 i
+      ++ (c5 i ++ (c6 i ++ (c7 i ++ (c8 i ++ (c9 i ++ (c10 i ++ (c11 i ++ (c12 i ++ (c13 i ++ [])))))))))))) in
       let none : 0 * layout.rows ≡ 0 = omega arith in
-      cut ∙ pieces_whole number_columns 0 layout.rows (drop 12 text) ∙ ap (λ (m : ℕ). take (63 * layout.rows) (drop m (drop 12 text))) none
+      cut ∙ pieces_whole number_columns 0 layout.rows (drop 12 text)
+      ∙ ap (λ (m : ℕ). take (63 * layout.rows) (drop m (drop 12 text))) none
 
   numbers_all_fit : FitColumns (rows_in text layout)
   numbers_all_fit =
       let room = numbers_are.room in
       let amount : (column : AmountColumn) → All (FitsColumn (amounts column)) (rows_in text layout) =
-      λ column. amounts_fit text layout room are column (below_of (2 ^ 63) (amounts_in text layout.rows column) (numbers_are.amounts column)) in
+      λ column. amounts_fit text layout room are column
+      (below_of (2 ^ 63) (amounts_in text layout.rows column) (numbers_are.amounts column)) in
       let number = numbers_fit text layout room are in
       let byte = bytes_fit text layout room are in (
         amount OrderKey,
@@ -103,7 +118,13 @@ module _ (text : List ℕ) (layout : Layout) (are : AreBytes text) (numbers_are 
                 number SuppKey,
                 (
                   number OrderDate,
-                  (byte Quantity, (amount ExtendedPrice, (amount OrdTotalPrice, (byte Discount, (amount Revenue, (amount SupplyCost, (byte Tax, tt))))))),
+                  (
+                    byte Quantity,
+                    (
+                      amount ExtendedPrice,
+                      (amount OrdTotalPrice, (byte Discount, (amount Revenue, (amount SupplyCost, (byte Tax, tt))))),
+                    ),
+                  ),
                 ),
               ),
             ),
@@ -113,24 +134,25 @@ module _ (text : List ℕ) (layout : Layout) (are : AreBytes text) (numbers_are 
 
 -- ---- columns of texts
 
-texts_below : (P : List ℕ → Type 0) (texts : List (List ℕ)) (codes : List ℕ) → All P texts → AllByRecursion (λ code. code < length texts) codes → AllByRecursion P (map (text_at texts) codes)
+texts_below : (P : List ℕ → Type 0) (texts : List (List ℕ)) (codes : List ℕ) → All P texts
+    → AllByRecursion (λ code. code < length texts) codes → AllByRecursion P (map (text_at texts) codes)
 texts_below P texts [] all below = tt
 texts_below P texts (code ∷ codes) all below = (all code [] below.0, texts_below P texts codes all below.1)
 
 module _ (text : List ℕ) (n from : ℕ) (coded : Coded) (are : AreBytes text) (column : HasColumn text n from coded) where
-  codes_stand : codes_spelling (codes_in text n coded.at) ≡ take (2 * n) (drop coded.at text)
-  codes_stand =
+  codes_hold : codes_spelling (codes_in text n coded.at) ≡ take (2 * n) (drop coded.at text)
+  codes_hold =
       chunks_back 2 (from_le_bytes w16) back_2 n (take (2 * n) (drop coded.at text))
       (length-take-le (2 * n) (drop coded.at text) (omega (arith, column.room, length-drop coded.at text)))
       (AreBytes-take (2 * n) (drop coded.at text) (AreBytes-drop coded.at text are))
 
   -- what is from there on is the column, and what is after its codes
-  pub column_stands : drop from text ≡ column_spelling (texts_in text n coded) ++ drop (coded.at + 2 * n) text
-  column_stands =
+  pub column_holds : drop from text ≡ column_spelling (texts_in text n coded) ++ drop (coded.at + 2 * n) text
+  column_holds =
       let laws = one_column coded.texts.texts (codes_in text n coded.at) column.proper.each_once column.are in
       let own : List ℕ = texts_spelling coded.texts.texts in
       let whole : column_spelling (texts_in text n coded) ≡ own ++ take (2 * n) (drop coded.at text) =
-      (λ i. texts_spelling (laws.0 i) ++ codes_spelling (laws.1 i)) ∙ ap (λ (l : List ℕ). own ++ l) codes_stand in
+      (λ i. texts_spelling (laws.0 i) ++ codes_spelling (laws.1 i)) ∙ ap (λ (l : List ℕ). own ++ l) codes_hold in
       column.spelled
       ∙ ap (λ (l : List ℕ). own ++ l) (sym (take-append-drop (2 * n) (drop coded.at text)))
       ∙ ap (λ (l : List ℕ). own ++ (take (2 * n) (drop coded.at text) ++ l)) (drop-drop (2 * n) coded.at text)
@@ -140,21 +162,25 @@ module _ (text : List ℕ) (n from : ℕ) (coded : Coded) (are : AreBytes text) 
   pub column_short : AreShort (texts_in text n coded)
   column_short =
       All-from_recursion (λ (t : List ℕ). length t ≤ longest_text) (texts_in text n coded)
-      (texts_below (λ (t : List ℕ). length t ≤ longest_text) coded.texts.texts (codes_in text n coded.at) column.proper.short
+      (texts_below (λ (t : List ℕ). length t ≤ longest_text) coded.texts.texts (codes_in text n coded.at)
+      column.proper.short
       (AreCodes-below (length coded.texts.texts) (codes_in text n coded.at) column.are))
 
   pub has_codes : HasCodes text n coded
   has_codes = record {
     room = column.room;
-    below = All-from_recursion (λ (code : ℕ). code < length coded.texts.texts) (codes_in text n coded.at) (AreCodes-below (length coded.texts.texts) (codes_in text n coded.at) column.are);
+    below = All-from_recursion (λ (code : ℕ). code < length coded.texts.texts) (codes_in text n coded.at)
+        (AreCodes-below (length coded.texts.texts) (codes_in text n coded.at) column.are);
   }
 
   pub column_many : length (texts_in text n coded) ≡ n
-  column_many = length-map (codes_in text n coded.at) (text_at coded.texts.texts) ∙ length-read (from_le_bytes w16) 2 n (take (2 * n) (drop coded.at text))
+  column_many = length-map (codes_in text n coded.at) (text_at coded.texts.texts)
+      ∙ length-read (from_le_bytes w16) 2 n (take (2 * n) (drop coded.at text))
 
 -- ---- the whole
 
-module _ (text : List ℕ) (layout : Layout) (are : AreBytes text) (header : HasHeader text layout.number layout.rows) (numbers_are : HasNumbers text layout.rows)
+module _ (text : List ℕ) (layout : Layout) (are : AreBytes text) (header : HasHeader text layout.number layout.rows)
+    (numbers_are : HasNumbers text layout.rows)
     (texts_are : HasTexts text layout.rows layout.texts) where
   each_short : (column : TextColumn) → AreShort (texts_in text layout.rows (coded_of column layout.texts))
   each_short OrderPriority = column_short text layout.rows _ layout.texts.orderpriority are texts_are.orderpriority
@@ -168,22 +194,30 @@ module _ (text : List ℕ) (layout : Layout) (are : AreBytes text) (header : Has
   each_codes CommitDate = has_codes text layout.rows _ layout.texts.commitdate are texts_are.commitdate
   each_codes ShipMode = has_codes text layout.rows _ layout.texts.shipmode are texts_are.shipmode
 
-  texts_stand : drop (12 + 63 * layout.rows) text ≡ flat_map (text_column (rows_in text layout)) text_columns
-  texts_stand =
+  texts_hold : drop (12 + 63 * layout.rows) text ≡ flat_map (text_column (rows_in text layout)) text_columns
+  texts_hold =
       let n : ℕ = layout.rows in
-      let t1 = column_stands text n (12 + 63 * n) layout.texts.orderpriority are texts_are.orderpriority in
-      let t2 = column_stands text n (layout.texts.orderpriority.at + 2 * n) layout.texts.shippriority are texts_are.shippriority in
-      let t3 = column_stands text n (layout.texts.shippriority.at + 2 * n) layout.texts.commitdate are texts_are.commitdate in
-      let t4 = column_stands text n (layout.texts.commitdate.at + 2 * n) layout.texts.shipmode are texts_are.shipmode in
-      let end : drop (layout.texts.shipmode.at + 2 * n) text ≡ [] = drop_all (layout.texts.shipmode.at + 2 * n) text (omega (arith, texts_are.end)) in
-      let s : (column : TextColumn) → text_column (rows_in text layout) column ≡ column_spelling (texts_in text n (coded_of column layout.texts)) =
+      let t1 = column_holds text n (12 + 63 * n) layout.texts.orderpriority are texts_are.orderpriority in
+      let t2 = column_holds text n (layout.texts.orderpriority.at + 2 * n) layout.texts.shippriority are
+      texts_are.shippriority in
+      let t3 = column_holds text n (layout.texts.shippriority.at + 2 * n) layout.texts.commitdate are
+      texts_are.commitdate in
+      let t4 = column_holds text n (layout.texts.commitdate.at + 2 * n) layout.texts.shipmode are texts_are.shipmode in
+      let end : drop (layout.texts.shipmode.at + 2 * n) text ≡ [] =
+      drop_all (layout.texts.shipmode.at + 2 * n) text (omega (arith, texts_are.end)) in
+      let s : (column : TextColumn)
+      → text_column (rows_in text layout) column
+      ≡ column_spelling (texts_in text n (coded_of column layout.texts)) =
       λ column. ap column_spelling (text_values text layout column) in
       let a1 : List ℕ = column_spelling (texts_in text n layout.texts.orderpriority) in
       let a2 : List ℕ = column_spelling (texts_in text n layout.texts.shippriority) in
       let a3 : List ℕ = column_spelling (texts_in text n layout.texts.commitdate) in
       let a4 : List ℕ = column_spelling (texts_in text n layout.texts.shipmode) in
-      t1 ∙ ap (λ (l : List ℕ). a1 ++ l) (t2 ∙ ap (λ (l : List ℕ). a2 ++ l) (t3 ∙ ap (λ (l : List ℕ). a3 ++ l) (t4 ∙ ap (λ (l : List ℕ). a4 ++ l) end)))
-      ∙ (λ i. sym (s OrderPriority) i ++ (sym (s ShipPriority) i ++ (sym (s CommitDate) i ++ (sym (s ShipMode) i ++ []))))
+      t1 ∙ ap (λ (l : List ℕ). a1 ++ l)
+      (t2 ∙ ap (λ (l : List ℕ). a2 ++ l)
+      (t3 ∙ ap (λ (l : List ℕ). a3 ++ l) (t4 ∙ ap (λ (l : List ℕ). a4 ++ l) end)))
+      ∙ (λ i. sym (s OrderPriority) i
+      ++ (sym (s ShipPriority) i ++ (sym (s CommitDate) i ++ (sym (s ShipMode) i ++ []))))
 
   pub whole : IsDecoded text layout
   whole =
@@ -191,26 +225,28 @@ module _ (text : List ℕ) (layout : Layout) (are : AreBytes text) (header : Has
       let many : length (rows_in text layout) ≡ n = rows_many text layout in
       let number_part : List ℕ = flat_map (number_column (rows_in text layout)) number_columns in
       let text_part : List ℕ = flat_map (text_column (rows_in text layout)) text_columns in
-      let keys : number_part ≡ take (63 * n) (drop 12 text) = keys_stand text layout are numbers_are in
-      let behind : drop (63 * n) (drop 12 text) ≡ text_part = drop-drop (63 * n) 12 text ∙ texts_stand in
+      let keys : number_part ≡ take (63 * n) (drop 12 text) = keys_hold text layout are numbers_are in
+      let after : drop (63 * n) (drop 12 text) ≡ text_part = drop-drop (63 * n) 12 text ∙ texts_hold in
       let spelled : text ≡ header_of layout.number (length (rows_in text layout)) ++ (number_part ++ text_part) =
       header.spelled
       ∙ ap (λ (l : List ℕ). header_of layout.number n ++ l) (sym (take-append-drop (63 * n) (drop 12 text)))
-      ∙ (λ i. header_of layout.number (sym many i) ++ (sym keys i ++ behind i)) in
+      ∙ (λ i. header_of layout.number (sym many i) ++ (sym keys i ++ after i)) in
       record {
         segment = record {
           spelled = spelled;
           number_fits = header.fits;
           batch = record {
             few = omega (arith, many, header.few);
-            short = λ column. All-unmap (λ (t : List ℕ). length t ≤ longest_text) (text_of column) (rows_in text layout) (subst AreShort (sym (text_values text layout column)) (each_short column));
+            short = λ column. All-unmap (λ (t : List ℕ). length t ≤ longest_text) (text_of column) (rows_in text layout)
+                (subst AreShort (sym (text_values text layout column)) (each_short column));
           };
           fits = numbers_all_fit text layout are numbers_are;
         };
         readable = record {
           few = header.few;
           room = numbers_are.room;
-          amounts = λ column. All-from_recursion (λ (x : ℕ). x < 2 ^ 63) (amounts_in text n column) (below_of (2 ^ 63) (amounts_in text n column) (numbers_are.amounts column));
+          amounts = λ column. All-from_recursion (λ (x : ℕ). x < 2 ^ 63) (amounts_in text n column)
+              (below_of (2 ^ 63) (amounts_in text n column) (numbers_are.amounts column));
           codes = each_codes;
         };
       }

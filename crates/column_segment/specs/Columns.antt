@@ -2,13 +2,16 @@
 use Rattle.std.specs.Prelude.{ℕ, ◌<◌, ◌^◌, List, [], ◌∷◌, ◌++◌}
 use Rattle.cube_model.specs.declared.rows.LineOrder.{LineOrder}
 use Rattle.column_segment.specs.declared.columns.AmountColumn.{AmountColumn}
-use Rattle.column_segment.specs.declared.columns.AmountColumn.TheVariants.{OrderKey, ExtendedPrice, OrdTotalPrice, Revenue, SupplyCost}
+use Rattle.column_segment.specs.declared.columns.AmountColumn.TheVariants.{OrderKey, ExtendedPrice, OrdTotalPrice}
+use Rattle.column_segment.specs.declared.columns.AmountColumn.TheVariants.{Revenue, SupplyCost}
 use Rattle.column_segment.specs.declared.columns.NumberColumn.{NumberColumn}
-use Rattle.column_segment.specs.declared.columns.NumberColumn.TheVariants.{LineNumber, CustKey, PartKey, SuppKey, OrderDate}
+use Rattle.column_segment.specs.declared.columns.NumberColumn.TheVariants.{LineNumber, CustKey, PartKey, SuppKey}
+use Rattle.column_segment.specs.declared.columns.NumberColumn.TheVariants.{OrderDate}
 use Rattle.column_segment.specs.declared.columns.ByteColumn.{ByteColumn}
 use Rattle.column_segment.specs.declared.columns.ByteColumn.TheVariants.{Quantity, Discount, Tax}
 use Rattle.column_segment.specs.declared.columns.TextColumn.{TextColumn}
-use Rattle.column_segment.specs.declared.columns.TextColumn.TheVariants.{OrderPriority, ShipPriority, CommitDate, ShipMode}
+use Rattle.column_segment.specs.declared.columns.TextColumn.TheVariants.{OrderPriority, ShipPriority, CommitDate}
+use Rattle.column_segment.specs.declared.columns.TextColumn.TheVariants.{ShipMode}
 
 -- what a row has in a column of amounts
 abbrev pub amount_of : AmountColumn → LineOrder → ℕ
@@ -56,10 +59,12 @@ bytes column = record { width = 1; limit = 2 ^ 8; value = byte_of column }
 
 -- the columns of numbers, in order: first the keys of a row, then its figures
 abbrev pub key_columns : List Column
-key_columns = amounts OrderKey ∷ numbers LineNumber ∷ numbers CustKey ∷ numbers PartKey ∷ numbers SuppKey ∷ numbers OrderDate ∷ []
+key_columns = amounts OrderKey ∷ numbers LineNumber ∷ numbers CustKey ∷ numbers PartKey ∷ numbers SuppKey
+    ∷ numbers OrderDate ∷ []
 
 abbrev pub figure_columns : List Column
-figure_columns = bytes Quantity ∷ amounts ExtendedPrice ∷ amounts OrdTotalPrice ∷ bytes Discount ∷ amounts Revenue ∷ amounts SupplyCost ∷ bytes Tax ∷ []
+figure_columns = bytes Quantity ∷ amounts ExtendedPrice ∷ amounts OrdTotalPrice ∷ bytes Discount ∷ amounts Revenue
+    ∷ amounts SupplyCost ∷ bytes Tax ∷ []
 
 abbrev pub number_columns : List Column
 number_columns = key_columns ++ figure_columns

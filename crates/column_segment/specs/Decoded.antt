@@ -1,5 +1,6 @@
 -- What the bytes of a batch hold, column by column, and its rows. Our layout.
-use Rattle.std.specs.Prelude.{ℕ, ◌+◌, ◌*◌, ◌^◌, ◌<◌, ◌≤◌, List, [], All, map, length, take, drop, slice_index, slice_index_or}
+use Rattle.std.specs.Prelude.{ℕ, ◌+◌, ◌*◌, ◌^◌, ◌<◌, ◌≤◌, List, [], All, map, length, take, drop, slice_index}
+use Rattle.std.specs.Prelude.{slice_index_or}
 use Rattle.std.specs.Int.{from_le_bytes, w16, w32, w64}
 use Rattle.std.specs.List.{range_with_len}
 use Rattle.std.specs.Simd.{first_chunks}
@@ -7,13 +8,16 @@ use Rattle.cube_model.specs.Limits.{most_batch_rows}
 use Rattle.cube_model.specs.declared.rows.LineOrder.{LineOrder}
 use Rattle.dictionary.specs.Columns.{text_at}
 use Rattle.column_segment.specs.declared.columns.AmountColumn.{AmountColumn}
-use Rattle.column_segment.specs.declared.columns.AmountColumn.TheVariants.{OrderKey, ExtendedPrice, OrdTotalPrice, Revenue, SupplyCost}
+use Rattle.column_segment.specs.declared.columns.AmountColumn.TheVariants.{OrderKey, ExtendedPrice, OrdTotalPrice}
+use Rattle.column_segment.specs.declared.columns.AmountColumn.TheVariants.{Revenue, SupplyCost}
 use Rattle.column_segment.specs.declared.columns.NumberColumn.{NumberColumn}
-use Rattle.column_segment.specs.declared.columns.NumberColumn.TheVariants.{LineNumber, CustKey, PartKey, SuppKey, OrderDate}
+use Rattle.column_segment.specs.declared.columns.NumberColumn.TheVariants.{LineNumber, CustKey, PartKey, SuppKey}
+use Rattle.column_segment.specs.declared.columns.NumberColumn.TheVariants.{OrderDate}
 use Rattle.column_segment.specs.declared.columns.ByteColumn.{ByteColumn}
 use Rattle.column_segment.specs.declared.columns.ByteColumn.TheVariants.{Quantity, Discount, Tax}
 use Rattle.column_segment.specs.declared.columns.TextColumn.{TextColumn}
-use Rattle.column_segment.specs.declared.columns.TextColumn.TheVariants.{OrderPriority, ShipPriority, CommitDate, ShipMode}
+use Rattle.column_segment.specs.declared.columns.TextColumn.TheVariants.{OrderPriority, ShipPriority, CommitDate}
+use Rattle.column_segment.specs.declared.columns.TextColumn.TheVariants.{ShipMode}
 use Rattle.column_segment.specs.declared.layout.Coded.{Coded}
 use Rattle.column_segment.specs.declared.layout.CodedTexts.{CodedTexts}
 use Rattle.column_segment.specs.declared.layout.Layout.{Layout}
@@ -45,10 +49,12 @@ column_bytes place width rows bytes = take (width * rows) (drop (place * rows) (
 
 -- the numbers of a column
 abbrev pub amounts_in : List ℕ → ℕ → AmountColumn → List ℕ
-amounts_in bytes rows column = map (from_le_bytes w64) (first_chunks 8 rows (column_bytes (amount_place column) 8 rows bytes))
+amounts_in bytes rows column =
+    map (from_le_bytes w64) (first_chunks 8 rows (column_bytes (amount_place column) 8 rows bytes))
 
 abbrev pub numbers_in : List ℕ → ℕ → NumberColumn → List ℕ
-numbers_in bytes rows column = map (from_le_bytes w32) (first_chunks 4 rows (column_bytes (number_place column) 4 rows bytes))
+numbers_in bytes rows column =
+    map (from_le_bytes w32) (first_chunks 4 rows (column_bytes (number_place column) 4 rows bytes))
 
 abbrev pub figures_in : List ℕ → ℕ → ByteColumn → List ℕ
 figures_in bytes rows column = column_bytes (byte_place column) 1 rows bytes

@@ -4,10 +4,13 @@ use Rattle.std.specs.List.{flat_map}
 use Rattle.cube_model.specs.Limits.{most_batch_rows}
 use Rattle.cube_model.specs.declared.rows.LineOrder.{LineOrder}
 use Rattle.wire.specs.Spelling.{spelling}
-use Rattle.column_segment.specs.declared.columns.AmountColumn.TheVariants.{OrderKey, ExtendedPrice, OrdTotalPrice, Revenue, SupplyCost}
-use Rattle.column_segment.specs.declared.columns.NumberColumn.TheVariants.{LineNumber, CustKey, PartKey, SuppKey, OrderDate}
+use Rattle.column_segment.specs.declared.columns.AmountColumn.TheVariants.{OrderKey, ExtendedPrice, OrdTotalPrice}
+use Rattle.column_segment.specs.declared.columns.AmountColumn.TheVariants.{Revenue, SupplyCost}
+use Rattle.column_segment.specs.declared.columns.NumberColumn.TheVariants.{LineNumber, CustKey, PartKey, SuppKey}
+use Rattle.column_segment.specs.declared.columns.NumberColumn.TheVariants.{OrderDate}
 use Rattle.column_segment.specs.declared.columns.ByteColumn.TheVariants.{Quantity, Discount, Tax}
-use Rattle.column_segment.specs.declared.columns.TextColumn.TheVariants.{OrderPriority, ShipPriority, CommitDate, ShipMode}
+use Rattle.column_segment.specs.declared.columns.TextColumn.TheVariants.{OrderPriority, ShipPriority, CommitDate}
+use Rattle.column_segment.specs.declared.columns.TextColumn.TheVariants.{ShipMode}
 use Rattle.column_segment.specs.declared.gathering.Keys.{Keys}
 use Rattle.column_segment.specs.declared.gathering.Figures.{Figures}
 use Rattle.column_segment.specs.declared.coding.Coding.{Coding}

@@ -37,7 +37,8 @@ width_of (Figure column) = 1
 -- the bytes have the same numbers in a column
 abbrev pub ShareColumn : ℕ → List ℕ → List ℕ → FactColumn → Type 0
 ShareColumn rows bytes others column =
-    column_bytes (place_of column) (width_of column) rows bytes ≡ column_bytes (place_of column) (width_of column) rows others
+    column_bytes (place_of column) (width_of column) rows bytes ≡ column_bytes (place_of column) (width_of column) rows
+    others
 
 -- what is outside of so many bytes from a place on stays
 pub record StaysOutside (at count : ℕ) (old new : List ℕ) : Type 0 where
@@ -56,8 +57,10 @@ HaveFigures rows = (column : ByteColumn) → All (FitsColumn (bytes column)) row
 
 -- there is no text, or it is that of no batch of a number and of so many rows
 abbrev pub HoldsNoneOf : Option (List ℕ) → ℕ → ℕ → Type 0
-HoldsNoneOf text number count = (bytes : List ℕ) (rows : List LineOrder) → text ≡ Some bytes → length rows ≡ count → IsSegment bytes number rows → ⊥
+HoldsNoneOf text number count = (bytes : List ℕ) (rows : List LineOrder) → text ≡ Some bytes → length rows ≡ count
+    → IsSegment bytes number rows → ⊥
 
 -- each number of a column is one: those of all but the amounts are
 abbrev pub FitsColumnIn : List ℕ → ℕ → FactColumn → Type 0
-FitsColumnIn bytes rows column = (amount : AmountColumn) → column ≡ Amount amount → all_below (2 ^ 63) (amounts_in bytes rows amount) ≡ true
+FitsColumnIn bytes rows column = (amount : AmountColumn) → column ≡ Amount amount
+    → all_below (2 ^ 63) (amounts_in bytes rows amount) ≡ true

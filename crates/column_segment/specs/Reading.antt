@@ -54,7 +54,8 @@ BeginsWithNoColumn rows bytes = (column : List (List ℕ)) (rest : List ℕ) →
 
 -- the bytes are these columns of texts of no so many rows
 abbrev pub SpellNone : List TextColumn → ℕ → List ℕ → Type 0
-SpellNone columns count bytes = (rows : List LineOrder) → length rows ≡ count → IsBatch rows → bytes ≢ flat_map (text_column rows) columns
+SpellNone columns count bytes = (rows : List LineOrder) → length rows ≡ count → IsBatch rows
+    → bytes ≢ flat_map (text_column rows) columns
 
 -- they are all columns of texts of none
 abbrev pub SpellNoTexts : ℕ → List ℕ → Type 0

@@ -23,7 +23,8 @@ text_column rows column = column_spelling (map (text_of column) rows)
 -- the bytes of a batch: the header, the columns of numbers, the columns of texts
 abbrev pub segment_of : ℕ → List LineOrder → List ℕ
 segment_of number rows =
-    header_of number (length rows) ++ (flat_map (number_column rows) number_columns ++ flat_map (text_column rows) text_columns)
+    header_of number (length rows)
+    ++ (flat_map (number_column rows) number_columns ++ flat_map (text_column rows) text_columns)
 
 -- the texts of a column are short
 abbrev pub HaveShort : List LineOrder → TextColumn → Type 0
@@ -51,4 +52,5 @@ pub record IsSegment (bytes : List ℕ) (number : ℕ) (rows : List LineOrder) :
 
 -- there is no text, or it is that of no batch
 abbrev pub HoldsNoBatch : Option (List ℕ) → Type 0
-HoldsNoBatch text = (bytes : List ℕ) (number : ℕ) (rows : List LineOrder) → text ≡ Some bytes → IsSegment bytes number rows → ⊥
+HoldsNoBatch text = (bytes : List ℕ) (number : ℕ) (rows : List LineOrder) → text ≡ Some bytes
+    → IsSegment bytes number rows → ⊥

@@ -1,7 +1,8 @@
 //! The columns of texts of a batch while its rows are added: the texts that were seen, and the code of each row's.
 #![tactic(auto, unfolding(wire::specs::Spelling::spelling))]
 
-ghost use Rattle.std.specs.Prelude.{◌≡◌, ◌<◌, ◌∷◌, ◌++◌, [], ℕ, List, Some, IfErr, IfOk, IfSome, IsOkUnless, IsTrue, OnOk};
+ghost use Rattle.std.specs.Prelude.{◌≡◌, ◌<◌, ◌∷◌, ◌++◌, [], ℕ, List, Some, IfErr, IfOk, IfSome, IsOkUnless, IsTrue};
+ghost use Rattle.std.specs.Prelude.{OnOk};
 ghost use Rattle.std.specs.List.{flat_map};
 ghost use Rattle.cube_model.specs.declared.rows.LineOrder.{LineOrder};
 ghost use Rattle.wire.specs.Spelling.{spelling};
@@ -49,7 +50,8 @@ impl Coding {
     #[inline(always)]
     fn push(&mut self, alloc: Global, text: &[u8]) -> Result<(), Fault>
         requires room { HasRoom self.old }
-        ensures ok { OnOk result ((column : List (List ℕ)) → IsCoding column self.old → IsCoding (column ++ text.now ∷ []) self.new) }
+        ensures ok { OnOk result ((column : List (List ℕ)) → IsCoding column self.old
+            → IsCoding (column ++ text.now ∷ []) self.new) }
         ensures memory { IsOkUnless result Fault.Memory }
     {
         match self.texts.add(alloc, text)? {
@@ -61,7 +63,8 @@ impl Coding {
     // Adds the column to bytes: its dictionary, then a code a row.
     fn push_to(&self, out: &mut Vec<u8>) -> Result<(), Fault>
         requires short { AreShort self.now.texts.texts }
-        ensures ok { OnOk result ((column : List (List ℕ)) → IsCoding column self.now → out.new.items ≡ out.old.items ++ column_spelling column) }
+        ensures ok { OnOk result ((column : List (List ℕ)) → IsCoding column self.now
+            → out.new.items ≡ out.old.items ++ column_spelling column) }
         ensures memory { IsOkUnless result Fault.Memory }
     {
         self.texts.push_to(out)?;
@@ -98,7 +101,8 @@ impl Texts {
     #[inline(always)]
     pub(crate) fn push(&mut self, alloc: Global, row: &LineOrder) -> Result<(), Fault>
         requires room { HaveRoom self.old }
-        ensures ok { OnOk result ((rows : List LineOrder) → HaveTexts rows self.old → HaveTexts (rows ++ row.now ∷ []) self.new) }
+        ensures ok { OnOk result ((rows : List LineOrder) → HaveTexts rows self.old
+            → HaveTexts (rows ++ row.now ∷ []) self.new) }
         ensures memory { IsOkUnless result Fault.Memory }
     {
         self.orderpriority
@@ -112,7 +116,8 @@ impl Texts {
     // Adds the columns to bytes.
     pub(crate) fn push_to(&self, out: &mut Vec<u8>) -> Result<(), Fault>
         requires batch { AreOfBatch self.now }
-        ensures ok { OnOk result ((rows : List LineOrder) → HaveTexts rows self.now → out.new.items ≡ out.old.items ++ flat_map (text_column rows) text_columns) }
+        ensures ok { OnOk result ((rows : List LineOrder) → HaveTexts rows self.now
+            → out.new.items ≡ out.old.items ++ flat_map (text_column rows) text_columns) }
         ensures memory { IsOkUnless result Fault.Memory }
     {
         self.orderpriority.push_to(out)?;

@@ -58,12 +58,13 @@ impl ColumnBuffer {
         Ok(ColumnBuffer { bytes, layout })
     }
 
-    /// Reads columns of the batch of a number and of so many rows, which a source has at an id. Of a batch of few rows all columns
-    /// of numbers are read at once, of any other the header and these columns alone, and a column not asked for is not checked.
+    /// Reads columns of the batch of a number and of so many rows, which a source has at an id. Of a batch of few rows
+    /// all columns of numbers are read at once, of any other the header and these columns alone, and a column not asked
+    /// for is not checked.
     ///
-    /// `BadLayout` where the header is another, where the text ends before the columns of numbers do, or where an amount
-    /// that was read is none. It can also fail when out of memory, or with what the source answers. After an error the
-    /// buffer has any rows.
+    /// `BadLayout` where the header is another, where the text ends before the columns of numbers do, or where an
+    /// amount that was read is none. It can also fail when out of memory, or with what the source answers. After an
+    /// error the buffer has any rows.
     pub fn read<S: Source>(
         &mut self,
         source: &mut S,
@@ -76,10 +77,13 @@ impl ColumnBuffer {
 
         // Whatever batch the text is that of, it has this number, and what was read of it.
         ensures ok { OnOk result (S.keeps_word source.new → IsSomeAnd (S.texts source.old id) (λ text.
-            (other : ℕ) (others : List LineOrder) → IsSegment text other others → (other ≡ number) × AgreeOn columns.now self.new others)) }
-        ensures checked { OnOk result (S.keeps_word source.new → IsSomeAnd (S.texts source.old id) (λ text. HasColumns text number rows
+            (other : ℕ) (others : List LineOrder) → IsSegment text other others
+            → (other ≡ number) × AgreeOn columns.now self.new others)) }
+        ensures checked { OnOk result
+            (S.keeps_word source.new → IsSomeAnd (S.texts source.old id) (λ text. HasColumns text number rows
             × AllByRecursion (FitsColumnIn text rows) columns.now)) }
-        ensures refused { IsErrOf result Fault.BadLayout → S.keeps_word source.new → HoldsNoneOf (S.texts source.old id) number rows }
+        ensures refused { IsErrOf result Fault.BadLayout → S.keeps_word source.new
+            → HoldsNoneOf (S.texts source.old id) number rows }
         ensures run { MatchResult result (λ _. HasRead S.Source source.old source.new)
             (λ fault. (((fault ≡ Fault.Memory) ⊎ (fault ≡ Fault.BadLayout)) × HasRead S.Source source.old source.new)
             ⊎ IsRefused S.Source fault source.old source.new) }

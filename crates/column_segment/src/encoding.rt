@@ -14,8 +14,8 @@ use wire::{push_bytes, push_u32};
 // The first bytes of each segment.
 pub(crate) const NAME: &[u8] = b"SEG1";
 
-// How much room a row is given: it takes 71 bytes, and more where its texts are seen for the first time. Room that is not
-// used costs nothing.
+// How much room a row is given: it takes 71 bytes, and more where its texts are seen for the first time. Room that is
+// not used costs nothing.
 const ROW_BYTES: usize = 96;
 
 // The header, and the numbers of texts.
@@ -81,7 +81,8 @@ impl BatchColumns {
     /// Adds rows after those before, with which they are at most 65,536. It can only fail when out of memory.
     pub fn push(&mut self, alloc: Global, rows: &[LineOrder]) -> Result<(), Fault>
         requires few { HaveFew (length rows.now) self.old }
-        ensures ok { OnOk result ((before : List LineOrder) → HaveRows before self.old → HaveRows (before ++ rows.now) self.new) }
+        ensures ok { OnOk result ((before : List LineOrder) → HaveRows before self.old
+            → HaveRows (before ++ rows.now) self.new) }
         ensures memory { IsOkUnless result Fault.Memory }
     {
         for piece in 0..rows.len().div_ceil(PIECE) {
@@ -92,12 +93,13 @@ impl BatchColumns {
         Ok(())
     }
 
-    // Adds the rows of a piece. Numbers and texts are written in loops of their own: a processor does not keep all columns
-    // at hand.
+    // Adds the rows of a piece. Numbers and texts are written in loops of their own: a processor does not keep all
+    // columns at hand.
     fn push_piece(&mut self, alloc: Global, rows: &[LineOrder]) -> Result<(), Fault>
         requires piece { length rows.now ≤ PIECE }
         requires few { HaveFew (length rows.now) self.old }
-        ensures ok { OnOk result ((before : List LineOrder) → HaveRows before self.old → HaveRows (before ++ rows.now) self.new) }
+        ensures ok { OnOk result ((before : List LineOrder) → HaveRows before self.old
+            → HaveRows (before ++ rows.now) self.new) }
         ensures memory { IsOkUnless result Fault.Memory }
     {
         self.keys.push(rows)?;
@@ -108,7 +110,8 @@ impl BatchColumns {
     /// The bytes of the batch. It can only fail when out of memory.
     pub fn encode(&self, alloc: Global, number: u32) -> Result<Vec<u8>, Fault>
         requires batch { AreColumnsOfBatch self.now }
-        ensures ok { IfOk result (λ bytes. (rows : List LineOrder) → HaveRows rows self.now → bytes.items ≡ segment_of number rows) }
+        ensures ok { IfOk result (λ bytes. (rows : List LineOrder) → HaveRows rows self.now
+            → bytes.items ≡ segment_of number rows) }
         ensures memory { IfErr result (λ fault. fault ≡ Fault.Memory) }
     {
         let mut out = Vec::with_capacity(alloc, OTHER_BYTES + ROW_BYTES * self.keys.len())?;
@@ -119,7 +122,8 @@ impl BatchColumns {
     // Adds the batch to bytes.
     fn push_to(&self, out: &mut Vec<u8>, number: u32) -> Result<(), Fault>
         requires batch { AreColumnsOfBatch self.now }
-        ensures ok { OnOk result ((rows : List LineOrder) → HaveRows rows self.now → out.new.items ≡ out.old.items ++ segment_of number rows) }
+        ensures ok { OnOk result ((rows : List LineOrder) → HaveRows rows self.now
+            → out.new.items ≡ out.old.items ++ segment_of number rows) }
         ensures memory { IsOkUnless result Fault.Memory }
     {
         push_header(out, number, self.keys.len() as u32)?;
@@ -132,7 +136,8 @@ impl BatchColumns {
 // Adds the texts of rows.
 fn push_texts(texts: &mut Texts, alloc: Global, rows: &[LineOrder]) -> Result<(), Fault>
     requires few { HaveFewTexts (length rows.now) texts.old }
-    ensures ok { OnOk result ((before : List LineOrder) → HaveTexts before texts.old → HaveTexts (before ++ rows.now) texts.new) }
+    ensures ok { OnOk result ((before : List LineOrder) → HaveTexts before texts.old
+        → HaveTexts (before ++ rows.now) texts.new) }
     ensures memory { IsOkUnless result Fault.Memory }
 {
     for place in 0..rows.len() {

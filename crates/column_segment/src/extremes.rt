@@ -43,7 +43,8 @@ fn extremes_of_bytes(
 ) -> Option<(i128, i128)>
     requires columns { HoldsColumns bytes.now layout.now.rows }
     requires rows { length mask.now ≡ layout.now.rows }
-    ensures { result ≡ extremes_of (map (λ row. pos (byte_of column row)) (selected mask.now (rows_in bytes.now layout.now))) }
+    ensures { result
+        ≡ extremes_of (map (λ row. pos (byte_of column row)) (selected mask.now (rows_in bytes.now layout.now))) }
 {
     mask.extremes_of_bytes(byte_part(bytes, layout.rows, column))
 }
@@ -57,7 +58,8 @@ fn extremes_of_amounts(
 ) -> Option<(i128, i128)>
     requires columns { HoldsColumns bytes.now layout.now.rows }
     requires rows { length mask.now ≡ layout.now.rows }
-    ensures { result ≡ extremes_of (map (λ row. pos (amount_of column row)) (selected mask.now (rows_in bytes.now layout.now))) }
+    ensures { result
+        ≡ extremes_of (map (λ row. pos (amount_of column row)) (selected mask.now (rows_in bytes.now layout.now))) }
 {
     mask.extremes_of_numbers(amount_chunks(bytes, layout.rows, column))
 }
@@ -66,7 +68,9 @@ fn extremes_of_amounts(
 fn extremes_of_discounted(bytes: &[u8], layout: &Layout, mask: &Mask) -> Option<(i128, i128)>
     requires columns { HoldsColumns bytes.now layout.now.rows }
     requires rows { length mask.now ≡ layout.now.rows }
-    ensures { result ≡ extremes_of (map (λ row. pos (row.extendedprice * row.discount)) (selected mask.now (rows_in bytes.now layout.now))) }
+    ensures { result
+        ≡ extremes_of
+        (map (λ row. pos (row.extendedprice * row.discount)) (selected mask.now (rows_in bytes.now layout.now))) }
 {
     let prices = amount_chunks(bytes, layout.rows, AmountColumn::ExtendedPrice);
     let discounts = byte_part(bytes, layout.rows, ByteColumn::Discount);
@@ -77,7 +81,9 @@ fn extremes_of_discounted(bytes: &[u8], layout: &Layout, mask: &Mask) -> Option<
 fn extremes_of_profit(bytes: &[u8], layout: &Layout, mask: &Mask) -> Option<(i128, i128)>
     requires columns { HoldsColumns bytes.now layout.now.rows }
     requires rows { length mask.now ≡ layout.now.rows }
-    ensures { result ≡ extremes_of (map (λ row. pos row.revenue -ℤ pos row.supplycost) (selected mask.now (rows_in bytes.now layout.now))) }
+    ensures { result
+        ≡ extremes_of
+        (map (λ row. pos row.revenue -ℤ pos row.supplycost) (selected mask.now (rows_in bytes.now layout.now))) }
 {
     let revenues = amount_chunks(bytes, layout.rows, AmountColumn::Revenue);
     let costs = amount_chunks(bytes, layout.rows, AmountColumn::SupplyCost);

@@ -83,7 +83,8 @@ impl<'a> FactColumns<'a> {
 
     /// The rows whose quantity and discount lie in their ranges, ends included. `Memory` where there is none.
     pub fn mask(&self, alloc: Global, quantity: (u8, u8), discount: (u8, u8)) -> Result<Mask, Fault>
-        ensures ok { IfOk result (λ mask. mask ≡ map (λ row. lies_in quantity discount row.quantity row.discount) self.now) }
+        ensures ok { IfOk result
+            (λ mask. mask ≡ map (λ row. lies_in quantity discount row.quantity row.discount) self.now) }
         ensures memory { IfErr result (λ fault. fault ≡ Fault.Memory) }
     {
         let quantities = byte_part(self.bytes, self.layout.rows, ByteColumn::Quantity);

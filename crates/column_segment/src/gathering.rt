@@ -1,4 +1,5 @@
-//! The columns of numbers of a batch while its rows are added, a piece at a time: the bytes of each row's number, a vector a column.
+//! The columns of numbers of a batch while its rows are added, a piece at a time: the bytes of each row's number, a
+//! vector a column.
 #![tactic(auto, unfolding(wire::specs::Spelling::spelling))]
 
 ghost use Rattle.std.specs.Prelude.{◌≡◌, ◌≤◌, ◌++◌, [], List, length, IfErr, IfOk, IsOkUnless, OnOk};
@@ -55,7 +56,8 @@ impl Keys {
     // Adds those of a piece of rows.
     pub(crate) fn push(&mut self, rows: &[LineOrder]) -> Result<(), Fault>
         requires piece { length rows.now ≤ PIECE }
-        ensures ok { OnOk result ((before : List LineOrder) → HaveKeys before self.old → HaveKeys (before ++ rows.now) self.new) }
+        ensures ok { OnOk result ((before : List LineOrder) → HaveKeys before self.old
+            → HaveKeys (before ++ rows.now) self.new) }
         ensures memory { IsOkUnless result Fault.Memory }
     {
         put_amounts(&mut self.orderkey, rows, AmountColumn::OrderKey)?;
@@ -68,7 +70,8 @@ impl Keys {
 
     // Adds the columns to bytes.
     pub(crate) fn push_to(&self, out: &mut Vec<u8>) -> Result<(), Fault>
-        ensures ok { OnOk result ((rows : List LineOrder) → HaveKeys rows self.now → out.new.items ≡ out.old.items ++ flat_map (number_column rows) key_columns) }
+        ensures ok { OnOk result ((rows : List LineOrder) → HaveKeys rows self.now
+            → out.new.items ≡ out.old.items ++ flat_map (number_column rows) key_columns) }
         ensures memory { IsOkUnless result Fault.Memory }
     {
         push_column(out, &self.orderkey)?;
@@ -114,7 +117,8 @@ impl Figures {
     // Adds those of a piece of rows.
     pub(crate) fn push(&mut self, rows: &[LineOrder]) -> Result<(), Fault>
         requires piece { length rows.now ≤ PIECE }
-        ensures ok { OnOk result ((before : List LineOrder) → HaveFigures before self.old → HaveFigures (before ++ rows.now) self.new) }
+        ensures ok { OnOk result ((before : List LineOrder) → HaveFigures before self.old
+            → HaveFigures (before ++ rows.now) self.new) }
         ensures memory { IsOkUnless result Fault.Memory }
     {
         put_bytes(&mut self.quantity, rows, ByteColumn::Quantity)?;
@@ -128,7 +132,8 @@ impl Figures {
 
     // Adds the columns to bytes.
     pub(crate) fn push_to(&self, out: &mut Vec<u8>) -> Result<(), Fault>
-        ensures ok { OnOk result ((rows : List LineOrder) → HaveFigures rows self.now → out.new.items ≡ out.old.items ++ flat_map (number_column rows) figure_columns) }
+        ensures ok { OnOk result ((rows : List LineOrder) → HaveFigures rows self.now
+            → out.new.items ≡ out.old.items ++ flat_map (number_column rows) figure_columns) }
         ensures memory { IsOkUnless result Fault.Memory }
     {
         push_column(out, &self.quantity)?;

@@ -3,7 +3,8 @@ ghost use Rattle.std.specs.Prelude.{◌≡◌, ◌+◌, ◌*◌, ◌≤◌, leng
 ghost use Rattle.std.specs.Int.{from_le_bytes, w16};
 ghost use Rattle.std.specs.Simd.{first_chunks};
 ghost use Rattle.cube_model.specs.Limits.{most_batch_rows};
-ghost use Rattle.column_segment.specs.Decoded.{amount_place, byte_place, codes_in, coded_of, column_bytes, number_place};
+ghost use Rattle.column_segment.specs.Decoded.{amount_place, byte_place, codes_in, coded_of, column_bytes};
+ghost use Rattle.column_segment.specs.Decoded.{number_place};
 ghost use Rattle.column_segment.specs.Projected.{place_of, width_of};
 
 use crate::columns::{AmountColumn, ByteColumn, FactColumn, NumberColumn, TextColumn};

@@ -1,5 +1,6 @@
 //! Reading columns of a batch, and nothing else of it.
-ghost use Rattle.std.specs.Prelude.{◌≡◌, ◌⊎◌, ◌↔◌, ◌+◌, ◌*◌, ◌≤◌, ◌<◌, ℕ, All, List, Some, length, slice_index, IfOk, IsErrOf, IsSomeAnd, IsTrue, MatchResult, OnOk};
+ghost use Rattle.std.specs.Prelude.{◌≡◌, ◌⊎◌, ◌↔◌, ◌+◌, ◌*◌, ◌≤◌, ◌<◌, ℕ, All, List, Some, length, slice_index, IfOk};
+ghost use Rattle.std.specs.Prelude.{IsErrOf, IsSomeAnd, IsTrue, MatchResult, OnOk};
 ghost use Rattle.std.specs.List.{AllByRecursion};
 ghost use Rattle.cube_model.specs.Limits.{most_batch_rows};
 ghost use Rattle.cube_model.specs.declared.fault.Fault.{Fault};
@@ -9,7 +10,8 @@ ghost use Rattle.wire.specs.Runs.{HasRead, IsRefused};
 ghost use Rattle.column_segment.specs.declared.columns.FactColumn.{FactColumn};
 ghost use Rattle.column_segment.specs.Decoded.{HoldsColumns, rows_in};
 ghost use Rattle.column_segment.specs.Reading.{HasHeader, HasNumbers};
-ghost use Rattle.column_segment.specs.Projected.{AgreeOn, FitsColumnIn, HasColumns, HoldsNoneOf, ShareColumn, StaysOutside, place_of, width_of};
+ghost use Rattle.column_segment.specs.Projected.{AgreeOn, FitsColumnIn, HasColumns, HoldsNoneOf, ShareColumn};
+ghost use Rattle.column_segment.specs.Projected.{StaysOutside, place_of, width_of};
 ghost use Rattle.column_segment.specs.Segment.{IsSegment};
 
 use crate::columns::FactColumn;
@@ -31,13 +33,17 @@ pub(crate) fn read_columns<S: Source>(
     columns: &[FactColumn],
 ) -> Result<(), Fault>
     requires holds { HoldsColumns bytes.old rows }
-    ensures found { OnOk result (S.keeps_word source.new → IsSomeAnd (S.texts source.old id) (λ text. HasColumns text number rows
+    ensures found { OnOk result
+        (S.keeps_word source.new → IsSomeAnd (S.texts source.old id) (λ text. HasColumns text number rows
         × AllByRecursion (ShareColumn rows bytes.new text) columns.now)) }
-    ensures checked { OnOk result (S.keeps_word source.new → IsSomeAnd (S.texts source.old id) (λ text. HasColumns text number rows
+    ensures checked { OnOk result
+        (S.keeps_word source.new → IsSomeAnd (S.texts source.old id) (λ text. HasColumns text number rows
         × AllByRecursion (FitsColumnIn text rows) columns.now)) }
-    ensures refused { IsErrOf result Fault.BadLayout → S.keeps_word source.new → HoldsNoneOf (S.texts source.old id) number rows }
+    ensures refused { IsErrOf result Fault.BadLayout → S.keeps_word source.new
+        → HoldsNoneOf (S.texts source.old id) number rows }
     ensures run { MatchResult result (λ _. HasRead S.Source source.old source.new)
-        (λ fault. ((fault ≡ Fault.BadLayout) × HasRead S.Source source.old source.new) ⊎ IsRefused S.Source fault source.old source.new) }
+        (λ fault. ((fault ≡ Fault.BadLayout) × HasRead S.Source source.old source.new)
+        ⊎ IsRefused S.Source fault source.old source.new) }
 {
     if HEADER_BYTES + NUMBER_BYTES * rows <= AT_ONCE_BYTES {
         return read_at_once(source, id, number, bytes, rows, columns);
@@ -54,12 +60,14 @@ pub(crate) fn read_columns<S: Source>(
 /// A batch whose columns are in bytes agrees in them with the rows there. It does nothing.
 pub(crate) fn columns_agree(bytes: &[u8], layout: &Layout)
     requires { HoldsColumns bytes.now layout.now.rows }
-    ensures { (text : List ℕ) (number other : ℕ) (others : List LineOrder) (columns : List FactColumn) → HasColumns text number layout.now.rows
+    ensures { (text : List ℕ) (number other : ℕ) (others : List LineOrder) (columns : List FactColumn)
+        → HasColumns text number layout.now.rows
         → AllByRecursion (ShareColumn layout.now.rows bytes.now text) columns → IsSegment text other others
         → (other ≡ number) × AgreeOn columns (rows_in bytes.now layout.now) others }
 {}
 
-// Reads the header and all columns of numbers at once, each to its place, and checks the header and the columns asked for.
+// Reads the header and all columns of numbers at once, each to its place, and checks the header and the columns asked
+// for.
 fn read_at_once<S: Source>(
     source: &mut S,
     id: u32,
@@ -69,13 +77,17 @@ fn read_at_once<S: Source>(
     columns: &[FactColumn],
 ) -> Result<(), Fault>
     requires holds { HoldsColumns bytes.old rows }
-    ensures found { OnOk result (S.keeps_word source.new → IsSomeAnd (S.texts source.old id) (λ text. HasColumns text number rows
+    ensures found { OnOk result
+        (S.keeps_word source.new → IsSomeAnd (S.texts source.old id) (λ text. HasColumns text number rows
         × AllByRecursion (ShareColumn rows bytes.new text) columns.now)) }
-    ensures checked { OnOk result (S.keeps_word source.new → IsSomeAnd (S.texts source.old id) (λ text. HasColumns text number rows
+    ensures checked { OnOk result
+        (S.keeps_word source.new → IsSomeAnd (S.texts source.old id) (λ text. HasColumns text number rows
         × AllByRecursion (FitsColumnIn text rows) columns.now)) }
-    ensures refused { IsErrOf result Fault.BadLayout → S.keeps_word source.new → HoldsNoneOf (S.texts source.old id) number rows }
+    ensures refused { IsErrOf result Fault.BadLayout → S.keeps_word source.new
+        → HoldsNoneOf (S.texts source.old id) number rows }
     ensures run { MatchResult result (λ _. HasRead S.Source source.old source.new)
-        (λ fault. ((fault ≡ Fault.BadLayout) × HasRead S.Source source.old source.new) ⊎ IsRefused S.Source fault source.old source.new) }
+        (λ fault. ((fault ≡ Fault.BadLayout) × HasRead S.Source source.old source.new)
+        ⊎ IsRefused S.Source fault source.old source.new) }
 {
     if !has_room(source, id, rows) {
         return Err(Fault::BadLayout);
@@ -87,7 +99,8 @@ fn read_at_once<S: Source>(
     Ok(())
 }
 
-// Whether bytes begin with the header of a batch of a number and of so many rows, and each number of some columns is one.
+// Whether bytes begin with the header of a batch of a number and of so many rows, and each number of some columns is
+// one.
 fn is_front(bytes: &[u8], number: u32, rows: usize, columns: &[FactColumn]) -> bool
     requires holds { HoldsColumns bytes.now rows }
     ensures { IsTrue result ↔ (HasHeader bytes.now number rows × All (FitsColumnIn bytes.now rows) columns.now) }
@@ -109,7 +122,8 @@ fn fit_columns(bytes: &[u8], rows: usize, columns: &[FactColumn]) -> bool
 fn has_room<S: Source>(source: &S, id: u32, rows: usize) -> bool
     requires few { rows ≤ most_batch_rows }
     ensures total { IsTrue result → IsSomeAnd (S.totals source.now id) (λ total. 12 + 63 * rows ≤ total) }
-    ensures text { IsTrue result → S.keeps_word source.now → IsSomeAnd (S.texts source.now id) (λ text. 12 + 63 * rows ≤ length text) }
+    ensures text { IsTrue result → S.keeps_word source.now
+        → IsSomeAnd (S.texts source.now id) (λ text. 12 + 63 * rows ≤ length text) }
     ensures none { (IsTrue result → ⊥) → S.keeps_word source.now → (text : List ℕ) → S.texts source.now id ≡ Some text
         → 12 + 63 * rows ≤ length text → ⊥ }
 {
@@ -119,16 +133,19 @@ fn has_room<S: Source>(source: &S, id: u32, rows: usize) -> bool
     }
 }
 
-// Whether a source has at an id the header of a batch of a number and of so many rows, and room after it for the columns
-// of numbers.
+// Whether a source has at an id the header of a batch of a number and of so many rows, and room after it for the
+// columns of numbers.
 fn has_columns<S: Source>(source: &mut S, id: u32, number: u32, rows: usize) -> Result<bool, Fault>
     requires few { rows ≤ most_batch_rows }
-    ensures room { IfOk result (λ yes. IsTrue yes → IsSomeAnd (S.totals source.old id) (λ total. 12 + 63 * rows ≤ total)) }
+    ensures room { IfOk result
+        (λ yes. IsTrue yes → IsSomeAnd (S.totals source.old id) (λ total. 12 + 63 * rows ≤ total)) }
     ensures found { IfOk result (λ yes. IsTrue yes → S.keeps_word source.new
         → IsSomeAnd (S.texts source.old id) (λ text. HasColumns text number rows)) }
-    ensures none { IfOk result (λ yes. (IsTrue yes → ⊥) → S.keeps_word source.new → (text : List ℕ) → S.texts source.old id ≡ Some text
+    ensures none { IfOk result (λ yes. (IsTrue yes → ⊥) → S.keeps_word source.new → (text : List ℕ)
+        → S.texts source.old id ≡ Some text
         → HasColumns text number rows → ⊥) }
-    ensures run { MatchResult result (λ _. HasRead S.Source source.old source.new) (λ fault. IsRefused S.Source fault source.old source.new) }
+    ensures run { MatchResult result (λ _. HasRead S.Source source.old source.new)
+        (λ fault. IsRefused S.Source fault source.old source.new) }
 {
     if !has_room(source, id, rows) {
         return Ok(false);
@@ -158,13 +175,16 @@ fn read_column<S: Source>(
 ) -> Result<(), Fault>
     requires holds { HoldsColumns bytes.old rows }
     requires room { IsSomeAnd (S.totals source.old id) (λ total. 12 + 63 * rows ≤ total) }
-    ensures found { OnOk result (S.keeps_word source.new → (text : List ℕ) → S.texts source.old id ≡ Some text → 12 + 63 * rows ≤ length text
+    ensures found { OnOk result (S.keeps_word source.new → (text : List ℕ) → S.texts source.old id ≡ Some text
+        → 12 + 63 * rows ≤ length text
         → ShareColumn rows bytes.new text column × FitsColumnIn text rows column
         × ((other : FactColumn) → ShareColumn rows bytes.old text other → ShareColumn rows bytes.new text other)) }
-    ensures refused { IsErrOf result Fault.BadLayout → S.keeps_word source.new → (text : List ℕ) → S.texts source.old id ≡ Some text
+    ensures refused { IsErrOf result Fault.BadLayout → S.keeps_word source.new → (text : List ℕ)
+        → S.texts source.old id ≡ Some text
         → HasNumbers text rows → ⊥ }
     ensures run { MatchResult result (λ _. HasRead S.Source source.old source.new)
-        (λ fault. ((fault ≡ Fault.BadLayout) × HasRead S.Source source.old source.new) ⊎ IsRefused S.Source fault source.old source.new) }
+        (λ fault. ((fault ≡ Fault.BadLayout) × HasRead S.Source source.old source.new)
+        ⊎ IsRefused S.Source fault source.old source.new) }
 {
     let at = HEADER_BYTES + place_of(column) * rows;
     read_over(source, id, bytes, at, width_of(column) * rows)?;
@@ -187,7 +207,8 @@ fn read_over<S: Source>(
     ensures outside { StaysOutside at count bytes.old bytes.new }
     ensures inside { OnOk result (S.keeps_word source.new → (text : List ℕ) → S.texts source.old id ≡ Some text
         → (place : ℕ) → place < count → slice_index bytes.new (at + place) ≡ slice_index text (at + place)) }
-    ensures run { MatchResult result (λ _. HasRead S.Source source.old source.new) (λ fault. IsRefused S.Source fault source.old source.new) }
+    ensures run { MatchResult result (λ _. HasRead S.Source source.old source.new)
+        (λ fault. IsRefused S.Source fault source.old source.new) }
 {
     read_part(source, id, at as u64, &mut bytes[at..at + count])
 }

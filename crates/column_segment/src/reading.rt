@@ -1,11 +1,13 @@
 //! Checking the bytes of a batch.
-ghost use Rattle.std.specs.Prelude.{◌≡◌, ◌↔◌, ◌⊎◌, ◌+◌, ◌*◌, ◌≤◌, ◌<◌, ◌^◌, ◌∷◌, [], ℕ, List, length, drop, IfErr, IfOk, IsErr, IsOkUnless, IsTrue};
+ghost use Rattle.std.specs.Prelude.{◌≡◌, ◌↔◌, ◌⊎◌, ◌+◌, ◌*◌, ◌≤◌, ◌<◌, ◌^◌, ◌∷◌, [], ℕ, List, length, drop, IfErr};
+ghost use Rattle.std.specs.Prelude.{IfOk, IsErr, IsOkUnless, IsTrue};
 ghost use Rattle.cube_model.specs.Limits.{most_batch_rows};
 ghost use Rattle.cube_model.specs.declared.fault.Fault.{Fault};
 ghost use Rattle.cube_model.specs.declared.rows.LineOrder.{LineOrder};
 ghost use Rattle.column_kernels.specs.Checks.{all_below};
 ghost use Rattle.column_segment.specs.Decoded.{IsDecoded, amounts_in};
-ghost use Rattle.column_segment.specs.Reading.{BeginsWithCodes, BeginsWithNoColumn, HasColumn, HasHeader, HasLast, HasNumbers, HasTexts, SpellNoTexts, SpellNone};
+ghost use Rattle.column_segment.specs.Reading.{BeginsWithCodes, BeginsWithNoColumn, HasColumn, HasHeader, HasLast};
+ghost use Rattle.column_segment.specs.Reading.{HasNumbers, HasTexts, SpellNoTexts, SpellNone};
 ghost use Rattle.column_segment.specs.declared.columns.TextColumn.TheVariants.{CommitDate, ShipMode};
 ghost use Rattle.column_segment.specs.Segment.{IsSegment};
 
@@ -110,7 +112,8 @@ fn read_texts(alloc: Global, bytes: &[u8], rows: usize) -> Result<CodedTexts, Fa
 fn read_first_two(alloc: Global, bytes: &[u8], rows: usize) -> Result<(Coded, Coded), Fault>
     requires few { rows ≤ most_batch_rows }
     requires room { 12 + 63 * rows ≤ length bytes.now }
-    ensures ok { IfOk result (λ two. HasColumn bytes.now rows (12 + 63 * rows) two.0 × HasColumn bytes.now rows (two.0.at + 2 * rows) two.1) }
+    ensures ok { IfOk result (λ two. HasColumn bytes.now rows (12 + 63 * rows) two.0
+        × HasColumn bytes.now rows (two.0.at + 2 * rows) two.1) }
     ensures refused { IfErr result (λ fault. (fault ≡ Fault.Memory) ⊎ ((fault ≡ Fault.BadLayout)
         × SpellNoTexts rows (drop (12 + 63 * rows) bytes.now))) }
 {

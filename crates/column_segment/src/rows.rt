@@ -1,8 +1,10 @@
 //! Rows from the bytes of a batch.
-ghost use Rattle.std.specs.Prelude.{◌≡◌, ◌-◌, ◌<◌, ◌≤◌, ◌++◌, [], map, slice_index, slice_index_or, IfErr, IfOk, IsOkUnless, OnOk};
+ghost use Rattle.std.specs.Prelude.{◌≡◌, ◌-◌, ◌<◌, ◌≤◌, ◌++◌, [], map, slice_index, slice_index_or, IfErr, IfOk};
+ghost use Rattle.std.specs.Prelude.{IsOkUnless, OnOk};
 ghost use Rattle.std.specs.List.{range_with_len};
 ghost use Rattle.cube_model.specs.Limits.{most_batch_rows};
-ghost use Rattle.column_segment.specs.Decoded.{HasCodes, IsReadable, amounts_in, figures_in, numbers_in, row_in, texts_in};
+ghost use Rattle.column_segment.specs.Decoded.{HasCodes, IsReadable, amounts_in, figures_in, numbers_in, row_in};
+ghost use Rattle.column_segment.specs.Decoded.{texts_in};
 ghost use Rattle.column_segment.specs.Rows.{figures_of, keys_of};
 
 use crate::columns::{AmountColumn, ByteColumn, NumberColumn};
@@ -44,7 +46,8 @@ pub(crate) fn push_each(
 ) -> Result<(), Fault>
     requires readable { IsReadable bytes.now layout.now }
     requires within { count ≤ layout.now.rows - first }
-    ensures ok { OnOk result (to.new.items ≡ to.old.items ++ map (row_in bytes.now layout.now) (range_with_len first count)) }
+    ensures ok { OnOk result
+        (to.new.items ≡ to.old.items ++ map (row_in bytes.now layout.now) (range_with_len first count)) }
     ensures memory { IsOkUnless result Fault.Memory }
 {
     for i in 0..count {

@@ -1,5 +1,6 @@
 //! A batch as the bytes that it was read from, which are kept and looked at as columns.
-ghost use Rattle.std.specs.Prelude.{◌≡◌, ◌↔◌, ◌⊎◌, ◌++◌, ◌<◌, ℕ, List, All, length, map, take, drop, IsTrue, IfErr, IfOk, IsOkUnless, OnOk};
+ghost use Rattle.std.specs.Prelude.{◌≡◌, ◌↔◌, ◌⊎◌, ◌++◌, ◌<◌, ℕ, List, All, length, map, take, drop, IsTrue, IfErr};
+ghost use Rattle.std.specs.Prelude.{IfOk, IsOkUnless, OnOk};
 ghost use Rattle.cube_model.specs.declared.fault.Fault.{Fault};
 ghost use Rattle.cube_model.specs.declared.rows.LineOrder.{LineOrder};
 ghost use Rattle.std.specs.Int.{from_le_bytes, w16};
@@ -105,11 +106,12 @@ impl Segment {
         FactColumns::of(&self.bytes, &self.layout)
     }
 
-    /// A column of texts: the texts that are in it, and for each row the code of its text, which is a place among them, in
-    /// two bytes, the lowest first.
+    /// A column of texts: the texts that are in it, and for each row the code of its text, which is a place among them,
+    /// in two bytes, the lowest first.
     pub fn coded(&self, column: TextColumn) -> (&Dictionary, &[[u8; 2]])
         ensures below { All (λ code. code < length result.0.now.texts) (map (from_le_bytes w16) result.1.now) }
-        ensures texts { map (text_at result.0.now.texts) (map (from_le_bytes w16) result.1.now) ≡ map (text_of column) self.now.rows }
+        ensures texts { map (text_at result.0.now.texts) (map (from_le_bytes w16) result.1.now)
+            ≡ map (text_of column) self.now.rows }
     {
         let coded = self.layout.texts.column(column);
         (

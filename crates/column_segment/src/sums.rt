@@ -31,7 +31,8 @@ pub(crate) fn selected_sum(bytes: &[u8], layout: &Layout, measure: Measure, mask
 fn sum_of_bytes(bytes: &[u8], layout: &Layout, column: ByteColumn, mask: &Mask) -> i128
     requires columns { HoldsColumns bytes.now layout.now.rows }
     requires rows { length mask.now ≡ layout.now.rows }
-    ensures { result ≡ total (map (λ row. pos (byte_of column row)) (selected mask.now (rows_in bytes.now layout.now))) }
+    ensures { result
+        ≡ total (map (λ row. pos (byte_of column row)) (selected mask.now (rows_in bytes.now layout.now))) }
 {
     whole(mask.sum_of_bytes(byte_part(bytes, layout.rows, column)))
 }
@@ -40,7 +41,8 @@ fn sum_of_bytes(bytes: &[u8], layout: &Layout, column: ByteColumn, mask: &Mask) 
 fn sum_of_amounts(bytes: &[u8], layout: &Layout, column: AmountColumn, mask: &Mask) -> i128
     requires columns { HoldsColumns bytes.now layout.now.rows }
     requires rows { length mask.now ≡ layout.now.rows }
-    ensures { result ≡ total (map (λ row. pos (amount_of column row)) (selected mask.now (rows_in bytes.now layout.now))) }
+    ensures { result
+        ≡ total (map (λ row. pos (amount_of column row)) (selected mask.now (rows_in bytes.now layout.now))) }
 {
     whole(mask.sum_of_numbers(amount_chunks(bytes, layout.rows, column)))
 }
@@ -49,7 +51,9 @@ fn sum_of_amounts(bytes: &[u8], layout: &Layout, column: AmountColumn, mask: &Ma
 fn sum_of_discounted(bytes: &[u8], layout: &Layout, mask: &Mask) -> i128
     requires columns { HoldsColumns bytes.now layout.now.rows }
     requires rows { length mask.now ≡ layout.now.rows }
-    ensures { result ≡ total (map (λ row. pos (row.extendedprice * row.discount)) (selected mask.now (rows_in bytes.now layout.now))) }
+    ensures { result
+        ≡ total (map (λ row. pos (row.extendedprice * row.discount))
+        (selected mask.now (rows_in bytes.now layout.now))) }
 {
     let prices = amount_chunks(bytes, layout.rows, AmountColumn::ExtendedPrice);
     let discounts = byte_part(bytes, layout.rows, ByteColumn::Discount);
@@ -60,7 +64,9 @@ fn sum_of_discounted(bytes: &[u8], layout: &Layout, mask: &Mask) -> i128
 fn sum_of_profit(bytes: &[u8], layout: &Layout, mask: &Mask) -> i128
     requires columns { HoldsColumns bytes.now layout.now.rows }
     requires rows { length mask.now ≡ layout.now.rows }
-    ensures { result ≡ total (map (λ row. pos row.revenue -ℤ pos row.supplycost) (selected mask.now (rows_in bytes.now layout.now))) }
+    ensures { result
+        ≡ total (map (λ row. pos row.revenue -ℤ pos row.supplycost)
+        (selected mask.now (rows_in bytes.now layout.now))) }
 {
     let revenues = amount_chunks(bytes, layout.rows, AmountColumn::Revenue);
     let costs = amount_chunks(bytes, layout.rows, AmountColumn::SupplyCost);

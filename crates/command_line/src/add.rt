@@ -2,15 +2,16 @@
 ghost use Rattle.std.specs.Prelude.{IfOk};
 ghost use Rattle.cube_model.specs.Validity.{HaveShortTexts};
 
-use crate::device::{self, Access, Device};
-use crate::exit::{DONE, NO_COMMAND};
-use crate::files::{Reads, open_named};
-use crate::job::met_in;
-use crate::output::{cut_short, output};
-use crate::refusal::{Refusal, explained};
-use crate::table_refusals::{broken_hint, refused_tables, rows_over};
-use crate::unfinished::note_unfinished;
 use clap::ArgMatches;
+use command_files::exit::{DONE, NO_COMMAND};
+use command_files::files::{Reads, open_named};
+use command_files::output::{cut_short, output};
+use command_files::refusal::Refusal;
+use command_files::table_refusals::{broken_hint, refused_tables, rows_over};
+use command_sessions::device::{self, Access, InFile};
+use command_sessions::explaining::explained;
+use command_sessions::job::met_in;
+use command_sessions::unfinished::note_unfinished;
 use cube_model::{DimRows, Fault};
 use file_device::LockFile;
 use sector_device::Sectors;
@@ -50,15 +51,13 @@ fn rows_of<R: Files + AllocGlobal>(rt: &R, given: &ArgMatches<'_>) -> Result<Dim
 }
 
 // Adds rows to the dimensions of an open warehouse, and prints that it is done.
-fn print_addition<R: Files + AllocGlobal + Print + Eprint + Clock>(
+fn print_addition<R: Files + AllocGlobal + Print + Eprint, D: Sectors + InFile>(
     rt: &R,
     given: &ArgMatches<'_>,
-    session: &mut Session<Device<'_, R, R::File>>,
+    session: &mut Session<D>,
     number: u32,
     rows: &DimRows,
 ) -> Result<u8, Refusal>
-where
-    R::File: FileExt + LockFile,
     requires short { HaveShortTexts rows.now }
 {
     let mut out = output(rt)?;
@@ -73,17 +72,14 @@ where
 }
 
 // The refusal of an addition with a number, and its cause where that can be found out.
-fn refused<R: Files + AllocGlobal + Eprint + Clock>(
+fn refused<R: Files + AllocGlobal + Eprint, D: Sectors + InFile>(
     rt: &R,
     given: &ArgMatches<'_>,
-    session: &Session<Device<'_, R, R::File>>,
+    session: &Session<D>,
     number: u32,
     rows: &DimRows,
     fault: Fault,
-) -> Refusal
-where
-    R::File: FileExt + LockFile,
-{
+) -> Refusal {
     match hint_of(rt.alloc(), given, session, number, rows, fault) {
         Ok(Some(hint)) => Refusal {
             fault,

@@ -1,5 +1,5 @@
 //! The words that the program was started with.
-use crate::refusal::Refusal;
+use command_files::refusal::Refusal;
 use cube_model::Fault;
 use std::env::{self, Env, FillError};
 use std::io::ErrorKind;

@@ -1,21 +1,23 @@
 //! The command `check`.
-use crate::course::{Cleared, Errand, Watch, begin_errand, course_of, take_back};
-use crate::device::{self, Access, Device};
-use crate::job::met_in;
-use crate::output::{cut_short, output};
-use crate::refusal::{Refusal, explained};
-use crate::screens::Screens;
-use crate::unfinished::note_unfinished;
 use clap::ArgMatches;
+use command_files::output::{cut_short, output};
+use command_files::refusal::Refusal;
+use command_files::screens::Screens;
+use command_sessions::course::{Cleared, Errand, Watch, begin_errand, course_of, take_back};
+use command_sessions::device::{self, Access, InFile};
+use command_sessions::explaining::explained;
+use command_sessions::job::met_in;
+use command_sessions::unfinished::note_unfinished;
 use cube_model::Fault;
 use file_device::LockFile;
+use sector_device::Sectors;
 use ssb_eval::exit_of;
 use std::os::unix::fs::FileExt;
 use std::rt::{Clock, Files};
 use warehouse::Session;
 
-/// Checks all that is stored of the warehouse of a command, and gives the status of the program: 0 where nothing is wrong, else 1. It says
-/// on a terminal how far it is.
+/// Checks all that is stored of the warehouse of a command, and gives the status of the program: 0 where nothing is
+/// wrong, else 1. It says on a terminal how far it is.
 pub fn check<R: Files + AllocGlobal + Print + Eprint + Clock>(
     rt: &R,
     given: &ArgMatches<'_>,
@@ -32,15 +34,12 @@ where
 }
 
 // Prints whether all that is stored of an open warehouse is right, or what is not.
-fn print_check<R: Files + AllocGlobal + Print + Eprint + Clock>(
+fn print_check<R: Files + AllocGlobal + Print + Eprint + Clock, D: Sectors + InFile>(
     rt: &R,
     given: &ArgMatches<'_>,
-    session: &mut Session<Device<'_, R, R::File>>,
+    session: &mut Session<D>,
     watch: Watch<'_>,
-) -> Result<u8, Refusal>
-where
-    R::File: FileExt + LockFile,
-{
+) -> Result<u8, Refusal> {
     let mut out = Cleared::new(rt, watch, output(rt)?);
     begin_errand(rt, watch, session, Errand::Check);
     let checked = warehouse_jobs::check(rt.alloc(), session, &mut out);

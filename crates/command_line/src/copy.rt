@@ -1,15 +1,16 @@
 //! The command `copy`.
-use crate::contents::{Contents, contents_of};
-use crate::course::{Errand, Watch, begin_errand, course_of, take_back};
 use crate::create::unsized_file;
-use crate::device::{self, Access, Device};
-use crate::device_hints::wanted_hint;
-use crate::job::met_in;
-use crate::refusal::{Met, Refusal, explained};
-use crate::screens::Screens;
-use crate::sizes::sectors_in;
-use crate::texts::print_text;
 use clap::ArgMatches;
+use command_files::refusal::Refusal;
+use command_files::screens::Screens;
+use command_files::sizes::sectors_in;
+use command_files::texts::print_text;
+use command_sessions::contents::{Contents, contents_of};
+use command_sessions::course::{Errand, Watch, begin_errand, course_of, take_back};
+use command_sessions::device::{self, Access, InFile};
+use command_sessions::device_hints::wanted_hint;
+use command_sessions::explaining::{Met, explained};
+use command_sessions::job::met_in;
 use cube_model::Fault;
 use file_device::LockFile;
 use sector_device::Sectors;
@@ -41,10 +42,10 @@ where
 }
 
 // Copies an open warehouse to a file of so many sectors, or of as many as it has.
-fn copy_to_file<R: Files + AllocGlobal + Print + Eprint + Clock>(
+fn copy_to_file<R: Files + AllocGlobal + Print + Eprint + Clock, D: Sectors + InFile>(
     rt: &R,
     given: &ArgMatches<'_>,
-    session: &mut Session<Device<'_, R, R::File>>,
+    session: &mut Session<D>,
     sectors: Option<u32>,
     watch: Watch<'_>,
 ) -> Result<u8, Refusal>

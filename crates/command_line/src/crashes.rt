@@ -1,7 +1,7 @@
 //! The command `self-test`.
-use crate::output::{cut_short, output};
-use crate::refusal::Refusal;
 use clap::ArgMatches;
+use command_files::output::{cut_short, output};
+use command_files::refusal::Refusal;
 use cube_model::Fault;
 use self_test::test_crashes;
 use ssb_eval::exit_of;
@@ -10,7 +10,8 @@ use std::rt::Clock;
 /// For how many seconds there are random crashes, if the command does not say.
 const SECONDS: u32 = 10;
 
-/// Tests the program by crashes of a warehouse on a disk in memory, and gives the status of the program: 0 where nothing is wrong, else 1.
+/// Tests the program by crashes of a warehouse on a disk in memory, and gives the status of the program: 0 where
+/// nothing is wrong, else 1.
 pub fn self_test<R: AllocGlobal + Print + Clock>(
     rt: &R,
     given: &ArgMatches<'_>,

@@ -1,15 +1,16 @@
 //! The command `create`.
 ghost use Rattle.cube_model.specs.Validity.{HaveShortTexts};
 
-use crate::device;
-use crate::exit::{DONE, NO_COMMAND};
-use crate::files::{Reads, first_error, open_again, open_dimensions};
-use crate::output::unwritten;
-use crate::refusal::{Met, Refusal, explained};
-use crate::sizes::sectors_in;
-use crate::space::{rows_of, sectors_for};
-use crate::table_refusals::{broken_hint, refused_tables, rows_over};
 use clap::ArgMatches;
+use command_files::exit::{DONE, NO_COMMAND};
+use command_files::files::{Reads, first_error, open_again, open_dimensions};
+use command_files::output::unwritten;
+use command_files::refusal::Refusal;
+use command_files::sizes::sectors_in;
+use command_files::table_refusals::{broken_hint, refused_tables, rows_over};
+use command_sessions::device;
+use command_sessions::explaining::{Met, explained};
+use command_sessions::space::{rows_of, sectors_for};
 use cube_model::{DimRows, Fault};
 use dimensions::Dims;
 use file_device::{Existing, LockFile};

@@ -1,21 +1,23 @@
 //! The commands `choose` and `upkeep`.
-use crate::course::{Cleared, Errand, Watch, begin_errand, course_of, take_back};
 use crate::demand::demanded;
-use crate::device::{self, Access, Device};
-use crate::exit::NO_COMMAND;
-use crate::job::{ended, met_in, perform_job};
-use crate::output::output;
-use crate::records::{format_of, view_cells};
-use crate::refusal::{Refusal, explained};
-use crate::screens::Screens;
-use crate::texts::print_text;
-use crate::unfinished::note_unfinished;
 use clap::ArgMatches;
+use command_files::exit::NO_COMMAND;
+use command_files::output::output;
+use command_files::records::{format_of, view_cells};
+use command_files::refusal::Refusal;
+use command_files::screens::Screens;
+use command_files::texts::print_text;
+use command_sessions::course::{Cleared, Errand, Watch, begin_errand, course_of, take_back};
+use command_sessions::device::{self, Access, InFile};
+use command_sessions::explaining::explained;
+use command_sessions::job::{ended, met_in, perform_job};
+use command_sessions::unfinished::note_unfinished;
 use cube_model::Fault;
 use file_device::LockFile;
 use lattice::View;
 use record_formats::{Cell, Records};
 use report_formats::Format;
+use sector_device::Sectors;
 use std::alloc::{AllocError, Global};
 use std::io;
 use std::os::unix::fs::FileExt;
@@ -76,18 +78,16 @@ where
     }
 }
 
-// Chooses the cuboids of an open warehouse, and prints them as records. The room for these is taken after the choice, which stays.
-fn choose_in<R: Files + AllocGlobal + Print + Eprint + Clock>(
+// Chooses the cuboids of an open warehouse, and prints them as records. The room for these is taken after the choice,
+// which stays.
+fn choose_in<R: Files + AllocGlobal + Print + Eprint, D: Sectors + InFile>(
     rt: &R,
     given: &ArgMatches<'_>,
-    session: &mut Session<Device<'_, R, R::File>>,
+    session: &mut Session<D>,
     format: Format,
     k: u8,
     demanded: Option<Vec<View>>,
-) -> Result<u8, Refusal>
-where
-    R::File: FileExt + LockFile,
-{
+) -> Result<u8, Refusal> {
     let chosen = match demanded {
         None => session.choose(rt.alloc(), k),
         Some(demanded) => session.choose_for(rt.alloc(), k, demanded.as_slice()),
@@ -142,15 +142,12 @@ where
 }
 
 // Brings the stored cuboids of an open warehouse to all batches, with a note where an upkeep is not finished.
-fn keep_up<R: Files + AllocGlobal + Print + Eprint + Clock>(
+fn keep_up<R: Files + AllocGlobal + Print + Eprint + Clock, D: Sectors + InFile>(
     rt: &R,
     given: &ArgMatches<'_>,
-    session: &mut Session<Device<'_, R, R::File>>,
+    session: &mut Session<D>,
     watch: Watch<'_>,
-) -> Result<u8, Refusal>
-where
-    R::File: FileExt + LockFile,
-{
+) -> Result<u8, Refusal> {
     let mut out = Cleared::new(rt, watch, output(rt)?);
     begin_errand(rt, watch, session, Errand::Upkeep);
     let done = perform(rt.alloc(), session, Job::Upkeep, io::empty(), &mut out);

@@ -1,6 +1,6 @@
 //! The queries of a file for which cuboids are chosen.
-use crate::listed::{ListedQuery, bad_list, list_name, listed_queries};
-use crate::refusal::Refusal;
+use command_files::listed::{ListedQuery, bad_list, list_name, listed_queries};
+use command_files::refusal::Refusal;
 use lattice::View;
 use std::alloc::{AllocError, Global};
 use std::rt::Files;
@@ -38,8 +38,8 @@ impl Demand {
     }
 }
 
-/// The views that the queries of a file need, as often as they count. `-` is standard input. A note on standard error names each
-/// line whose query no cuboid serves.
+/// The views that the queries of a file need, as often as they count. `-` is standard input. A note on standard error
+/// names each line whose query no cuboid serves.
 pub fn demanded<R: Files + AllocGlobal + Eprint + Input>(
     rt: &R,
     path: &str,

@@ -1,7 +1,7 @@
 //! The command `demo`.
-use crate::exit::DONE;
-use crate::output::{cut_short, output};
-use crate::refusal::Refusal;
+use command_files::exit::DONE;
+use command_files::output::{cut_short, output};
+use command_files::refusal::Refusal;
 use cube_model::Fault;
 use demonstration::demonstrate;
 

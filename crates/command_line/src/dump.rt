@@ -1,11 +1,12 @@
 //! The command `dump`.
-use crate::device::{self, Access, Device};
-use crate::exit::DONE;
-use crate::job::met_in;
-use crate::output::{cut_short, output};
-use crate::refusal::{Refusal, explained};
-use crate::table_files::{TableLines, save_tables};
 use clap::ArgMatches;
+use command_files::exit::DONE;
+use command_files::output::{cut_short, output};
+use command_files::refusal::Refusal;
+use command_files::table_files::{TableLines, save_tables};
+use command_sessions::device::{self, Access, InFile};
+use command_sessions::explaining::explained;
+use command_sessions::job::met_in;
 use cube_model::{Axis, Fault};
 use file_device::LockFile;
 use sector_device::Sectors;
@@ -37,14 +38,11 @@ where
 }
 
 // Prints the fact rows of an open warehouse.
-fn print_facts<R: Files + AllocGlobal + Print + Eprint + Clock>(
+fn print_facts<R: Files + AllocGlobal + Print + Eprint, D: Sectors + InFile>(
     rt: &R,
     given: &ArgMatches<'_>,
-    session: &mut Session<Device<'_, R, R::File>>,
-) -> Result<u8, Refusal>
-where
-    R::File: FileExt + LockFile,
-{
+    session: &mut Session<D>,
+) -> Result<u8, Refusal> {
     let mut out = output(rt)?;
     let batch = given.get_one::<u32>("batch");
     match write_facts(rt.alloc(), session, batch, &mut out) {
@@ -55,15 +53,12 @@ where
 }
 
 // The refusal of rows that are not written.
-fn undumped<R: Files + AllocGlobal + Eprint + Clock>(
+fn undumped<R: Files + AllocGlobal + Eprint, D: Sectors + InFile>(
     rt: &R,
     given: &ArgMatches<'_>,
-    session: &Session<Device<'_, R, R::File>>,
+    session: &Session<D>,
     fault: Fault,
-) -> Refusal
-where
-    R::File: FileExt + LockFile,
-{
+) -> Refusal {
     if fault != Fault::BadLayout {
         return explained(rt, given, met_in(rt.alloc(), fault, session));
     }

@@ -1,16 +1,16 @@
 //! The command `eval`.
-use crate::exit::DONE;
-use crate::files::{DimensionFiles, GivenFile, Reads, open, open_dimensions};
-use crate::notes::note_report;
-use crate::output::{cut_short, output};
-use crate::progress::{Progress, Tally, Wanted};
-use crate::refusal::Refusal;
-use crate::reports::{Reports, report_of};
-use crate::saving::{begin, cut_off, finish, part_of, remove};
-use crate::screens::Screens;
-use crate::table_refusals::{Star, refused_tables, star_hint};
-use crate::timing::{say_read, say_seconds};
 use clap::ArgMatches;
+use command_files::exit::DONE;
+use command_files::files::{DimensionFiles, GivenFile, Reads, open, open_dimensions};
+use command_files::output::{cut_short, output};
+use command_files::progress::{Progress, Tally, Wanted};
+use command_files::refusal::Refusal;
+use command_files::saving::{begin, cut_off, finish, part_of, remove};
+use command_files::screens::Screens;
+use command_files::table_refusals::{Star, refused_tables, star_hint};
+use command_files::timing::{say_read, say_seconds};
+use command_sessions::notes::note_report;
+use command_sessions::reports::{Reports, report_of};
 use cube_model::Fault;
 use dimensions::Dims;
 use ssb_eval::{Tables, eval_formatted, eval_partial};
@@ -77,7 +77,8 @@ fn tally_of<R: Clock, F: OpenFile>(
     Tally::new(rt, length, wanted)
 }
 
-// Writes a report over its tables to where the words have it go, and the notes on its conditions. It gives the status of the program.
+// Writes a report over its tables to where the words have it go, and the notes on its conditions. It gives the status
+// of the program.
 fn answer<R: Files + AllocGlobal + Print + Eprint, F: Read + Drop, L: Read + Drop>(
     rt: &R,
     given: &ArgMatches<'_>,

@@ -1,8 +1,8 @@
 //! The command `generate`.
-use crate::exit::NO_COMMAND;
-use crate::refusal::Refusal;
-use crate::table_files::{TableLines, save_tables};
 use clap::ArgMatches;
+use command_files::exit::NO_COMMAND;
+use command_files::refusal::Refusal;
+use command_files::table_files::{TableLines, save_tables};
 use cube_model::Fault;
 use std::io::Write;
 use std::rt::Files;

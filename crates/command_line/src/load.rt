@@ -1,24 +1,25 @@
 //! The command `load`.
-use crate::device::{self, Access, Device};
-use crate::exit::{DONE, NO_COMMAND, UNFINISHED};
-use crate::files::{GivenFile, Reads, open_file, unread_among};
-use crate::joined::{Joined, Source};
 use crate::load_refusals::refused;
-use crate::output::{is_closed, output, unwritten};
-use crate::progress::{Progress, Tally, Wanted};
-use crate::refusal::{Met, Refusal, explained};
-use crate::screens::Screens;
-use crate::space::{note_room, rows_in_all};
-use crate::table_paths::{count_inputs, is_standard_input, loaded_paths};
-use crate::timing::say_summary;
-use crate::unfinished::note_unfinished;
 use clap::ArgMatches;
+use command_files::exit::{DONE, NO_COMMAND, UNFINISHED};
+use command_files::files::{GivenFile, Reads, byte_count, open_file, unread_among};
+use command_files::joined::{Joined, Source};
+use command_files::output::{is_closed, output, unwritten};
+use command_files::progress::{Progress, Tally, Wanted};
+use command_files::refusal::Refusal;
+use command_files::screens::Screens;
+use command_files::table_paths::{count_inputs, is_standard_input, loaded_paths};
+use command_files::timing::say_summary;
+use command_sessions::device::{self, Access, InFile};
+use command_sessions::explaining::{Met, explained};
+use command_sessions::space::{note_room, rows_in_all};
+use command_sessions::unfinished::note_unfinished;
 use cube_model::Fault;
 use cube_model::limits::MOST_BATCH_ROWS;
 use file_device::LockFile;
+use sector_device::Sectors;
 use std::alloc::{AllocError, Global};
 use std::cell::Cell;
-use std::fs;
 use std::io::{self, Read};
 use std::os::unix::fs::FileExt;
 use std::rt::{Clock, Files};
@@ -35,8 +36,8 @@ fn cut_of(given: &ArgMatches<'_>) -> Option<Cut> {
     Some(Cut { first, rows })
 }
 
-/// What is to be loaded: how files are cut into batches, and how many rows they have together, about, where that is known. As a load
-/// reads them, the lines of each of several files are counted.
+/// What is to be loaded: how files are cut into batches, and how many rows they have together, about, where that is
+/// known. As a load reads them, the lines of each of several files are counted.
 #[derive(Drop)]
 pub struct LoadPlan {
     pub cut: Cut,
@@ -167,16 +168,13 @@ where
 }
 
 // Loads a text into an open warehouse, with a note where it has no room, and one where an upkeep is not finished.
-fn load_into<R: Files + AllocGlobal + Print + Eprint + Clock, L: Read + Drop>(
+fn load_into<R: Files + AllocGlobal + Print + Eprint, L: Read + Drop, D: Sectors + InFile>(
     rt: &R,
     given: &ArgMatches<'_>,
     plan: &LoadPlan,
-    session: &mut Session<Device<'_, R, R::File>>,
+    session: &mut Session<D>,
     text: L,
-) -> Result<u8, Refusal>
-where
-    R::File: FileExt + LockFile,
-{
+) -> Result<u8, Refusal> {
     if let Some(rows) = plan.rows {
         note_room(rt, given, session, plan.cut, rows);
     }
@@ -186,16 +184,13 @@ where
 }
 
 // Loads a text into an open warehouse. A line that says how far it is goes with the text, before a note comes.
-fn load_batches<R: Files + AllocGlobal + Print + Eprint + Clock, L: Read + Drop>(
+fn load_batches<R: Files + AllocGlobal + Print + Eprint, L: Read + Drop, D: Sectors + InFile>(
     rt: &R,
     given: &ArgMatches<'_>,
     plan: &LoadPlan,
-    session: &mut Session<Device<'_, R, R::File>>,
+    session: &mut Session<D>,
     text: L,
-) -> Result<u8, Refusal>
-where
-    R::File: FileExt + LockFile,
-{
+) -> Result<u8, Refusal> {
     let mut out = output(rt)?;
     let mut text = LoadText::new(rt.alloc(), text)?;
     let done = warehouse_jobs::load(
@@ -249,16 +244,4 @@ pub fn open_each<'k, R: Files + AllocGlobal + Input>(
         sources.push(GivenFile::new(source, place, reads))?;
     }
     Ok(sources)
-}
-
-/// The bytes of some files together, if each is a regular file.
-pub fn byte_count<R: Files>(rt: &R, paths: &[&str]) -> Option<u64> {
-    let mut bytes = 0u64;
-    for path in paths {
-        match fs::metadata(rt, path) {
-            Ok(metadata) if metadata.is_file() => bytes = bytes.saturating_add(metadata.len()),
-            _ => return None,
-        }
-    }
-    Some(bytes)
 }

@@ -1,38 +1,35 @@
 //! What is said of a refusal of a load.
-use crate::device::Device;
-use crate::job::met_in;
 use crate::load::LoadPlan;
-use crate::locating::{in_line, line_of, located};
-use crate::refusal::{Met, Refusal, explained};
-use crate::repeated::{StoredBatch, repeated_hint};
-use crate::table_paths::table_name;
-use crate::table_refusals::key_for;
 use clap::ArgMatches;
+use command_files::locating::{in_line, line_of, located};
+use command_files::refusal::Refusal;
+use command_files::repeated::{StoredBatch, repeated_hint};
+use command_files::table_paths::table_name;
+use command_files::table_refusals::key_for;
+use command_sessions::device::InFile;
+use command_sessions::explaining::{Met, explained};
+use command_sessions::job::met_in;
 use cube_model::Fault;
-use file_device::LockFile;
 use sector_device::Sectors;
 use ssb_eval::UnknownKey;
 use std::alloc::Global;
 use std::io::Read;
-use std::os::unix::fs::FileExt;
-use std::rt::{Clock, Files};
+use std::rt::Files;
 use table_hints::{KeyAt, Needs, Table, limit_hint, line_hint, loaded_key_hint, number_hint};
 use warehouse::Session;
 use warehouse_jobs::LoadText;
 
-/// The refusal of a load after so many batches that were done, with what its text kept of it, or else with what the warehouse shows.
-pub fn refused<R: Files + AllocGlobal + Eprint + Clock, L: Read + Drop>(
+/// The refusal of a load after so many batches that were done, with what its text kept of it, or else with what the
+/// warehouse shows.
+pub fn refused<R: Files + AllocGlobal + Eprint, L: Read + Drop, D: Sectors + InFile>(
     rt: &R,
     given: &ArgMatches<'_>,
     plan: &LoadPlan,
-    session: &Session<Device<'_, R, R::File>>,
+    session: &Session<D>,
     text: &LoadText<L>,
     done: u32,
     fault: Fault,
-) -> Refusal
-where
-    R::File: FileExt + LockFile,
-{
+) -> Refusal {
     match hint_of(rt.alloc(), given, plan, session, text, done, fault) {
         Ok(Some(hint)) => Refusal {
             fault,

@@ -1,15 +1,17 @@
 //! The command `members`.
-use crate::device::{self, Access, Device};
-use crate::exit::DONE;
-use crate::job::met_in;
-use crate::output::{cut_short, output};
-use crate::query::refusal_of;
-use crate::refusal::{Refusal, bad_query, explained};
 use clap::ArgMatches;
+use command_files::exit::DONE;
+use command_files::output::{cut_short, output};
+use command_files::query::refusal_of;
+use command_files::refusal::{Refusal, bad_query};
+use command_sessions::device::{self, Access, InFile};
+use command_sessions::explaining::explained;
+use command_sessions::job::met_in;
 use cube_model::{Attr, Fault};
 use file_device::LockFile;
 use member_lists::write_members;
 use query_words::{QueryWords, read_query};
+use sector_device::Sectors;
 use std::alloc::Global;
 use std::io::Write;
 use std::os::unix::fs::FileExt;
@@ -50,15 +52,12 @@ fn attribute(alloc: Global, name: &str) -> Result<Attr, Refusal> {
 }
 
 // Prints the members of an attribute of an open warehouse.
-fn print_members<R: Files + AllocGlobal + Print + Eprint + Clock>(
+fn print_members<R: Files + AllocGlobal + Print + Eprint, D: Sectors + InFile>(
     rt: &R,
     given: &ArgMatches<'_>,
-    session: &Session<Device<'_, R, R::File>>,
+    session: &Session<D>,
     attr: Attr,
-) -> Result<u8, Refusal>
-where
-    R::File: FileExt + LockFile,
-{
+) -> Result<u8, Refusal> {
     let mut out = output(rt)?;
     match write_members(rt.alloc(), session.dims(), attr, &mut out) {
         Ok(()) => match out.flush() {

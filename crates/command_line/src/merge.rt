@@ -1,14 +1,14 @@
 //! The command `merge`.
-use crate::exit::DONE;
-use crate::files::{Reads, unread_among};
-use crate::layout::{arrangement_of, bad_order, layout_of};
 use crate::load::{open_each, several_inputs};
-use crate::output::{cut_short, output};
-use crate::refusal::Refusal;
-use crate::saving::{begin, cut_off, finish, part_of, remove};
-use crate::table_paths::count_inputs;
-use crate::unmerged::unmerged_hint;
 use clap::ArgMatches;
+use command_files::exit::DONE;
+use command_files::files::{Reads, unread_among};
+use command_files::layout::{arrangement_of, bad_order, layout_of};
+use command_files::output::{cut_short, output};
+use command_files::refusal::Refusal;
+use command_files::saving::{begin, cut_off, finish, part_of, remove};
+use command_files::table_paths::count_inputs;
+use command_files::unmerged::unmerged_hint;
 use cube_model::{Answer, Fault};
 use report_formats::{Asked, write_formatted};
 use report_merge::{Merge, Unmerged, merge_readers};

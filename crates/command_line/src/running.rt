@@ -1,15 +1,17 @@
 //! What the program does with its words.
-use crate::device::Access;
-use crate::exit::{DONE, NO_COMMAND};
-use crate::refusal::Refusal;
-use crate::screens::Screens;
-use crate::streams::hold_streams;
 use crate::{
-    add, check, copy, crashes, create, cuboids, demo, dump, eval, generate, job, load, members,
-    merge, plans, status, texts, views,
+    add, check, copy, crashes, create, cuboids, demo, dump, eval, generate, load, members, merge,
+    status, views,
 };
 use clap::ArgMatches;
 use clap::error::{Error, ErrorKind};
+use command_files::exit::{DONE, NO_COMMAND};
+use command_files::refusal::Refusal;
+use command_files::screens::Screens;
+use command_files::streams::hold_streams;
+use command_files::texts;
+use command_sessions::device::Access;
+use command_sessions::{job, plans};
 use command_words::command;
 use cube_model::Fault;
 use file_device::LockFile;
@@ -20,8 +22,9 @@ use std::rt::{Clock, Files};
 use std::time::CpuClock;
 use warehouse_jobs::Job;
 
-/// Does what words say, of which the first is the program's name, and gives the status to end with: 0 done, 1 refused, 2 no
-/// command. The report goes to standard output, and a refusal to standard error: its fault, and after it what is known of it.
+/// Does what words say, of which the first is the program's name, and gives the status to end with: 0 done, 1 refused,
+/// 2 no command. The report goes to standard output, and a refusal to standard error: its fault, and after it what is
+/// known of it.
 ///
 /// It fails where standard error cannot be written.
 pub fn run<R: Files + AllocGlobal + Print + Eprint + Clock + CpuClock + Input>(

@@ -1,14 +1,15 @@
 //! The command `status`.
-use crate::device::{self, Access, Device};
-use crate::exit::DONE;
-use crate::job::{done_in, perform_job};
-use crate::output::cut_short;
-use crate::records::format_of;
-use crate::refusal::{Refusal, explained};
-use crate::space::Room;
-use crate::texts::print_text;
-use crate::unfinished::note_unfinished;
 use clap::ArgMatches;
+use command_files::exit::DONE;
+use command_files::output::cut_short;
+use command_files::records::format_of;
+use command_files::refusal::Refusal;
+use command_files::texts::print_text;
+use command_sessions::device::{self, Access, InFile};
+use command_sessions::explaining::explained;
+use command_sessions::job::{done_in, perform_job};
+use command_sessions::space::Room;
+use command_sessions::unfinished::note_unfinished;
 use cube_model::Fault;
 use file_device::LockFile;
 use record_formats::{Cell, Records};
@@ -45,14 +46,11 @@ where
 }
 
 // Prints all numbers of an open warehouse.
-fn print_all<R: Files + AllocGlobal + Print + Eprint + Clock>(
+fn print_all<R: Files + AllocGlobal + Print + Eprint, D: Sectors + InFile>(
     rt: &R,
     given: &ArgMatches<'_>,
-    session: &mut Session<Device<'_, R, R::File>>,
-) -> Result<u8, Refusal>
-where
-    R::File: FileExt + LockFile,
-{
+    session: &mut Session<D>,
+) -> Result<u8, Refusal> {
     let space = Space::of(rt.alloc(), session)?;
     let status = done_in(rt, given, session, Job::Status)?;
     if status == DONE {
@@ -97,15 +95,12 @@ fn print_space<R: AllocGlobal + Print>(rt: &R, space: Space) -> Result<u8, Refus
 }
 
 // Prints the numbers of an open warehouse as records.
-fn print_records<R: Files + AllocGlobal + Print + Eprint + Clock>(
+fn print_records<R: Files + AllocGlobal + Print + Eprint, D: Sectors + InFile>(
     rt: &R,
     given: &ArgMatches<'_>,
-    session: &Session<Device<'_, R, R::File>>,
+    session: &Session<D>,
     format: Format,
-) -> Result<u8, Refusal>
-where
-    R::File: FileExt + LockFile,
-{
+) -> Result<u8, Refusal> {
     let mut records = status_records(rt.alloc(), format, &session.status()?)?;
     if given.get_flag("all") {
         push_space(rt.alloc(), &mut records, Space::of(rt.alloc(), session)?)?;

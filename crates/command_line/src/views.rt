@@ -3,13 +3,14 @@ ghost use Rattle.std.specs.Prelude.{◌<◌, ◌≤◌, All, length};
 ghost use Rattle.lattice.specs.Views.{index_of};
 ghost use Rattle.warehouse_root.specs.Limits.{most_cuboids};
 
-use crate::device::{self, Access, Device};
-use crate::exit::DONE;
-use crate::job::met_in;
-use crate::output::{cut_short, output};
-use crate::refusal::{Refusal, explained};
-use crate::unfinished::note_unfinished;
 use clap::ArgMatches;
+use command_files::exit::DONE;
+use command_files::output::{cut_short, output};
+use command_files::refusal::Refusal;
+use command_sessions::device::{self, Access, InFile};
+use command_sessions::explaining::explained;
+use command_sessions::job::met_in;
+use command_sessions::unfinished::note_unfinished;
 use cube_model::{Axis, Fault};
 use dimensions::Dims;
 use file_device::LockFile;
@@ -93,14 +94,11 @@ fn word_at<'w>(words: &[&'w str], place: usize) -> &'w str {
 }
 
 // Prints the stored cuboids of a warehouse.
-fn list<R: Files + AllocGlobal + Print + Eprint + Clock>(
+fn list<R: Files + AllocGlobal + Print + Eprint, D: Sectors + InFile>(
     rt: &R,
     given: &ArgMatches<'_>,
-    session: &Session<Device<'_, R, R::File>>,
-) -> Result<u8, Refusal>
-where
-    R::File: FileExt + LockFile,
-{
+    session: &Session<D>,
+) -> Result<u8, Refusal> {
     let mut out = output(rt)?;
     match write_cuboids(session, &mut out) {
         Ok(()) => {

@@ -89,8 +89,8 @@ fn program<'a>(alloc: Global) -> Command<'a> {
         .arg_required_else_help(true)
 }
 
-/// The words of a query in a list of queries: the number of a query of the benchmark, or an ad-hoc query. It can only fail when
-/// out of memory.
+/// The words of a query in a list of queries: the number of a query of the benchmark, or an ad-hoc query. It can only
+/// fail when out of memory.
 pub fn listed_query<'a>(alloc: Global) -> Result<Command<'a>, AllocError> {
     let query = Command::new(alloc, "query")
         .no_binary_name(true)

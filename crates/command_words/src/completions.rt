@@ -26,7 +26,8 @@ impl Shell {
     }
 }
 
-/// The script of a shell. Commands, options, and the values that an option may have are completed; where a file is wanted, files.
+/// The script of a shell. Commands, options, and the values that an option may have are completed; where a file is
+/// wanted, files.
 #[derive(Clone, Copy)]
 pub struct Completions(pub Shell);
 

@@ -4,7 +4,8 @@ use crate::words::Words;
 use clap::Command;
 use std::alloc::{AllocError, Global};
 
-/// A command: its name, what its help says before and after its words, its words that have to be there, and those that may be.
+/// A command: its name, what its help says before and after its words, its words that have to be there, and those that
+/// may be.
 pub(crate) struct Described {
     pub name: &'static str,
     pub about: &'static str,

@@ -6,7 +6,8 @@ use crate::word::Word;
 use crate::words::Words;
 use std::fmt;
 
-/// The manual page of the program, in the macros of `man`: for each command its usage, its words, and what its help says.
+/// The manual page of the program, in the macros of `man`: for each command its usage, its words, and what its help
+/// says.
 #[derive(Clone, Copy)]
 pub struct Manual;
 

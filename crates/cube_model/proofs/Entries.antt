@@ -1,5 +1,6 @@
 -- A map of keys in order says which list it is.
-use Rattle.std.proofs.Common.{◌≡◌, ◌∙◌, sym, ap, refl, subst, Bool, true, false, cond, T, List, [], ◌∷◌, map, Some, None, ◌&&◌, ◌||◌}
+use Rattle.std.proofs.Common.{◌≡◌, ◌∙◌, sym, ap, refl, subst, Bool, true, false, cond, T, List, [], ◌∷◌, map, Some}
+use Rattle.std.proofs.Common.{None, ◌&&◌, ◌||◌}
 use Rattle.std.specs.List.{list_any, AllByRecursion}
 use Rattle.std.specs.List.Sorted.{IsStrictlySortedBy}
 use Rattle.std.specs.declared.cmp.Ordering.{Ordering}
@@ -23,7 +24,8 @@ module _ {K : Type 0} (R : K → K → Ordering) (o : IsTotalOrder R) (same : Is
   IsAscending-from_sorted (k ∷ ks) sorted = (sorted.0, IsAscending-from_sorted ks sorted.1)
 
   module _ {X : Type 0} where
-    below : (k : K) (es : List (K × X)) → AllByRecursion (λ other. R k other ≡ Less) (map (λ e. e.0) es) → T (below_all R k es)
+    below : (k : K) (es : List (K × X)) → AllByRecursion (λ other. R k other ≡ Less) (map (λ e. e.0) es)
+        → T (below_all R k es)
     below k [] all = tt
     below k (e ∷ es) all = subst (λ r. T (is_lt r && below_all R k es)) (sym all.0) (below k es all.1)
 
@@ -39,10 +41,12 @@ module _ {K : Type 0} (R : K → K → Ordering) (o : IsTotalOrder R) (same : Is
     keys-map g [] = refl
     keys-map g (k ∷ ks) = ap (λ rest. k ∷ rest) (keys-map g ks)
 
-    pub find-map : (g : K → X) (q : K) (ks : List K) → find R q (map (λ k. (k, g k)) ks) ≡ cond (list_any (eq_by_cmp R q) ks) (Some (g q)) None
+    pub find-map : (g : K → X) (q : K) (ks : List K)
+        → find R q (map (λ k. (k, g k)) ks) ≡ cond (list_any (eq_by_cmp R q) ks) (Some (g q)) None
     find-map g q [] = refl
     find-map g q (k ∷ ks) =
-        elim (R q k) as (λ r. R q k ≡ r → cond (is_eq r) (Some (g k)) (find R q (map (λ k. (k, g k)) ks)) ≡ cond (is_eq r || list_any (eq_by_cmp R q) ks) (Some (g q)) None) [
+        elim (R q k) as (λ r. R q k ≡ r → cond (is_eq r) (Some (g k)) (find R q (map (λ k. (k, g k)) ks))
+        ≡ cond (is_eq r || list_any (eq_by_cmp R q) ks) (Some (g q)) None) [
           | Less ↦ λ e. find-map g q ks
           | Equal ↦ λ e. ap (λ x. Some (g x)) (sym (same q k e))
           | Greater ↦ λ e. find-map g q ks
@@ -50,21 +54,27 @@ module _ {K : Type 0} (R : K → K → Ordering) (o : IsTotalOrder R) (same : Is
 
     -- entries in order with a value at each of some keys, and nothing elsewhere
     pub entries_are : (es : List (K × X)) → IsStrictlySortedBy R (map (λ e. e.0) es) → (ks : List K) (g : K → X)
-        → ((q : K) → lookup (is_at (R q)) es ≡ cond (list_any (eq_by_cmp R q) ks) (Some (g q)) None) → es ≡ map (λ k. (k, g k)) (ascending R ks)
+        → ((q : K) → lookup (is_at (R q)) es ≡ cond (list_any (eq_by_cmp R q) ks) (Some (g q)) None)
+        → es ≡ map (λ k. (k, g k)) (ascending R ks)
     entries_are es sorted ks g is =
         same_entries R o same es (map (λ k. (k, g k)) (ascending R ks))
         (sorted_entries es (IsAscending-from_sorted (map (λ e. e.0) es) sorted))
-        (sorted_entries (map (λ k. (k, g k)) (ascending R ks)) (subst (IsAscending R) (sym (keys-map g (ascending R ks))) (IsAscending-ascending R o same ks)))
-        (λ q. find-lookup q es ∙ is q ∙ sym (find-map g q (ascending R ks) ∙ ap (λ b. cond b (Some (g q)) None) (list_any-ascending R o same q ks)))
+        (sorted_entries (map (λ k. (k, g k)) (ascending R ks))
+        (subst (IsAscending R) (sym (keys-map g (ascending R ks))) (IsAscending-ascending R o same ks)))
+        (λ q. find-lookup q es ∙ is q
+        ∙ sym (find-map g q (ascending R ks)
+        ∙ ap (λ b. cond b (Some (g q)) None) (list_any-ascending R o same q ks)))
 
   abbrev marked : List K → List (K × Unit {0})
   marked keys = map (λ key. (key, tt)) keys
 
   -- lists in order with the same items are one list
-  pub IsAscending-unique : (keys others : List K) → IsAscending R keys → IsAscending R others → ((q : K) → list_any (eq_by_cmp R q) keys ≡ list_any (eq_by_cmp R q) others) → keys ≡ others
+  pub IsAscending-unique : (keys others : List K) → IsAscending R keys → IsAscending R others
+      → ((q : K) → list_any (eq_by_cmp R q) keys ≡ list_any (eq_by_cmp R q) others) → keys ≡ others
   IsAscending-unique keys others first second items =
       let one = same_entries R o same (marked keys) (marked others)
       (sorted_entries (marked keys) (subst (IsAscending R) (sym (keys-map (λ _. tt) keys)) first))
       (sorted_entries (marked others) (subst (IsAscending R) (sym (keys-map (λ _. tt) others)) second))
-      (λ q. find-map (λ _. tt) q keys ∙ ap (λ b. cond b (Some tt) None) (items q) ∙ sym (find-map (λ _. tt) q others)) in
+      (λ q. find-map (λ _. tt) q keys ∙ ap (λ b. cond b (Some tt) None) (items q)
+      ∙ sym (find-map (λ _. tt) q others)) in
       sym (keys-map (λ _. tt) keys) ∙ ap (map (λ e. e.0)) one ∙ keys-map (λ _. tt) others

@@ -1,7 +1,9 @@
 -- An average is the one fraction in lowest terms.
-use Rattle.std.proofs.Common.{◌≡◌, ◌∙◌, sym, ap, refl, subst, ℕ, zero, suc, ◌+◌, ◌*◌, ◌/◌, ◌%◌, ◌<◌, ◌≤◌, ◌==◌, true, false, cond, ℤ, pos, negsuc, ◌*ℤ◌, nat_abs, arith}
+use Rattle.std.proofs.Common.{◌≡◌, ◌∙◌, sym, ap, refl, subst, ℕ, zero, suc, ◌+◌, ◌*◌, ◌/◌, ◌%◌, ◌<◌, ◌≤◌, ◌==◌, true}
+use Rattle.std.proofs.Common.{false, cond, ℤ, pos, negsuc, ◌*ℤ◌, nat_abs, arith}
 use Rattle.std.proofs.Math.IntN.{neg_ℤ}
-use Rattle.std.proofs.Math.Nat.{dvd-mul_left, div-mul_cancel, mul-div_cancel, dvd_of_mul-dvd-mul_right, mul-dvd-mul_right, one-dvd}
+use Rattle.std.proofs.Math.Nat.{dvd-mul_left, div-mul_cancel, mul-div_cancel, dvd_of_mul-dvd-mul_right}
+use Rattle.std.proofs.Math.Nat.{mul-dvd-mul_right, one-dvd}
 use Rattle.std.specs.Int.{IsGcd, ◌∣◌}
 use Rattle.std.proofs.lemmas.Bool.Decides.{nat_tests}
 use Rattle.std.proofs.lemmas.Nat.Gcd.{IsGcd-from_zero, IsGcd-from_mod, same_from_IsGcd, dvd_trans}
@@ -23,7 +25,8 @@ gcd_in-IsGcd zero a b below = absurd (omega arith)
 gcd_in-IsGcd (suc steps) a b below =
     elim (b == 0) as (λ t. (b == 0) ≡ t → IsGcd a b (cond t a (gcd_in steps b (a % b)))) [
       | true ↦ λ e. IsGcd-from_zero a b (is_zero b e)
-      | false ↦ λ e. IsGcd-from_mod a b (gcd_in steps b (a % b)) (gcd_in-IsGcd steps b (a % b) (fewer a b steps (is_above_zero b e) below))
+      | false ↦ λ e. IsGcd-from_mod a b (gcd_in steps b (a % b))
+          (gcd_in-IsGcd steps b (a % b) (fewer a b steps (is_above_zero b e) below))
     ] refl
 
 below_next : (b : ℕ) → b < b + 1
@@ -38,7 +41,8 @@ nothing : (c : ℕ) → 0 * c ≡ 0
 nothing c = omega arith
 
 -- sizes that are equal products are so with the sign
-with_sign_of-product : (sum : ℤ) (size count part : ℕ) → size * count ≡ nat_abs sum * part → with_sign_of sum size *ℤ pos count ≡ sum *ℤ pos part
+with_sign_of-product : (sum : ℤ) (size count part : ℕ) → size * count ≡ nat_abs sum * part
+    → with_sign_of sum size *ℤ pos count ≡ sum *ℤ pos part
 with_sign_of-product (pos n) size count part e = ap pos e
 with_sign_of-product (negsuc n) zero count part e =
     ap pos (nothing count) ∙ ap (λ k. neg_ℤ (pos k)) (sym (nothing count) ∙ e)
@@ -78,12 +82,18 @@ IsGcd-scaled p q m above lowest =
     let divisor = gcd_in (q * m + 1) (p * m) (q * m) in
     let greatest : IsGcd (p * m) (q * m) divisor = gcd_in-IsGcd (q * m + 1) (p * m) (q * m) (below_next (q * m)) in
     let parts : divisor / m * m ≡ divisor = div-mul_cancel m (greatest.2 m (dvd-mul_left m p) (dvd-mul_left m q)) in
-    let first : divisor / m ∣ p = dvd_of_mul-dvd-mul_right (divisor / m) above (subst (λ d. d ∣ p * m) (sym parts) greatest.0) in
-    let second : divisor / m ∣ q = dvd_of_mul-dvd-mul_right (divisor / m) above (subst (λ d. d ∣ q * m) (sym parts) greatest.1) in
+    let first : divisor / m ∣ p =
+    dvd_of_mul-dvd-mul_right (divisor / m) above (subst (λ d. d ∣ p * m) (sym parts) greatest.0) in
+    let second : divisor / m ∣ q =
+    dvd_of_mul-dvd-mul_right (divisor / m) above (subst (λ d. d ∣ q * m) (sym parts) greatest.1) in
     let one : divisor / m ∣ 1 = lowest.2 (divisor / m) first second in
     let back : divisor ∣ 1 * m = subst (λ d. d ∣ 1 * m) parts (mul-dvd-mul_right (divisor / m) one m) in
-    let whole : 1 * m ≡ m = omega arith in
-    (dvd-mul_left m p, dvd-mul_left m q, λ d left right. dvd_trans d (greatest.2 d left right) (subst (λ n. divisor ∣ n) whole back))
+    let whole : 1 * m ≡ m = omega arith in (
+      dvd-mul_left m p,
+      dvd-mul_left m q,
+      λ d left right. dvd_trans d (greatest.2 d left right)
+          (subst (λ n. divisor ∣ n) whole back),
+    )
 
 turned : (p q0 c s q : ℕ) → p * c ≡ s * q → (p * q0) * c ≡ (s * q) * q0
 turned p q0 c s q e = swapped p q0 c ∙ ap (λ n. n * q0) e
@@ -98,25 +108,32 @@ comm : (a b : ℕ) → a * b ≡ b * a
 comm a b = omega arith
 
 -- two fractions in lowest terms of one sum and count are one
-pub IsFractionOf-unique : (sum : ℤ) (count : ℕ) → 1 ≤ count → (f g : Fraction) → IsFractionOf sum count f → IsFractionOf sum count g → f ≡ g
+pub IsFractionOf-unique : (sum : ℤ) (count : ℕ) → 1 ≤ count → (f g : Fraction) → IsFractionOf sum count f
+    → IsFractionOf sum count g → f ≡ g
 IsFractionOf-unique sum count above f g a b =
     let p = nat_abs f.numerator in
     let r = nat_abs g.numerator in
-    let first : p * count ≡ nat_abs sum * f.denominator = sym (nat_abs-product f.numerator count) ∙ ap nat_abs a.equal ∙ nat_abs-product sum f.denominator in
-    let second : r * count ≡ nat_abs sum * g.denominator = sym (nat_abs-product g.numerator count) ∙ ap nat_abs b.equal ∙ nat_abs-product sum g.denominator in
+    let first : p * count ≡ nat_abs sum * f.denominator = sym (nat_abs-product f.numerator count) ∙ ap nat_abs a.equal
+    ∙ nat_abs-product sum f.denominator in
+    let second : r * count ≡ nat_abs sum * g.denominator = sym (nat_abs-product g.numerator count) ∙ ap nat_abs b.equal
+    ∙ nat_abs-product sum g.denominator in
     let crossed : p * g.denominator ≡ r * f.denominator =
     cancelled (p * g.denominator) (r * f.denominator) count above
-    (turned p g.denominator count (nat_abs sum) f.denominator first ∙ swapped_last (nat_abs sum) f.denominator g.denominator
+    (turned p g.denominator count (nat_abs sum) f.denominator first
+    ∙ swapped_last (nat_abs sum) f.denominator g.denominator
     ∙ sym (turned r f.denominator count (nat_abs sum) g.denominator second)) in
-    let left : IsGcd (p * g.denominator) (f.denominator * g.denominator) g.denominator = IsGcd-scaled p f.denominator g.denominator b.positive a.lowest in
-    let right : IsGcd (r * f.denominator) (g.denominator * f.denominator) f.denominator = IsGcd-scaled r g.denominator f.denominator a.positive b.lowest in
+    let left : IsGcd (p * g.denominator) (f.denominator * g.denominator) g.denominator =
+    IsGcd-scaled p f.denominator g.denominator b.positive a.lowest in
+    let right : IsGcd (r * f.denominator) (g.denominator * f.denominator) f.denominator =
+    IsGcd-scaled r g.denominator f.denominator a.positive b.lowest in
     let moved : IsGcd (p * g.denominator) (f.denominator * g.denominator) f.denominator =
     subst (λ n. IsGcd n (f.denominator * g.denominator) f.denominator) (sym crossed)
     (subst (λ n. IsGcd (r * f.denominator) n f.denominator) (comm g.denominator f.denominator) right) in
     let denominators : f.denominator ≡ g.denominator =
     same_from_IsGcd (p * g.denominator) (f.denominator * g.denominator) f.denominator g.denominator moved left in
     let numerators : f.numerator ≡ g.numerator =
-    cancelled_signed f.numerator g.numerator count above (a.equal ∙ ap (λ n. sum *ℤ pos n) denominators ∙ sym b.equal) in
+    cancelled_signed f.numerator g.numerator count above (a.equal ∙ ap (λ n. sum *ℤ pos n) denominators
+    ∙ sym b.equal) in
     λ i. record { numerator = numerators i; denominator = denominators i }
 
 above_zero : (a b : ℕ) → a * b ≡ 0 → 0 < b → a ≡ 0
@@ -132,9 +149,11 @@ fraction_of-IsFractionOf sum count above =
     let numerator_parts : size / divisor * divisor ≡ size = div-mul_cancel divisor greatest.0 in
     let denominator_parts : count / divisor * divisor ≡ count = div-mul_cancel divisor greatest.1 in
     let positive : 1 ≤ count / divisor = not_zero (count / divisor) divisor count denominator_parts above in
-    let divisor_above : 0 < divisor = not_zero divisor (count / divisor) count (comm divisor (count / divisor) ∙ denominator_parts) above in
+    let divisor_above : 0 < divisor =
+    not_zero divisor (count / divisor) count (comm divisor (count / divisor) ∙ denominator_parts) above in
     let products : size / divisor * count ≡ size * (count / divisor) =
-    ap (λ n. size / divisor * n) (sym denominator_parts) ∙ regroup (size / divisor) (count / divisor) divisor ∙ ap (λ n. n * (count / divisor)) numerator_parts in
+    ap (λ n. size / divisor * n) (sym denominator_parts) ∙ regroup (size / divisor) (count / divisor) divisor
+    ∙ ap (λ n. n * (count / divisor)) numerator_parts in
     record {
       equal = with_sign_of-product sum (size / divisor) count (count / divisor) products;
       positive = positive;

@@ -1,5 +1,6 @@
 -- Under one grouping set each row has one key, and the rows of a key are those that have it there.
-use Rattle.std.proofs.Common.{◌≡◌, ◌∙◌, sym, ap, refl, subst, ℕ, suc, Bool, true, false, List, [], ◌∷◌, ◌++◌, map, length, ◌||◌, ◌⊎◌, inl, inr, arith}
+use Rattle.std.proofs.Common.{◌≡◌, ◌∙◌, sym, ap, refl, subst, ℕ, suc, Bool, true, false, List, [], ◌∷◌, ◌++◌, map}
+use Rattle.std.proofs.Common.{length, ◌||◌, ◌⊎◌, inl, inr, arith}
 use Rattle.std.proofs.lemmas.List.{length-map}
 use Rattle.std.proofs.lemmas.List.Elements.{filter_agree}
 use Rattle.std.specs.List.{list_any, AllByRecursion, filter}
@@ -53,7 +54,8 @@ module _ {X : Type 0} (P : X → Type 0) where
 IsFor : List Attr → GroupingSet → Type 0
 IsFor columns grouping = length grouping ≡ length columns
 
-for_more : (column : Attr) (columns : List Attr) (b : Bool) (grouping : GroupingSet) → IsFor columns grouping → IsFor (column ∷ columns) (b ∷ grouping)
+for_more : (column : Attr) (columns : List Attr) (b : Bool) (grouping : GroupingSet) → IsFor columns grouping
+    → IsFor (column ∷ columns) (b ∷ grouping)
 unfolding IsFor
 for_more column columns b grouping is = ap (λ n. suc n) is
 
@@ -63,18 +65,22 @@ beginnings-IsFor [] = (refl, tt)
 beginnings-IsFor (column ∷ columns) = (
   length-map (column ∷ columns) (λ _. false),
   each_map (IsFor (column ∷ columns)) (λ grouping. true ∷ grouping) (beginnings columns)
-      (each_more (IsFor columns) (λ grouping. IsFor (column ∷ columns) (true ∷ grouping)) (for_more column columns true) (beginnings columns) (beginnings-IsFor columns)),
+      (each_more (IsFor columns) (λ grouping. IsFor (column ∷ columns) (true ∷ grouping)) (for_more column columns true)
+      (beginnings columns) (beginnings-IsFor columns)),
 )
 
 subsets-IsFor : (columns : List Attr) → AllByRecursion (IsFor columns) (subsets columns)
 unfolding IsFor
 subsets-IsFor [] = (refl, tt)
 subsets-IsFor (column ∷ columns) =
-    each_append (IsFor (column ∷ columns)) (map (λ grouping. true ∷ grouping) (subsets columns)) (map (λ grouping. false ∷ grouping) (subsets columns))
+    each_append (IsFor (column ∷ columns)) (map (λ grouping. true ∷ grouping) (subsets columns))
+    (map (λ grouping. false ∷ grouping) (subsets columns))
     (each_map (IsFor (column ∷ columns)) (λ grouping. true ∷ grouping) (subsets columns)
-    (each_more (IsFor columns) (λ grouping. IsFor (column ∷ columns) (true ∷ grouping)) (for_more column columns true) (subsets columns) (subsets-IsFor columns)))
+    (each_more (IsFor columns) (λ grouping. IsFor (column ∷ columns) (true ∷ grouping)) (for_more column columns true)
+    (subsets columns) (subsets-IsFor columns)))
     (each_map (IsFor (column ∷ columns)) (λ grouping. false ∷ grouping) (subsets columns)
-    (each_more (IsFor columns) (λ grouping. IsFor (column ∷ columns) (false ∷ grouping)) (for_more column columns false) (subsets columns) (subsets-IsFor columns)))
+    (each_more (IsFor columns) (λ grouping. IsFor (column ∷ columns) (false ∷ grouping)) (for_more column columns false)
+    (subsets columns) (subsets-IsFor columns)))
 
 grouping_sets-IsFor : (kind : Kind) (columns : List Attr) → AllByRecursion (IsFor columns) (grouping_sets kind columns)
 unfolding IsFor
@@ -89,7 +95,8 @@ none_of_some : (n : ℕ) → suc n ≡ 0 → ⊥
 none_of_some n e = omega arith
 
 -- one key under two grouping sets: they are the same
-same_grouping : (dimensions : DimRows) (row other : LineOrder) (columns : List Attr) (g h : GroupingSet) → IsFor columns g → IsFor columns h
+same_grouping : (dimensions : DimRows) (row other : LineOrder) (columns : List Attr) (g h : GroupingSet)
+    → IsFor columns g → IsFor columns h
     → key_under dimensions row columns g ≡ key_under dimensions other columns h → g ≡ h
 unfolding IsFor
 same_grouping d row other [] [] [] p q e = refl
@@ -138,7 +145,8 @@ module _ {X : Type 0} (p : X → Bool) where
         ] refl)
       ] refl
 
-list_any-map : {X Y : Type 0} (p : Y → Bool) (f : X → Y) (xs : List X) → list_any p (map f xs) ≡ list_any (λ x. p (f x)) xs
+list_any-map : {X Y : Type 0} (p : Y → Bool) (f : X → Y) (xs : List X)
+    → list_any p (map f xs) ≡ list_any (λ x. p (f x)) xs
 list_any-map p f [] = refl
 list_any-map p f (x ∷ xs) = ap (λ b. p (f x) || b) (list_any-map p f xs)
 
@@ -154,16 +162,21 @@ module _ (dimensions : DimRows) (query : Query) where
       list_any-map (eq_by_cmp key_cmp key) (key_under dimensions other query.columns) sets
       ∙ only_at (λ h. eq_by_cmp key_cmp key (key_under dimensions other query.columns h)) sets g i
       (λ h j passes.
-      let same : key ≡ key_under dimensions other query.columns h = key_cmp-IsAntisymmetric key (key_under dimensions other query.columns h) (is_equal _ passes) in
+      let same : key ≡ key_under dimensions other query.columns h =
+      key_cmp-IsAntisymmetric key (key_under dimensions other query.columns h) (is_equal _ passes) in
       let one : g ≡ h = same_grouping dimensions row other query.columns g h (for_each g i) (for_each h j) same in
       subst (λ t. eq_by_cmp key_cmp key (key_under dimensions other query.columns t) ≡ true) (sym one) passes)
 
 pub rows_of_a_key : RowsOfAKey
 rows_of_a_key query dimensions rows =
-    each (λ grouping. (row : LineOrder) → rows_of_key dimensions query (key_under dimensions row query.columns grouping) rows
-    ≡ filter (λ other. eq_by_cmp key_cmp (key_under dimensions row query.columns grouping) (key_under dimensions other query.columns grouping)) rows)
+    each (λ grouping. (row : LineOrder)
+    → rows_of_key dimensions query (key_under dimensions row query.columns grouping) rows
+    ≡ filter (λ other. eq_by_cmp key_cmp (key_under dimensions row query.columns grouping)
+    (key_under dimensions other query.columns grouping)) rows)
     (grouping_sets query.kind query.columns)
     (λ grouping i row. filter_agree
-    (λ other. list_any (eq_by_cmp key_cmp (key_under dimensions row query.columns grouping)) (keys_of dimensions query other))
-    (λ other. eq_by_cmp key_cmp (key_under dimensions row query.columns grouping) (key_under dimensions other query.columns grouping))
+    (λ other. list_any (eq_by_cmp key_cmp (key_under dimensions row query.columns grouping))
+    (keys_of dimensions query other))
+    (λ other. eq_by_cmp key_cmp (key_under dimensions row query.columns grouping)
+    (key_under dimensions other query.columns grouping))
     (λ other. has_key dimensions query row other grouping i) rows)

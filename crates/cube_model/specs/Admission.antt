@@ -1,10 +1,14 @@
 -- Which batches of fact rows are admissible, and the first cause where one is not. Our own.
-use Rattle.std.specs.Prelude.{◌≡◌, ℕ, ◌+◌, ◌^◌, ◌<◌, Bool, nat_lt, nat_le, is_none, Option, None, List, [], ◌∷◌, ◌++◌, length, nat_abs}
+use Rattle.std.specs.Prelude.{◌≡◌, ℕ, ◌+◌, ◌^◌, ◌<◌, Bool, nat_lt, nat_le, is_none, Option, None, List, [], ◌∷◌, ◌++◌}
+use Rattle.std.specs.Prelude.{length, nat_abs}
 use Rattle.std.specs.List.{sum_by, flat_map}
 use Rattle.cube_model.specs.declared.measure.Measure.{Measure}
-use Rattle.cube_model.specs.declared.measure.Measure.TheVariants.{Quantity, ExtendedPrice, Revenue, SupplyCost, Discounted, Profit}
+use Rattle.cube_model.specs.declared.measure.Measure.TheVariants.{Quantity, ExtendedPrice, Revenue, SupplyCost}
+use Rattle.cube_model.specs.declared.measure.Measure.TheVariants.{Discounted, Profit}
 use Rattle.cube_model.specs.declared.fault.Fault.{Fault}
-use Rattle.cube_model.specs.declared.fault.Fault.TheVariants.{Repeated, Gap, TooManyBatches, TooManyRows, FieldTooLong, UnknownCustomer, UnknownSupplier, UnknownPart, UnknownDate, SumRange}
+use Rattle.cube_model.specs.declared.fault.Fault.TheVariants.{Repeated, Gap, TooManyBatches, TooManyRows, FieldTooLong}
+use Rattle.cube_model.specs.declared.fault.Fault.TheVariants.{UnknownCustomer, UnknownSupplier, UnknownPart}
+use Rattle.cube_model.specs.declared.fault.Fault.TheVariants.{UnknownDate, SumRange}
 use Rattle.cube_model.specs.declared.fault.Place.TheVariants.{Row}
 use Rattle.cube_model.specs.declared.rows.DimRows.{DimRows}
 use Rattle.cube_model.specs.declared.rows.LineOrder.{LineOrder}
@@ -41,7 +45,8 @@ unknown_axis dimensions number row = first_cause (
 -- the first fact row with an unknown key. Rows are numbered from a number on
 abbrev pub unknown_key : DimRows → ℕ → List LineOrder → Option Fault
 unknown_key dimensions number [] = None
-unknown_key dimensions number (row ∷ rows) = first_cause (unknown_axis dimensions number row ∷ unknown_key dimensions (number + 1) rows ∷ [])
+unknown_key dimensions number (row ∷ rows) =
+    first_cause (unknown_axis dimensions number row ∷ unknown_key dimensions (number + 1) rows ∷ [])
 
 -- the sum of a measure's absolute values
 abbrev pub absolute_total : Measure → List LineOrder → ℕ

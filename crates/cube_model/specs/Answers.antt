@@ -20,7 +20,8 @@ keys_among dimensions query rows = ascending key_cmp (flat_map (keys_of dimensio
 
 -- the fact rows of a key, under one or another grouping set
 abbrev pub rows_of_key : DimRows → Query → List Member → List LineOrder → List LineOrder
-rows_of_key dimensions query key rows = filter (λ row. list_any (eq_by_cmp key_cmp key) (keys_of dimensions query row)) rows
+rows_of_key dimensions query key rows =
+    filter (λ row. list_any (eq_by_cmp key_cmp key) (keys_of dimensions query row)) rows
 
 -- the line of a key: the aggregates over the rows of that key
 abbrev pub line_of : DimRows → Query → List LineOrder → List Member → Line

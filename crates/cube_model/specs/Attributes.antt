@@ -4,7 +4,10 @@ use Rattle.std.specs.Prelude.{ℕ, ◌==◌, List, [], Option, Some, None, unwra
 use Rattle.std.specs.Fmt.{decimal}
 use Rattle.std.specs.Option.{option_and_then}
 use Rattle.cube_model.specs.declared.attr.Attr.{Attr}
-use Rattle.cube_model.specs.declared.attr.Attr.TheVariants.{CustomerCity, CustomerNation, CustomerRegion, SupplierCity, SupplierNation, SupplierRegion, PartBrand1, PartCategory, PartMfgr, DateKey, DateYearmonthnum, DateYear, DateYearmonth, DateWeeknuminyear}
+use Rattle.cube_model.specs.declared.attr.Attr.TheVariants.{CustomerCity, CustomerNation, CustomerRegion, SupplierCity}
+use Rattle.cube_model.specs.declared.attr.Attr.TheVariants.{SupplierNation, SupplierRegion, PartBrand1, PartCategory}
+use Rattle.cube_model.specs.declared.attr.Attr.TheVariants.{PartMfgr, DateKey, DateYearmonthnum, DateYear}
+use Rattle.cube_model.specs.declared.attr.Attr.TheVariants.{DateYearmonth, DateWeeknuminyear}
 use Rattle.cube_model.specs.declared.attr.Axis.{Axis}
 use Rattle.cube_model.specs.declared.attr.Axis.TheVariants.{Customer, Supplier, Part, Date}
 use Rattle.cube_model.specs.declared.rows.CustomerRow.{CustomerRow}
@@ -87,4 +90,5 @@ key_on Date row = row.orderdate
 
 -- the attribute of a fact row: that of the dimension row with its key (no text where there is none)
 abbrev pub attribute_of : DimRows → Attr → LineOrder → List ℕ
-attribute_of dimensions attr row = unwrap_or (attribute_at dimensions (axis_of attr) (key_on (axis_of attr) row) attr) []
+attribute_of dimensions attr row = unwrap_or (attribute_at dimensions (axis_of attr) (key_on (axis_of attr) row) attr)
+    []

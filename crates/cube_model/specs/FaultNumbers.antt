@@ -1,7 +1,14 @@
 -- The numbers of the faults, which are in each printed line. Our own.
 use Rattle.std.specs.Prelude.{ℕ}
 use Rattle.cube_model.specs.declared.fault.Fault.{Fault}
-use Rattle.cube_model.specs.declared.fault.Fault.TheVariants.{Memory, Device, Failed, Full, NotFormatted, AlreadyFormatted, BadLayout, DeviceSize, FieldCount, BadNumber, FieldTooLong, DuplicateKey, HierarchyBroken, ReservedMember, UnknownCustomer, UnknownSupplier, UnknownPart, UnknownDate, SumRange, TooManyRows, TooManyBatches, Repeated, Gap, BadQuery, NoSuchPrefix, TooManyCells, TooManyMembers, Worn, Input, Output, NotRunning, TooManyAdditions}
+use Rattle.cube_model.specs.declared.fault.Fault.TheVariants.{Memory, Device, Failed, Full, NotFormatted}
+use Rattle.cube_model.specs.declared.fault.Fault.TheVariants.{AlreadyFormatted, BadLayout, DeviceSize, FieldCount}
+use Rattle.cube_model.specs.declared.fault.Fault.TheVariants.{BadNumber, FieldTooLong, DuplicateKey, HierarchyBroken}
+use Rattle.cube_model.specs.declared.fault.Fault.TheVariants.{ReservedMember, UnknownCustomer, UnknownSupplier}
+use Rattle.cube_model.specs.declared.fault.Fault.TheVariants.{UnknownPart, UnknownDate, SumRange, TooManyRows}
+use Rattle.cube_model.specs.declared.fault.Fault.TheVariants.{TooManyBatches, Repeated, Gap, BadQuery, NoSuchPrefix}
+use Rattle.cube_model.specs.declared.fault.Fault.TheVariants.{TooManyCells, TooManyMembers, Worn, Input, Output}
+use Rattle.cube_model.specs.declared.fault.Fault.TheVariants.{NotRunning, TooManyAdditions}
 
 -- the number by which a fault is known
 abbrev pub number_of : Fault → ℕ

@@ -20,12 +20,14 @@ GroupingSet = List Bool
 -- the beginnings of the columns, from the empty one to the whole
 abbrev pub beginnings : List Attr → List GroupingSet
 beginnings [] = [] ∷ []
-beginnings (column ∷ columns) = map (λ _. false) (column ∷ columns) ∷ map (λ grouping. true ∷ grouping) (beginnings columns)
+beginnings (column ∷ columns) = map (λ _. false) (column ∷ columns)
+    ∷ map (λ grouping. true ∷ grouping) (beginnings columns)
 
 -- all choices of columns
 abbrev pub subsets : List Attr → List GroupingSet
 subsets [] = [] ∷ []
-subsets (column ∷ columns) = map (λ grouping. true ∷ grouping) (subsets columns) ++ map (λ grouping. false ∷ grouping) (subsets columns)
+subsets (column ∷ columns) = map (λ grouping. true ∷ grouping) (subsets columns)
+    ++ map (λ grouping. false ∷ grouping) (subsets columns)
 
 abbrev pub grouping_sets : Kind → List Attr → List GroupingSet
 grouping_sets Plain columns = map (λ _. true) columns ∷ []
@@ -36,7 +38,8 @@ grouping_sets Cube columns = subsets columns
 abbrev pub key_under : DimRows → LineOrder → List Attr → GroupingSet → List Member
 key_under dimensions row [] grouping = []
 key_under dimensions row (column ∷ columns) [] = []
-key_under dimensions row (column ∷ columns) (true ∷ grouping) = Text (attribute_of dimensions column row) ∷ key_under dimensions row columns grouping
+key_under dimensions row (column ∷ columns) (true ∷ grouping) = Text (attribute_of dimensions column row)
+    ∷ key_under dimensions row columns grouping
 key_under dimensions row (column ∷ columns) (false ∷ grouping) = All ∷ key_under dimensions row columns grouping
 
 -- the keys of a fact row, one for each grouping set

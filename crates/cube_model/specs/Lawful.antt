@@ -17,14 +17,18 @@ use Rattle.cube_model.specs.Keys.{key_cmp, key_under, keys_of, grouping_sets}
 use Rattle.cube_model.specs.Limits.{most_members}
 use Rattle.cube_model.specs.Orders.{answer_cmp}
 use Rattle.cube_model.specs.Selection.{selected}
-use Rattle.cube_model.specs.Validity.{Rules, customer_rules, supplier_rules, part_rules, date_rules, members_of, IsValid}
+use Rattle.cube_model.specs.Validity.{Rules, customer_rules, supplier_rules, part_rules, date_rules, members_of}
+use Rattle.cube_model.specs.Validity.{IsValid}
 
 -- Lines answer a query: each is below those after it in the query's order, a key has a line exactly where some
 -- selected row has the key, and each line has the aggregates over exactly the selected rows of its key.
 pub record IsAnswer (query : Query) (dimensions : DimRows) (rows : List LineOrder) (lines : List Line) : Type 0 where
   pub in_order : IsAscending (answer_cmp query.order) lines
-  pub keys : (key : List Member) → list_any (eq_by_cmp key_cmp key) (map (λ line. line.key) lines) ≡ list_any (eq_by_cmp key_cmp key) (flat_map (keys_of dimensions query) (selected dimensions query.conditions rows))
-  pub aggregates : AllByRecursion (λ line. line ≡ line_of dimensions query (selected dimensions query.conditions rows) line.key) lines
+  pub keys : (key : List Member) → list_any (eq_by_cmp key_cmp key) (map (λ line. line.key) lines)
+      ≡ list_any (eq_by_cmp key_cmp key)
+      (flat_map (keys_of dimensions query) (selected dimensions query.conditions rows))
+  pub aggregates : AllByRecursion
+      (λ line. line ≡ line_of dimensions query (selected dimensions query.conditions rows) line.key) lines
 
 -- the lines of the answer answer the query, and no other lines do
 abbrev pub AnswerIsTheOne : Type 0
@@ -38,12 +42,14 @@ abbrev pub RowsOfAKey : Type 0
 RowsOfAKey = (query : Query) (dimensions : DimRows) (rows : List LineOrder)
     → AllByRecursion (λ grouping. (row : LineOrder)
     → rows_of_key dimensions query (key_under dimensions row query.columns grouping) rows
-    ≡ filter (λ other. eq_by_cmp key_cmp (key_under dimensions row query.columns grouping) (key_under dimensions other query.columns grouping)) rows)
+    ≡ filter (λ other. eq_by_cmp key_cmp (key_under dimensions row query.columns grouping)
+    (key_under dimensions other query.columns grouping)) rows)
     (grouping_sets query.kind query.columns)
 
 -- keys are in a total order, in which only equal ones tie
 abbrev pub KeysAreInTotalOrder : Type 0
-KeysAreInTotalOrder = IsTotalOrder key_cmp × ((left right : List Member) → (key_cmp left right ≡ Equal) ↔ (left ≡ right))
+KeysAreInTotalOrder = IsTotalOrder key_cmp
+    × ((left right : List Member) → (key_cmp left right ≡ Equal) ↔ (left ≡ right))
 
 -- the average of a sum over a count is that fraction in lowest terms, and no other fraction is
 abbrev pub FractionIsTheOne : Type 0
@@ -63,7 +69,8 @@ pub record KeepsRules {Row : Type 0} (rules : Rules Row) (rows : List Row) : Typ
   pub keys_differ : EachPair (λ row other. rules.key row ≢ rules.key other) rows
   pub none_reserved : AllByRecursion (λ row. AllByRecursion (λ text. text row ≢ codes "ALL") rules.texts) rows
   pub few_members : AllByRecursion (λ text. length (members_of (map text rows)) ≤ most_members) rules.texts
-  pub one_upper : AllByRecursion (λ link. EachPair (λ row other. link.0 row ≡ link.0 other → link.1 row ≡ link.1 other) rows) rules.links
+  pub one_upper : AllByRecursion
+      (λ link. EachPair (λ row other. link.0 row ≡ link.0 other → link.1 row ≡ link.1 other) rows) rules.links
 
 -- the rows of the four dimensions keep the rules
 pub record KeepAllRules (rows : DimRows) : Type 0 where

@@ -1,5 +1,5 @@
--- The limits of rows, batches and queries, each in one place. Those of queries and texts are our own choice; a dimension
--- of days has fewer rows, so that a day has a number of two bytes.
+-- The limits of rows, batches and queries, each in one place. Those of queries and texts are our own choice; a
+-- dimension of days has fewer rows, so that a day has a number of two bytes.
 use Rattle.std.specs.Prelude.{ℕ}
 
 -- bytes of a text that is kept

@@ -1,6 +1,7 @@
 use Rattle.std.specs.Prelude.{ℤ, pos, ◌*◌, ◌-ℤ◌}
 use Rattle.cube_model.specs.declared.measure.Measure.{Measure}
-use Rattle.cube_model.specs.declared.measure.Measure.TheVariants.{Quantity, ExtendedPrice, Revenue, SupplyCost, Discounted, Profit}
+use Rattle.cube_model.specs.declared.measure.Measure.TheVariants.{Quantity, ExtendedPrice, Revenue, SupplyCost}
+use Rattle.cube_model.specs.declared.measure.Measure.TheVariants.{Discounted, Profit}
 use Rattle.cube_model.specs.declared.rows.LineOrder.{LineOrder}
 
 -- a measure of a fact row, a whole number

@@ -22,7 +22,9 @@ value_cmp (Ratio left) (Ratio right) = Equal
 abbrev pub line_cmp : Order → Line → Line → Ordering
 line_cmp order left right =
     ordering_then (member_cmp (slice_index_or left.key order.column All) (slice_index_or right.key order.column All))
-    (ordering_then (value_cmp (slice_index_or right.values order.aggregate (Whole (pos 0))) (slice_index_or left.values order.aggregate (Whole (pos 0))))
+    (ordering_then
+    (value_cmp (slice_index_or right.values order.aggregate (Whole (pos 0)))
+    (slice_index_or left.values order.aggregate (Whole (pos 0))))
     (key_cmp left.key right.key))
 
 -- how lines compare in an answer: by their keys, where the query asks for no other order

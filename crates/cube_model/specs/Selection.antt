@@ -16,7 +16,8 @@ text_le left right = is_le (slice_cmp nat_cmp left right)
 -- a condition holds of a fact row
 abbrev pub holds_of : DimRows → Cond → LineOrder → Bool
 holds_of dimensions (OneOf attr texts) row = list_any (λ text. bytes_eq text (attribute_of dimensions attr row)) texts
-holds_of dimensions (Between attr low high) row = text_le low (attribute_of dimensions attr row) && text_le (attribute_of dimensions attr row) high
+holds_of dimensions (Between attr low high) row =
+    text_le low (attribute_of dimensions attr row) && text_le (attribute_of dimensions attr row) high
 holds_of dimensions (Quantity low high) row = nat_le low row.quantity && nat_le row.quantity high
 holds_of dimensions (Discount low high) row = nat_le low row.discount && nat_le row.discount high
 

@@ -1,6 +1,7 @@
 -- Which dimension rows are valid, and the first cause where they are not.
 -- The levels are the benchmark's; limits, the reserved text and the order of the causes are our own.
-use Rattle.std.specs.Prelude.{◌≡◌, ◌≤◌, ℕ, ◌+◌, ◌==◌, nat_lt, Bool, ◌&&◌, not, Option, None, List, [], ◌∷◌, ◌++◌, length, map, codes}
+use Rattle.std.specs.Prelude.{◌≡◌, ◌≤◌, ℕ, ◌+◌, ◌==◌, nat_lt, Bool, ◌&&◌, not, Option, None, List, [], ◌∷◌, ◌++◌}
+use Rattle.std.specs.Prelude.{length, map, codes}
 use Rattle.std.specs.List.{list_any, AllByRecursion}
 use Rattle.std.specs.Str.{bytes_eq}
 use Rattle.std.specs.Ordering.{nat_cmp}
@@ -8,7 +9,8 @@ use Rattle.std.specs.Cmp.Lexicographic.{slice_cmp}
 use Rattle.cube_model.specs.declared.attr.Axis.{Axis}
 use Rattle.cube_model.specs.declared.attr.Axis.TheVariants.{Customer, Supplier, Part, Date}
 use Rattle.cube_model.specs.declared.fault.Fault.{Fault}
-use Rattle.cube_model.specs.declared.fault.Fault.TheVariants.{DuplicateKey, ReservedMember, TooManyMembers, HierarchyBroken, TooManyRows}
+use Rattle.cube_model.specs.declared.fault.Fault.TheVariants.{DuplicateKey, ReservedMember, TooManyMembers}
+use Rattle.cube_model.specs.declared.fault.Fault.TheVariants.{HierarchyBroken, TooManyRows}
 use Rattle.cube_model.specs.declared.rows.CustomerRow.{CustomerRow}
 use Rattle.cube_model.specs.declared.rows.SupplierRow.{SupplierRow}
 use Rattle.cube_model.specs.declared.rows.PartRow.{PartRow}
@@ -79,12 +81,15 @@ module _ {Row : Type 0} (rules : Rules Row) where
 
   -- with a row there are too many members of some kind
   abbrev pub overflows : List Row → Row → Bool
-  overflows earlier row = list_any (λ text. nat_lt most_members (length (members_of (map text (earlier ++ row ∷ []))))) rules.texts
+  overflows earlier row = list_any (λ text. nat_lt most_members (length (members_of (map text (earlier ++ row ∷ [])))))
+      rules.texts
 
   -- a text that an earlier row has determines another text there than in this row
   abbrev pub breaks_link : List Row → Row → Bool
   breaks_link earlier row =
-      list_any (λ link. list_any (λ other. bytes_eq (link.0 other) (link.0 row) && not (bytes_eq (link.1 other) (link.1 row))) earlier) rules.links
+      list_any (λ link. list_any
+      (λ other. bytes_eq (link.0 other) (link.0 row) && not (bytes_eq (link.1 other) (link.1 row))) earlier)
+      rules.links
 
   -- the first cause to refuse a row after earlier ones. Rows count from 1
   abbrev pub row_cause : List Row → Row → Option Fault
@@ -101,7 +106,8 @@ module _ {Row : Type 0} (rules : Rules Row) where
 
   -- the first cause to refuse a dimension: too many rows, then row by row
   abbrev pub dimension_cause : List Row → Option Fault
-  dimension_cause rows = first_cause (cause_if (nat_lt rules.row_limit (length rows)) TooManyRows ∷ rows_cause [] rows ∷ [])
+  dimension_cause rows =
+      first_cause (cause_if (nat_lt rules.row_limit (length rows)) TooManyRows ∷ rows_cause [] rows ∷ [])
 
 -- the first cause to refuse the rows of the four dimensions: customer, supplier, part, date
 abbrev pub invalid_cause : DimRows → Option Fault

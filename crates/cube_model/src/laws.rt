@@ -1,5 +1,6 @@
 //! Laws of the definitions: each function proves the statement that its contract names, and does nothing.
-ghost use Rattle.cube_model.specs.Lawful.{AnswerIsTheOne, RowsOfAKey, KeysAreInTotalOrder, FractionIsTheOne, ValidRowsKeepTheRules};
+ghost use Rattle.cube_model.specs.Lawful.{AnswerIsTheOne, RowsOfAKey, KeysAreInTotalOrder, FractionIsTheOne};
+ghost use Rattle.cube_model.specs.Lawful.{ValidRowsKeepTheRules};
 
 /// The answer is the one list of lines that is in order and has just the right lines.
 pub fn answer_is_the_one()

@@ -55,7 +55,8 @@ pub struct DimRows {
 
 /// A row of the fact table, whole. Amounts of money are in the generator's whole units.
 ///
-/// The fields are in order of size and not as in the table: a row is laid out as it is declared, so no byte is lost between them.
+/// The fields are in order of size and not as in the table: a row is laid out as it is declared, so no byte is lost
+/// between them.
 #[derive(Debug, PartialEq, Eq, Drop)]
 pub struct LineOrder {
     pub orderkey: Amount,

@@ -1,5 +1,6 @@
 -- The tally of a measure over selected rows, from its count, its sum, its least and its greatest.
-use Rattle.std.proofs.Common.{◌≡◌, ◌∙◌, sym, ap, refl, ℕ, ◌+◌, ◌<◌, ◌≤◌, ◌^◌, ◌+ℤ◌, ℤ, pos, negsuc, List, [], ◌∷◌, map, length, Option, Some, None, Result, Ok, Err, arith, FitsSigned}
+use Rattle.std.proofs.Common.{◌≡◌, ◌∙◌, sym, ap, refl, ℕ, ◌+◌, ◌<◌, ◌≤◌, ◌^◌, ◌+ℤ◌, ℤ, pos, negsuc, List, [], ◌∷◌, map}
+use Rattle.std.proofs.Common.{length, Option, Some, None, Result, Ok, Err, arith, FitsSigned}
 use Rattle.std.specs.Prelude.{nat_abs, IfOk, OnErr}
 use Rattle.std.specs.Int.{int_min, int_max, w64}
 use Rattle.std.specs.List.{fold, sum_by}
@@ -28,11 +29,13 @@ abbrev high_end : Option (ℤ × ℤ) → ℤ
 high_end None = pos 0
 high_end (Some ends) = ends.1
 
-extremes_are : (numbers : List ℤ) (low high : ℤ) → Some (low, high) ≡ extremes_of numbers → (low ≡ least numbers) × (high ≡ greatest numbers)
+extremes_are : (numbers : List ℤ) (low high : ℤ) → Some (low, high) ≡ extremes_of numbers → (low ≡ least numbers)
+    × (high ≡ greatest numbers)
 extremes_are [] low high is = absurd (cc is)
 extremes_are (number ∷ numbers) low high is = (ap low_end is, ap high_end is)
 
-pub tally_some : (numbers : List ℤ) (count : ℕ) (sum low high : ℤ) → count ≡ length numbers → sum ≡ total numbers → Some (low, high) ≡ extremes_of numbers
+pub tally_some : (numbers : List ℤ) (count : ℕ) (sum low high : ℤ) → count ≡ length numbers → sum ≡ total numbers
+    → Some (low, high) ≡ extremes_of numbers
     → record { count = count; sum = sum; least = low; greatest = high } ≡ tally_of numbers
 tally_some numbers count sum low high count_is sum_is is =
     let ends = extremes_are numbers low high is in
@@ -51,21 +54,40 @@ abs_max (pos a) (negsuc b) = omega (arith, ints, int_max_is (pos a) (negsuc b))
 abs_max (negsuc a) (pos b) = omega (arith, ints, int_max_is (negsuc a) (pos b))
 abs_max (negsuc a) (negsuc b) = omega (arith, ints, int_max_is (negsuc a) (negsuc b))
 
-fold_small : (f : ℤ → ℤ → ℤ) → ((a b : ℤ) → nat_abs (f a b) ≤ nat_abs a + nat_abs b) → (number : LineOrder → ℤ) (a : ℤ) (rows : List LineOrder)
+fold_small : (f : ℤ → ℤ → ℤ) → ((a b : ℤ) → nat_abs (f a b) ≤ nat_abs a + nat_abs b)
+    → (number : LineOrder → ℤ) (a : ℤ) (rows : List LineOrder)
     → nat_abs (fold f a (map number rows)) ≤ nat_abs a + sum_by (λ row. nat_abs (number row)) rows
 fold_small f step number a [] = omega arith
 fold_small f step number a (row ∷ rows) =
-    omega (arith, fold_small f step number (f a (number row)) rows, step a (number row), sum_by-cons (λ (r : LineOrder). nat_abs (number r)) row rows)
+    omega (
+      arith,
+      fold_small f step number (f a (number row)) rows,
+      step a (number row),
+      sum_by-cons (λ (r : LineOrder). nat_abs (number r)) row rows,
+    )
 
-least_small : (number : LineOrder → ℤ) (rows : List LineOrder) → nat_abs (least (map number rows)) ≤ sum_by (λ row. nat_abs (number row)) rows
+least_small : (number : LineOrder → ℤ) (rows : List LineOrder)
+    → nat_abs (least (map number rows)) ≤ sum_by (λ row. nat_abs (number row)) rows
 least_small number [] = omega arith
-least_small number (row ∷ rows) = omega (arith, fold_small int_min abs_min number (number row) rows, sum_by-cons (λ (r : LineOrder). nat_abs (number r)) row rows)
+least_small number (row ∷ rows) =
+    omega (
+      arith,
+      fold_small int_min abs_min number (number row) rows,
+      sum_by-cons (λ (r : LineOrder). nat_abs (number r)) row rows,
+    )
 
-greatest_small : (number : LineOrder → ℤ) (rows : List LineOrder) → nat_abs (greatest (map number rows)) ≤ sum_by (λ row. nat_abs (number row)) rows
+greatest_small : (number : LineOrder → ℤ) (rows : List LineOrder)
+    → nat_abs (greatest (map number rows)) ≤ sum_by (λ row. nat_abs (number row)) rows
 greatest_small number [] = omega arith
-greatest_small number (row ∷ rows) = omega (arith, fold_small int_max abs_max number (number row) rows, sum_by-cons (λ (r : LineOrder). nat_abs (number r)) row rows)
+greatest_small number (row ∷ rows) =
+    omega (
+      arith,
+      fold_small int_max abs_max number (number row) rows,
+      sum_by-cons (λ (r : LineOrder). nat_abs (number r)) row rows,
+    )
 
-module _ (measure : Measure) (rows : List LineOrder) (small : sum_by (λ row. nat_abs (measure_of measure row)) rows < 2 ^ 63) where
+module _ (measure : Measure) (rows : List LineOrder)
+    (small : sum_by (λ row. nat_abs (measure_of measure row)) rows < 2 ^ 63) where
   abbrev numbers : List ℤ
   numbers = map (measure_of measure) rows
 
@@ -73,10 +95,14 @@ module _ (measure : Measure) (rows : List LineOrder) (small : sum_by (λ row. na
   sum_fits sum is = FitsSigned-small sum (omega (arith, ap nat_abs is, nat_abs-total (measure_of measure) rows, small))
 
   pub least_fits : (low high : ℤ) → Some (low, high) ≡ extremes_of numbers → FitsSigned w64 low
-  least_fits low high is = FitsSigned-small low (omega (arith, ap nat_abs (extremes_are numbers low high is).0, least_small (measure_of measure) rows, small))
+  least_fits low high is =
+      FitsSigned-small low
+      (omega (arith, ap nat_abs (extremes_are numbers low high is).0, least_small (measure_of measure) rows, small))
 
   pub greatest_fits : (low high : ℤ) → Some (low, high) ≡ extremes_of numbers → FitsSigned w64 high
-  greatest_fits low high is = FitsSigned-small high (omega (arith, ap nat_abs (extremes_are numbers low high is).1, greatest_small (measure_of measure) rows, small))
+  greatest_fits low high is =
+      FitsSigned-small high
+      (omega (arith, ap nat_abs (extremes_are numbers low high is).1, greatest_small (measure_of measure) rows, small))
 
 -- ---- a count is taken of zeros
 noughts_sum : (rows : List LineOrder) → fold (λ so_far number. so_far +ℤ number) (pos 0) (map (λ _. pos 0) rows) ≡ pos 0
@@ -91,7 +117,8 @@ noughts_greatest : (rows : List LineOrder) → fold int_max (pos 0) (map (λ _. 
 noughts_greatest [] = refl
 noughts_greatest (row ∷ rows) = noughts_greatest rows
 
-pub tally_noughts : (rows : List LineOrder) (count : ℕ) → count ≡ length rows → record { count = count; sum = pos 0; least = pos 0; greatest = pos 0 } ≡ tally_of (map (number_of Count) rows)
+pub tally_noughts : (rows : List LineOrder) (count : ℕ) → count ≡ length rows
+    → record { count = count; sum = pos 0; least = pos 0; greatest = pos 0 } ≡ tally_of (map (number_of Count) rows)
 tally_noughts [] count is = λ i. record { count = is i; sum = pos 0; least = pos 0; greatest = pos 0 }
 tally_noughts (row ∷ rows) count is =
     λ i. record {
@@ -102,7 +129,8 @@ tally_noughts (row ∷ rows) count is =
     }
 
 -- ---- what is said of a result, in other words
-pub ok_same : {T E : Type 0} (result : Result T E) (one other : T) → one ≡ other → IfOk result (λ found. found ≡ one) → IfOk result (λ found. found ≡ other)
+pub ok_same : {T E : Type 0} (result : Result T E) (one other : T) → one ≡ other → IfOk result (λ found. found ≡ one)
+    → IfOk result (λ found. found ≡ other)
 ok_same (Ok found) one other same is = is ∙ same
 ok_same (Err error) one other same is = tt
 

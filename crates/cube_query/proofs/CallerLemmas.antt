@@ -7,4 +7,5 @@ use Rattle.cube_model.specs.declared.fault.Fault.TheVariants.{BadLayout, Memory}
 pub memory_alone : {T : Type 0} (result : Result T Fault) (P : Type 0) → P → (result ≡ Err BadLayout → P → ⊥)
     → IfErr result (λ fault. (fault ≡ Memory) ⊎ (fault ≡ BadLayout)) → IfErr result (λ fault. fault ≡ Memory)
 memory_alone (Ok x) P holds refused only = tt
-memory_alone (Err fault) P holds refused only = ⊎_elim (λ memory. memory) (λ is. absurd (refused (ap (λ f. Err f) is) holds)) only
+memory_alone (Err fault) P holds refused only =
+    ⊎_elim (λ memory. memory) (λ is. absurd (refused (ap (λ f. Err f) is) holds)) only

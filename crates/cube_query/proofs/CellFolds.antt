@@ -1,5 +1,6 @@
 -- What a fold represents when cells were merged in: the rows that they represent.
-use Rattle.std.proofs.Common.{◌≡◌, ◌∙◌, sym, ap, refl, subst, ℕ, zero, suc, ◌<◌, ◌≤◌, Bool, true, false, cond, List, [], ◌∷◌, ◌++◌, map, length, length-append, get_or, Option, Some, None, arith}
+use Rattle.std.proofs.Common.{◌≡◌, ◌∙◌, sym, ap, refl, subst, ℕ, zero, suc, ◌<◌, ◌≤◌, Bool, true, false, cond, List, []}
+use Rattle.std.proofs.Common.{◌∷◌, ◌++◌, map, length, length-append, get_or, Option, Some, None, arith}
 use Rattle.std.specs.Prelude.{◌==◌, nat_abs}
 use Rattle.std.specs.List.{Contains, filter, list_any}
 use Rattle.std.specs.Ordering.{eq_by_cmp}
@@ -23,7 +24,7 @@ use Rattle.cuboid_upkeep.specs.Lawful.{OneKeyOneGroup}
 use Rattle.cuboid_upkeep.proofs.Represented.{row_of_cell}
 use Rattle.group_plan.specs.Numbers.{group_count, key_at}
 use Rattle.group_plan.specs.Plans.{IsPlanOver, query_of}
-use Rattle.group_plan.specs.declared.plan.Plan.{Plan}
+use Rattle.group_plan.specs.declared.plan.GroupPlan.{GroupPlan}
 use Rattle.group_plan.proofs.Extending.{plan_of_over}
 use Rattle.cube_query.specs.CellRuns.{AreWantedMerged}
 use Rattle.cube_query.specs.CellSlots.{AreMergedIn, asked_of}
@@ -36,7 +37,8 @@ use Rattle.cube_query.specs.Slots.{entries_of, Cover, Grow}
 use Rattle.cube_query.specs.Tallies.{number_of, tallies_of, tally_of}
 use Rattle.cube_query.specs.declared.slots.Slots.{Slots}
 use Rattle.cube_query.specs.declared.tally.Tally.{Tally}
-use Rattle.cube_query.proofs.CellGroups.{AreApart, cells_are_rows, counts-rows, sizes-rows, slot_by, slotted-filter, tally_over}
+use Rattle.cube_query.proofs.CellGroups.{AreApart, cells_are_rows, counts-rows, sizes-rows, slot_by, slotted-filter}
+use Rattle.cube_query.proofs.CellGroups.{tally_over}
 use Rattle.cube_query.proofs.CellMerges.{all_untouched}
 use Rattle.cube_query.proofs.CellSlots.{cell_slots-length}
 use Rattle.cube_query.proofs.RowSlots.{HasSlot}
@@ -48,12 +50,14 @@ use Rattle.cube_query.proofs.Steps.{AreTallied-grow}
 use Rattle.cube_query.proofs.Sums.{length-filter-le, nat_abs-total, sum_by-filter}
 
 -- ---- cells that ascend are apart
-none_above : (number : ℕ) (cells : List Cell) → ((k : ℕ) (d : Cell) → k < length cells → number < key_number (get_or cells k d).key) → cell_at number cells ≡ None
+none_above : (number : ℕ) (cells : List Cell)
+    → ((k : ℕ) (d : Cell) → k < length cells → number < key_number (get_or cells k d).key) → cell_at number cells ≡ None
 none_above number [] above = refl
 none_above number (cell ∷ cells) above =
     let low = above 0 cell (omega arith) in
     let test : (key_number cell.key == number) ≡ false = grind (arith, nat_tests) in
-    ap (λ (b : Bool). cond b (Some cell) (cell_at number cells)) test ∙ none_above number cells (λ k d h. above (suc k) d (omega (arith, h)))
+    ap (λ (b : Bool). cond b (Some cell) (cell_at number cells)) test
+    ∙ none_above number cells (λ k d h. above (suc k) d (omega (arith, h)))
 
 pub apart : (cells : List Cell) → AreAscending cells → AreApart cells
 apart [] up = tt
@@ -65,15 +69,24 @@ apart (cell ∷ cells) up = (
 -- ---- rows that have the slots of cells
 module _ (dimensions : DimRows) (modes : List (List ℕ)) (view : View) (query : Query) (entries : List (ℕ × ℕ)) where
   -- ---- the cell of a row
-  row_found : (number : ℕ) (rows : List LineOrder) (row : LineOrder) → Contains rows row → key_number (key_of dimensions modes view row) ≡ number → cell_over dimensions modes view (rows_of dimensions modes view number rows) ≡ None → ⊥
+  row_found : (number : ℕ) (rows : List LineOrder) (row : LineOrder) → Contains rows row
+      → key_number (key_of dimensions modes view row) ≡ number
+      → cell_over dimensions modes view (rows_of dimensions modes view number rows) ≡ None → ⊥
   row_found number [] row there own none = absurd (omega (arith, there.1))
   row_found number (first ∷ rows) row (zero, within, is) own none =
-      let test : (key_number (key_of dimensions modes view first) == number) ≡ true = (let same : key_number (key_of dimensions modes view first) ≡ number = ap (λ (r : LineOrder). key_number (key_of dimensions modes view r)) is ∙ own in grind (arith, nat_tests)) in
+      let test : (key_number (key_of dimensions modes view first) == number) ≡ true =
+      (let same : key_number (key_of dimensions modes view first) ≡ number =
+      ap (λ (r : LineOrder). key_number (key_of dimensions modes view r)) is ∙ own in grind (arith, nat_tests)) in
       let some : cell_over dimensions modes view (first ∷ rows_of dimensions modes view number rows) ≡ None =
-      sym (ap (λ (b : Bool). cell_over dimensions modes view (cond b (first ∷ rows_of dimensions modes view number rows) (rows_of dimensions modes view number rows))) test) ∙ none in
+      sym (ap (λ (b : Bool). cell_over dimensions modes view
+      (cond b (first ∷ rows_of dimensions modes view number rows) (rows_of dimensions modes view number rows)))
+      test) ∙ none in
       absurd (cc some)
   row_found number (first ∷ rows) row (suc k, within, is) own none =
-      (elim (key_number (key_of dimensions modes view first) == number) as (λ b. cell_over dimensions modes view (cond b (first ∷ rows_of dimensions modes view number rows) (rows_of dimensions modes view number rows)) ≡ None → ⊥) [
+      (elim (key_number (key_of dimensions modes view first) == number) as
+      (λ b. cell_over dimensions modes view
+      (cond b (first ∷ rows_of dimensions modes view number rows) (rows_of dimensions modes view number rows))
+      ≡ None → ⊥) [
         | true ↦ λ some. absurd (cc some)
         | false ↦ λ still. row_found number rows row (k, omega (arith, within), is) own still
       ]) none
@@ -89,15 +102,20 @@ module _ (dimensions : DimRows) (modes : List (List ℕ)) (view : View) (query :
     row_slot : (row : LineOrder) → Contains rows row → IsGroupSlot dimensions query entries row (slot_of_row row)
     row_slot row there =
         let number = key_number (key_of dimensions modes view row) in
-        let members : HasMembers dimensions modes view row = subst (HasMembers dimensions modes view) there.2 (represent.known there.0 row there.1) in
-        (elim (cell_at number cells) as (λ o. cell_at number cells ≡ o → IsGroupSlot dimensions query entries row (slot_of_row row)) [
+        let members : HasMembers dimensions modes view row =
+        subst (HasMembers dimensions modes view) there.2 (represent.known there.0 row there.1) in
+        (elim (cell_at number cells) as (λ o. cell_at number cells ≡ o
+        → IsGroupSlot dimensions query entries row (slot_of_row row)) [
           | None ↦ λ e. absurd (row_found number rows row there refl (sym (represent.group number) ∙ e))
           | Some found ↦ λ e. turned row members (have number found e)
         ]) refl
       where
-        turned : (row : LineOrder) → HasMembers dimensions modes view row → HasSlot dimensions modes view query entries (key_number (key_of dimensions modes view row)) (slot_of_row row) → IsGroupSlot dimensions query entries row (slot_of_row row)
+        turned : (row : LineOrder) → HasMembers dimensions modes view row
+            → HasSlot dimensions modes view query entries (key_number (key_of dimensions modes view row))
+            (slot_of_row row) → IsGroupSlot dimensions query entries row (slot_of_row row)
         turned row members has =
-            (elim (slot_of_row row) as (λ o. IsGroupSlot dimensions query entries has.row o → IsGroupSlot dimensions query entries row o) [
+            (elim (slot_of_row row) as (λ o. IsGroupSlot dimensions query entries has.row o
+            → IsGroupSlot dimensions query entries row o) [
               | None ↦ λ is. law modes view query has.row row None serves has.members members has.number_is is
               | Some slot ↦ λ is. (
                 is.0,
@@ -107,7 +125,8 @@ module _ (dimensions : DimRows) (modes : List (List ℕ)) (view : View) (query :
               )
             ]) has.slot
 
-    all_slots : (part : List LineOrder) → ((row : LineOrder) → Contains part row → Contains rows row) → AreGroupSlots dimensions query entries part (map slot_of_row part)
+    all_slots : (part : List LineOrder) → ((row : LineOrder) → Contains part row → Contains rows row)
+        → AreGroupSlots dimensions query entries part (map slot_of_row part)
     all_slots [] among = tt
     all_slots (row ∷ part) among = (
       row_slot row (among row (zero, omega arith, refl)),
@@ -123,16 +142,21 @@ module _ (dimensions : DimRows) (modes : List (List ℕ)) (view : View) (query :
     rows_counted aggs longer merged same is slot before reads =
         is slot ∙ ap (with_cells aggs slot cells group_slots) reads ∙ each aggs
       where
-        each : (aggs : List Agg) → with_cells aggs slot cells group_slots (tallies_of aggs before) ≡ tallies_of aggs (before ++ slotted slot rows (map slot_of_row rows))
+        each : (aggs : List Agg) → with_cells aggs slot cells group_slots (tallies_of aggs before)
+            ≡ tallies_of aggs (before ++ slotted slot rows (map slot_of_row rows))
         each [] = refl
         each (agg ∷ aggs) =
-            let one = cells_are_rows dimensions modes view agg slot cells group_slots rows before same represent.group (apart cells represent.ascending)
-            ∙ sym (ap (λ (more : List LineOrder). tally_over agg (before ++ more)) (slotted-filter slot slot_of_row rows)) in
+            let one = cells_are_rows dimensions modes view agg slot cells group_slots rows before same represent.group
+            (apart cells represent.ascending)
+            ∙ sym (ap (λ (more : List LineOrder). tally_over agg (before ++ more))
+            (slotted-filter slot slot_of_row rows)) in
             λ i. one i ∷ each aggs i
 
 -- tallies over some of the rows so far have room for the cells that represent others
-module _ (dimensions : DimRows) (modes : List (List ℕ)) (plain : PlainCells) (so_far rows : List LineOrder) (represent : RepresentRows dimensions modes rows plain) (foldable : AreFoldable dimensions (so_far ++ rows))
-    (own : List LineOrder) (fewer : length own ≤ length so_far) (smaller : (agg : Agg) → size_of agg own ≤ size_of agg so_far) where
+module _ (dimensions : DimRows) (modes : List (List ℕ)) (plain : PlainCells) (so_far rows : List LineOrder)
+    (represent : RepresentRows dimensions modes rows plain) (foldable : AreFoldable dimensions (so_far ++ rows))
+    (own : List LineOrder) (fewer : length own ≤ length so_far)
+    (smaller : (agg : Agg) → size_of agg own ≤ size_of agg so_far) where
   room_for : (agg : Agg) → HasRoomFor agg plain.cells (tally_of (map (number_of agg) own))
   room_for agg =
       let number = number_of agg in
@@ -151,8 +175,10 @@ module _ (dimensions : DimRows) (modes : List (List ℕ)) (plain : PlainCells) (
   rooms_for (agg ∷ aggs) = (room_for agg, rooms_for aggs)
 
 -- ---- a fold
-module _ (dimensions : DimRows) (plan : Plan) (over : IsPlanOver dimensions plan) (old : Slots) (columns : List (Vec Tally Global)) (kept : IsKept plan old columns) (new : Slots)
-    (cover : Cover (group_count dimensions (query_of plan).columns) new) (grow : Grow (group_count dimensions (query_of plan).columns) (entries_of old) (entries_of new)) where
+module _ (dimensions : DimRows) (plan : GroupPlan) (over : IsPlanOver dimensions plan) (old : Slots)
+    (columns : List (Vec Tally Global)) (kept : IsKept plan old columns) (new : Slots)
+    (cover : Cover (group_count dimensions (query_of plan).columns) new)
+    (grow : Grow (group_count dimensions (query_of plan).columns) (entries_of old) (entries_of new)) where
   abbrev as_they_are : (slot : ℕ) → tallies_at columns slot ≡ tallies_at columns slot
   as_they_are slot = refl
 
@@ -164,7 +190,9 @@ module _ (dimensions : DimRows) (plan : Plan) (over : IsPlanOver dimensions plan
   kept_with_slots = kept_ready dimensions plan over old columns kept new columns cover grow as_they_are
 
   -- whatever was merged in at the slots
-  pub kept_after : (merged : List (Vec Tally Global)) → ((slot : ℕ) → length (entries_of new) ≤ slot → tallies_at merged slot ≡ tallies_at columns slot) → IsKept plan new merged
+  pub kept_after : (merged : List (Vec Tally Global))
+      → ((slot : ℕ) → length (entries_of new) ≤ slot → tallies_at merged slot ≡ tallies_at columns slot)
+      → IsKept plan new merged
   kept_after merged same = record {
     proper = kept_with_slots.proper;
     numbers = kept_with_slots.numbers;
@@ -173,10 +201,13 @@ module _ (dimensions : DimRows) (plan : Plan) (over : IsPlanOver dimensions plan
   }
 
   module _ (modes : List (List ℕ)) (plain : PlainCells) where
-    module _ (merged : List (Vec Tally Global)) (are : AreMergedIn (asked_of dimensions (query_of plan) plain.view modes) (query_of plan).aggregates (entries_of new) plain.cells columns merged) where
+    module _ (merged : List (Vec Tally Global))
+        (are : AreMergedIn (asked_of dimensions (query_of plan) plain.view modes) (query_of plan).aggregates
+        (entries_of new) plain.cells columns merged) where
       slots_below : AreBelow (length (entries_of new)) are.group_slots
       slots_below place slot at =
-          let found = AreGroupSlots-at dimensions (query_of plan) (entries_of new) are.slots.rows are.group_slots are.slots.slots place slot at in
+          let found = AreGroupSlots-at dimensions (query_of plan) (entries_of new) are.slots.rows are.group_slots
+          are.slots.slots place slot at in
           grow.slots.within found.0 slot found.1
 
       pub kept_merged : IsKept plan new merged
@@ -186,7 +217,8 @@ module _ (dimensions : DimRows) (plan : Plan) (over : IsPlanOver dimensions plan
             proper = kept_with_slots.proper;
             numbers = kept_with_slots.numbers;
             cover = kept_with_slots.cover;
-            fresh = λ slot h. are.merged slot ∙ ap (with_cells aggs slot plain.cells are.group_slots) (kept_with_slots.fresh slot h)
+            fresh = λ slot h. are.merged slot
+                ∙ ap (with_cells aggs slot plain.cells are.group_slots) (kept_with_slots.fresh slot h)
                 ∙ all_untouched aggs slot (length (entries_of new)) plain.cells are.group_slots [] slots_below h;
           }
 
@@ -236,12 +268,14 @@ module _ (dimensions : DimRows) (plan : Plan) (over : IsPlanOver dimensions plan
           merged = are;
         })
 
-    pub room_for_cells : (rows : List LineOrder) → RepresentRows dimensions modes rows plain → (so_far : List LineOrder) → RepresentsRows dimensions (shown plan old columns) so_far → AreFoldable dimensions (so_far ++ rows)
+    pub room_for_cells : (rows : List LineOrder) → RepresentRows dimensions modes rows plain → (so_far : List LineOrder)
+        → RepresentsRows dimensions (shown plan old columns) so_far → AreFoldable dimensions (so_far ++ rows)
         → GroupsHaveRoomFor (entries_of new) (query_of plan).aggregates plain.cells columns
     room_for_cells rows represent so_far represents foldable number slot found =
         let query = finest (query_of plan) in
         let made = plan_of_over dimensions plan over in
-        let tallied = AreTallied-grow dimensions query (entries_of old) (entries_of new) columns columns so_far made.rising (kept_numbers dimensions plan over old columns kept) grow as_they_are
+        let tallied = AreTallied-grow dimensions query (entries_of old) (entries_of new) columns columns so_far
+        made.rising (kept_numbers dimensions plan over old columns kept) grow as_they_are
         (tallied_for dimensions plan over old columns kept so_far represents) in
         let p = is_selected dimensions query.conditions in
         let key = key_at dimensions query.columns number in
@@ -251,4 +285,5 @@ module _ (dimensions : DimRows) (plan : Plan) (over : IsPlanOver dimensions plan
         subst (HaveRoomFor query.aggregates plain.cells) (sym (tallied.each number slot found))
         (rooms_for dimensions modes plain so_far rows represent foldable own
         (omega (arith, length-filter-le q (filter p so_far), length-filter-le p so_far))
-        (λ agg. omega (arith, sum_by-filter (size agg) q (filter p so_far), sum_by-filter (size agg) p so_far)) query.aggregates)
+        (λ agg. omega (arith, sum_by-filter (size agg) q (filter p so_far), sum_by-filter (size agg) p so_far))
+        query.aggregates)

@@ -1,5 +1,6 @@
 -- Lists in order, and lists of numbers that differ.
-use Rattle.std.proofs.Common.{◌≡◌, ◌≢◌, ◌∙◌, sym, ap, refl, ℕ, zero, suc, ◌<◌, true, false, List, [], ◌∷◌, map, length, get_or, arith}
+use Rattle.std.proofs.Common.{◌≡◌, ◌≢◌, ◌∙◌, sym, ap, refl, ℕ, zero, suc, ◌<◌, true, false, List, [], ◌∷◌, map, length}
+use Rattle.std.proofs.Common.{get_or, arith}
 use Rattle.std.specs.List.{AllByRecursion, AllPairs, IsDistinct}
 use Rattle.std.specs.declared.cmp.Ordering.{Ordering}
 use Rattle.std.specs.declared.cmp.Ordering.TheVariants.{Less}
@@ -10,22 +11,26 @@ use Rattle.cube_model.specs.Ascending.{IsAscending}
 use Rattle.cube_model.specs.declared.rows.LineOrder.{LineOrder}
 use Rattle.group_plan.specs.Rows.{no_row, row_at}
 
-each_from : {X : Type 0} (P : X → Type 0) (xs : List X) → ((j : ℕ) (d : X) → j < length xs → P (get_or xs j d)) → AllByRecursion P xs
+each_from : {X : Type 0} (P : X → Type 0) (xs : List X) → ((j : ℕ) (d : X) → j < length xs → P (get_or xs j d))
+    → AllByRecursion P xs
 each_from P [] each = tt
 each_from P (x ∷ xs) each = (each 0 x (omega arith), each_from P xs (λ j d h. each (suc j) d (omega (arith, h))))
 
-pub ascending_from : {X : Type 0} (R : X → X → Ordering) (xs : List X) → AllPairs (λ x y. R x y ≡ Less) xs → IsAscending R xs
+pub ascending_from : {X : Type 0} (R : X → X → Ordering) (xs : List X) → AllPairs (λ x y. R x y ≡ Less) xs
+    → IsAscending R xs
 ascending_from R [] pairs = tt
 ascending_from R (x ∷ xs) pairs = (
   each_from (λ y. R x y ≡ Less) xs (λ j d h. pairs 0 (suc j) d (omega arith) (omega (arith, h))),
   ascending_from R xs (λ i j d below h. pairs (suc i) (suc j) d (omega (arith, below)) (omega (arith, h))),
 )
 
-each-map : {X Y : Type 0} (P : Y → Type 0) (f : X → Y) (xs : List X) → AllByRecursion (λ x. P (f x)) xs → AllByRecursion P (map f xs)
+each-map : {X Y : Type 0} (P : Y → Type 0) (f : X → Y) (xs : List X) → AllByRecursion (λ x. P (f x)) xs
+    → AllByRecursion P (map f xs)
 each-map P f [] all = tt
 each-map P f (x ∷ xs) all = (all.0, each-map P f xs all.1)
 
-pub IsAscending-map : {X Y : Type 0} (R : Y → Y → Ordering) (f : X → Y) (xs : List X) → IsAscending (λ x y. R (f x) (f y)) xs → IsAscending R (map f xs)
+pub IsAscending-map : {X Y : Type 0} (R : Y → Y → Ordering) (f : X → Y) (xs : List X)
+    → IsAscending (λ x y. R (f x) (f y)) xs → IsAscending R (map f xs)
 IsAscending-map R f [] sorted = tt
 IsAscending-map R f (x ∷ xs) sorted = (each-map (λ y. R (f x) y ≡ Less) f xs sorted.0, IsAscending-map R f xs sorted.1)
 
@@ -40,13 +45,18 @@ numbers_apart (x ∷ xs) apart zero zero d below h = absurd (omega (arith, below
 numbers_apart (x ∷ xs) apart (suc i) zero d below h = absurd (omega (arith, below))
 numbers_apart (x ∷ xs) apart zero (suc j) d below h = differ xs j apart.0 (omega (arith, h))
   where
-    differ : (ys : List ℕ) (k : ℕ) → AllByRecursion (λ y. eq_by_cmp nat_cmp x y ≡ false) ys → k < length ys → x ≢ get_or ys k d
+    differ : (ys : List ℕ) (k : ℕ) → AllByRecursion (λ y. eq_by_cmp nat_cmp x y ≡ false) ys → k < length ys
+        → x ≢ get_or ys k d
     differ [] k all lt = absurd (omega (arith, lt))
-    differ (y ∷ ys) zero all lt = λ same. (let equal : eq_by_cmp nat_cmp x y ≡ true = ap (eq_by_cmp nat_cmp x) (sym same) ∙ (eq_by_cmp_equiv nat_cmp_total).refl x in absurd (cc (equal, all.0)))
+    differ (y ∷ ys) zero all lt =
+        λ same. (let equal : eq_by_cmp nat_cmp x y ≡ true = ap (eq_by_cmp nat_cmp x) (sym same)
+        ∙ (eq_by_cmp_equiv nat_cmp_total).refl x in absurd (cc (equal, all.0)))
     differ (y ∷ ys) (suc k) all lt = differ ys k all.1 (omega (arith, lt))
-numbers_apart (x ∷ xs) apart (suc i) (suc j) d below h = numbers_apart xs apart.1 i j d (omega (arith, below)) (omega (arith, h))
+numbers_apart (x ∷ xs) apart (suc i) (suc j) d below h =
+    numbers_apart xs apart.1 i j d (omega (arith, below)) (omega (arith, h))
 
-pub get_or-map : {X Y : Type 0} (f : X → Y) (xs : List X) (i : ℕ) (d : X) → i < length xs → get_or (map f xs) i (f d) ≡ f (get_or xs i d)
+pub get_or-map : {X Y : Type 0} (f : X → Y) (xs : List X) (i : ℕ) (d : X) → i < length xs
+    → get_or (map f xs) i (f d) ≡ f (get_or xs i d)
 get_or-map f [] i d h = absurd (omega (arith, h))
 get_or-map f (x ∷ xs) zero d h = refl
 get_or-map f (x ∷ xs) (suc i) d h = get_or-map f xs i d (omega (arith, h))
@@ -57,7 +67,8 @@ length_same f (x ∷ xs) = ap suc (length_same f xs)
 
 -- where the texts of codes are the ship modes of rows, so are they at each place
 pub text_at_place : (text : ℕ → List ℕ) (codes : List ℕ) (rows : List LineOrder) (place : ℕ)
-    → map text codes ≡ map (λ row. row.shipmode) rows → place < length rows → text (get_or codes place 0) ≡ (row_at rows place).shipmode
+    → map text codes ≡ map (λ row. row.shipmode) rows → place < length rows
+    → text (get_or codes place 0) ≡ (row_at rows place).shipmode
 text_at_place text codes rows place same h =
     let mode : LineOrder → List ℕ = λ row. row.shipmode in
     let many : length codes ≡ length rows = sym (length-map codes text) ∙ ap length same ∙ length-map rows mode in
@@ -67,8 +78,10 @@ text_at_place text codes rows place same h =
     ∙ get_or-map mode rows place no_row h
 
 -- where the numbers of bytes are those of rows, so are they at each place
-pub number_at_place : (f : List ℕ → ℕ) (column : List (List ℕ)) (number : LineOrder → ℕ) (rows : List LineOrder) (place : ℕ) (default : List ℕ)
-    → map f column ≡ map number rows → place < length rows → f (get_or column place default) ≡ number (row_at rows place)
+pub number_at_place : (f : List ℕ → ℕ) (column : List (List ℕ)) (number : LineOrder → ℕ) (rows : List LineOrder)
+    (place : ℕ) (default : List ℕ)
+    → map f column ≡ map number rows → place < length rows
+    → f (get_or column place default) ≡ number (row_at rows place)
 number_at_place f column number rows place default same h =
     let many : length column ≡ length rows = sym (length-map column f) ∙ ap length same ∙ length-map rows number in
     sym (get_or-map f column place default (omega (arith, h, many)))

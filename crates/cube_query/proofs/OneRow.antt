@@ -1,5 +1,6 @@
 -- One fact row more, in the words of the definitions.
-use Rattle.std.proofs.Common.{◌≡◌, ◌∙◌, ap, refl, ℤ, pos, ◌+ℤ◌, Bool, true, false, cond, List, [], ◌∷◌, ◌++◌, map, length-append, ◌||◌}
+use Rattle.std.proofs.Common.{◌≡◌, ◌∙◌, ap, refl, ℤ, pos, ◌+ℤ◌, Bool, true, false, cond, List, [], ◌∷◌, ◌++◌, map}
+use Rattle.std.proofs.Common.{length-append, ◌||◌}
 use Rattle.std.specs.List.{filter, list_any}
 use Rattle.std.specs.Int.{int_min, int_max}
 use Rattle.std.specs.Ordering.{eq_by_cmp}
@@ -37,18 +38,26 @@ module _ (dimensions : DimRows) (query : Query) where
   abbrev pub plain_key : LineOrder → List Member
   plain_key row = key_under dimensions row query.columns (map (λ _. true) query.columns)
 
-  pub rows_at-append : (key : List Member) (rows others : List LineOrder) → rows_at dimensions query key (rows ++ others) ≡ rows_at dimensions query key rows ++ rows_at dimensions query key others
+  pub rows_at-append : (key : List Member) (rows others : List LineOrder)
+      → rows_at dimensions query key (rows ++ others) ≡ rows_at dimensions query key rows
+      ++ rows_at dimensions query key others
   rows_at-append key rows others =
       ap (filter (is_of key)) (filter-append (is_selected dimensions query.conditions) rows others)
       ∙ filter-append (is_of key) (chosen_of rows) (chosen_of others)
 
-  pub rows_at-skip : (key : List Member) (row : LineOrder) (rows : List LineOrder) → is_selected dimensions query.conditions row ≡ false → rows_at dimensions query key (row ∷ rows) ≡ rows_at dimensions query key rows
+  pub rows_at-skip : (key : List Member) (row : LineOrder) (rows : List LineOrder)
+      → is_selected dimensions query.conditions row ≡ false
+      → rows_at dimensions query key (row ∷ rows) ≡ rows_at dimensions query key rows
   rows_at-skip key row rows out = ap (λ b. filter (is_of key) (cond b (row ∷ chosen_of rows) (chosen_of rows))) out
 
-  pub rows_at-take : query.kind ≡ Plain → (key : List Member) (row : LineOrder) (rows : List LineOrder) → is_selected dimensions query.conditions row ≡ true
-      → rows_at dimensions query key (row ∷ rows) ≡ cond (eq_by_cmp key_cmp key (plain_key row)) (row ∷ rows_at dimensions query key rows) (rows_at dimensions query key rows)
+  pub rows_at-take : query.kind ≡ Plain → (key : List Member) (row : LineOrder) (rows : List LineOrder)
+      → is_selected dimensions query.conditions row ≡ true
+      → rows_at dimensions query key (row ∷ rows) ≡ cond (eq_by_cmp key_cmp key (plain_key row))
+      (row ∷ rows_at dimensions query key rows) (rows_at dimensions query key rows)
   rows_at-take plain key row rows chosen =
       let one : is_of key row ≡ eq_by_cmp key_cmp key (plain_key row) =
-      ap (λ kind. list_any (eq_by_cmp key_cmp key) (map (key_under dimensions row query.columns) (grouping_sets kind query.columns))) plain ∙ or-false (eq_by_cmp key_cmp key (plain_key row)) in
+      ap (λ kind. list_any (eq_by_cmp key_cmp key)
+      (map (key_under dimensions row query.columns) (grouping_sets kind query.columns))) plain
+      ∙ or-false (eq_by_cmp key_cmp key (plain_key row)) in
       ap (λ b. filter (is_of key) (cond b (row ∷ chosen_of rows) (chosen_of rows))) chosen
       ∙ ap (λ b. cond b (row ∷ rows_at dimensions query key rows) (rows_at dimensions query key rows)) one

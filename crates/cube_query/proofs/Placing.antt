@@ -1,5 +1,6 @@
 -- Slots of numbers: those that are there from the start, and those that are given.
-use Rattle.std.proofs.Common.{◌≡◌, ◌≢◌, ◌∙◌, sym, ap, refl, subst, ℕ, zero, suc, ◌+◌, ◌-◌, ◌<◌, ◌≤◌, true, false, cond, List, [], ◌∷◌, map, length, Some, None, arith, ◌⊎◌, inl, inr}
+use Rattle.std.proofs.Common.{◌≡◌, ◌≢◌, ◌∙◌, sym, ap, refl, subst, ℕ, zero, suc, ◌+◌, ◌-◌, ◌<◌, ◌≤◌, true, false, cond}
+use Rattle.std.proofs.Common.{List, [], ◌∷◌, map, length, Some, None, arith, ◌⊎◌, inl, inr}
 use Rattle.std.specs.Prelude.{MatchOption}
 use Rattle.std.specs.BTreeMap.{is_at}
 use Rattle.std.specs.Cmp.{Equal-is}
@@ -30,7 +31,8 @@ pub below_less : (number other : ℕ) → number < other → nat_cmp number othe
 below_less number other h = grind (arith, nat_tests)
 
 -- ---- numbers that have themselves for slots
-pub numbers_from-next : (first count : ℕ) → first < count → numbers_from first (count - first) ≡ (first, first) ∷ numbers_from (first + 1) (count - (first + 1))
+pub numbers_from-next : (first count : ℕ) → first < count → numbers_from first (count - first) ≡ (first, first)
+    ∷ numbers_from (first + 1) (count - (first + 1))
 numbers_from-next first count h =
     let one : count - first ≡ suc (count - (first + 1)) = omega (arith, h) in
     let next : suc first ≡ first + 1 = omega arith in
@@ -40,20 +42,27 @@ pub length-numbers_from : (first count : ℕ) → length (numbers_from first cou
 length-numbers_from first zero = refl
 length-numbers_from first (suc count) = ap suc (length-numbers_from (suc first) count)
 
-pub slot_of-same : (first count number : ℕ) → first ≤ number → number < first + count → slot_of (numbers_from first count) number ≡ Some number
+pub slot_of-same : (first count number : ℕ) → first ≤ number → number < first + count
+    → slot_of (numbers_from first count) number ≡ Some number
 slot_of-same first zero number low high = absurd (omega (arith, low, high))
 slot_of-same first (suc count) number low high =
-    elim (is_at (nat_cmp number) first) as (λ b. is_at (nat_cmp number) first ≡ b → cond b (Some first) (slot_of (numbers_from (suc first) count) number) ≡ Some number) [
+    elim (is_at (nat_cmp number) first) as (λ b. is_at (nat_cmp number) first ≡ b
+    → cond b (Some first) (slot_of (numbers_from (suc first) count) number) ≡ Some number) [
       | true ↦ λ e. ap Some (sym (at_true number first e))
       | false ↦ λ e.
-          let other : number ≢ first = λ same. (let here : is_at (nat_cmp number) first ≡ true = ap (is_at (nat_cmp number)) (sym same) ∙ at_same number in cc (here, e)) in
+          let other : number ≢ first =
+          λ same. (let here : is_at (nat_cmp number) first ≡ true = ap (is_at (nat_cmp number)) (sym same)
+          ∙ at_same number in cc (here, e)) in
           slot_of-same (suc first) count number (omega (arith, low, other)) (omega (arith, high))
     ] refl
 
-slot_of-is : (first count number slot : ℕ) → slot_of (numbers_from first count) number ≡ Some slot → (slot ≡ number) × (number < first + count)
+slot_of-is : (first count number slot : ℕ) → slot_of (numbers_from first count) number ≡ Some slot
+    → (slot ≡ number) × (number < first + count)
 slot_of-is first zero number slot = λ found. absurd (cc found)
 slot_of-is first (suc count) number slot =
-    elim (is_at (nat_cmp number) first) as (λ b. is_at (nat_cmp number) first ≡ b → cond b (Some first) (slot_of (numbers_from (suc first) count) number) ≡ Some slot → (slot ≡ number) × (number < first + suc count)) [
+    elim (is_at (nat_cmp number) first) as (λ b. is_at (nat_cmp number) first ≡ b
+    → cond b (Some first) (slot_of (numbers_from (suc first) count) number) ≡ Some slot
+    → (slot ≡ number) × (number < first + suc count)) [
       | true ↦ λ e found.
           let same : number ≡ first = at_true number first e in
           let is : slot ≡ first = cc found in
@@ -63,21 +72,26 @@ slot_of-is first (suc count) number slot =
           (rest.0, omega (arith, rest.1))
     ] refl
 
-numbers_from-above : (low first count : ℕ) → low < first → AllByRecursion (λ other. nat_cmp low other ≡ Less) (map (λ e. e.0) (numbers_from first count))
+numbers_from-above : (low first count : ℕ) → low < first
+    → AllByRecursion (λ other. nat_cmp low other ≡ Less) (map (λ e. e.0) (numbers_from first count))
 numbers_from-above low first zero h = tt
-numbers_from-above low first (suc count) h = (below_less low first h, numbers_from-above low (suc first) count (omega (arith, h)))
+numbers_from-above low first (suc count) h =
+    (below_less low first h, numbers_from-above low (suc first) count (omega (arith, h)))
 
 numbers_from-sorted : (first count : ℕ) → IsStrictlySortedBy nat_cmp (map (λ e. e.0) (numbers_from first count))
 unfolding IsStrictlySortedBy
 numbers_from-sorted first zero = tt
-numbers_from-sorted first (suc count) = (numbers_from-above first (suc first) count (omega arith), numbers_from-sorted (suc first) count)
+numbers_from-sorted first (suc count) =
+    (numbers_from-above first (suc first) count (omega arith), numbers_from-sorted (suc first) count)
 
 pub AreSlots-same : (count : ℕ) → AreSlots count (numbers_from 0 count)
 AreSlots-same count = record {
   sorted = numbers_from-sorted 0 count;
   below = λ number slot found. omega (arith, (slot_of-is 0 count number slot found).1);
-  within = λ number slot found. let is = slot_of-is 0 count number slot found in omega (arith, is.0, is.1, length-numbers_from 0 count);
-  apart = λ number other slot found again. sym (slot_of-is 0 count number slot found).0 ∙ (slot_of-is 0 count other slot again).0;
+  within = λ number slot found. let is = slot_of-is 0 count number slot found in
+      omega (arith, is.0, is.1, length-numbers_from 0 count);
+  apart = λ number other slot found again. sym (slot_of-is 0 count number slot found).0
+      ∙ (slot_of-is 0 count other slot again).0;
 }
 
 -- ---- numbers that are given slots
@@ -99,18 +113,24 @@ Grow-same bound entries are = record {
 }
 
 -- what a number has after one was added
-module _ (old : List (ℕ × ℕ)) (number slot : ℕ) (new : List (ℕ × ℕ)) (absent : slot_of old number ≡ None) (adds : Adds old number slot new) where
+module _ (old : List (ℕ × ℕ)) (number slot : ℕ) (new : List (ℕ × ℕ)) (absent : slot_of old number ≡ None)
+    (adds : Adds old number slot new) where
   Adds-keep : (other place : ℕ) → slot_of old other ≡ Some place → slot_of new other ≡ Some place
   Adds-keep other place found =
       adds.slots other
-      ∙ elim (is_at (nat_cmp number) other) as (λ b. is_at (nat_cmp number) other ≡ b → cond b (Some slot) (slot_of old other) ≡ Some place) [
-        | true ↦ λ e. (let same : slot_of old other ≡ None = ap (slot_of old) (sym (at_true number other e)) ∙ absent in absurd (cc (same, found)))
+      ∙ elim (is_at (nat_cmp number) other) as (λ b. is_at (nat_cmp number) other ≡ b
+      → cond b (Some slot) (slot_of old other) ≡ Some place) [
+        | true ↦ λ e. (let same : slot_of old other ≡ None = ap (slot_of old) (sym (at_true number other e))
+            ∙ absent in absurd (cc (same, found)))
         | false ↦ λ e. found
       ] refl
 
-  Adds-found : (other place : ℕ) → slot_of new other ≡ Some place → (slot_of old other ≡ Some place) ⊎ ((other ≡ number) × (place ≡ length old))
+  Adds-found : (other place : ℕ) → slot_of new other ≡ Some place → (slot_of old other ≡ Some place)
+      ⊎ ((other ≡ number) × (place ≡ length old))
   Adds-found other place found =
-      (elim (is_at (nat_cmp number) other) as (λ b. is_at (nat_cmp number) other ≡ b → cond b (Some slot) (slot_of old other) ≡ Some place → (slot_of old other ≡ Some place) ⊎ ((other ≡ number) × (place ≡ length old))) [
+      (elim (is_at (nat_cmp number) other) as (λ b. is_at (nat_cmp number) other ≡ b
+      → cond b (Some slot) (slot_of old other) ≡ Some place → (slot_of old other ≡ Some place)
+      ⊎ ((other ≡ number) × (place ≡ length old))) [
         | true ↦ λ e is. (let here : place ≡ slot = cc is in inr (sym (at_true number other e), here ∙ adds.slot_is))
         | false ↦ λ e is. inl is
       ]) refl (sym (adds.slots other) ∙ found)
@@ -159,24 +179,33 @@ module _ (old : List (ℕ × ℕ)) (number slot : ℕ) (new : List (ℕ × ℕ))
   }
 
 -- a number is given its slot
-pub Grow-place : (bound : ℕ) (first old : List (ℕ × ℕ)) (number slot : ℕ) (new : List (ℕ × ℕ)) → number < bound → Places old number slot new → Grow bound first old → Grow bound first new
+pub Grow-place : (bound : ℕ) (first old : List (ℕ × ℕ)) (number slot : ℕ) (new : List (ℕ × ℕ)) → number < bound
+    → Places old number slot new → Grow bound first old → Grow bound first new
 Grow-place bound first old number slot new h places grown =
-    (elim (slot_of old number) as (λ o. slot_of old number ≡ o → MatchOption o (Adds old number slot new) (λ kept. (slot ≡ kept) × (new ≡ old)) → Grow bound first new) [
+    (elim (slot_of old number) as
+    (λ o. slot_of old number ≡ o → MatchOption o (Adds old number slot new) (λ kept. (slot ≡ kept) × (new ≡ old))
+    → Grow bound first new) [
       | None ↦ λ e adds. Grow-add old number slot new e adds bound h first grown
       | Some kept ↦ λ e is. subst (Grow bound first) (sym is.1) grown
     ]) refl places
 
-pub Places-found : (old : List (ℕ × ℕ)) (number slot : ℕ) (new : List (ℕ × ℕ)) → Places old number slot new → slot_of new number ≡ Some slot
+pub Places-found : (old : List (ℕ × ℕ)) (number slot : ℕ) (new : List (ℕ × ℕ)) → Places old number slot new
+    → slot_of new number ≡ Some slot
 Places-found old number slot new places =
-    (elim (slot_of old number) as (λ o. slot_of old number ≡ o → MatchOption o (Adds old number slot new) (λ kept. (slot ≡ kept) × (new ≡ old)) → slot_of new number ≡ Some slot) [
+    (elim (slot_of old number) as
+    (λ o. slot_of old number ≡ o → MatchOption o (Adds old number slot new) (λ kept. (slot ≡ kept) × (new ≡ old))
+    → slot_of new number ≡ Some slot) [
       | None ↦ λ e adds. adds.slots number ∙ ap (λ b. cond b (Some slot) (slot_of old number)) (at_same number)
       | Some kept ↦ λ e is. ap (λ entries. slot_of entries number) is.1 ∙ e ∙ ap Some (sym is.0)
     ]) refl places
 
 -- a number that had a slot before has it still
-pub Places-keep : (old : List (ℕ × ℕ)) (number slot : ℕ) (new : List (ℕ × ℕ)) → Places old number slot new → (other place : ℕ) → slot_of old other ≡ Some place → slot_of new other ≡ Some place
+pub Places-keep : (old : List (ℕ × ℕ)) (number slot : ℕ) (new : List (ℕ × ℕ)) → Places old number slot new
+    → (other place : ℕ) → slot_of old other ≡ Some place → slot_of new other ≡ Some place
 Places-keep old number slot new places other place found =
-    (elim (slot_of old number) as (λ o. slot_of old number ≡ o → MatchOption o (Adds old number slot new) (λ kept. (slot ≡ kept) × (new ≡ old)) → slot_of new other ≡ Some place) [
+    (elim (slot_of old number) as
+    (λ o. slot_of old number ≡ o → MatchOption o (Adds old number slot new) (λ kept. (slot ≡ kept) × (new ≡ old))
+    → slot_of new other ≡ Some place) [
       | None ↦ λ e adds. Adds-keep old number slot new e adds other place found
       | Some kept ↦ λ e is. ap (λ entries. slot_of entries other) is.1 ∙ found
     ]) refl places

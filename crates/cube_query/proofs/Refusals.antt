@@ -10,8 +10,10 @@ on_err (Ok x) P holds = tt
 on_err (Err e) P holds = holds
 
 -- a fold that began is not refused for its query
-pub never_improper : {T : Type 0} (result : Result T Fault) → IfErr result (λ fault. (fault ≡ Memory) ⊎ (fault ≡ BadLayout)) → result ≡ Err BadQuery → ⊥
+pub never_improper : {T : Type 0} (result : Result T Fault)
+    → IfErr result (λ fault. (fault ≡ Memory) ⊎ (fault ≡ BadLayout)) → result ≡ Err BadQuery → ⊥
 never_improper (Ok x) only is = cc
 never_improper (Err fault) only is =
     let improper : fault ≡ BadQuery = cc is in
-    ⊎_elim (λ (memory : fault ≡ Memory). let both : Memory ≡ BadQuery = sym memory ∙ improper in absurd cc) (λ (bad : fault ≡ BadLayout). let both : BadLayout ≡ BadQuery = sym bad ∙ improper in absurd cc) only
+    ⊎_elim (λ (memory : fault ≡ Memory). let both : Memory ≡ BadQuery = sym memory ∙ improper in absurd cc)
+    (λ (bad : fault ≡ BadLayout). let both : BadLayout ≡ BadQuery = sym bad ∙ improper in absurd cc) only

@@ -1,5 +1,6 @@
 -- The cells of a run, merged in piece by piece.
-use Rattle.std.proofs.Common.{◌≡◌, ◌∙◌, ◌⊎◌, inl, inr, sym, ap, subst, arith, ℕ, ◌<◌, List, [], ◌++◌, length, length-append, get_or, append_assoc, append-nil, All, Option, Some, None, Result, Ok, Err}
+use Rattle.std.proofs.Common.{◌≡◌, ◌∙◌, ◌⊎◌, inl, inr, sym, ap, subst, arith, ℕ, ◌<◌, List, [], ◌++◌, length}
+use Rattle.std.proofs.Common.{length-append, get_or, append_assoc, append-nil, All, Option, Some, None, Result, Ok, Err}
 use Rattle.std.specs.Prelude.{IfSome}
 use Rattle.std.specs.Result.{IsErrAnd, MatchResult}
 use Rattle.std.specs.declared.alloc.Global.{Global}
@@ -38,7 +39,8 @@ pub record AreMergedTo (asked : AskedOfCells) (aggs : List Agg) (entries : List 
   pub out : LeavesOut asked part wanted
   pub merged : AreMergedIn asked aggs entries wanted first now
 
-module _ (asked : AskedOfCells) (aggs : List Agg) (text own : Option (List ℕ)) (same : own ≡ text) (old new : List (ℕ × ℕ)) (run next : RunPlace) (piece : List Cell)
+module _ (asked : AskedOfCells) (aggs : List Agg) (text own : Option (List ℕ)) (same : own ≡ text)
+    (old new : List (ℕ × ℕ)) (run next : RunPlace) (piece : List Cell)
     (step : (left : List Cell) → AreLeft own run left → ReadsWanted asked own left next piece) (cells : List Cell)
     (first now : List (Vec Tally Global)) (are : AreMergedTo asked aggs old text cells run first now) where
   further : ReadsWanted asked own are.rest next piece
@@ -59,7 +61,8 @@ module _ (asked : AskedOfCells) (aggs : List Agg) (text own : Option (List ℕ))
       (leaves_first asked further.passed piece further.unwanted))
 
   -- one piece more
-  pub run_more : ((number slot : ℕ) → slot_of old number ≡ Some slot → slot_of new number ≡ Some slot) → (later : List (Vec Tally Global)) → AreMergedIn asked aggs new piece now later
+  pub run_more : ((number slot : ℕ) → slot_of old number ≡ Some slot → slot_of new number ≡ Some slot)
+      → (later : List (Vec Tally Global)) → AreMergedIn asked aggs new piece now later
       → AreMergedTo asked aggs new text cells next first later
   run_more keep later merged = record {
     part = (are.part ++ further.passed) ++ piece;
@@ -72,7 +75,8 @@ module _ (asked : AskedOfCells) (aggs : List Agg) (text own : Option (List ℕ))
   }
 
   -- a piece was refused
-  pub run_refused : HaveNoRepresentative asked piece ⊎ (GroupsHaveRoomFor new aggs piece now → ⊥) → HaveNoRepresentative asked cells
+  pub run_refused : HaveNoRepresentative asked piece ⊎ (GroupsHaveRoomFor new aggs piece now → ⊥)
+      → HaveNoRepresentative asked cells
       ⊎ (GroupsHaveRoomFor new aggs cells first → ⊥)
   run_refused (inl none) = inl (none_among asked (are.part ++ further.passed) piece further.rest cells parts_now none)
   run_refused (inr full) =
@@ -139,24 +143,33 @@ read_some asked text run mid next left cells least view none at over reads = rec
 
 -- ---- what a refusal leaves of the source
 module _ {S : Type 0} (g : Ghosts S) (old mid new : S) (read : HasRead g old mid) where
-  ran : ((a b c : S) → g.reads a b → g.reads b c → g.reads a c) → ((fault : Fault) (a b c : S) → g.reads a b → g.fails fault b c → g.fails fault a c)
+  ran : ((a b c : S) → g.reads a b → g.reads b c → g.reads a c)
+      → ((fault : Fault) (a b c : S) → g.reads a b → g.fails fault b c → g.fails fault a c)
       → (own fault : Fault) → own ≡ fault → Ran g mid new fault → Ran g old new own
   ran on later own fault is (inl own_fault) =
-      inl (subst (λ (f : Fault). (f ≡ Memory) ⊎ (f ≡ BadLayout)) (sym is) own_fault.0, HasRead-then g on old mid new read own_fault.1)
+      inl (
+        subst (λ (f : Fault). (f ≡ Memory) ⊎ (f ≡ BadLayout)) (sym is) own_fault.0,
+        HasRead-then g on old mid new read own_fault.1,
+      )
   ran on later own fault is (inr refused) =
-      inr (subst (λ (f : Fault). IsRefused g f old new) (sym is) (IsRefused-later g later fault old mid new read refused))
+      inr (subst (λ (f : Fault). IsRefused g f old new) (sym is)
+      (IsRefused-later g later fault old mid new read refused))
 
   -- a later read
-  pub ran_later : ((a b c : S) → g.reads a b → g.reads b c → g.reads a c) → ((fault : Fault) (a b c : S) → g.reads a b → g.fails fault b c → g.fails fault a c)
-      → {T : Type 0} (result : Result T Fault) (fault : Fault) → IsErrAnd result (λ own. own ≡ fault) → Ran g mid new fault → MatchResult result (λ _. HasRead g old new) (Ran g old new)
+  pub ran_later : ((a b c : S) → g.reads a b → g.reads b c → g.reads a c)
+      → ((fault : Fault) (a b c : S) → g.reads a b → g.fails fault b c → g.fails fault a c)
+      → {T : Type 0} (result : Result T Fault) (fault : Fault) → IsErrAnd result (λ own. own ≡ fault)
+      → Ran g mid new fault → MatchResult result (λ _. HasRead g old new) (Ran g old new)
   ran_later on later (Ok value) fault is stop = absurd is
   ran_later on later (Err own) fault is stop = ran on later own fault is stop
 
 -- and what was read
-pub ran_own : {S : Type 0} (g : Ghosts S) (old new : S) → HasRead g old new → {T : Type 0} (result : Result T Fault) (fault : Fault) → IsErrAnd result (λ own. own ≡ fault)
+pub ran_own : {S : Type 0} (g : Ghosts S) (old new : S) → HasRead g old new
+    → {T : Type 0} (result : Result T Fault) (fault : Fault) → IsErrAnd result (λ own. own ≡ fault)
     → (fault ≡ Memory) ⊎ (fault ≡ BadLayout) → MatchResult result (λ _. HasRead g old new) (Ran g old new)
 ran_own g old new read (Ok value) fault is own_fault = absurd is
-ran_own g old new read (Err own) fault is own_fault = inl (subst (λ (f : Fault). (f ≡ Memory) ⊎ (f ≡ BadLayout)) (sym is) own_fault, read)
+ran_own g old new read (Err own) fault is own_fault =
+    inl (subst (λ (f : Fault). (f ≡ Memory) ⊎ (f ≡ BadLayout)) (sym is) own_fault, read)
 
 pub ran_stays : {S : Type 0} (g : Ghosts S) (old new : S) (fault : Fault) → Ran g old new fault → Stays g old new
 ran_stays g old new fault (inl own) = own.1.stays

@@ -1,5 +1,6 @@
 -- How a fold goes on: to more slots, and to more rows.
-use Rattle.std.proofs.Common.{◌≡◌, ◌∙◌, sym, ap, ℕ, ◌≤◌, List, [], ◌∷◌, ◌++◌, map, get_or, length, length-append, Some, None, arith, inl, inr}
+use Rattle.std.proofs.Common.{◌≡◌, ◌∙◌, sym, ap, ℕ, ◌≤◌, List, [], ◌∷◌, ◌++◌, map, get_or, length, length-append, Some}
+use Rattle.std.proofs.Common.{None, arith, inl, inr}
 use Rattle.std.specs.Prelude.{Option, nat_abs}
 use Rattle.std.specs.List.{AllByRecursion}
 use Rattle.std.specs.declared.alloc.Global.{Global}
@@ -31,8 +32,10 @@ use Rattle.cube_query.proofs.Ranges.{range_of_agg}
 use Rattle.cube_query.proofs.Sums.{length-filter-le, nat_abs-total, sum_by-filter}
 
 -- ---- more slots
-pub AreTallied-grow : (dimensions : DimRows) (query : Query) (old new : List (ℕ × ℕ)) (columns longer : List (Vec Tally Global)) (rows : List LineOrder) → KeysRise dimensions query.columns
-    → AreSlots (group_count dimensions query.columns) old → Grow (group_count dimensions query.columns) old new → ((slot : ℕ) → tallies_at longer slot ≡ tallies_at columns slot)
+pub AreTallied-grow : (dimensions : DimRows) (query : Query) (old new : List (ℕ × ℕ))
+    (columns longer : List (Vec Tally Global)) (rows : List LineOrder) → KeysRise dimensions query.columns
+    → AreSlots (group_count dimensions query.columns) old → Grow (group_count dimensions query.columns) old new
+    → ((slot : ℕ) → tallies_at longer slot ≡ tallies_at columns slot)
     → AreTallied dimensions query old columns rows → AreTallied dimensions query new longer rows
 AreTallied-grow dimensions query old new columns longer rows rising slots grow same tallied =
     let aggs = query.aggregates in
@@ -41,8 +44,11 @@ AreTallied-grow dimensions query old new columns longer rows rising slots grow s
       each = λ number slot found. same slot ∙ elim (grow.fresh number slot found) [
         | inl kept ↦ tallied.each number slot kept
         | inr added ↦
-            let none : rows_at dimensions query (key_of number) rows ≡ [] = tallied.others (key_of number) (λ other place taken one.
-            let is : other ≡ number = keys_apart dimensions query.columns rising other number (slots.below other place taken) (grow.slots.below number slot found) one in
+            let none : rows_at dimensions query (key_of number) rows ≡ [] =
+            tallied.others (key_of number) (λ other place taken one.
+            let is : other ≡ number =
+            keys_apart dimensions query.columns rising other number (slots.below other place taken)
+            (grow.slots.below number slot found) one in
             let there : slot_of old number ≡ Some place = ap (slot_of old) (sym is) ∙ taken in
             cc (there, added.0)) in
             tallied.fresh slot added.1 ∙ ap (tallies_of aggs) (sym none)
@@ -52,16 +58,22 @@ AreTallied-grow dimensions query old new columns longer rows rising slots grow s
     }
 
 -- ---- more rows
-pub AreTallied-count : (dimensions : DimRows) (query : Query) (entries : List (ℕ × ℕ)) (old new : List (Vec Tally Global)) (so_far rows : List LineOrder) (group_slots : List (Option ℕ)) → query.kind ≡ Plain → KeysRise dimensions query.columns
-    → AreSlots (group_count dimensions query.columns) entries → AreGroupSlots dimensions query entries rows group_slots → CountIn query.aggregates rows group_slots old new
+pub AreTallied-count : (dimensions : DimRows) (query : Query) (entries : List (ℕ × ℕ))
+    (old new : List (Vec Tally Global)) (so_far rows : List LineOrder) (group_slots : List (Option ℕ))
+    → query.kind ≡ Plain → KeysRise dimensions query.columns
+    → AreSlots (group_count dimensions query.columns) entries → AreGroupSlots dimensions query entries rows group_slots
+    → CountIn query.aggregates rows group_slots old new
     → AreTallied dimensions query entries old so_far → AreTallied dimensions query entries new (so_far ++ rows)
-AreTallied-count dimensions query entries old new so_far rows group_slots plain rising slots group_slots_are counted tallied =
+AreTallied-count dimensions query entries old new so_far rows group_slots plain rising slots group_slots_are counted
+    tallied =
     let aggs = query.aggregates in
     let key_of = key_at dimensions query.columns in
     record {
       each = λ number slot found.
           counted slot (rows_at dimensions query (key_of number) so_far) (tallied.each number slot found)
-          ∙ ap (λ more. tallies_of aggs (rows_at dimensions query (key_of number) so_far ++ more)) (sym (rows_at-slotted dimensions query plain rising entries slots number slot found rows group_slots group_slots_are))
+          ∙ ap (λ more. tallies_of aggs (rows_at dimensions query (key_of number) so_far ++ more))
+          (sym (rows_at-slotted dimensions query plain rising entries slots number slot found rows group_slots
+          group_slots_are))
           ∙ ap (tallies_of aggs) (sym (rows_at-append dimensions query (key_of number) so_far rows));
       others = λ key absent.
           rows_at-append dimensions query key so_far rows
@@ -69,23 +81,36 @@ AreTallied-count dimensions query entries old new so_far rows group_slots plain 
           ∙ rows_at-none dimensions query plain entries key absent rows group_slots group_slots_are;
       fresh = λ slot h.
           counted slot [] (tallied.fresh slot h)
-          ∙ ap (tallies_of aggs) (slotted-none dimensions query (group_count dimensions query.columns) entries slots rows group_slots group_slots_are slot h);
+          ∙ ap (tallies_of aggs)
+          (slotted-none dimensions query (group_count dimensions query.columns) entries slots rows group_slots
+          group_slots_are slot h);
     }
 
 -- ---- room for them
-size-chosen : (agg : Agg) (rows : List LineOrder) (group_slots : List (Option ℕ)) → size_of agg (chosen rows group_slots) ≤ size_of agg rows
+size-chosen : (agg : Agg) (rows : List LineOrder) (group_slots : List (Option ℕ))
+    → size_of agg (chosen rows group_slots) ≤ size_of agg rows
 size-chosen agg [] group_slots = omega arith
 size-chosen agg (row ∷ rows) [] = omega arith
-size-chosen agg (row ∷ rows) (None ∷ group_slots) = omega (arith, size-chosen agg rows group_slots, sum_by-cons (λ row. nat_abs (number_of agg row)) row rows)
+size-chosen agg (row ∷ rows) (None ∷ group_slots) =
+    omega (arith, size-chosen agg rows group_slots, sum_by-cons (λ row. nat_abs (number_of agg row)) row rows)
 size-chosen agg (row ∷ rows) (Some slot ∷ group_slots) =
     let size = λ (row : LineOrder). nat_abs (number_of agg row) in
-    omega (arith, size-chosen agg rows group_slots, sum_by-cons size row rows, sum_by-cons size row (chosen rows group_slots))
+    omega (
+      arith,
+      size-chosen agg rows group_slots,
+      sum_by-cons size row rows,
+      sum_by-cons size row (chosen rows group_slots),
+    )
 
 -- rows that may be folded have room
-pub HaveRoom-foldable : (dimensions : DimRows) (query : Query) (entries : List (ℕ × ℕ)) (columns : List (Vec Tally Global)) (so_far rows : List LineOrder) (group_slots : List (Option ℕ))
-    → AreSlots (group_count dimensions query.columns) entries → AreGroupSlots dimensions query entries rows group_slots → AllByRecursion (λ column. length entries ≤ length column.items) columns
-    → AreFoldable dimensions (so_far ++ rows) → AreTallied dimensions query entries columns so_far → HaveRoom query.aggregates columns rows group_slots
-HaveRoom-foldable dimensions query entries columns so_far rows group_slots slots group_slots_are long foldable tallied k h default column =
+pub HaveRoom-foldable : (dimensions : DimRows) (query : Query) (entries : List (ℕ × ℕ))
+    (columns : List (Vec Tally Global)) (so_far rows : List LineOrder) (group_slots : List (Option ℕ))
+    → AreSlots (group_count dimensions query.columns) entries → AreGroupSlots dimensions query entries rows group_slots
+    → AllByRecursion (λ column. length entries ≤ length column.items) columns
+    → AreFoldable dimensions (so_far ++ rows) → AreTallied dimensions query entries columns so_far
+    → HaveRoom query.aggregates columns rows group_slots
+HaveRoom-foldable dimensions query entries columns so_far rows group_slots slots group_slots_are long foldable tallied k
+    h default column =
     let aggs = query.aggregates in
     let agg = get_or aggs k default in
     let size = λ (row : LineOrder). nat_abs (number_of agg row) in
@@ -105,10 +130,30 @@ HaveRoom-foldable dimensions query entries columns so_far rows group_slots slots
           let within = slots.within found.0 slot found.1 in
           let tally : tally_at (get_or columns k column).items slot ≡ tally_of (map number own) =
           tallies-one aggs columns slot own (tallied.each found.0 slot found.1) k h default column in (
-            omega (arith, within, All-at (λ (column : Vec Tally Global). length entries ≤ length column.items) columns long k (omega (arith, h, count)) column),
+            omega (
+              arith,
+              within,
+              All-at (λ (column : Vec Tally Global). length entries ≤ length column.items) columns
+                  long k (omega (arith, h, count)) column,
+            ),
             ap (λ tally. can_add tally (length rows) (size_of agg (chosen rows group_slots))) tally
                 ∙ fits-can_add (tally_of (map number own)) (length rows) (size_of agg (chosen rows group_slots))
-                (omega (arith, foldable.few, length-append so_far rows, length-map own number, length-filter-le q (filter p so_far), length-filter-le p so_far))
-                (omega (arith, nat_abs-total number own, sum_by-filter size q (filter p so_far), sum_by-filter size p so_far, total, both, front)),
+                (omega (
+                  arith,
+                  foldable.few,
+                  length-append so_far rows,
+                  length-map own number,
+                  length-filter-le q (filter p so_far),
+                  length-filter-le p so_far,
+                ))
+                (omega (
+                  arith,
+                  nat_abs-total number own,
+                  sum_by-filter size q (filter p so_far),
+                  sum_by-filter size p so_far,
+                  total,
+                  both,
+                  front,
+                )),
           );
     }

@@ -1,5 +1,6 @@
 -- Cells without some that need not be looked at: what is merged in of them is what all of them are.
-use Rattle.std.proofs.Common.{◌≡◌, ◌∙◌, inl, inr, sym, ap, refl, subst, ℕ, zero, suc, ◌≤◌, true, false, cond, List, [], ◌∷◌, ◌++◌, length, Option, Some, None, arith, All}
+use Rattle.std.proofs.Common.{◌≡◌, ◌∙◌, inl, inr, sym, ap, refl, subst, ℕ, zero, suc, ◌≤◌, true, false, cond, List, []}
+use Rattle.std.proofs.Common.{◌∷◌, ◌++◌, length, Option, Some, None, arith, All}
 use Rattle.std.specs.Prelude.{◌==◌, nat_abs}
 use Rattle.std.specs.List.{Contains, sum_by}
 use Rattle.std.specs.declared.alloc.Global.{Global}
@@ -16,7 +17,8 @@ use Rattle.cuboid_upkeep.specs.CellNumbers.{AskedOfCells, IsUnwanted}
 use Rattle.cuboid_upkeep.specs.Grouping.{HasMembers, key_of}
 use Rattle.cuboid_upkeep.specs.Representatives.{AreRepresentatives}
 use Rattle.cube_query.specs.CellRuns.{LeavesOut}
-use Rattle.cube_query.specs.CellTallies.{GroupsHaveRoomFor, HasRoomFor, HaveRoomFor, after_cells, cell_tally, with_cells}
+use Rattle.cube_query.specs.CellTallies.{GroupsHaveRoomFor, HasRoomFor, HaveRoomFor, after_cells, cell_tally}
+use Rattle.cube_query.specs.CellTallies.{with_cells}
 use Rattle.cube_query.specs.Columns.{tallies_at}
 use Rattle.cube_query.specs.FoldInvariant.{AreGroupSlots}
 use Rattle.cube_query.specs.Tallies.{merged}

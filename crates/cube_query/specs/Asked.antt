@@ -12,11 +12,13 @@ use Rattle.cube_model.specs.declared.query.Cond.TheVariants.{OneOf, Between, Qua
 use Rattle.cube_model.specs.declared.query.Query.{Query}
 use Rattle.cube_model.specs.declared.rows.LineOrder.{LineOrder}
 use Rattle.cube_model.specs.Attributes.{axis_of}
-use Rattle.column_segment.specs.declared.columns.AmountColumn.TheVariants.{OrderKey, ExtendedPrice, OrdTotalPrice, Revenue, SupplyCost}
+use Rattle.column_segment.specs.declared.columns.AmountColumn.TheVariants.{OrderKey, ExtendedPrice, OrdTotalPrice}
+use Rattle.column_segment.specs.declared.columns.AmountColumn.TheVariants.{Revenue, SupplyCost}
 use Rattle.column_segment.specs.declared.columns.ByteColumn.TheVariants as figures
 use Rattle.column_segment.specs.declared.columns.FactColumn.{FactColumn}
 use Rattle.column_segment.specs.declared.columns.FactColumn.TheVariants.{Amount, Number, Figure}
-use Rattle.column_segment.specs.declared.columns.NumberColumn.TheVariants.{LineNumber, CustKey, PartKey, SuppKey, OrderDate}
+use Rattle.column_segment.specs.declared.columns.NumberColumn.TheVariants.{LineNumber, CustKey, PartKey, SuppKey}
+use Rattle.column_segment.specs.declared.columns.NumberColumn.TheVariants.{OrderDate}
 use Rattle.column_segment.specs.Projected.{value_of}
 
 -- a column has the keys of a dimension
@@ -62,8 +64,10 @@ is_asked query column = list_any (λ attr. has_keys_of (axis_of attr) column) qu
 
 -- the columns of numbers of fact rows, in the order of their places
 abbrev pub fact_columns : List FactColumn
-fact_columns = Amount OrderKey ∷ Number LineNumber ∷ Number CustKey ∷ Number PartKey ∷ Number SuppKey ∷ Number OrderDate ∷ Figure figures.Quantity
-    ∷ Amount ExtendedPrice ∷ Amount OrdTotalPrice ∷ Figure figures.Discount ∷ Amount Revenue ∷ Amount SupplyCost ∷ Figure figures.Tax ∷ []
+fact_columns = Amount OrderKey ∷ Number LineNumber ∷ Number CustKey ∷ Number PartKey ∷ Number SuppKey ∷ Number OrderDate
+    ∷ Figure figures.Quantity
+    ∷ Amount ExtendedPrice ∷ Amount OrdTotalPrice ∷ Figure figures.Discount ∷ Amount Revenue ∷ Amount SupplyCost
+    ∷ Figure figures.Tax ∷ []
 
 -- those at which a query looks
 abbrev pub asked_columns : Query → List FactColumn

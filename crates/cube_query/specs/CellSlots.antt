@@ -21,13 +21,15 @@ abbrev pub asked_of : DimRows → Query → View → List (List ℕ) → AskedOf
 asked_of dimensions query view modes = record { dimensions = dimensions; query = query; view = view; modes = modes }
 
 -- the slot of the group of a row that represents a cell, and none where the row is not selected
-pub record IsCellSlot (asked : AskedOfCells) (entries : List (ℕ × ℕ)) (cell : Cell) (group_slot : Option ℕ) : Type 0 where
-  pub row : LineOrder
-  pub represents : IsRepresentative asked.dimensions asked.modes asked.view cell row
-  pub slot : IsGroupSlot asked.dimensions asked.query entries row group_slot
+pub record IsCellSlot (asked : AskedOfCells) (entries : List (ℕ × ℕ)) (cell : Cell) (group_slot : Option ℕ) : Type 0
+  where
+    pub row : LineOrder
+    pub represents : IsRepresentative asked.dimensions asked.modes asked.view cell row
+    pub slot : IsGroupSlot asked.dimensions asked.query entries row group_slot
 
 -- the slots of the groups of cells: those of rows that represent them
-pub record AreCellSlots (asked : AskedOfCells) (entries : List (ℕ × ℕ)) (cells : List Cell) (group_slots : List (Option ℕ)) : Type 0 where
+pub record AreCellSlots (asked : AskedOfCells) (entries : List (ℕ × ℕ)) (cells : List Cell)
+    (group_slots : List (Option ℕ)) : Type 0 where
   pub rows : List LineOrder
   pub represent : AreRepresentatives asked.dimensions asked.modes asked.view cells rows
   pub slots : AreGroupSlots asked.dimensions asked.query entries rows group_slots
@@ -37,7 +39,8 @@ pub record IsMergedIn (asked : AskedOfCells) (aggs : List Agg) (entries : List (
     (old new : List (Vec Tally Global)) : Type 0 where
   pub group_slot : Option ℕ
   pub own : IsCellSlot asked entries cell group_slot
-  pub merged : (slot : ℕ) → tallies_at new slot ≡ with_cells aggs slot (cell ∷ []) (group_slot ∷ []) (tallies_at old slot)
+  pub merged : (slot : ℕ)
+      → tallies_at new slot ≡ with_cells aggs slot (cell ∷ []) (group_slot ∷ []) (tallies_at old slot)
 
 -- cells are, one after another
 pub record AreMergedIn (asked : AskedOfCells) (aggs : List Agg) (entries : List (ℕ × ℕ)) (cells : List Cell)
@@ -48,7 +51,8 @@ pub record AreMergedIn (asked : AskedOfCells) (aggs : List Agg) (entries : List 
 
 -- no row represents a cell
 abbrev pub HasNoRepresentative : AskedOfCells → Cell → Type 0
-HasNoRepresentative asked cell = (row : LineOrder) → IsRepresentative asked.dimensions asked.modes asked.view cell row → ⊥
+HasNoRepresentative asked cell = (row : LineOrder) → IsRepresentative asked.dimensions asked.modes asked.view cell row
+    → ⊥
 
 -- and so it is with one of the cells
 pub record HaveNoRepresentative (asked : AskedOfCells) (cells : List Cell) : Type 0 where

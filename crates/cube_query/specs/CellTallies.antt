@@ -1,12 +1,14 @@
 -- Cells of a cuboid as tallies, merged into those at the slots of their groups. Our own.
-use Rattle.std.specs.Prelude.{◌≡◌, ℕ, ◌+◌, ◌^◌, ◌<◌, ◌==◌, cond, pos, nat_abs, List, [], ◌∷◌, slice_get, Option, Some, None}
+use Rattle.std.specs.Prelude.{◌≡◌, ℕ, ◌+◌, ◌^◌, ◌<◌, ◌==◌, cond, pos, nat_abs, List, [], ◌∷◌, slice_get, Option, Some}
+use Rattle.std.specs.Prelude.{None}
 use Rattle.std.specs.List.{sum_by}
 use Rattle.std.specs.declared.alloc.Global.{Global}
 use Rattle.std.specs.declared.vec.Vec.{Vec}
 use Rattle.cube_model.specs.declared.measure.Agg.{Agg}
 use Rattle.cube_model.specs.declared.measure.Agg.TheVariants.{Count, Sum, Min, Max, Avg}
 use Rattle.cube_model.specs.declared.measure.Measure.{Measure}
-use Rattle.cube_model.specs.declared.measure.Measure.TheVariants.{Quantity, ExtendedPrice, Revenue, SupplyCost, Discounted, Profit}
+use Rattle.cube_model.specs.declared.measure.Measure.TheVariants.{Quantity, ExtendedPrice, Revenue, SupplyCost}
+use Rattle.cube_model.specs.declared.measure.Measure.TheVariants.{Discounted, Profit}
 use Rattle.cuboid_cells.specs.declared.cell.Cell.{Cell}
 use Rattle.cuboid_cells.specs.declared.summary.Summaries.{Summaries}
 use Rattle.cuboid_cells.specs.declared.summary.Summary.{Summary}
@@ -54,7 +56,8 @@ AreBelow bound group_slots = (place slot : ℕ) → slice_get group_slots place 
 
 -- cells are merged in, each at its slot
 abbrev pub MergesCells : Agg → List Cell → List (Option ℕ) → List Tally → List Tally → Type 0
-MergesCells agg cells group_slots old new = (slot : ℕ) → tally_at new slot ≡ after_cells agg slot cells group_slots (tally_at old slot)
+MergesCells agg cells group_slots old new = (slot : ℕ)
+    → tally_at new slot ≡ after_cells agg slot cells group_slots (tally_at old slot)
 
 -- tallies, one for each aggregate, with the cells that have a slot merged in
 abbrev pub with_cells : List Agg → ℕ → List Cell → List (Option ℕ) → List Tally → List Tally
@@ -76,4 +79,5 @@ HaveRoomFor (agg ∷ aggs) cells (tally ∷ tallies) = HasRoomFor agg cells tall
 
 -- the tallies of each group that has a slot have room for cells
 abbrev pub GroupsHaveRoomFor : List (ℕ × ℕ) → List Agg → List Cell → List (Vec Tally Global) → Type 0
-GroupsHaveRoomFor entries aggs cells columns = (number slot : ℕ) → slot_of entries number ≡ Some slot → HaveRoomFor aggs cells (tallies_at columns slot)
+GroupsHaveRoomFor entries aggs cells columns = (number slot : ℕ) → slot_of entries number ≡ Some slot
+    → HaveRoomFor aggs cells (tallies_at columns slot)

@@ -10,7 +10,8 @@ use Rattle.group_plan.specs.declared.bounds.Bounds.{Bounds}
 -- the quantity and the discount of a row lie within bounds
 abbrev pub lies_within : Bounds → LineOrder → Bool
 lies_within bounds row =
-    lies_in (bounds.least_quantity, bounds.greatest_quantity) (bounds.least_discount, bounds.greatest_discount) row.quantity row.discount
+    lies_in (bounds.least_quantity, bounds.greatest_quantity) (bounds.least_discount, bounds.greatest_discount)
+    row.quantity row.discount
 
 -- the places of the marks that are true, the first of them at a place
 abbrev pub places_from : ℕ → List Bool → List ℕ

@@ -1,6 +1,7 @@
--- Coarser groupings, made from finer ones: column by column, from the last to the first, each group is merged into the one
--- that has ALL in that column. Our own.
-use Rattle.std.specs.Prelude.{◌≡◌, ℕ, zero, suc, ◌<◌, ◌≤◌, ◌==◌, ◌&&◌, Bool, true, false, cond, Some, List, [], ◌∷◌, ◌++◌, map, length, slice_index_or, slice_set, slice_get}
+-- Coarser groupings, made from finer ones: column by column, from the last to the first, each group is merged into the
+-- one that has ALL in that column. Our own.
+use Rattle.std.specs.Prelude.{◌≡◌, ℕ, zero, suc, ◌<◌, ◌≤◌, ◌==◌, ◌&&◌, Bool, true, false, cond, Some, List, [], ◌∷◌}
+use Rattle.std.specs.Prelude.{◌++◌, map, length, slice_index_or, slice_set, slice_get}
 use Rattle.std.specs.List.{filter, list_any, AllByRecursion}
 use Rattle.std.specs.Ordering.{eq_by_cmp}
 use Rattle.std.specs.declared.alloc.Global.{Global}
@@ -38,7 +39,8 @@ keys_from dimensions kind i columns row = map (key_under dimensions row columns)
 -- the selected fact rows of a key under them
 abbrev pub rows_from : DimRows → Query → ℕ → List Member → List LineOrder → List LineOrder
 rows_from dimensions query i key rows =
-    filter (λ row. list_any (eq_by_cmp key_cmp key) (keys_from dimensions query.kind i query.columns row)) (selected dimensions query.conditions rows)
+    filter (λ row. list_any (eq_by_cmp key_cmp key) (keys_from dimensions query.kind i query.columns row))
+    (selected dimensions query.conditions rows)
 
 -- a group from which one with ALL at a column is made: of a rollup those with ALL at all columns after it
 abbrev pub leads : Kind → ℕ → List Member → Bool
@@ -147,7 +149,8 @@ FitMerged sources targets columns = (aggs : List Agg) × (part : ℕ × ℕ → 
     × (CanMergeAll aggs columns sources targets part × HaveMergeRoom aggs columns sources targets part)
 
 -- a fold's slots and columns from which coarser groups can be made
-pub record CanCoarsen (dimensions : DimRows) (query : Query) (slots : Slots) (columns : List (Vec Tally Global)) : Type 0 where
+pub record CanCoarsen (dimensions : DimRows) (query : Query) (slots : Slots) (columns : List (Vec Tally Global)) : Type
+    0 where
   pub proper : IsProper query
   pub rising : KeysRise dimensions query.columns
   pub numbers : AreSlots (group_count dimensions query.columns) (entries_of slots)

@@ -5,7 +5,8 @@ use Rattle.cube_model.specs.declared.rows.LineOrder.{LineOrder}
 use Rattle.dictionary.specs.Columns.{text_at}
 
 -- the columns of rows that a query can ask for
-pub record HaveColumns (rows : List LineOrder) (customers suppliers parts dates : List (List ℕ)) (quantities discounts : List ℕ)
+pub record HaveColumns (rows : List LineOrder) (customers suppliers parts dates : List (List ℕ))
+    (quantities discounts : List ℕ)
     (prices revenues costs : List (List ℕ)) : Type 0 where
   pub customer : map (from_le_bytes w32) customers ≡ map (λ row. row.custkey) rows
   pub supplier : map (from_le_bytes w32) suppliers ≡ map (λ row. row.suppkey) rows

@@ -1,5 +1,6 @@
 -- Tallies in columns, one column for each aggregate, each with a tally at each slot. Our own.
-use Rattle.std.specs.Prelude.{◌≡◌, ℕ, ◌+◌, ◌^◌, ◌<◌, ◌≤◌, ◌==◌, ◌&&◌, Bool, true, false, cond, ℤ, nat_abs, nat_lt, List, [], ◌∷◌, ◌++◌, map, length, Option, Some, None, slice_index_or, slice_get}
+use Rattle.std.specs.Prelude.{◌≡◌, ℕ, ◌+◌, ◌^◌, ◌<◌, ◌≤◌, ◌==◌, ◌&&◌, Bool, true, false, cond, ℤ, nat_abs, nat_lt, List}
+use Rattle.std.specs.Prelude.{[], ◌∷◌, ◌++◌, map, length, Option, Some, None, slice_index_or, slice_get}
 use Rattle.std.specs.List.{sum_by, list_all, filter}
 use Rattle.std.specs.declared.alloc.Global.{Global}
 use Rattle.std.specs.declared.vec.Vec.{Vec}
@@ -47,7 +48,8 @@ abbrev pub slotted : ℕ → List LineOrder → List (Option ℕ) → List LineO
 slotted slot [] group_slots = []
 slotted slot (row ∷ rows) [] = []
 slotted slot (row ∷ rows) (None ∷ group_slots) = slotted slot rows group_slots
-slotted slot (row ∷ rows) (Some other ∷ group_slots) = cond (other == slot) (row ∷ slotted slot rows group_slots) (slotted slot rows group_slots)
+slotted slot (row ∷ rows) (Some other ∷ group_slots) =
+    cond (other == slot) (row ∷ slotted slot rows group_slots) (slotted slot rows group_slots)
 
 -- rows whose count and whose sum fit a tally
 pub record IsCountable (agg : Agg) (rows : List LineOrder) : Type 0 where
@@ -70,14 +72,17 @@ abbrev pub can_add : Tally → ℕ → ℕ → Bool
 can_add tally count size = nat_lt (tally.count + count) (2 ^ 63) && nat_lt (nat_abs tally.sum + size) (2 ^ 63)
 
 -- the slot of each row lies in the column, and its tally can take all rows that have a slot
-pub record HasRoom (agg : Agg) (column : List Tally) (rows : List LineOrder) (group_slots : List (Option ℕ)) : Type 0 where
-  pub small : size_of agg (chosen rows group_slots) < 2 ^ 63
-  pub each : (place slot : ℕ) → slice_get group_slots place ≡ Some (Some slot)
-      → (slot < length column) × (can_add (tally_at column slot) (length rows) (size_of agg (chosen rows group_slots)) ≡ true)
+pub record HasRoom (agg : Agg) (column : List Tally) (rows : List LineOrder) (group_slots : List (Option ℕ)) : Type 0
+  where
+    pub small : size_of agg (chosen rows group_slots) < 2 ^ 63
+    pub each : (place slot : ℕ) → slice_get group_slots place ≡ Some (Some slot)
+        → (slot < length column)
+        × (can_add (tally_at column slot) (length rows) (size_of agg (chosen rows group_slots)) ≡ true)
 
 -- no tally counts more than the rows more, nor has its sum gone further than by theirs
 abbrev pub IsBounded : Agg → List LineOrder → List (Option ℕ) → List Tally → List Tally → Type 0
-IsBounded agg rows group_slots old new = (slot : ℕ) → ((tally_at new slot).count ≤ (tally_at old slot).count + length rows)
+IsBounded agg rows group_slots old new = (slot : ℕ)
+    → ((tally_at new slot).count ≤ (tally_at old slot).count + length rows)
     × (nat_abs (tally_at new slot).sum ≤ nat_abs (tally_at old slot).sum + size_of agg (chosen rows group_slots))
 
 -- the rows are counted in, each at its slot

@@ -1,5 +1,6 @@
 -- How the slots and the columns of a fold relate to the fact rows that were counted in. Our own.
-use Rattle.std.specs.Prelude.{◌≡◌, ℕ, ◌≤◌, ◌<◌, false, Option, Some, None, List, [], ◌∷◌, ◌++◌, length, map, slice_index_or}
+use Rattle.std.specs.Prelude.{◌≡◌, ℕ, ◌≤◌, ◌<◌, false, Option, Some, None, List, [], ◌∷◌, ◌++◌, length, map}
+use Rattle.std.specs.Prelude.{slice_index_or}
 use Rattle.std.specs.List.{range_with_len}
 use Rattle.std.specs.declared.alloc.Global.{Global}
 use Rattle.std.specs.declared.vec.Vec.{Vec}
@@ -14,7 +15,7 @@ use Rattle.cube_query.specs.Columns.{tallies_at, slotted, HasRoom}
 use Rattle.cube_query.specs.Groups.{rows_at}
 use Rattle.group_plan.specs.Numbers.{group_count, key_at, KeysRise, IsNumber}
 use Rattle.group_plan.specs.Plans.{count_of, query_of}
-use Rattle.group_plan.specs.declared.plan.Plan.{Plan}
+use Rattle.group_plan.specs.declared.plan.GroupPlan.{GroupPlan}
 use Rattle.cube_query.specs.Slots.{slot_of, entries_of, AreSlots, Cover}
 use Rattle.cube_query.specs.Tallies.{tallies_of}
 use Rattle.cube_query.specs.declared.slots.Slots.{Slots}
@@ -68,15 +69,16 @@ abbrev pub tallies_in : Query → Slots → List (Vec Tally Global) → ℕ → 
 tallies_in query slots columns number = tallies_or_none query columns (slot_of (entries_of slots) number)
 
 -- the tallies at the number of each group
-abbrev pub all_tallies : Plan → Slots → List (Vec Tally Global) → List (List Tally)
+abbrev pub all_tallies : GroupPlan → Slots → List (Vec Tally Global) → List (List Tally)
 all_tallies plan slots columns = map (tallies_in (query_of plan) slots columns) (range_with_len 0 (count_of plan))
 
 -- what a fold keeps, over any dimensions: slots for numbers below the plan's count, and no row after the last slot
-pub record IsKept (plan : Plan) (slots : Slots) (columns : List (Vec Tally Global)) : Type 0 where
+pub record IsKept (plan : GroupPlan) (slots : Slots) (columns : List (Vec Tally Global)) : Type 0 where
   pub proper : IsProper (query_of plan)
   pub numbers : AreSlots (count_of plan) (entries_of slots)
   pub cover : Cover (count_of plan) slots
-  pub fresh : (slot : ℕ) → length (entries_of slots) ≤ slot → tallies_at columns slot ≡ tallies_of (query_of plan).aggregates []
+  pub fresh : (slot : ℕ) → length (entries_of slots) ≤ slot
+      → tallies_at columns slot ≡ tallies_of (query_of plan).aggregates []
 
 -- what holds of each fold over its dimensions
 pub record IsFold (dimensions : DimRows) (query : Query) (slots : Slots) (columns : List

@@ -12,7 +12,7 @@ use Rattle.cube_query.specs.Limits.{AreFoldable}
 use Rattle.cube_query.specs.Tallies.{tallies_of}
 use Rattle.group_plan.specs.Numbers.{group_count, key_at}
 use Rattle.group_plan.specs.Plans.{IsPlanOver}
-use Rattle.group_plan.specs.declared.plan.Plan.{Plan}
+use Rattle.group_plan.specs.declared.plan.GroupPlan.{GroupPlan}
 
 -- the groups of fact rows: each key that a selected row has, ascending, with the tallies over the rows of that key
 abbrev pub groups_of : DimRows → Query → List LineOrder → List (List Member × List Tally)
@@ -23,7 +23,14 @@ groups_of dimensions query rows =
 
 -- the query's finest grouping, by all columns
 abbrev pub finest : Query → Query
-finest query = record { kind = Plain; columns = query.columns; conditions = query.conditions; aggregates = query.aggregates; order = None }
+finest query =
+    record {
+      kind = Plain;
+      columns = query.columns;
+      conditions = query.conditions;
+      aggregates = query.aggregates;
+      order = None;
+    }
 
 -- the selected rows of a key
 abbrev pub rows_at : DimRows → Query → List Member → List LineOrder → List LineOrder
@@ -32,18 +39,20 @@ rows_at dimensions query key rows = rows_of_key dimensions query key (selected d
 -- a fold: its query, its plan, and the tallies at the number of each group by all columns, those of no row among them
 pub record FoldState : Type 0 where
   pub query : Query
-  pub plan : Plan
+  pub plan : GroupPlan
   pub tallies : List (List Tally)
 
--- A fold represents fact rows over dimensions: its plan is over these, at the number of each group it has the tallies over
--- the selected rows of that group's key, and no selected row has another key.
+-- A fold represents fact rows over dimensions: its plan is over these, at the number of each group it has the tallies
+-- over the selected rows of that group's key, and no selected row has another key.
 pub record RepresentsRows (dimensions : DimRows) (fold : FoldState) (rows : List LineOrder) : Type 0 where
   pub over : IsPlanOver dimensions fold.plan
   pub each : (number : ℕ) → number < group_count dimensions fold.query.columns
       → slice_index_or fold.tallies number []
-      ≡ tallies_of fold.query.aggregates (rows_at dimensions (finest fold.query) (key_at dimensions fold.query.columns number) rows)
+      ≡ tallies_of fold.query.aggregates
+      (rows_at dimensions (finest fold.query) (key_at dimensions fold.query.columns number) rows)
   pub others : (key : List Member)
-      → ((number : ℕ) → number < group_count dimensions fold.query.columns → key_at dimensions fold.query.columns number ≡ key → ⊥)
+      → ((number : ℕ) → number < group_count dimensions fold.query.columns
+      → key_at dimensions fold.query.columns number ≡ key → ⊥)
       → rows_at dimensions (finest fold.query) key rows ≡ []
 
 -- a fold that begins: it represents no fact row
@@ -61,7 +70,8 @@ IsFoldOver dimensions fold = (rows : List LineOrder) × RepresentsRows dimension
 
 -- a fold over the dimensions of its beginning that represents fact rows that may be folded
 abbrev pub IsFoldable : DimRows → FoldState → Type 0
-IsFoldable dimensions fold = (rows : List LineOrder) × (RepresentsRows dimensions fold rows × AreFoldable dimensions rows)
+IsFoldable dimensions fold = (rows : List LineOrder)
+    × (RepresentsRows dimensions fold rows × AreFoldable dimensions rows)
 
 -- the fold represents fact rows after which others may be added
 abbrev pub CanTake : DimRows → FoldState → List LineOrder → Type 0
@@ -71,4 +81,5 @@ CanTake dimensions fold rows = (so_far : List LineOrder)
 -- the fold represents the fact rows that it represented, with others after them
 pub record Takes (dimensions : DimRows) (old : FoldState) (rows : List LineOrder) (new : FoldState) : Type 0 where
   pub query : new.query ≡ old.query
-  pub represents : (so_far : List LineOrder) → RepresentsRows dimensions old so_far → RepresentsRows dimensions new (so_far ++ rows)
+  pub represents : (so_far : List LineOrder) → RepresentsRows dimensions old so_far
+      → RepresentsRows dimensions new (so_far ++ rows)

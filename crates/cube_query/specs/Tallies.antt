@@ -13,7 +13,8 @@ use Rattle.cube_model.specs.Measures.{measure_of}
 
 -- the count of some numbers with their sum, the least and the greatest
 abbrev pub tally_of : List ℤ → Tally
-tally_of numbers = record { count = length numbers; sum = total numbers; least = least numbers; greatest = greatest numbers }
+tally_of numbers =
+    record { count = length numbers; sum = total numbers; least = least numbers; greatest = greatest numbers }
 
 -- a tally with one number more
 abbrev pub tally_with : Tally → ℤ → Tally

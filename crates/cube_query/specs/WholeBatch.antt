@@ -1,5 +1,6 @@
 -- The selected rows of a batch in the one group of a query, all at once. Our own.
-use Rattle.std.specs.Prelude.{◌≡◌, ℕ, ◌<◌, ◌==◌, ◌&&◌, Bool, true, false, cond, Option, Some, List, [], ◌∷◌, length, map, slice_index_or}
+use Rattle.std.specs.Prelude.{◌≡◌, ℕ, ◌<◌, ◌==◌, ◌&&◌, Bool, true, false, cond, Option, Some, List, [], ◌∷◌, length}
+use Rattle.std.specs.Prelude.{map, slice_index_or}
 use Rattle.std.specs.List.{list_all}
 use Rattle.std.specs.declared.alloc.Global.{Global}
 use Rattle.std.specs.declared.vec.Vec.{Vec}
@@ -37,4 +38,5 @@ with_rows (agg ∷ aggs) rows own slot (tally ∷ tallies) =
 -- each column can take the rows at a slot
 abbrev pub HaveRoomAt : List Agg → List (Vec Tally Global) → ℕ → List LineOrder → Type 0
 HaveRoomAt aggs columns slot rows = (k : ℕ) → k < length aggs → (agg : Agg) (column : Vec Tally Global)
-    → can_add (tally_at (slice_index_or columns k column).items slot) (length rows) (size_of (slice_index_or aggs k agg) rows) ≡ true
+    → can_add (tally_at (slice_index_or columns k column).items slot) (length rows)
+    (size_of (slice_index_or aggs k agg) rows) ≡ true

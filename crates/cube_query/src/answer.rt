@@ -11,8 +11,8 @@ use std::alloc::Global;
 
 /// The answer to a query over fact rows.
 ///
-/// It asks nothing of the rows: `BadLayout` says that a row has a key that no dimension row has, or that a sum passes its
-/// limit.
+/// It asks nothing of the rows: `BadLayout` says that a row has a key that no dimension row has, or that a sum passes
+/// its limit.
 pub fn fold(alloc: Global, dims: &Dims, rows: &[LineOrder], query: &Query) -> Result<Answer, Fault>
     ensures answer { IfOk result (λ found. found ≡ answer query.now dims.now rows.now) }
     ensures proper { OnOk result (IsProper query.now) }

@@ -2,7 +2,8 @@
 ghost use Rattle.std.specs.Prelude.{◌≡◌, ◌++◌, ◌∷◌, [], List, cond, IfOk, OnOk};
 ghost use Rattle.std.specs.List.{list_any};
 ghost use Rattle.cube_model.specs.Attributes.{axis_of};
-ghost use Rattle.cube_query.specs.Asked.{aggregate_asks, asked_columns, condition_asks, has_keys_of, is_asked, is_made_of};
+ghost use Rattle.cube_query.specs.Asked.{aggregate_asks, asked_columns, condition_asks, has_keys_of, is_asked};
+ghost use Rattle.cube_query.specs.Asked.{is_made_of};
 
 use column_segment::{AmountColumn, ByteColumn, FactColumn, NumberColumn};
 use cube_model::{Agg, Attr, Axis, Cond, Measure, Query};

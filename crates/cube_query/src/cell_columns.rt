@@ -1,6 +1,8 @@
 //! A cell of a cuboid, merged into the tallies at the slot of its group.
-ghost use Rattle.std.specs.Prelude.{◌≡◌, ◌≢◌, ◌⊎◌, ◌≤◌, ◌<◌, ◌^◌, ℕ, [], ◌∷◌, length, slice_set, Some, Err, IfErr, IfOk, OnErr, OnOk};
-ghost use Rattle.cube_query.specs.CellTallies.{cell_tally, counted, summary_in, with_cells, HasRoomFor, HaveRoomFor, MergesCells};
+ghost use Rattle.std.specs.Prelude.{◌≡◌, ◌≢◌, ◌⊎◌, ◌≤◌, ◌<◌, ◌^◌, ℕ, [], ◌∷◌, length, slice_set, Some, Err, IfErr};
+ghost use Rattle.std.specs.Prelude.{IfOk, OnErr, OnOk};
+ghost use Rattle.cube_query.specs.CellTallies.{cell_tally, counted, summary_in, with_cells, HasRoomFor, HaveRoomFor};
+ghost use Rattle.cube_query.specs.CellTallies.{MergesCells};
 ghost use Rattle.cube_query.specs.Columns.{tallies_at, tally_at};
 ghost use Rattle.cube_query.specs.Tallies.{merged};
 
@@ -37,7 +39,8 @@ pub fn merge_cell(
 #[inline]
 fn merge_in_column(column: &mut Vec<Tally>, agg: Agg, cell: &Cell, slot: u32) -> Result<(), Fault>
     ensures merged { OnOk result (MergesCells agg (cell.now ∷ []) (Some slot ∷ []) column.old.items column.new.items) }
-    ensures refused { result ≡ Err Fault.BadLayout → HasRoomFor agg (cell.now ∷ []) (tally_at column.old.items slot) → ⊥ }
+    ensures refused { result ≡ Err Fault.BadLayout → HasRoomFor agg (cell.now ∷ []) (tally_at column.old.items slot)
+        → ⊥ }
     ensures others { (other : ℕ) → other ≢ slot → tally_at column.new.items other ≡ tally_at column.old.items other }
     ensures only { IfErr result (λ fault. (fault ≡ Fault.Memory) ⊎ (fault ≡ Fault.BadLayout)) }
 {

@@ -26,8 +26,8 @@ use wire::Source;
 /// Numbers of groups that have no slot are given one. Cells that have no rows that are selected, by their codes on the
 /// first axis that the view groups, are not all read.
 ///
-/// `BadLayout` says that the text is no run, that no row represents a cell, for a code is that of no member, or that a count or a
-/// sum would pass its limit. After a refusal the columns have what they had where there is no slot.
+/// `BadLayout` says that the text is no run, that no row represents a cell, for a code is that of no member, or that a
+/// count or a sum would pass its limit. After a refusal the columns have what they had where there is no slot.
 pub fn merge_run<S: Source>(
     alloc: Global,
     numbers: &CellNumbers,
@@ -46,8 +46,10 @@ pub fn merge_run<S: Source>(
         (S.texts source.old run.old.id) run.old columns.old columns.new) }
     ensures refused { IsErrOf result Fault.BadLayout → S.keeps_word source.new
         → (cells : List Cell) → AreLeft (S.texts source.old run.old.id) run.old cells
-        → HaveNoRepresentative numbers.now cells ⊎ (GroupsHaveRoomFor (entries_of slots.new) aggs.now cells columns.old → ⊥) }
-    ensures fresh { (slot : ℕ) → length (entries_of slots.new) ≤ slot → tallies_at columns.new slot ≡ tallies_at columns.old slot }
+        → HaveNoRepresentative numbers.now cells
+        ⊎ (GroupsHaveRoomFor (entries_of slots.new) aggs.now cells columns.old → ⊥) }
+    ensures fresh { (slot : ℕ) → length (entries_of slots.new) ≤ slot
+        → tallies_at columns.new slot ≡ tallies_at columns.old slot }
     ensures cover { Cover (group_count numbers.now.dimensions numbers.now.query.columns) slots.new }
     ensures grow { Grow (group_count numbers.now.dimensions numbers.now.query.columns) (entries_of slots.old)
         (entries_of slots.new) }

@@ -3,7 +3,8 @@ ghost use Rattle.std.specs.Prelude.{◌≡◌, ◌⊎◌, ◌<◌, ◌≤◌, �
 ghost use Rattle.std.specs.List.{All};
 ghost use Rattle.cuboid_cells.specs.Cells.{IsCellOf};
 ghost use Rattle.group_plan.specs.Numbers.{group_count};
-ghost use Rattle.cube_query.specs.CellSlots.{AreMergedIn, HasNoRepresentative, HaveNoRepresentative, IsCellSlot, IsMergedIn};
+ghost use Rattle.cube_query.specs.CellSlots.{AreMergedIn, HasNoRepresentative, HaveNoRepresentative, IsCellSlot};
+ghost use Rattle.cube_query.specs.CellSlots.{IsMergedIn};
 ghost use Rattle.cube_query.specs.CellTallies.{GroupsHaveRoomFor};
 ghost use Rattle.cube_query.specs.Columns.{tallies_at};
 ghost use Rattle.cube_query.specs.Slots.{entries_of, slot_of, AreSlots, Cover, Grow};
@@ -17,8 +18,8 @@ use cuboid_cells::Cell;
 use cuboid_upkeep::CellNumbers;
 use std::alloc::Global;
 
-/// Columns with cells merged in at the slots of their groups, next to the columns that they are made from. Numbers of groups
-/// that have no slot are given one.
+/// Columns with cells merged in at the slots of their groups, next to the columns that they are made from. Numbers of
+/// groups that have no slot are given one.
 ///
 /// `BadLayout` says that no row represents a cell, for a code is that of no member, or that a count or a sum would pass
 /// its limit. Each cell is read once.
@@ -49,8 +50,8 @@ pub fn with_cells(
     Ok(merged)
 }
 
-/// Merges cells in at the slots of their groups, one after another. After a refusal the columns have what they had where there is
-/// no slot, and what they have at the slots is not said.
+/// Merges cells in at the slots of their groups, one after another. After a refusal the columns have what they had
+/// where there is no slot, and what they have at the slots is not said.
 pub fn merge_cells(
     numbers: &CellNumbers,
     slots: &mut Slots,
@@ -67,7 +68,8 @@ pub fn merge_cells(
         ⊎ (GroupsHaveRoomFor (entries_of slots.new) aggs.now cells.now columns.old → ⊥) }
     ensures fresh { (first : List (ℕ × ℕ))
         → Grow (group_count numbers.now.dimensions numbers.now.query.columns) first (entries_of slots.old)
-        → (slot : ℕ) → length (entries_of slots.new) ≤ slot → tallies_at columns.new slot ≡ tallies_at columns.old slot }
+        → (slot : ℕ) → length (entries_of slots.new) ≤ slot
+        → tallies_at columns.new slot ≡ tallies_at columns.old slot }
     ensures only { IfErr result (λ fault. (fault ≡ Fault.Memory) ⊎ (fault ≡ Fault.BadLayout)) }
     ensures cover { Cover (group_count numbers.now.dimensions numbers.now.query.columns) slots.new }
     ensures grow { (first : List (ℕ × ℕ))
@@ -98,7 +100,8 @@ fn merge_one(
         ⊎ (GroupsHaveRoomFor (entries_of slots.new) aggs.now (cell.now ∷ []) columns.old → ⊥) }
     ensures fresh { (first : List (ℕ × ℕ))
         → Grow (group_count numbers.now.dimensions numbers.now.query.columns) first (entries_of slots.old)
-        → (slot : ℕ) → length (entries_of slots.new) ≤ slot → tallies_at columns.new slot ≡ tallies_at columns.old slot }
+        → (slot : ℕ) → length (entries_of slots.new) ≤ slot
+        → tallies_at columns.new slot ≡ tallies_at columns.old slot }
     ensures only { IfErr result (λ fault. (fault ≡ Fault.Memory) ⊎ (fault ≡ Fault.BadLayout)) }
     ensures cover { Cover (group_count numbers.now.dimensions numbers.now.query.columns) slots.new }
     ensures keep { (number slot : ℕ) → slot_of (entries_of slots.old) number ≡ Some slot

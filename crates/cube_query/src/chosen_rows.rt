@@ -11,7 +11,7 @@ use crate::column_rows::ColumnRows;
 use column_kernels::Mask;
 use column_segment::FactColumns;
 use cube_model::{Axis, Fault, Measure};
-use group_plan::{Bounds, FactRows, PlanOver};
+use group_plan::{Bounds, FactRows, GroupPlanOver};
 use std::alloc::{AllocError, Global};
 use std::marker::Model;
 
@@ -36,14 +36,15 @@ impl<'a> Model for ChosenRows<'a> {
 }
 
 impl<'a> ChosenRows<'a> {
-    /// Rows of a batch, and among them all that a query selects: those whose quantity and discount lie within its bounds
-    /// and whose keys pass its tables. It can only fail when out of memory.
+    /// Rows of a batch, and among them all that a query selects: those whose quantity and discount lie within its
+    /// bounds and whose keys pass its tables. It can only fail when out of memory.
     pub fn of(
         alloc: Global,
-        plan: &PlanOver,
+        plan: &GroupPlanOver,
         batch: FactColumns<'a>,
     ) -> Result<ChosenRows<'a>, Fault>
-        ensures ok { IfOk result (λ chosen. KeepSelected plan.now.dimensions plan.now.query.conditions chosen batch.entry) }
+        ensures ok { IfOk result
+            (λ chosen. KeepSelected plan.now.dimensions plan.now.query.conditions chosen batch.entry) }
         ensures memory { IfErr result (λ fault. fault ≡ Fault.Memory) }
     {
         let chosen = ChosenRows::bounded(alloc, batch, plan.bounds())?;
@@ -59,7 +60,8 @@ impl<'a> ChosenRows<'a> {
         batch: FactColumns<'a>,
         bounds: Bounds,
     ) -> Result<ChosenRows<'a>, Fault>
-        ensures ok { IfOk result (λ chosen. (dimensions : DimRows) (conditions : List Cond) → AreBounds conditions bounds
+        ensures ok { IfOk result (λ chosen. (dimensions : DimRows) (conditions : List Cond)
+            → AreBounds conditions bounds
             → KeepSelected dimensions conditions chosen batch.entry) }
         ensures memory { IfErr result (λ fault. fault ≡ Fault.Memory) }
     {
@@ -87,7 +89,8 @@ impl<'a> ChosenRows<'a> {
         batch: FactColumns<'a>,
         bounds: Bounds,
     ) -> Result<ChosenRows<'a>, Fault>
-        ensures ok { IfOk result (λ chosen. (dimensions : DimRows) (conditions : List Cond) → AreBounds conditions bounds
+        ensures ok { IfOk result (λ chosen. (dimensions : DimRows) (conditions : List Cond)
+            → AreBounds conditions bounds
             → KeepSelected dimensions conditions chosen batch.entry) }
         ensures memory { IfErr result (λ fault. fault ≡ Fault.Memory) }
     {
@@ -102,7 +105,7 @@ impl<'a> ChosenRows<'a> {
     }
 
     // The rows without those that fail a condition on a dimension, as far as a table of its keys tells.
-    fn without(self, plan: &PlanOver, axis: Axis) -> ChosenRows<'a>
+    fn without(self, plan: &GroupPlanOver, axis: Axis) -> ChosenRows<'a>
         ensures { KeepSelected plan.now.dimensions plan.now.query.conditions result self.entry }
     {
         let ChosenRows { rows, mut places } = self;

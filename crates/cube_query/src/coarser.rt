@@ -1,9 +1,10 @@
-//! Coarser groupings, made from finer ones: column by column, from the last to the first, each group is merged into the one
-//! that has ALL in that column.
+//! Coarser groupings, made from finer ones: column by column, from the last to the first, each group is merged into the
+//! one that has ALL in that column.
 ghost use Rattle.std.specs.Prelude.{◌≡◌, ◌⊎◌, ℕ, ◌+◌, ◌≤◌, ◌<◌, List, length, Some, Err, OnErr, OnOk, IfErr, IfOk};
 ghost use Rattle.std.specs.List.{All, AllByRecursion};
 ghost use Rattle.cube_model.specs.declared.rows.LineOrder.{LineOrder};
-ghost use Rattle.cube_query.specs.Coarser.{leads, sources_of, AreTalliedFrom, AreTargets, CanCoarsen, FitMerged, IsTarget, MayMerge, MergesIn};
+ghost use Rattle.cube_query.specs.Coarser.{leads, sources_of, AreTalliedFrom, AreTargets, CanCoarsen, FitMerged};
+ghost use Rattle.cube_query.specs.Coarser.{IsTarget, MayMerge, MergesIn};
 ghost use Rattle.cube_query.specs.Columns.{tallies_at};
 ghost use Rattle.cube_query.specs.Limits.{AreFoldable};
 ghost use Rattle.cube_query.specs.Slots.{entries_of, slot_of, AreSlots, Cover, Grow};
@@ -13,11 +14,12 @@ use crate::columns::{is_seen, make_room, merge_in_all};
 use crate::slots::Slots;
 use crate::tally::Tally;
 use cube_model::{Fault, Kind};
-use group_plan::PlanOver;
+use group_plan::GroupPlanOver;
 use std::alloc::{AllocError, Global};
 
-// Whether the group with a number leads to one with ALL in a column: of a rollup those with ALL in all columns after it.
-fn leads(plan: &PlanOver, kind: Kind, column: usize, number: u128) -> bool
+// Whether the group with a number leads to one with ALL in a column: of a rollup those with ALL in all columns after
+// it.
+fn leads(plan: &GroupPlanOver, kind: Kind, column: usize, number: u128) -> bool
     requires column { column < length plan.now.query.columns }
     requires few { length plan.now.query.columns ≤ 6 }
     requires below { number < group_count plan.now.dimensions plan.now.query.columns }
@@ -33,7 +35,7 @@ fn leads(plan: &PlanOver, kind: Kind, column: usize, number: u128) -> bool
 // The groups that have rows and lead to ones with ALL in a column.
 fn sources_of(
     alloc: Global,
-    plan: &PlanOver,
+    plan: &GroupPlanOver,
     kind: Kind,
     column: usize,
     columns: &[Vec<Tally>],
@@ -59,7 +61,7 @@ fn sources_of(
 // The same of all groups that have a slot.
 fn sources_among(
     alloc: Global,
-    plan: &PlanOver,
+    plan: &GroupPlanOver,
     kind: Kind,
     column: usize,
     columns: &[Vec<Tally>],
@@ -78,7 +80,7 @@ fn sources_among(
 
 // The slot of the group with ALL in a column and all else as a source. Where it has none it is given one.
 fn target_of(
-    plan: &PlanOver,
+    plan: &GroupPlanOver,
     column: usize,
     slots: &mut Slots,
     source: (u128, u32),
@@ -102,7 +104,7 @@ fn target_of(
 // The slots of the groups with ALL in a column. Those that have none are given one.
 fn targets_of(
     alloc: Global,
-    plan: &PlanOver,
+    plan: &GroupPlanOver,
     column: usize,
     slots: &mut Slots,
     sources: &[(u128, u32)],
@@ -147,7 +149,7 @@ fn merge(
 // Adds the groups with ALL in a column to those that there are from the next column on.
 fn coarsen(
     alloc: Global,
-    plan: &PlanOver,
+    plan: &GroupPlanOver,
     kind: Kind,
     column: usize,
     slots: &mut Slots,
@@ -175,7 +177,7 @@ fn coarsen(
 /// Adds all groups of the query's kind to those by all columns, of which there are so many.
 pub fn coarsen_all(
     alloc: Global,
-    plan: &PlanOver,
+    plan: &GroupPlanOver,
     kind: Kind,
     count: usize,
     slots: &mut Slots,

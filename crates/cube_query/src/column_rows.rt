@@ -10,7 +10,8 @@ use cube_model::{Axis, Measure};
 use group_plan::FactRows;
 use std::marker::Model;
 
-/// The rows of a batch, of which no row is made: each number is read from its column. Contracts see the list of the rows.
+/// The rows of a batch, of which no row is made: each number is read from its column. Contracts see the list of the
+/// rows.
 #[derive(Drop)]
 pub struct ColumnRows<'a> {
     columns: FactColumns<'a>,

@@ -1,11 +1,13 @@
 //! The tallies of groups in columns, one column for each aggregate, each with a tally at each slot.
-ghost use Rattle.std.specs.Prelude.{◌≡◌, ℕ, pos, ◌≤◌, ◌<◌, true, [], ◌∷◌, length, slice_get, slice_index_or, IfOk, OnErr, OnOk, FitsSigned, nat_lt, slice_set, List, ◌+◌, ◌^◌, ◌+ℤ◌};
+ghost use Rattle.std.specs.Prelude.{◌≡◌, ℕ, pos, ◌≤◌, ◌<◌, true, [], ◌∷◌, length, slice_get, slice_index_or, IfOk};
+ghost use Rattle.std.specs.Prelude.{OnErr, OnOk, FitsSigned, nat_lt, slice_set, List, ◌+◌, ◌^◌, ◌+ℤ◌};
 ghost use Rattle.std.specs.List.{AllByRecursion, list_all};
 ghost use Rattle.std.specs.Int.{w64};
 ghost use Rattle.cube_model.specs.declared.answer.Value.TheVariants.{Whole};
 ghost use Rattle.cube_model.specs.declared.measure.Agg.{Agg};
 ghost use Rattle.cube_model.specs.declared.rows.LineOrder.{LineOrder};
-ghost use Rattle.cube_query.specs.Coarser.{gathered, AddsIn, CanMerge, FitMerged, HasMergeRoom, LieWithin, MayMerge, MergesIn};
+ghost use Rattle.cube_query.specs.Coarser.{gathered, AddsIn, CanMerge, FitMerged, HasMergeRoom, LieWithin, MayMerge};
+ghost use Rattle.cube_query.specs.Coarser.{MergesIn};
 ghost use Rattle.cube_query.specs.Columns.{tally_at, tallies_at, is_seen, CountsIn, HasRoom, IsBounded};
 ghost use Rattle.cube_query.specs.FoldInvariant.{CountIn, HaveRoom};
 ghost use Rattle.cube_query.specs.Slots.{entries_of};
@@ -94,7 +96,8 @@ pub fn count_in_all<F: FactRows>(
 fn merge_one(column: &mut [Tally], source: u32, target: u32) -> Result<(), TooLarge>
     requires source { source < length column.old }
     requires target { target < length column.old }
-    ensures ok { OnOk result (column.new ≡ slice_set column.old target (merged (tally_at column.old target) (tally_at column.old source))) }
+    ensures ok { OnOk result
+        (column.new ≡ slice_set column.old target (merged (tally_at column.old target) (tally_at column.old source))) }
     ensures err { OnErr result ((tally_at column.old target).count + (tally_at column.old source).count < 2 ^ 63
         → FitsSigned w64 ((tally_at column.old target).sum +ℤ (tally_at column.old source).sum) → ⊥) }
     ensures length { length column.new ≡ length column.old }
@@ -112,9 +115,11 @@ pub fn merge_in(
 ) -> Result<(), TooLarge>
     requires targets { length targets.now ≡ length sources.now }
     requires may { LieWithin sources.now targets.now (length column.old) }
-    ensures ok { OnOk result ((agg : Agg) (part : ℕ × ℕ → List LineOrder) → CanMerge agg column.old sources.now targets.now part
+    ensures ok { OnOk result ((agg : Agg) (part : ℕ × ℕ → List LineOrder)
+        → CanMerge agg column.old sources.now targets.now part
         → AddsIn agg (λ slot. gathered slot part sources.now targets.now) column.old column.new) }
-    ensures err { OnErr result ((agg : Agg) (part : ℕ × ℕ → List LineOrder) → CanMerge agg column.old sources.now targets.now part
+    ensures err { OnErr result ((agg : Agg) (part : ℕ × ℕ → List LineOrder)
+        → CanMerge agg column.old sources.now targets.now part
         → HasMergeRoom agg column.old sources.now targets.now part → ⊥) }
     ensures length { length column.new ≡ length column.old }
 {

@@ -18,13 +18,13 @@ use crate::lines::{lines_among, ordered_groups};
 use crate::slots::Slots;
 use crate::tally::Tally;
 use cube_model::{Fault, Items, Kind, Line, Query};
-use group_plan::PlanOver;
+use group_plan::GroupPlanOver;
 use std::alloc::Global;
 
 // The lines of a rollup or a cube. What the fold has stays as it is.
 fn coarser_lines(
     alloc: Global,
-    plan: &PlanOver,
+    plan: &GroupPlanOver,
     query: &Query,
     columns: &[Vec<Tally>],
     slots: &Slots,
@@ -47,7 +47,7 @@ fn coarser_lines(
 // The lines of all groups of the query's kind, which are added to those by all columns.
 fn all_lines(
     alloc: Global,
-    plan: &PlanOver,
+    plan: &GroupPlanOver,
     query: &Query,
     slots: &mut Slots,
     columns: &mut Vec<Vec<Tally>>,
@@ -55,10 +55,12 @@ fn all_lines(
     requires query { query.now ≡ plan.now.query }
     requires can { CanCoarsen plan.now.dimensions plan.now.query slots.old columns.old.items }
     ensures lines { IfOk result (λ lines. (rows : List LineOrder)
-        → AreTalliedFrom plan.now.dimensions plan.now.query (length plan.now.query.columns) (entries_of slots.old) columns.old.items rows
+        → AreTalliedFrom plan.now.dimensions plan.now.query (length plan.now.query.columns) (entries_of slots.old)
+        columns.old.items rows
         → lines ≡ (answer plan.now.query plan.now.dimensions rows).lines) }
     ensures refused { result ≡ Err Fault.BadLayout → (rows : List LineOrder)
-        → AreTalliedFrom plan.now.dimensions plan.now.query (length plan.now.query.columns) (entries_of slots.old) columns.old.items rows
+        → AreTalliedFrom plan.now.dimensions plan.now.query (length plan.now.query.columns) (entries_of slots.old)
+        columns.old.items rows
         → AreFoldable plan.now.dimensions rows → ⊥ }
     ensures only { IfErr result (λ fault. (fault ≡ Fault.Memory) ⊎ (fault ≡ Fault.BadLayout)) }
 {
@@ -70,7 +72,7 @@ fn all_lines(
 // All groups of the query's kind, which are added to those by all columns, in the order of their lines.
 fn all_groups(
     alloc: Global,
-    plan: &PlanOver,
+    plan: &GroupPlanOver,
     query: &Query,
     slots: &mut Slots,
     columns: &mut Vec<Vec<Tally>>,
@@ -78,12 +80,16 @@ fn all_groups(
     requires query { query.now ≡ plan.now.query }
     requires can { CanCoarsen plan.now.dimensions plan.now.query slots.old columns.old.items }
     ensures count { OnOk result (length columns.new.items ≡ length plan.now.query.aggregates) }
-    ensures groups { IfOk result (λ groups. HaveLines plan.now.dimensions plan.now.query columns.new.items groups.items) }
+    ensures groups { IfOk result
+        (λ groups. HaveLines plan.now.dimensions plan.now.query columns.new.items groups.items) }
     ensures lines { IfOk result (λ groups. (rows : List LineOrder)
-        → AreTalliedFrom plan.now.dimensions plan.now.query (length plan.now.query.columns) (entries_of slots.old) columns.old.items rows
-        → lines_by plan.now.dimensions plan.now.query columns.new.items groups.items ≡ (answer plan.now.query plan.now.dimensions rows).lines) }
+        → AreTalliedFrom plan.now.dimensions plan.now.query (length plan.now.query.columns) (entries_of slots.old)
+        columns.old.items rows
+        → lines_by plan.now.dimensions plan.now.query columns.new.items groups.items
+        ≡ (answer plan.now.query plan.now.dimensions rows).lines) }
     ensures refused { result ≡ Err Fault.BadLayout → (rows : List LineOrder)
-        → AreTalliedFrom plan.now.dimensions plan.now.query (length plan.now.query.columns) (entries_of slots.old) columns.old.items rows
+        → AreTalliedFrom plan.now.dimensions plan.now.query (length plan.now.query.columns) (entries_of slots.old)
+        columns.old.items rows
         → AreFoldable plan.now.dimensions rows → ⊥ }
     ensures only { IfErr result (λ fault. (fault ≡ Fault.Memory) ⊎ (fault ≡ Fault.BadLayout)) }
 {
@@ -96,7 +102,7 @@ fn all_groups(
 // The lines of the groups that there are.
 fn finest_lines(
     alloc: Global,
-    plan: &PlanOver,
+    plan: &GroupPlanOver,
     query: &Query,
     columns: &[Vec<Tally>],
     slots: &Slots,
@@ -106,7 +112,8 @@ fn finest_lines(
     requires numbers { AreSlots (group_count plan.now.dimensions plan.now.query.columns) (entries_of slots.now) }
     requires columns { length columns.now ≡ length plan.now.query.aggregates }
     ensures lines { IfOk result (λ lines. (rows : List LineOrder)
-        → seen_groups (key_at plan.now.dimensions plan.now.query.columns) (tallies_at columns.now) (entries_of slots.now)
+        → seen_groups (key_at plan.now.dimensions plan.now.query.columns) (tallies_at columns.now)
+        (entries_of slots.now)
         ≡ groups_of plan.now.dimensions plan.now.query rows
         → lines ≡ (answer plan.now.query plan.now.dimensions rows).lines) }
     ensures only { IfErr result (λ fault. fault ≡ Fault.Memory) }
@@ -119,7 +126,7 @@ fn finest_lines(
 /// The groups of the query, made of those by all columns, in the order of the answer's lines.
 pub fn groups_of_kind(
     alloc: Global,
-    plan: &PlanOver,
+    plan: &GroupPlanOver,
     query: &Query,
     slots: &mut Slots,
     columns: &mut Vec<Vec<Tally>>,
@@ -127,10 +134,12 @@ pub fn groups_of_kind(
     requires query { query.now ≡ plan.now.query }
     requires fold { IsFold plan.now.dimensions plan.now.query slots.old columns.old.items }
     ensures count { OnOk result (length columns.new.items ≡ length plan.now.query.aggregates) }
-    ensures groups { IfOk result (λ groups. HaveLines plan.now.dimensions plan.now.query columns.new.items groups.items) }
+    ensures groups { IfOk result
+        (λ groups. HaveLines plan.now.dimensions plan.now.query columns.new.items groups.items) }
     ensures lines { IfOk result (λ groups. (rows : List LineOrder)
         → AreTallied plan.now.dimensions (finest plan.now.query) (entries_of slots.old) columns.old.items rows
-        → lines_by plan.now.dimensions plan.now.query columns.new.items groups.items ≡ (answer plan.now.query plan.now.dimensions rows).lines) }
+        → lines_by plan.now.dimensions plan.now.query columns.new.items groups.items
+        ≡ (answer plan.now.query plan.now.dimensions rows).lines) }
     ensures refused { result ≡ Err Fault.BadLayout → (rows : List LineOrder)
         → AreTallied plan.now.dimensions (finest plan.now.query) (entries_of slots.old) columns.old.items rows
         → AreFoldable plan.now.dimensions rows → ⊥ }
@@ -148,7 +157,7 @@ pub fn groups_of_kind(
 /// The lines of the answer over the rows of the groups by all columns.
 pub fn answer_lines(
     alloc: Global,
-    plan: &PlanOver,
+    plan: &GroupPlanOver,
     query: &Query,
     columns: &[Vec<Tally>],
     slots: &Slots,

@@ -17,14 +17,14 @@ use crate::slots::Slots;
 use crate::tally::Tally;
 use cube_model::{Answer, Fault, Value};
 use dimensions::Dims;
-use group_plan::Plan;
+use group_plan::GroupPlan;
 use std::alloc::{AllocError, Global};
 use std::marker::Model;
 
-/// The groups of a fold that is done, in the order of the answer's lines. They have no texts: each line's are those of the
-/// dimensions.
+/// The groups of a fold that is done, in the order of the answer's lines. They have no texts: each line's are those of
+/// the dimensions.
 pub struct Groups {
-    plan: Plan,
+    plan: GroupPlan,
     columns: Vec<Vec<Tally>>,
     order: Vec<(u128, u32)>,
 }
@@ -47,7 +47,7 @@ impl Groups {
     pub(crate) fn of(
         alloc: Global,
         dims: &Dims,
-        plan: Plan,
+        plan: GroupPlan,
         slots: Slots,
         columns: Vec<Vec<Tally>>,
     ) -> Result<Groups, Fault>
@@ -153,7 +153,7 @@ impl<'a> GroupLines<'a> {
 #[derive(Drop)]
 pub struct GroupLine<'a> {
     dims: &'a Dims,
-    plan: &'a Plan,
+    plan: &'a GroupPlan,
     columns: &'a [Vec<Tally>],
     number: u128,
     slot: u32,

@@ -9,12 +9,12 @@ ghost use Rattle.cube_query.specs.FoldInvariant.{IsGroupSlot, AreGroupSlots};
 
 use crate::slots::Slots;
 use cube_model::Fault;
-use group_plan::{FactRows, PlanOver};
+use group_plan::{FactRows, GroupPlanOver};
 use std::alloc::Global;
 
 // The slot of the group of the fact row at a place, if the row is selected.
 fn group_slot_of<F: FactRows>(
-    plan: &PlanOver,
+    plan: &GroupPlanOver,
     slots: &mut Slots,
     rows: &F,
     place: usize,
@@ -23,7 +23,8 @@ fn group_slot_of<F: FactRows>(
     requires cover { Cover (group_count plan.now.dimensions plan.now.query.columns) slots.old }
     ensures group_slot { IfOk result (λ group_slot. IsGroupSlot plan.now.dimensions plan.now.query
         (entries_of slots.new) (row_at (F.rows rows.now) place) group_slot) }
-    ensures refused { result ≡ Err Fault.BadLayout → IsKnownFor plan.now.dimensions plan.now.query (row_at (F.rows rows.now) place) → ⊥ }
+    ensures refused { result ≡ Err Fault.BadLayout
+        → IsKnownFor plan.now.dimensions plan.now.query (row_at (F.rows rows.now) place) → ⊥ }
     ensures only { IfErr result (λ fault. (fault ≡ Fault.Memory) ⊎ (fault ≡ Fault.BadLayout)) }
     ensures cover { Cover (group_count plan.now.dimensions plan.now.query.columns) slots.new }
     ensures keep { (number slot : ℕ) → slot_of (entries_of slots.old) number ≡ Some slot
@@ -47,7 +48,7 @@ fn group_slot_of<F: FactRows>(
 /// `BadLayout` says that a row has a key that no dimension row has.
 pub fn group_slots_of<F: FactRows>(
     alloc: Global,
-    plan: &PlanOver,
+    plan: &GroupPlanOver,
     slots: &mut Slots,
     rows: &F,
 ) -> Result<Vec<Option<u32>>, Fault>
@@ -55,7 +56,8 @@ pub fn group_slots_of<F: FactRows>(
     requires cover { Cover (group_count plan.now.dimensions plan.now.query.columns) slots.old }
     ensures group_slots { IfOk result (λ group_slots.
         AreGroupSlots plan.now.dimensions plan.now.query (entries_of slots.new) (F.rows rows.now) group_slots.items) }
-    ensures refused { result ≡ Err Fault.BadLayout → All (IsKnownFor plan.now.dimensions plan.now.query) (F.rows rows.now) → ⊥ }
+    ensures refused { result ≡ Err Fault.BadLayout
+        → All (IsKnownFor plan.now.dimensions plan.now.query) (F.rows rows.now) → ⊥ }
     ensures only { IfErr result (λ fault. (fault ≡ Fault.Memory) ⊎ (fault ≡ Fault.BadLayout)) }
     ensures cover { Cover (group_count plan.now.dimensions plan.now.query.columns) slots.new }
     ensures grow { Grow (group_count plan.now.dimensions plan.now.query.columns) (entries_of slots.old)

@@ -14,13 +14,13 @@ use crate::order::in_order;
 use crate::slots::Slots;
 use crate::tally::Tally;
 use cube_model::{Agg, Items, Line, Query, answer_is_the_one};
-use group_plan::PlanOver;
+use group_plan::GroupPlanOver;
 use std::alloc::{AllocError, Global};
 
 // The line of a group, by its number and its slot.
 fn line_of(
     alloc: Global,
-    plan: &PlanOver,
+    plan: &GroupPlanOver,
     aggregates: &[Agg],
     columns: &[Vec<Tally>],
     group: (u128, u32),
@@ -40,7 +40,7 @@ fn line_of(
 // Puts the line of a group after others.
 fn push_line(
     alloc: Global,
-    plan: &PlanOver,
+    plan: &GroupPlanOver,
     aggregates: &[Agg],
     columns: &[Vec<Tally>],
     group: (u128, u32),
@@ -60,7 +60,7 @@ fn push_line(
 /// The lines of groups, in their order.
 pub fn lines_among(
     alloc: Global,
-    plan: &PlanOver,
+    plan: &GroupPlanOver,
     query: &Query,
     columns: &[Vec<Tally>],
     groups: &[(u128, u32)],
@@ -94,7 +94,7 @@ fn seen_groups_of(
 /// The groups that have rows, in the order that the query asks for its lines in.
 pub fn ordered_groups(
     alloc: Global,
-    plan: &PlanOver,
+    plan: &GroupPlanOver,
     query: &Query,
     columns: &[Vec<Tally>],
     slots: &Slots,
@@ -105,9 +105,11 @@ pub fn ordered_groups(
     requires columns { length columns.now ≡ length plan.now.query.aggregates }
     ensures groups { IfOk result (λ groups. HaveLines plan.now.dimensions plan.now.query columns.now groups.items) }
     ensures lines { IfOk result (λ groups. (rows : List LineOrder)
-        → seen_groups (key_at plan.now.dimensions plan.now.query.columns) (tallies_at columns.now) (entries_of slots.now)
+        → seen_groups (key_at plan.now.dimensions plan.now.query.columns) (tallies_at columns.now)
+        (entries_of slots.now)
         ≡ groups_of plan.now.dimensions plan.now.query rows
-        → lines_by plan.now.dimensions plan.now.query columns.now groups.items ≡ (answer plan.now.query plan.now.dimensions rows).lines) }
+        → lines_by plan.now.dimensions plan.now.query columns.now groups.items
+        ≡ (answer plan.now.query plan.now.dimensions rows).lines) }
 {
     let groups = seen_groups_of(alloc, columns, slots)?;
     match query.order {

@@ -10,8 +10,8 @@ use dictionary::Dictionary;
 use group_plan::{FactRows, ModeRows};
 use std::marker::Model;
 
-/// The rows of a batch whose ship modes are given by their codes in the batch. Contracts see the list of the rows, and the
-/// texts of the codes.
+/// The rows of a batch whose ship modes are given by their codes in the batch. Contracts see the list of the rows, and
+/// the texts of the codes.
 #[derive(Drop)]
 pub struct RowsWithModes<'a> {
     rows: ColumnRows<'a>,

@@ -96,7 +96,8 @@ pub fn sorted_entries(alloc: Global, numbers: &[u128]) -> Result<Vec<(u128, u32)
 fn placed(alloc: Global, numbers: &[u128]) -> Result<Vec<(u128, u32)>, AllocError>
     requires few { length numbers.now < 2 ^ 32 }
     requires once { IsDistinct nat_eq numbers.now }
-    ensures { IfOk result (λ entries. entries.items ≡ map (λ number. (number, position_or_len (nat_eq number) numbers.now)) numbers.now) }
+    ensures { IfOk result
+        (λ entries. entries.items ≡ map (λ number. (number, position_or_len (nat_eq number) numbers.now)) numbers.now) }
 {
     let mut entries = Vec::with_capacity(alloc, numbers.len())?;
     for place in 0..numbers.len() {

@@ -14,18 +14,18 @@ ghost use Rattle.group_plan.specs.Numbers.{group_count, key_at};
 use crate::columns::tally_at;
 use crate::tally::Tally;
 use cube_model::{Agg, Order};
-use group_plan::PlanOver;
+use group_plan::GroupPlanOver;
 use std::alloc::{AllocError, Global};
 use std::cmp::Reverse;
 
-// What a group is sorted by: the digit of the order's column, and the order's value, which falls. Then the group itself,
-// by its number and its slot.
+// What a group is sorted by: the digit of the order's column, and the order's value, which falls. Then the group
+// itself, by its number and its slot.
 type Ranked = (u128, Reverse<i64>, (u128, u32));
 
 // The groups, each with what it is sorted by.
 fn ranked(
     alloc: Global,
-    plan: &PlanOver,
+    plan: &GroupPlanOver,
     aggregates: &[Agg],
     columns: &[Vec<Tally>],
     order: Order,
@@ -65,7 +65,7 @@ fn unranked(alloc: Global, ranked: &[Ranked]) -> Result<Vec<(u128, u32)>, AllocE
 /// Groups in the order that a query asks for. It compares numbers alone.
 pub fn in_order(
     alloc: Global,
-    plan: &PlanOver,
+    plan: &GroupPlanOver,
     aggregates: &[Agg],
     columns: &[Vec<Tally>],
     order: Order,
@@ -79,7 +79,8 @@ pub fn in_order(
     requires apart { IsDistinct (eq_by_cmp nat_cmp) (map (λ group. group.0) groups.now) }
     ensures same { IfOk result (λ sorted. IsPermutation groups.now sorted.items) }
     ensures rising { IfOk result (λ sorted. IsAscending (line_cmp order)
-        (map (entry_line (key_at plan.now.dimensions plan.now.query.columns) aggregates.now columns.now) sorted.items)) }
+        (map (entry_line (key_at plan.now.dimensions plan.now.query.columns) aggregates.now columns.now)
+        sorted.items)) }
 {
     let mut ranked = ranked(alloc, plan, aggregates, columns, order, groups)?;
     ranked.sort_unstable();

@@ -41,7 +41,8 @@ fn has_room<F: FactRows>(column: &[Tally], agg: Agg, rows: &F, group_slots: &[Op
     }
 }
 
-// The sum of the absolute values of what an aggregate is taken of, over the rows that have a slot, unless it is too large.
+// The sum of the absolute values of what an aggregate is taken of, over the rows that have a slot, unless it is too
+// large.
 fn size_of<F: FactRows>(agg: Agg, rows: &F, group_slots: &[Option<u32>]) -> Option<u64>
     requires { length group_slots.now ≡ length (F.rows rows.now) }
     ensures { MatchOption result (2 ^ 63 ≤ size_of agg (chosen (F.rows rows.now) group_slots.now))

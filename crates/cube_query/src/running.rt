@@ -1,5 +1,6 @@
 //! A fold over fact rows that come in any number of calls.
-ghost use Rattle.std.specs.Prelude.{◌≡◌, ◌≢◌, ◌⊎◌, ◌≤◌, ◌<◌, ℕ, List, [], false, true, length, map, Some, Err, IfOk, IfErr, IsErrOf, MatchResult, OnOk, OnErr};
+ghost use Rattle.std.specs.Prelude.{◌≡◌, ◌≢◌, ◌⊎◌, ◌≤◌, ◌<◌, ℕ, List, [], false, true, length, map, Some, Err, IfOk};
+ghost use Rattle.std.specs.Prelude.{IfErr, IsErrOf, MatchResult, OnOk, OnErr};
 ghost use Rattle.std.specs.List.{All, AllByRecursion};
 ghost use Rattle.std.specs.Option.{option_map};
 ghost use Rattle.cube_model.specs.Answers.{answer};
@@ -49,21 +50,21 @@ use cuboid_cells::{Cells, RunReader};
 use cuboid_upkeep::{CellNumbers, one_key_one_group};
 use dictionary::Dictionary;
 use dimensions::Dims;
-use group_plan::{FactRows, Plan, RowSlice};
+use group_plan::{FactRows, GroupPlan, RowSlice};
 use std::alloc::{AllocError, Global};
 use std::marker::Model;
 use wire::Source;
 
 /// The groups of a query over the fact rows that were added so far.
 ///
-/// What it answers depends on those rows, and not on the calls that they came in. It keeps its own copy of the query and
-/// borrows nothing: each call is handed the dimensions, which are those that it began with.
+/// What it answers depends on those rows, and not on the calls that they came in. It keeps its own copy of the query
+/// and borrows nothing: each call is handed the dimensions, which are those that it began with.
 ///
 /// Memory grows with the groups, and not with the rows: with those that there can be, or where these are more than
 /// 65,536, with those that had a row. Up to 4,194,304 that there can be, it takes four bytes more for each of them.
 pub struct Fold {
     alloc: Global,
-    plan: Plan,
+    plan: GroupPlan,
     slots: Slots,
     columns: Vec<Vec<Tally>>,
 }
@@ -119,9 +120,9 @@ impl Fold {
 
     /// Counts fact rows in. A refusal leaves the fold as it was.
     ///
-    /// It asks nothing of the rows: `BadLayout` says that a row has a key that no dimension row has, or that the sums with
-    /// them pass their limit. All memory is taken before the first row is counted: some for new groups, and for the time
-    /// of the call some for each row.
+    /// It asks nothing of the rows: `BadLayout` says that a row has a key that no dimension row has, or that the sums
+    /// with them pass their limit. All memory is taken before the first row is counted: some for new groups, and for
+    /// the time of the call some for each row.
     pub fn add_rows(&mut self, dims: &Dims, rows: &[LineOrder]) -> Result<(), Fault>
         requires { IsOver dims.now self.old }
         ensures over { IsOver dims.now self.new }
@@ -147,12 +148,12 @@ impl Fold {
         self.add_batch(dims, segment.columns())
     }
 
-    /// Counts the rows of a batch in by its columns, of which only those matter at which the query looks. A refusal leaves
-    /// the fold as it was.
+    /// Counts the rows of a batch in by its columns, of which only those matter at which the query looks. A refusal
+    /// leaves the fold as it was.
     ///
-    /// It refuses rows as `add_rows` does. Those that fail a condition are left out column by column, and only the others are
-    /// looked at further: one by one, or where the query has one group and no condition on a dimension, all at once, by sums
-    /// over the columns.
+    /// It refuses rows as `add_rows` does. Those that fail a condition are left out column by column, and only the
+    /// others are looked at further: one by one, or where the query has one group and no condition on a dimension, all
+    /// at once, by sums over the columns.
     pub fn add_columns(&mut self, dims: &Dims, batch: FactColumns) -> Result<(), Fault>
         requires { IsOver dims.now self.old }
         ensures over { IsOver dims.now self.new }
@@ -160,7 +161,8 @@ impl Fold {
         ensures ok { OnOk result ((rows : List LineOrder) → AgreeOn (asked_columns self.old.query) batch.entry rows
             → Takes dims.now self.old rows self.new) }
         ensures err { OnErr result (self.new ≡ self.old) }
-        ensures refused { result ≡ Err Fault.BadLayout → (rows : List LineOrder) → AgreeOn (asked_columns self.old.query) batch.entry rows
+        ensures refused { result ≡ Err Fault.BadLayout → (rows : List LineOrder)
+            → AgreeOn (asked_columns self.old.query) batch.entry rows
             → CanTake dims.now self.old rows → ⊥ }
         ensures only { IfErr result (λ fault. (fault ≡ Fault.Memory) ⊎ (fault ≡ Fault.BadLayout)) }
     {
@@ -169,10 +171,10 @@ impl Fold {
 
     /// Counts the cells of a view in, in place of the rows that they represent. A refusal leaves the fold as it was.
     ///
-    /// The view has to serve the query. The fifth codes of cells are places among the modes, which only a view that groups
-    /// by ship mode looks at. `BadLayout` says that the cells represent no rows that can be taken: a code is
-    /// that of no member, or the sums with them pass their limit. Each cell is read once. It takes memory for new groups,
-    /// and for the time of the call some for each group and each member of the view's levels.
+    /// The view has to serve the query. The fifth codes of cells are places among the modes, which only a view that
+    /// groups by ship mode looks at. `BadLayout` says that the cells represent no rows that can be taken: a code is
+    /// that of no member, or the sums with them pass their limit. Each cell is read once. It takes memory for new
+    /// groups, and for the time of the call some for each group and each member of the view's levels.
     pub fn add_cells(
         &mut self,
         dims: &Dims,
@@ -202,7 +204,8 @@ impl Fold {
         Ok(())
     }
 
-    /// Counts the cells of a run in, in place of the rows that they represent, piece by piece as they are read from a source.
+    /// Counts the cells of a run in, in place of the rows that they represent, piece by piece as they are read from a
+    /// source.
     ///
     /// The cells are those that are left of the run. Its view has to serve the query. Cells that have no rows that are
     /// selected, by their codes on the first axis that the view groups, are not all read, and what is wrong with such a
@@ -223,7 +226,8 @@ impl Fold {
         ensures over { IsOver dims.now self.new }
         ensures query { self.new.query ≡ self.old.query }
         ensures ok { OnOk result (S.keeps_word source.new
-            → TakesRun dims.now (modes_of (option_map (λ modes. modes.now) modes.entry)) (S.texts source.old run.old.id) run.old
+            → TakesRun dims.now (modes_of (option_map (λ modes. modes.now) modes.entry)) (S.texts source.old run.old.id)
+            run.old
             self.old self.new) }
         ensures refused { IsErrOf result Fault.BadLayout → S.keeps_word source.new
             → (cells : List Cell) → AreLeft (S.texts source.old run.old.id) run.old cells → (rows : List LineOrder)
@@ -248,7 +252,8 @@ impl Fold {
         ensures over { IsOver dims.now self.new }
         ensures ok { OnOk result (Takes dims.now self.old batch.entry self.new) }
         ensures err { OnErr result (self.new ≡ self.old) }
-        ensures refused { result ≡ Err Fault.BadLayout → (rows : List LineOrder) → AreSame (is_asked self.old.query) batch.entry rows
+        ensures refused { result ≡ Err Fault.BadLayout → (rows : List LineOrder)
+            → AreSame (is_asked self.old.query) batch.entry rows
             → CanTake dims.now self.old rows → ⊥ }
         ensures only { IfErr result (λ fault. (fault ≡ Fault.Memory) ⊎ (fault ≡ Fault.BadLayout)) }
     {
@@ -269,7 +274,8 @@ impl Fold {
         ensures over { IsOver dims.now self.new }
         ensures ok { OnOk result (Takes dims.now self.old batch.now self.new) }
         ensures err { OnErr result (self.new ≡ self.old) }
-        ensures refused { result ≡ Err Fault.BadLayout → (rows : List LineOrder) → AreSame (is_asked self.old.query) batch.now rows
+        ensures refused { result ≡ Err Fault.BadLayout → (rows : List LineOrder)
+            → AreSame (is_asked self.old.query) batch.now rows
             → CanTake dims.now self.old rows → ⊥ }
         ensures only { IfErr result (λ fault. (fault ≡ Fault.Memory) ⊎ (fault ≡ Fault.BadLayout)) }
     {
@@ -285,7 +291,8 @@ impl Fold {
         ensures over { IsOver dims.now self.new }
         ensures ok { OnOk result (Takes dims.now self.old batch.now self.new) }
         ensures err { OnErr result (self.new ≡ self.old) }
-        ensures refused { result ≡ Err Fault.BadLayout → (rows : List LineOrder) → AreSame (is_asked self.old.query) batch.now rows
+        ensures refused { result ≡ Err Fault.BadLayout → (rows : List LineOrder)
+            → AreSame (is_asked self.old.query) batch.now rows
             → CanTake dims.now self.old rows → ⊥ }
         ensures only { IfErr result (λ fault. (fault ≡ Fault.Memory) ⊎ (fault ≡ Fault.BadLayout)) }
     {
@@ -314,7 +321,8 @@ impl Fold {
         ensures over { IsOver dims.now self.new }
         ensures ok { OnOk result (Takes dims.now self.old (F.rows rows.now) self.new) }
         ensures err { OnErr result (self.new ≡ self.old) }
-        ensures refused { result ≡ Err Fault.BadLayout → (others : List LineOrder) → AreSame (is_asked self.old.query) (F.rows rows.now) others
+        ensures refused { result ≡ Err Fault.BadLayout → (others : List LineOrder)
+            → AreSame (is_asked self.old.query) (F.rows rows.now) others
             → CanTake dims.now self.old others → ⊥ }
         ensures only { IfErr result (λ fault. (fault ≡ Fault.Memory) ⊎ (fault ≡ Fault.BadLayout)) }
     {
@@ -354,8 +362,8 @@ impl Fold {
         Ok(Answer { lines })
     }
 
-    /// The groups of the fact rows that were added, with the lines of the answer, of which none is made. `BadLayout` says what it
-    /// says of `finish`.
+    /// The groups of the fact rows that were added, with the lines of the answer, of which none is made. `BadLayout`
+    /// says what it says of `finish`.
     pub fn into_groups(self, dims: &Dims) -> Result<Groups, Fault>
         requires { IsOver dims.now self }
         ensures over { IfOk result (AreGroupsOver dims.now) }
@@ -379,14 +387,15 @@ fn begin(alloc: Global, dims: &Dims, query: &Query) -> Result<Fold, AllocError>
     requires { IsProper query.now }
     ensures { IfOk result (Begins dims.now query.now) }
 {
-    let plan = Plan::new(alloc, dims, query)?;
+    let plan = GroupPlan::new(alloc, dims, query)?;
     begin_by(alloc, plan)
 }
 
 // The same by the plan of its query.
-fn begin_by(alloc: Global, plan: Plan) -> Result<Fold, AllocError>
+fn begin_by(alloc: Global, plan: GroupPlan) -> Result<Fold, AllocError>
     requires { IsProper (query_of plan) }
-    ensures { IfOk result (λ fold. (dimensions : DimRows) → IsPlanOver dimensions plan → Begins dimensions (query_of plan) fold) }
+    ensures { IfOk result (λ fold. (dimensions : DimRows) → IsPlanOver dimensions plan
+        → Begins dimensions (query_of plan) fold) }
 {
     let slots = Slots::new(alloc, plan.group_count())?;
     let columns = no_columns(alloc, plan.query().aggregates.as_slice())?;
@@ -398,11 +407,12 @@ fn begin_by(alloc: Global, plan: Plan) -> Result<Fold, AllocError>
     })
 }
 
-// Makes all ready for rows to be counted in: the slots of their groups, and a place for each slot. Nothing is counted yet.
+// Makes all ready for rows to be counted in: the slots of their groups, and a place for each slot. Nothing is counted
+// yet.
 fn ready<F: FactRows>(
     alloc: Global,
     dims: &Dims,
-    plan: &Plan,
+    plan: &GroupPlan,
     slots: &mut Slots,
     columns: &mut Vec<Vec<Tally>>,
     rows: &F,
@@ -412,7 +422,8 @@ fn ready<F: FactRows>(
     requires cover { Cover (group_count dims.now (query_of plan.now).columns) slots.old }
     ensures group_slots { IfOk result (λ group_slots.
         AreGroupSlots dims.now (query_of plan.now) (entries_of slots.new) (F.rows rows.now) group_slots.items) }
-    ensures refused { result ≡ Err Fault.BadLayout → All (IsKnownFor dims.now (query_of plan.now)) (F.rows rows.now) → ⊥ }
+    ensures refused { result ≡ Err Fault.BadLayout → All (IsKnownFor dims.now (query_of plan.now)) (F.rows rows.now)
+        → ⊥ }
     ensures only { IfErr result (λ fault. (fault ≡ Fault.Memory) ⊎ (fault ≡ Fault.BadLayout)) }
     ensures long { OnOk result (AllByRecursion (λ column. length (entries_of slots.new) ≤ length column.items)
         columns.new.items) }
@@ -426,12 +437,12 @@ fn ready<F: FactRows>(
     Ok(group_slots)
 }
 
-// The columns of a fold with cells merged in, next to those that they are made from. Numbers of groups that have no slot are
-// given one.
+// The columns of a fold with cells merged in, next to those that they are made from. Numbers of groups that have no
+// slot are given one.
 fn columns_with_cells(
     alloc: Global,
     dims: &Dims,
-    plan: &Plan,
+    plan: &GroupPlan,
     slots: &mut Slots,
     columns: &[Vec<Tally>],
     cells: &Cells,
@@ -460,11 +471,12 @@ fn columns_with_cells(
     with_cells(alloc, &numbers, slots, columns, aggregates, cells)
 }
 
-// Merges the cells of a run into the columns of a fold, as they are read. Numbers of groups that have no slot are given one.
+// Merges the cells of a run into the columns of a fold, as they are read. Numbers of groups that have no slot are given
+// one.
 fn with_run<S: Source>(
     alloc: Global,
     dims: &Dims,
-    plan: &Plan,
+    plan: &GroupPlan,
     slots: &mut Slots,
     columns: &mut [Vec<Tally>],
     source: &mut S,
@@ -478,16 +490,19 @@ fn with_run<S: Source>(
     requires total { S.totals source.old run.old.id ≡ Some (size_of_run run.old) }
     ensures merged { OnOk result (S.keeps_word source.new
         → IsRunMerged
-        (asked_of dims.now (query_of plan.now) run.old.head.view (modes_of (option_map (λ modes. modes.now) modes.entry)))
+        (asked_of dims.now (query_of plan.now) run.old.head.view
+        (modes_of (option_map (λ modes. modes.now) modes.entry)))
         (query_of plan.now).aggregates (entries_of slots.new) (S.texts source.old run.old.id) run.old
         columns.old columns.new) }
     ensures refused { IsErrOf result Fault.BadLayout → S.keeps_word source.new
         → (cells : List Cell) → AreLeft (S.texts source.old run.old.id) run.old cells
         → HaveNoRepresentative
-        (asked_of dims.now (query_of plan.now) run.old.head.view (modes_of (option_map (λ modes. modes.now) modes.entry)))
+        (asked_of dims.now (query_of plan.now) run.old.head.view
+        (modes_of (option_map (λ modes. modes.now) modes.entry)))
         cells
         ⊎ (GroupsHaveRoomFor (entries_of slots.new) (query_of plan.now).aggregates cells columns.old → ⊥) }
-    ensures fresh { (slot : ℕ) → length (entries_of slots.new) ≤ slot → tallies_at columns.new slot ≡ tallies_at columns.old slot }
+    ensures fresh { (slot : ℕ) → length (entries_of slots.new) ≤ slot
+        → tallies_at columns.new slot ≡ tallies_at columns.old slot }
     ensures cover { Cover (group_count dims.now (query_of plan.now).columns) slots.new }
     ensures grow { Grow (group_count dims.now (query_of plan.now).columns) (entries_of slots.old)
         (entries_of slots.new) }
@@ -505,7 +520,8 @@ fn with_run<S: Source>(
 fn ready_for_one(slots: &mut Slots, columns: &mut Vec<Vec<Tally>>) -> Result<u32, AllocError>
     requires { CanPlace slots.old 0 }
     ensures slot { IfOk result (λ slot. slot_of (entries_of slots.new) 0 ≡ Some slot) }
-    ensures long { OnOk result (AllByRecursion (λ column. length (entries_of slots.new) ≤ length column.items) columns.new.items) }
+    ensures long { OnOk result
+        (AllByRecursion (λ column. length (entries_of slots.new) ≤ length column.items) columns.new.items) }
     ensures same { (slot : ℕ) → tallies_at columns.new.items slot ≡ tallies_at columns.old.items slot }
     ensures cover { (bound : ℕ) → Cover bound slots.old → Cover bound slots.new }
     ensures grow { (bound : ℕ) → 0 < bound → AreSlots bound (entries_of slots.old)

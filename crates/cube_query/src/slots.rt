@@ -17,7 +17,8 @@ const MOST_IN_A_TABLE: u128 = 4_194_304;
 pub enum Slots {
     /// Each number below the count, from the start, in the slot with that number.
     Direct(u32),
-    /// The numbers that were seen, of those below a bound: the place of each in the order of their first sight is its slot.
+    /// The numbers that were seen, of those below a bound: the place of each in the order of their first sight is its
+    /// slot.
     Below(PlaceTable),
     /// The same with no bound.
     Seen(Numbers),

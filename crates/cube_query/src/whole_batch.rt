@@ -1,5 +1,6 @@
 //! The selected rows of a batch, merged into the one group of a query by a mask and sums over columns.
-ghost use Rattle.std.specs.Prelude.{◌≡◌, ◌⊎◌, ◌<◌, ◌^◌, ℕ, true, count_by, length, map, nat_abs, slice_set, FitsSigned, IfErr, IfOk, OnErr, OnOk};
+ghost use Rattle.std.specs.Prelude.{◌≡◌, ◌⊎◌, ◌<◌, ◌^◌, ℕ, true, count_by, length, map, nat_abs, slice_set, FitsSigned};
+ghost use Rattle.std.specs.Prelude.{IfErr, IfOk, OnErr, OnOk};
 ghost use Rattle.std.specs.Int.{w64};
 ghost use Rattle.std.specs.List.{AllByRecursion, list_all, sum_by};
 ghost use Rattle.cube_model.specs.declared.fault.Fault.{Fault};
@@ -15,7 +16,7 @@ use crate::tally::{Tally, TooLarge};
 use column_kernels::Mask;
 use column_segment::FactColumns;
 use cube_model::{Agg, Amount, Cond, Fault, Measure, Query};
-use group_plan::PlanOver;
+use group_plan::GroupPlanOver;
 use std::alloc::Global;
 
 /// Whether a query has no column, and no condition on a dimension: a mask tells its rows, and all are in one group.
@@ -44,9 +45,14 @@ fn is_on_row(condition: &Cond) -> bool
 
 /// The rows of a batch that a query selects, where it has no condition on a dimension. It can only fail when out of
 /// memory.
-pub fn selected_rows(alloc: Global, plan: &PlanOver, batch: &FactColumns) -> Result<Mask, Fault>
+pub fn selected_rows(
+    alloc: Global,
+    plan: &GroupPlanOver,
+    batch: &FactColumns,
+) -> Result<Mask, Fault>
     requires { list_all is_on_row plan.now.query.conditions ≡ true }
-    ensures ok { IfOk result (λ mask. mask ≡ map (is_selected plan.now.dimensions plan.now.query.conditions) batch.now) }
+    ensures ok { IfOk result
+        (λ mask. mask ≡ map (is_selected plan.now.dimensions plan.now.query.conditions) batch.now) }
     ensures memory { IfErr result (λ fault. fault ≡ Fault.Memory) }
 {
     let limits = plan.bounds();
@@ -57,8 +63,8 @@ pub fn selected_rows(alloc: Global, plan: &PlanOver, batch: &FactColumns) -> Res
     Ok(mask)
 }
 
-/// Columns with the selected rows of a batch merged in at a slot, next to the columns that they are made from. `BadLayout`
-/// where a count or a sum would pass its limit.
+/// Columns with the selected rows of a batch merged in at a slot, next to the columns that they are made from.
+/// `BadLayout` where a count or a sum would pass its limit.
 pub fn with_batch(
     alloc: Global,
     columns: &[Vec<Tally>],
@@ -139,7 +145,8 @@ fn count_tally(batch: &FactColumns, mask: &Mask) -> Tally
 fn measure_tally(measure: Measure, batch: &FactColumns, mask: &Mask) -> Result<Tally, TooLarge>
     requires { length mask.now ≡ length batch.now }
     ensures ok { IfOk result (λ tally. tally ≡ tally_of (map (measure_of measure) (selected mask.now batch.now))) }
-    ensures err { OnErr result (sum_by (λ row. nat_abs (measure_of measure row)) (selected mask.now batch.now) < 2 ^ 63 → ⊥) }
+    ensures err { OnErr result (sum_by (λ row. nat_abs (measure_of measure row)) (selected mask.now batch.now) < 2 ^ 63
+        → ⊥) }
 {
     match batch.selected_extremes(measure, mask) {
         None => Ok(Tally::none()),
@@ -152,7 +159,8 @@ fn measure_tally(measure: Measure, batch: &FactColumns, mask: &Mask) -> Result<T
 
 // A tally by its parts, if they fit it.
 fn tally_by_parts(count: Amount, sum: i128, least: i128, greatest: i128) -> Result<Tally, TooLarge>
-    ensures ok { IfOk result (λ tally. tally ≡ record { count = count; sum = sum; least = least; greatest = greatest }) }
+    ensures ok { IfOk result
+        (λ tally. tally ≡ record { count = count; sum = sum; least = least; greatest = greatest }) }
     ensures err { OnErr result (FitsSigned w64 sum → FitsSigned w64 least → FitsSigned w64 greatest → ⊥) }
 {
     Ok(Tally {

@@ -1,5 +1,7 @@
 -- A run that is read piece by piece: what a piece adds, and what all of them are. For the proofs of other crates too.
-use Rattle.std.proofs.Common.{◌≡◌, ℕ, ◌+◌, ◌-◌, ◌*◌, ◌<◌, ◌≤◌, ◌↔◌, ◌&&◌, Bool, true, false, Option, Some, None, Result, Ok, Err, OnOk, min, option_map, List, [], ◌∷◌, ◌++◌, length, take, drop, get_or, All, IsTrue, refl, sym, ap, ◌∙◌, subst, arith, append_assoc, length-append, length-take}
+use Rattle.std.proofs.Common.{◌≡◌, ℕ, ◌+◌, ◌-◌, ◌*◌, ◌<◌, ◌≤◌, ◌↔◌, ◌&&◌, Bool, true, false, Option, Some, None, Result}
+use Rattle.std.proofs.Common.{Ok, Err, OnOk, min, option_map, List, [], ◌∷◌, ◌++◌, length, take, drop, get_or, All}
+use Rattle.std.proofs.Common.{IsTrue, refl, sym, ap, ◌∙◌, subst, arith, append_assoc, length-append, length-take}
 use Rattle.std.specs.List.{flat_map}
 use Rattle.std.proofs.Math.Seq.{drop-append_seam}
 use Rattle.std.proofs.lemmas.Grind.{flat_map-append}
@@ -13,11 +15,13 @@ use Rattle.cuboid_cells.specs.declared.cell.Cell.{Cell}
 use Rattle.cuboid_cells.specs.declared.head.RunHead.{RunHead}
 use Rattle.cuboid_cells.specs.declared.reading.Header.{Header}
 use Rattle.cuboid_cells.specs.Cells.{AreAscending, FollowRules, IsCellOf, KeyFits, number_of}
-use Rattle.cuboid_cells.specs.Pieces.{AreCellsFrom, AreLeft, Climbs, IsAtFirst, IsHeadFor, IsRunOf, ReadsOn, RunPlace, bytes_of_head, least_after}
+use Rattle.cuboid_cells.specs.Pieces.{AreCellsFrom, AreLeft, Climbs, IsAtFirst, IsHeadFor, IsRunOf, ReadsOn, RunPlace}
+use Rattle.cuboid_cells.specs.Pieces.{bytes_of_head, least_after}
 use Rattle.cuboid_cells.specs.Reading.{IsReadable, ReadsCells, ReadsHeader}
 use Rattle.cuboid_cells.specs.Spelled.{cell_bytes, cell_of, header_of, name_of}
 use Rattle.cuboid_cells.specs.Steps.{cells_of}
-use Rattle.cuboid_cells.proofs.CallerLemmas.{are_readable, cells-one, header-one, length-cells, length-header_of, length-name_of, views_below}
+use Rattle.cuboid_cells.proofs.CallerLemmas.{are_readable, cells-one, header-one, length-cells, length-header_of}
+use Rattle.cuboid_cells.proofs.CallerLemmas.{length-name_of, views_below}
 use Rattle.cuboid_cells.proofs.Climbing.{ClimbsTo, all_from, climbs_ascend, climbs_from}
 
 -- ---- cells that climb
@@ -27,7 +31,8 @@ climbs_append low (cell ∷ a) b one other = (one.0, climbs_append (number_of ce
 
 climbs_parts : (low : ℕ) (a b : List Cell) → Climbs low (a ++ b) → Climbs low a × Climbs (least_after low a) b
 climbs_parts low [] b climbs = (tt, climbs)
-climbs_parts low (cell ∷ a) b climbs = let rest = climbs_parts (number_of cell.key + 1) a b climbs.1 in ((climbs.0, rest.0), rest.1)
+climbs_parts low (cell ∷ a) b climbs = let rest = climbs_parts (number_of cell.key + 1) a b climbs.1 in
+    ((climbs.0, rest.0), rest.1)
 
 least_append : (low : ℕ) (a b : List Cell) → least_after low (a ++ b) ≡ least_after (least_after low a) b
 least_append low [] b = refl
@@ -53,12 +58,16 @@ from_rules view cells rules = (rules.0, climb cells rules.1)
 all_parts : {X : Type 0} (P : X → Type 0) (a b : List X) → All P (a ++ b) → All P a × All P b
 all_parts P [] b all = (All-nil P, all)
 all_parts P (x ∷ a) b all =
-    let rest = all_parts P a b (All-tail P x (a ++ b) all) in (All-cons P x a (All-head P x (a ++ b) all) rest.0, rest.1)
+    let rest = all_parts P a b (All-tail P x (a ++ b) all) in
+    (All-cons P x a (All-head P x (a ++ b) all) rest.0, rest.1)
 
-cells_append : (view : View) (low : ℕ) (a b : List Cell) → AreCellsFrom view low a → AreCellsFrom view (least_after low a) b → AreCellsFrom view low (a ++ b)
-cells_append view low a b one other = (All-append (IsCellOf view) a b one.0 other.0, climbs_append low a b one.1 other.1)
+cells_append : (view : View) (low : ℕ) (a b : List Cell) → AreCellsFrom view low a
+    → AreCellsFrom view (least_after low a) b → AreCellsFrom view low (a ++ b)
+cells_append view low a b one other =
+    (All-append (IsCellOf view) a b one.0 other.0, climbs_append low a b one.1 other.1)
 
-cells_parts : (view : View) (low : ℕ) (a b : List Cell) → AreCellsFrom view low (a ++ b) → AreCellsFrom view low a × AreCellsFrom view (least_after low a) b
+cells_parts : (view : View) (low : ℕ) (a b : List Cell) → AreCellsFrom view low (a ++ b) → AreCellsFrom view low a
+    × AreCellsFrom view (least_after low a) b
 cells_parts view low a b are =
     let each = all_parts (IsCellOf view) a b are.0 in
     let up = climbs_parts low a b are.1 in
@@ -75,20 +84,26 @@ of_both true false = λ one other. cc
 of_both false b = λ one other. cc
 
 -- one cell more keeps the rules where it may follow those before it
-pub rules_more : (view : View) (low next : ℕ) (cells more : List Cell) (cell : Cell) (fine follows : Bool) → more ≡ cells ++ cell ∷ [] → next ≡ least_after low cells
-    → (IsTrue fine ↔ AreCellsFrom view low cells) → (IsTrue follows ↔ (IsCellOf view cell × (next ≤ number_of cell.key)))
+pub rules_more : (view : View) (low next : ℕ) (cells more : List Cell) (cell : Cell) (fine follows : Bool)
+    → more ≡ cells ++ cell ∷ [] → next ≡ least_after low cells
+    → (IsTrue fine ↔ AreCellsFrom view low cells)
+    → (IsTrue follows ↔ (IsCellOf view cell × (next ≤ number_of cell.key)))
     → IsTrue (fine && follows) ↔ AreCellsFrom view low more
-rules_more view low next cells more cell fine follows is next_is so_far one = subst (λ (all : List Cell). IsTrue (fine && follows) ↔ AreCellsFrom view low all) (sym is) (
-  λ yes.
-      let two = both fine follows yes in
-      let own = one.0 two.1 in
-      cells_append view low cells (cell ∷ []) (so_far.0 two.0) (All-cons (IsCellOf view) cell [] own.0 (All-nil (IsCellOf view)), (omega (arith, own.1, next_is), tt)),
-  λ rules.
-      let parts = cells_parts view low cells (cell ∷ []) rules in
-      of_both fine follows (so_far.1 parts.0) (one.1 (All-head (IsCellOf view) cell [] parts.1.0, omega (arith, parts.1.1.0, next_is))),
-)
+rules_more view low next cells more cell fine follows is next_is so_far one =
+    subst (λ (all : List Cell). IsTrue (fine && follows) ↔ AreCellsFrom view low all) (sym is) (
+      λ yes.
+          let two = both fine follows yes in
+          let own = one.0 two.1 in
+          cells_append view low cells (cell ∷ []) (so_far.0 two.0)
+          (All-cons (IsCellOf view) cell [] own.0 (All-nil (IsCellOf view)), (omega (arith, own.1, next_is), tt)),
+      λ rules.
+          let parts = cells_parts view low cells (cell ∷ []) rules in
+          of_both fine follows (so_far.1 parts.0)
+          (one.1 (All-head (IsCellOf view) cell [] parts.1.0, omega (arith, parts.1.1.0, next_is))),
+    )
 
-pub least_more : (low : ℕ) (cells more : List Cell) (cell : Cell) → more ≡ cells ++ cell ∷ [] → number_of cell.key + 1 ≡ least_after low more
+pub least_more : (low : ℕ) (cells more : List Cell) (cell : Cell) → more ≡ cells ++ cell ∷ []
+    → number_of cell.key + 1 ≡ least_after low more
 least_more low cells more cell is = sym (ap (least_after low) is ∙ least_append low cells (cell ∷ []))
 
 -- ---- cells of a text
@@ -97,14 +112,18 @@ fits false n count left same = omega (arith, same)
 fits true n count left same = omega (arith, same)
 
 -- cells whose bytes other cells begin with are the first of these
-front : (grouped : Bool) (cells all : List Cell) (left : List ℕ) → All (IsReadable grouped) cells → All (IsReadable grouped) all → length cells ≤ length all
-    → flat_map (cell_of grouped) cells ++ left ≡ flat_map (cell_of grouped) all → (rest : List Cell) × (all ≡ cells ++ rest) × (left ≡ flat_map (cell_of grouped) rest) × All (IsReadable grouped) rest
+front : (grouped : Bool) (cells all : List Cell) (left : List ℕ) → All (IsReadable grouped) cells
+    → All (IsReadable grouped) all → length cells ≤ length all
+    → flat_map (cell_of grouped) cells ++ left ≡ flat_map (cell_of grouped) all → (rest : List Cell)
+    × (all ≡ cells ++ rest) × (left ≡ flat_map (cell_of grouped) rest) × All (IsReadable grouped) rest
 front grouped cells all left are also few same =
     let n : ℕ = length cells in
     let f = cell_of grouped in
     let halves = take-append-drop n all in
-    let readable = all_parts (IsReadable grouped) (take n all) (drop n all) (subst (All (IsReadable grouped)) (sym halves) also) in
-    let parts = cells-one grouped cells (take n all) left (flat_map f (drop n all)) are readable.0 (omega (arith, few, length-take n all))
+    let readable =
+    all_parts (IsReadable grouped) (take n all) (drop n all) (subst (All (IsReadable grouped)) (sym halves) also) in
+    let parts = cells-one grouped cells (take n all) left (flat_map f (drop n all)) are readable.0
+    (omega (arith, few, length-take n all))
     (same ∙ ap (flat_map f) (sym halves) ∙ flat_map-append f (take n all) (drop n all)) in
     (drop n all, sym halves ∙ ap (λ (l : List Cell). l ++ drop n all) (sym parts.0), parts.1, readable.1)
 
@@ -302,7 +321,9 @@ pub opened : (bytes ahead rest : List ℕ) (total id : ℕ) (head : RunHead) →
     → IsAtFirst (Some bytes) (record { id = id; head = head; done = 0; least = 0; ahead = drop 20 ahead })
 opened bytes ahead rest total id head many gives own spelled span plain is =
     let later : List ℕ = drop (length ahead) bytes in
-    let size : length (bytes_of_head head) ≡ 20 = length-header_of (name_of head.view.ship_mode) (index_of head.view) head.span.from head.span.to head.count (length-name_of head.view.ship_mode) in
+    let size : length (bytes_of_head head) ≡ 20 =
+    length-header_of (name_of head.view.ship_mode) (index_of head.view) head.span.from head.span.to head.count
+    (length-name_of head.view.ship_mode) in
     let all : bytes ≡ bytes_of_head head ++ (rest ++ later) =
     sym (take-append-drop (length ahead) bytes) ∙ ap (λ (xs : List ℕ). xs ++ later) (sym gives ∙ spelled)
     ∙ append_assoc (bytes_of_head head) rest later in
@@ -347,10 +368,12 @@ opened_text (Some bytes) ahead rest total id head many gives is spelled =
     opened bytes ahead rest total id head (sym size) gives is spelled
 
 -- a header that was read from the first bytes of a text was read from the text
-pub on_text : (text bytes new : List ℕ) (header : Header) → bytes ≡ take (length bytes) text → ReadsHeader bytes new header → ReadsHeader text (new ++ drop (length bytes) text) header
+pub on_text : (text bytes new : List ℕ) (header : Header) → bytes ≡ take (length bytes) text
+    → ReadsHeader bytes new header → ReadsHeader text (new ++ drop (length bytes) text) header
 on_text text bytes new header gives reads =
     let later : List ℕ = drop (length bytes) text in
-    let all : text ≡ bytes ++ later = sym (take-append-drop (length bytes) text) ∙ ap (λ (xs : List ℕ). xs ++ later) (sym gives) in
+    let all : text ≡ bytes ++ later = sym (take-append-drop (length bytes) text)
+    ∙ ap (λ (xs : List ℕ). xs ++ later) (sym gives) in
     record {
       fits = reads.fits;
       spelled = all ∙ ap (λ (xs : List ℕ). xs ++ later) reads.spelled

@@ -5,4 +5,4 @@ mod Decoded
 mod Fields
 mod Passing
 mod Underway
-mod Behind
+mod After

@@ -1,5 +1,7 @@
 -- Cells of a run that are passed over: where a key is, and what it says of the others.
-use Rattle.std.proofs.Common.{◌≡◌, ◌∙◌, sym, ap, refl, subst, arith, ℕ, suc, ◌+◌, ◌-◌, ◌*◌, ◌<◌, ◌≤◌, min, nat_lt, Bool, true, false, if◌then◌else◌, pos, inl, inr, List, [], ◌++◌, length, take, drop, get_or, length-take, All, Option, Some, None, Result, Ok, Err, append_assoc}
+use Rattle.std.proofs.Common.{◌≡◌, ◌∙◌, sym, ap, refl, subst, arith, ℕ, suc, ◌+◌, ◌-◌, ◌*◌, ◌<◌, ◌≤◌, min, nat_lt, Bool}
+use Rattle.std.proofs.Common.{true, false, if◌then◌else◌, pos, inl, inr, List, [], ◌++◌, length, take, drop, get_or}
+use Rattle.std.proofs.Common.{length-take, All, Option, Some, None, Result, Ok, Err, append_assoc}
 use Rattle.std.specs.List.{flat_map}
 use Rattle.std.proofs.Math.Seq.{drop-cons, drop-length}
 use Rattle.std.proofs.lemmas.Bool.{cases_lt}

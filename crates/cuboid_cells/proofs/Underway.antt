@@ -1,5 +1,6 @@
 -- A merge under way: what was put out, and what is left on both sides. Our own.
-use Rattle.std.proofs.Common.{◌≡◌, ℕ, zero, suc, ◌+◌, ◌<◌, ◌≤◌, ◌==◌, Bool, true, false, cond, Option, Some, None, MatchOption, List, [], ◌∷◌, ◌++◌, length, All, refl, sym, ap, ◌∙◌, subst, arith, ⊎_elim}
+use Rattle.std.proofs.Common.{◌≡◌, ℕ, zero, suc, ◌+◌, ◌<◌, ◌≤◌, ◌==◌, Bool, true, false, cond, Option, Some, None}
+use Rattle.std.proofs.Common.{MatchOption, List, [], ◌∷◌, ◌++◌, length, All, refl, sym, ap, ◌∙◌, subst, arith, ⊎_elim}
 use Rattle.std.specs.List.{Contains}
 use Rattle.std.specs.Option.{option_or}
 use Rattle.std.proofs.lemmas.Bool.{eqb-true}
@@ -60,7 +61,8 @@ other_by cell a b true none = none_and_some cell a (none refl)
 other_by cell a b false none = refl
 
 both_by : (one other : Cell) (a b : Option Cell) (is : Bool)
-    → merged_if_any (cond is (Some one) a) (cond is (Some other) b) ≡ option_or (cond is (Some (merged one other)) None) (merged_if_any a b)
+    → merged_if_any (cond is (Some one) a) (cond is (Some other) b) ≡ option_or (cond is (Some (merged one other)) None)
+    (merged_if_any a b)
 both_by one other a b true = refl
 both_by one other a b false = refl
 
@@ -86,11 +88,13 @@ both_keys a b left right same key =
     ∙ both_by a b (cell_at key left) (cell_at key right) (number_of a.key == key)
 
 -- one cell more was put out
-put_out : (out : List Cell) (cell : Cell) (key : ℕ) (all before after : Option Cell) → all ≡ option_or (cell_at key out) before
+put_out : (out : List Cell) (cell : Cell) (key : ℕ) (all before after : Option Cell)
+    → all ≡ option_or (cell_at key out) before
     → before ≡ option_or (cell_at key (cell ∷ [])) after → all ≡ option_or (cell_at key (out ++ cell ∷ [])) after
 put_out out cell key all before after was is =
     was ∙ ap (option_or (cell_at key out)) is ∙ or_then (cell_at key out) (cell_at key (cell ∷ [])) after
-    ∙ ap (λ (o : Option Cell). option_or o after) (sym (find-append (λ (c : Cell). number_of c.key == key) out (cell ∷ [])))
+    ∙ ap (λ (o : Option Cell). option_or o after)
+    (sym (find-append (λ (c : Cell). number_of c.key == key) out (cell ∷ [])))
 
 in_tail : (cell : Cell) (cells : List Cell) (found : Cell) → Contains cells found → Contains (cell ∷ cells) found
 in_tail cell cells found is = (suc is.0, omega (arith, is.1), is.2)
@@ -99,22 +103,27 @@ in_head : (cell : Cell) (cells : List Cell) → Contains (cell ∷ cells) cell
 in_head cell cells = (zero, omega arith, refl)
 
 -- cells after a first one that is above a key are above it
-behind_first : (cell : Cell) (high : ℕ) (cells : List Cell) → IsBelowFirst cell cells → Climbs high cells → Climbs (number_of cell.key + 1) cells
-behind_first cell high [] below climbs = tt
-behind_first cell high (first ∷ cells) below climbs = (omega (arith, below), climbs.1)
+after_first : (cell : Cell) (high : ℕ) (cells : List Cell) → IsBelowFirst cell cells → Climbs high cells
+    → Climbs (number_of cell.key + 1) cells
+after_first cell high [] below climbs = tt
+after_first cell high (first ∷ cells) below climbs = (omega (arith, below), climbs.1)
 
-good_more : (view : View) (out : List Cell) (cell : Cell) → All (IsGood view) out → IsGood view cell → All (IsGood view) (out ++ cell ∷ [])
-good_more view out cell good is = All-append (IsGood view) out (cell ∷ []) good (All-cons (IsGood view) cell [] is (All-nil (IsGood view)))
+good_more : (view : View) (out : List Cell) (cell : Cell) → All (IsGood view) out → IsGood view cell
+    → All (IsGood view) (out ++ cell ∷ [])
+good_more view out cell good is =
+    All-append (IsGood view) out (cell ∷ []) good (All-cons (IsGood view) cell [] is (All-nil (IsGood view)))
 
 -- the merge of two good cells that fits is good
 good_merge : (view : View) (a b : Cell) → IsGood view a → CellFits (merged a b) → IsGood view (merged a b)
-good_merge view a b good fits = record { is_cell = record { key = good.is_cell.key; count = omega (arith, good.is_cell.count) }; fits = fits }
+good_merge view a b good fits =
+    record { is_cell = record { key = good.is_cell.key; count = omega (arith, good.is_cell.count) }; fits = fits }
 
 module _ (view : View) (one other out : List Cell) where
-  step_left : (left right : List Cell) (cell : Cell) → Merging view one other out (cell ∷ left) right → IsBelowFirst cell right
+  step_left : (left right : List Cell) (cell : Cell) → Merging view one other out (cell ∷ left) right
+      → IsBelowFirst cell right
       → Merging view one other (out ++ cell ∷ []) left right
   step_left left right cell m below =
-      let above = behind_first cell m.high right below m.right_climbs in record {
+      let above = after_first cell m.high right below m.right_climbs in record {
         by_key = λ key. put_out out cell key _ _ _ (m.by_key key) (one_key cell left right above key);
         high = number_of cell.key + 1;
         climb = climb_more 0 m.high out cell m.climb m.left_climbs.0;
@@ -127,10 +136,11 @@ module _ (view : View) (one other out : List Cell) where
         right_in = m.right_in;
       }
 
-  step_right : (left right : List Cell) (cell : Cell) → Merging view one other out left (cell ∷ right) → IsBelowFirst cell left
+  step_right : (left right : List Cell) (cell : Cell) → Merging view one other out left (cell ∷ right)
+      → IsBelowFirst cell left
       → Merging view one other (out ++ cell ∷ []) left right
   step_right left right cell m below =
-      let above = behind_first cell m.high left below m.left_climbs in record {
+      let above = after_first cell m.high left below m.left_climbs in record {
         by_key = λ key. put_out out cell key _ _ _ (m.by_key key) (other_key cell left right above key);
         high = number_of cell.key + 1;
         climb = climb_more 0 m.high out cell m.climb m.right_climbs.0;
@@ -143,7 +153,8 @@ module _ (view : View) (one other out : List Cell) where
         right_in = λ c found. m.right_in c (in_tail cell right c found);
       }
 
-  step_both : (left right : List Cell) (a b : Cell) → Merging view one other out (a ∷ left) (b ∷ right) → number_of a.key ≡ number_of b.key
+  step_both : (left right : List Cell) (a b : Cell) → Merging view one other out (a ∷ left) (b ∷ right)
+      → number_of a.key ≡ number_of b.key
       → CellFits (merged a b) → Merging view one other (out ++ merged a b ∷ []) left right
   step_both left right a b m same fits = record {
     by_key = λ key. put_out out (merged a b) key _ _ _ (m.by_key key) (both_keys a b left right same key);
@@ -151,7 +162,8 @@ module _ (view : View) (one other out : List Cell) where
     climb = climb_more 0 m.high out (merged a b) m.climb m.left_climbs.0;
     left_climbs = m.left_climbs.1;
     right_climbs = lower (number_of a.key + 1) (number_of b.key + 1) right (omega (arith, same)) m.right_climbs.1;
-    out_good = good_more view out (merged a b) m.out_good (good_merge view a b (All-head (IsGood view) a left m.left_good) fits);
+    out_good = good_more view out (merged a b) m.out_good
+        (good_merge view a b (All-head (IsGood view) a left m.left_good) fits);
     left_good = All-tail (IsGood view) a left m.left_good;
     right_good = All-tail (IsGood view) b right m.right_good;
     left_in = λ c found. m.left_in c (in_tail a left c found);
@@ -162,13 +174,15 @@ module _ (view : View) (one other out : List Cell) where
       → TakesOne left right cell left_new right_new → Merging view one other (out ++ cell ∷ []) left_new right_new
   took_one left right left_new right_new cell m took =
       subst (λ (cells : List Cell). Merging view one other (out ++ cell ∷ []) left_new cells) (sym took.stay)
-      (step_left left_new right cell (subst (λ (cells : List Cell). Merging view one other out cells right) took.taken m) took.below)
+      (step_left left_new right cell
+      (subst (λ (cells : List Cell). Merging view one other out cells right) took.taken m) took.below)
 
   took_other : (left right left_new right_new : List Cell) (cell : Cell) → Merging view one other out left right
       → TakesOne right left cell right_new left_new → Merging view one other (out ++ cell ∷ []) left_new right_new
   took_other left right left_new right_new cell m took =
       subst (λ (cells : List Cell). Merging view one other (out ++ cell ∷ []) cells right_new) (sym took.stay)
-      (step_right left right_new cell (subst (λ (cells : List Cell). Merging view one other out left cells) took.taken m) took.below)
+      (step_right left right_new cell
+      (subst (λ (cells : List Cell). Merging view one other out left cells) took.taken m) took.below)
 
   took_both : (left right left_new right_new : List Cell) (cell : Cell) → Merging view one other out left right
       → TakesBoth left right cell left_new right_new → Merging view one other (out ++ cell ∷ []) left_new right_new
@@ -184,22 +198,27 @@ module _ (view : View) (one other out : List Cell) where
       → Merging view one other (out ++ step.cell ∷ []) step.one.now step.other.now
   goes_on left right step m is = ⊎_elim
       (took_one left right step.one.now step.other.now step.cell m)
-      (⊎_elim (took_other left right step.one.now step.other.now step.cell m) (took_both left right step.one.now step.other.now step.cell m))
+      (⊎_elim (took_other left right step.one.now step.other.now step.cell m)
+      (took_both left right step.one.now step.other.now step.cell m))
       is
 
   -- where a step cannot be taken
-  pub cannot_go_on : (left right : List Cell) → Merging view one other out left right → HaveBadFirsts left right → PassesType one other
+  pub cannot_go_on : (left right : List Cell) → Merging view one other out left right → HaveBadFirsts left right
+      → PassesType one other
   cannot_go_on left right m bad = record {
     left = bad.left;
     right = bad.right;
-    in_one = m.left_in bad.left (subst (λ (cells : List Cell). Contains cells bad.left) (sym bad.in_one) (in_head bad.left bad.ones));
-    in_other = m.right_in bad.right (subst (λ (cells : List Cell). Contains cells bad.right) (sym bad.in_other) (in_head bad.right bad.others));
+    in_one = m.left_in bad.left
+        (subst (λ (cells : List Cell). Contains cells bad.left) (sym bad.in_one) (in_head bad.left bad.ones));
+    in_other = m.right_in bad.right
+        (subst (λ (cells : List Cell). Contains cells bad.right) (sym bad.in_other) (in_head bad.right bad.others));
     key = bad.key;
     passes = bad.passes;
   }
 
   -- where nothing is left
-  pub all_out : (left right : List Cell) → length left + length right ≤ 0 → Merging view one other out left right → AreMerged view one other out
+  pub all_out : (left right : List Cell) → length left + length right ≤ 0 → Merging view one other out left right
+      → AreMerged view one other out
   all_out [] [] none m = record {
     merge = record {
       ascending = climbs_ascend 0 m.high out m.climb;
@@ -212,20 +231,24 @@ module _ (view : View) (one other out : List Cell) where
   all_out (a ∷ left) right none m = absurd (omega (arith, none))
 
 -- each step leaves less
-pub leaves_less : (left right : List Cell) (step : Step) → IsStep left right step → length step.one.now + length step.other.now + 1 ≤ length left + length right
+pub leaves_less : (left right : List Cell) (step : Step) → IsStep left right step
+    → length step.one.now + length step.other.now + 1 ≤ length left + length right
 leaves_less left right step is = ⊎_elim
     (λ took. omega (arith, ap length took.taken, ap length took.stay))
-    (⊎_elim (λ took. omega (arith, ap length took.taken, ap length took.stay)) (λ took. omega (arith, ap length took.in_one, ap length took.in_other)))
+    (⊎_elim (λ took. omega (arith, ap length took.taken, ap length took.stay))
+    (λ took. omega (arith, ap length took.in_one, ap length took.in_other)))
     is
 
 -- what a step says where there is one, and where there is none
 pub stepped : (left right : List Cell) (o : Option Step) (step : Step) → o ≡ Some step
     → MatchOption o ((left ≡ []) × (right ≡ [])) (IsStep left right) → IsStep left right step
-stepped left right o step is said = subst (λ (p : Option Step). MatchOption p ((left ≡ []) × (right ≡ [])) (IsStep left right)) is said
+stepped left right o step is said =
+    subst (λ (p : Option Step). MatchOption p ((left ≡ []) × (right ≡ [])) (IsStep left right)) is said
 
 pub none_left : (left right : List Cell) (o : Option Step) → o ≡ None
     → MatchOption o ((left ≡ []) × (right ≡ [])) (IsStep left right) → (left ≡ []) × (right ≡ [])
-none_left left right o is said = subst (λ (p : Option Step). MatchOption p ((left ≡ []) × (right ≡ [])) (IsStep left right)) is said
+none_left left right o is said =
+    subst (λ (p : Option Step). MatchOption p ((left ≡ []) × (right ≡ [])) (IsStep left right)) is said
 
 -- before the first step
 pub at_first : (view : View) (one other : List Cell) → AreProper (cells_of view one) → AreProper (cells_of view other)
@@ -244,9 +267,12 @@ at_first view one other proper also = record {
 }
 
 -- the merge has too many cells
-pub has_too_many : (view : View) (one other cells : List Cell) → AreMerged view one other cells → most_cells < length cells → HasTooMany one other
+pub has_too_many : (view : View) (one other cells : List Cell) → AreMerged view one other cells
+    → most_cells < length cells → HasTooMany one other
 has_too_many view one other cells are many = record { cells = cells; are = are.merge; many = many }
 
 -- or its cells are those of a cuboid
-pub are_proper : (view : View) (one other cells : List Cell) → AreMerged view one other cells → length cells ≤ most_cells → AreProper (cells_of view cells)
-are_proper view one other cells are few = record { rules = record { few = few; each = are.each; ascending = are.merge.ascending }; fit = are.fit }
+pub are_proper : (view : View) (one other cells : List Cell) → AreMerged view one other cells
+    → length cells ≤ most_cells → AreProper (cells_of view cells)
+are_proper view one other cells are few =
+    record { rules = record { few = few; each = are.each; ascending = are.merge.ascending }; fit = are.fit }

@@ -1,6 +1,7 @@
--- What a cell of a view is: the codes of its members, how many fact rows it groups, and for each measure what is kept of
--- the numbers of these rows. A view's cells are identified by their codes.
-use Rattle.std.specs.Prelude.{◌≡◌, ℕ, ◌+◌, ◌*◌, ◌^◌, ◌<◌, ◌≤◌, ◌↔◌, ◌==◌, Bool, false, List, Option, length, All, FitsSigned}
+-- What a cell of a view is: the codes of its members, how many fact rows it groups, and for each measure what is kept
+-- of the numbers of these rows. A view's cells are identified by their codes.
+use Rattle.std.specs.Prelude.{◌≡◌, ℕ, ◌+◌, ◌*◌, ◌^◌, ◌<◌, ◌≤◌, ◌↔◌, ◌==◌, Bool, false, List, Option, length, All}
+use Rattle.std.specs.Prelude.{FitsSigned}
 use Rattle.std.specs.Int.{w64}
 use Rattle.std.specs.List.{AllPairs, find}
 use Rattle.lattice.specs.declared.level.Level.{Level}

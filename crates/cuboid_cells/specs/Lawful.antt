@@ -6,4 +6,5 @@ use Rattle.cuboid_cells.specs.Spelled.{IsRun}
 
 -- bytes are at most one run
 abbrev pub BytesAreOneRun : Type 0
-BytesAreOneRun = (bytes : List ℕ) (span to : Span) (a b : PlainCells) → IsRun bytes span a → IsRun bytes to b → (span ≡ to) × (a ≡ b)
+BytesAreOneRun = (bytes : List ℕ) (span to : Span) (a b : PlainCells) → IsRun bytes span a → IsRun bytes to b
+    → (span ≡ to) × (a ≡ b)

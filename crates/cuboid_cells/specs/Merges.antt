@@ -11,7 +11,8 @@ use Rattle.cuboid_cells.specs.declared.summary.Summary.{Summary}
 use Rattle.cuboid_cells.specs.Cells.{AreAscending, CellFits, PlainCells, cell_at, number_of}
 use Rattle.cuboid_cells.specs.Limits.{most_cells}
 
--- what is kept of the numbers of two sets of rows: the sum of the sums, the less of the least, the greater of the greatest
+-- what is kept of the numbers of two sets of rows: the sum of the sums, the less of the least, the greater of the
+-- greatest
 abbrev pub merged_summary : Summary → Summary → Summary
 merged_summary one other = record {
   sum = one.sum +ℤ other.sum;

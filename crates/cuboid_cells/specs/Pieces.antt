@@ -34,8 +34,8 @@ AreCellsFrom view low cells = All (IsCellOf view) cells × Climbs low cells
 abbrev pub bytes_of_head : RunHead → List ℕ
 bytes_of_head head = header_of (name_of head.view.ship_mode) (index_of head.view) head.span.from head.span.to head.count
 
--- a run, up to where it is read: the text that it has, its header, how many cells were read or passed over, the least key
--- that can follow them, and the bytes after them that were read ahead
+-- a run, up to where it is read: the text that it has, its header, how many cells were read or passed over, the least
+-- key that can follow them, and the bytes after them that were read ahead
 pub record RunPlace : Type 0 where
   pub id : ℕ
   pub head : RunHead

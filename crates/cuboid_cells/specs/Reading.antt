@@ -10,7 +10,8 @@ use Rattle.cuboid_cells.specs.declared.summary.Summaries.{Summaries}
 use Rattle.cuboid_cells.specs.declared.summary.Summary.{Summary}
 use Rattle.cuboid_cells.specs.Cells.{CellFits, KeyFits, SummariesFit, SummaryFits, number_of}
 use Rattle.cuboid_cells.specs.Limits.{all_code, most_cells}
-use Rattle.cuboid_cells.specs.Spelled.{cell_bytes, cell_of, header_of, key_of, mode_bytes, mode_of, name_of, summaries_of, summary_of}
+use Rattle.cuboid_cells.specs.Spelled.{cell_bytes, cell_of, header_of, key_of, mode_bytes, mode_of, name_of}
+use Rattle.cuboid_cells.specs.Spelled.{summaries_of, summary_of}
 
 -- the header of a run that has so many bytes, with a fifth code or none in each cell
 pub record IsHeaderWith (grouped : Bool) (bytes : ℕ) (header : Header) : Type 0 where

@@ -1,5 +1,5 @@
--- How a run of cells is spelled. A view that does not group by ship mode has cells of 160 bytes, with four codes; one that
--- does has cells of 162 bytes, with a fifth. Our layout.
+-- How a run of cells is spelled. A view that does not group by ship mode has cells of 160 bytes, with four codes; one
+-- that does has cells of 162 bytes, with a fifth. Our layout.
 use Rattle.std.specs.Prelude.{◌≡◌, ℕ, ◌+◌, ◌<◌, ◌^◌, Bool, true, false, Option, Some, List, [], ◌++◌, length, codes}
 use Rattle.std.specs.List.{flat_map}
 use Rattle.wire.specs.Spelling.{signed_spelling, spelling}
@@ -52,7 +52,8 @@ cell_of grouped cell = key_of grouped cell.key ++ (spelling 8 cell.count ++ summ
 
 -- the 20 bytes before the cells: the name, the view's number, the batches, how many cells
 abbrev pub header_of : List ℕ → ℕ → ℕ → ℕ → ℕ → List ℕ
-header_of name view from to cells = name ++ (spelling 4 view ++ (spelling 4 from ++ (spelling 4 to ++ spelling 4 cells)))
+header_of name view from to cells =
+    name ++ (spelling 4 view ++ (spelling 4 from ++ (spelling 4 to ++ spelling 4 cells)))
 
 -- the bytes of a run: the header, each cell
 abbrev pub run_of : Span → PlainCells → List ℕ

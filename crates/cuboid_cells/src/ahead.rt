@@ -1,5 +1,6 @@
 //! Bytes of a text that are read ahead.
-ghost use Rattle.std.specs.Prelude.{◌≡◌, ◌+◌, ◌-◌, ◌≤◌, [], Some, length, drop, take, min, IfOk, IsSomeAnd, MatchResult, OnOk};
+ghost use Rattle.std.specs.Prelude.{◌≡◌, ◌+◌, ◌-◌, ◌≤◌, [], Some, length, drop, take, min, IfOk, IsSomeAnd};
+ghost use Rattle.std.specs.Prelude.{MatchResult, OnOk};
 ghost use Rattle.wire.specs.Parts.{Gives};
 ghost use Rattle.wire.specs.Runs.{HasRead, IsRefused};
 ghost use Rattle.cuboid_cells.specs.Pieces.{most_ahead};
@@ -28,7 +29,8 @@ impl Model for Ahead {
 
     ghost view = { λ ahead. slice_range ahead.bytes.items ahead.from ahead.to };
 
-    ghost invariant = { λ ahead. (ahead.from ≤ ahead.to) × (ahead.to ≤ most_ahead) × (length ahead.bytes.items ≡ most_ahead) };
+    ghost invariant = { λ ahead. (ahead.from ≤ ahead.to) × (ahead.to ≤ most_ahead)
+        × (length ahead.bytes.items ≡ most_ahead) };
 }
 
 impl Ahead {
@@ -60,8 +62,8 @@ impl Ahead {
         self.from += count;
     }
 
-    // Reads the bytes of a text from a place on in place of those that are ahead: up to the end of the text, or as many as
-    // there is room for. Which are ahead after an error is not said.
+    // Reads the bytes of a text from a place on in place of those that are ahead: up to the end of the text, or as many
+    // as there is room for. Which are ahead after an error is not said.
     pub(crate) fn refill<S: Source>(
         &mut self,
         source: &mut S,

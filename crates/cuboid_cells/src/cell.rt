@@ -17,7 +17,8 @@ pub struct Cell {
 }
 
 impl Cell {
-    /// Takes in the cell of other rows, of its own key. False where a number would pass its type; what it is then is not said.
+    /// Takes in the cell of other rows, of its own key. False where a number would pass its type; what it is then is
+    /// not said.
     #[inline(always)]
     pub fn merge_in(&mut self, other: &Cell) -> bool
         ensures ok { IsTrue result → self.new ≡ merged self.old other.now }

@@ -105,7 +105,8 @@ impl Cells {
         Ok(out)
     }
 
-    /// The run that the bytes spell: its batches, and its cells. `BadLayout` where they spell none that keeps the rules.
+    /// The run that the bytes spell: its batches, and its cells. `BadLayout` where they spell none that keeps the
+    /// rules.
     pub fn decode(alloc: Global, bytes: &[u8]) -> Result<(Span, Cells), Fault>
         ensures ok { IfOk result (λ run. IsRun bytes.now run.0 run.1) }
         ensures refused { IfErr result (λ fault. (fault ≡ Fault.Memory) ⊎ ((fault ≡ Fault.BadLayout)

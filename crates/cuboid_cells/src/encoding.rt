@@ -2,7 +2,8 @@
 ghost use Rattle.std.specs.Prelude.{◌≡◌, ◌+◌, ◌++◌, IfErr, OnOk};
 ghost use Rattle.std.specs.List.{flat_map};
 ghost use Rattle.cube_model.specs.declared.fault.Fault.{Fault};
-ghost use Rattle.cuboid_cells.specs.Spelled.{cell_bytes, cell_of, header_of, key_of, mode_bytes, mode_of, name_of, summaries_of, summary_of};
+ghost use Rattle.cuboid_cells.specs.Spelled.{cell_bytes, cell_of, header_of, key_of, mode_bytes, mode_of, name_of};
+ghost use Rattle.cuboid_cells.specs.Spelled.{summaries_of, summary_of};
 
 use crate::cell::Cell;
 use crate::key::Key;
@@ -49,7 +50,8 @@ pub(crate) fn push_header(
     span: Span,
     cells: u32,
 ) -> Result<(), Fault>
-    ensures ok { OnOk result (out.new.items ≡ out.old.items ++ header_of (name_of ship_modes) view span.from span.to cells) }
+    ensures ok { OnOk result
+        (out.new.items ≡ out.old.items ++ header_of (name_of ship_modes) view span.from span.to cells) }
     ensures memory { IfErr result (λ fault. fault ≡ Fault.Memory) }
 {
     push_bytes(out, name(ship_modes))?;

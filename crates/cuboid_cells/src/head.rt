@@ -21,7 +21,8 @@ pub struct RunHead {
 // The header at the front of the first bytes of a text that has so many bytes. Nothing where the text is no run.
 pub(crate) fn head_of(bytes: &[u8], total: usize) -> Option<RunHead>
     requires { length bytes.now ≡ min most_ahead total }
-    ensures some { IfSome result (λ head. IsHeadFor total head × ((left : List ℕ) × (bytes.now ≡ bytes_of_head head ++ left))) }
+    ensures some { IfSome result
+        (λ head. IsHeadFor total head × ((left : List ℕ) × (bytes.now ≡ bytes_of_head head ++ left))) }
     ensures none { IfNone result ((text : List ℕ) → length text ≡ total → bytes.now ≡ take (length bytes.now) text
         → (span : Span) (plain : PlainCells) → IsRun text span plain → ⊥) }
 {

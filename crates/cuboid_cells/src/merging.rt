@@ -51,7 +51,8 @@ pub(crate) fn merge_cells(
 // The next cell of the merge of two lists, if either has one. `BadLayout` where a number would pass its type.
 #[inline(always)]
 fn next_step<'a>(one: &'a [Cell], other: &'a [Cell]) -> Result<Option<Step<'a>>, Fault>
-    ensures step { IfOk result (λ step. MatchOption step ((one.now ≡ []) × (other.now ≡ [])) (IsStep one.now other.now)) }
+    ensures step { IfOk result
+        (λ step. MatchOption step ((one.now ≡ []) × (other.now ≡ [])) (IsStep one.now other.now)) }
     ensures refused { IfErr result (λ fault. (fault ≡ Fault.BadLayout) × HaveBadFirsts one.now other.now) }
 {
     let Some((left, one_left)) = one.split_first() else {

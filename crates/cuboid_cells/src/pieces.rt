@@ -1,5 +1,6 @@
 //! Reading a run piece by piece.
-ghost use Rattle.std.specs.Prelude.{◌≡◌, ◌⊎◌, ◌↔◌, ◌<◌, ◌≤◌, ℕ, List, Option, Some, length, IfErr, IfOk, IsErrOf, IsTrue, MatchResult, OnOk};
+ghost use Rattle.std.specs.Prelude.{◌≡◌, ◌⊎◌, ◌↔◌, ◌<◌, ◌≤◌, ℕ, List, Option, Some, length, IfErr, IfOk, IsErrOf};
+ghost use Rattle.std.specs.Prelude.{IsTrue, MatchResult, OnOk};
 ghost use Rattle.cube_model.specs.declared.fault.Fault.{Fault};
 ghost use Rattle.wire.specs.Runs.{HasRead, IsRefused};
 ghost use Rattle.cuboid_cells.specs.Pieces.{AreCellsFrom, AreLeft, IsAtFirst, ReadsOn, least_after, size_of_run};
@@ -19,7 +20,8 @@ use wire::{Cursor, Source};
 // The bytes of the header.
 pub(crate) const HEAD: usize = 20;
 
-/// A run that is read from a source piece by piece. The memory that it takes does not depend on how many cells the run has.
+/// A run that is read from a source piece by piece. The memory that it takes does not depend on how many cells the run
+/// has.
 ///
 /// Cells can be passed over, of which nothing is looked at but some keys. So that the text is a run is known only where
 /// all its cells were read.
@@ -41,7 +43,13 @@ impl Model for RunReader {
 
     ghost Value = { RunPlace };
 
-    ghost view = { λ run. record { id = run.id; head = run.head; done = run.done; least = run.least; ahead = run.ahead } };
+    ghost view = { λ run. record {
+      id = run.id;
+      head = run.head;
+      done = run.done;
+      least = run.least;
+      ahead = run.ahead;
+    } };
 
     ghost invariant = { λ run. (run.done ≤ run.head.count) × (run.head.count ≤ most_cells) };
 }
@@ -49,13 +57,14 @@ impl Model for RunReader {
 impl RunReader {
     /// The run whose bytes a source has at an id, of which the header is read.
     ///
-    /// `BadLayout` where there are none, or where they are those of no run. It can also fail when out of memory, or with
-    /// what the source answers.
+    /// `BadLayout` where there are none, or where they are those of no run. It can also fail when out of memory, or
+    /// with what the source answers.
     pub fn open<S: Source>(alloc: Global, source: &mut S, id: u32) -> Result<RunReader, Fault>
         ensures id { IfOk result (λ run. run.id ≡ id) }
         ensures total { IfOk result (λ run. S.totals source.old id ≡ Some (size_of_run run)) }
         ensures ok { IfOk result (λ run. S.keeps_word source.new → IsAtFirst (S.texts source.old id) run) }
-        ensures refused { IsErrOf result Fault.BadLayout → S.keeps_word source.new → HoldsNoRun (S.texts source.old id) }
+        ensures refused { IsErrOf result Fault.BadLayout → S.keeps_word source.new
+            → HoldsNoRun (S.texts source.old id) }
         ensures run { MatchResult result (λ _. HasRead S.Source source.old source.new)
             (λ fault. (((fault ≡ Fault.Memory) ⊎ (fault ≡ Fault.BadLayout)) × HasRead S.Source source.old source.new)
             ⊎ IsRefused S.Source fault source.old source.new) }
@@ -97,8 +106,8 @@ impl RunReader {
     /// Reads the next cells, one at least, in place of those that are given. They are cells of the view, and climb by
     /// their keys from the least number that a key can have, whatever the bytes are.
     ///
-    /// `BadLayout` where the bytes are those of no run. It can also fail when out of memory, or with what the source answers. After
-    /// an error the reader is to be dropped.
+    /// `BadLayout` where the bytes are those of no run. It can also fail when out of memory, or with what the source
+    /// answers. After an error the reader is to be dropped.
     pub fn read_piece<S: Source>(
         &mut self,
         source: &mut S,

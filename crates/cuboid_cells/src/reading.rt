@@ -1,9 +1,11 @@
 //! Reading the parts of a run from the front of bytes.
-ghost use Rattle.std.specs.Prelude.{◌≡◌, ◌+◌, ◌*◌, ◌≤◌, ◌<◌, ◌↔◌, length, IfErr, IfNone, IfOk, IfSome, IsErr, IsOkUnless, IsTrue, OnOk};
+ghost use Rattle.std.specs.Prelude.{◌≡◌, ◌+◌, ◌*◌, ◌≤◌, ◌<◌, ◌↔◌, length, IfErr, IfNone, IfOk, IfSome, IsErr};
+ghost use Rattle.std.specs.Prelude.{IsOkUnless, IsTrue, OnOk};
 ghost use Rattle.cuboid_cells.specs.Cells.{FollowRules};
 ghost use Rattle.cube_model.specs.declared.fault.Fault.{Fault};
 ghost use Rattle.cuboid_cells.specs.Pieces.{AreCellsFrom, least_after};
-ghost use Rattle.cuboid_cells.specs.Reading.{IsNumberIn, ReadsCell, ReadsCells, ReadsHeader, ReadsKey, ReadsMode, ReadsSummaries, ReadsSummary, ReadsThree};
+ghost use Rattle.cuboid_cells.specs.Reading.{IsNumberIn, ReadsCell, ReadsCells, ReadsHeader, ReadsKey, ReadsMode};
+ghost use Rattle.cuboid_cells.specs.Reading.{ReadsSummaries, ReadsSummary, ReadsThree};
 ghost use Rattle.cuboid_cells.specs.Spelled.{cell_bytes, mode_bytes};
 
 use crate::cell::Cell;
@@ -92,8 +94,8 @@ pub(crate) fn read_cells(
     }
 }
 
-// So many cells at the front of bytes, in place of those that are given, and the least number that the key of a cell after them
-// can have. Nothing where they are no cells of the view that ascend by their keys from a number on.
+// So many cells at the front of bytes, in place of those that are given, and the least number that the key of a cell
+// after them can have. Nothing where they are no cells of the view that ascend by their keys from a number on.
 //
 // A cell is looked at as soon as it is read, while it is at hand: all of them together may be more than a cache holds.
 pub(crate) fn read_on(
@@ -105,7 +107,9 @@ pub(crate) fn read_on(
 ) -> Result<Option<u128>, Fault>
     requires { cell_bytes view.ship_mode * count ≤ length cursor.old }
     ensures ok { OnOk result (ReadsCells view.ship_mode count cursor.old cursor.new cells.new.items) }
-    ensures some { IfOk result (λ found. IfSome found (λ next. AreCellsFrom view least cells.new.items × (next ≡ least_after least cells.new.items))) }
+    ensures some { IfOk result
+        (λ found. IfSome found
+        (λ next. AreCellsFrom view least cells.new.items × (next ≡ least_after least cells.new.items))) }
     ensures none { IfOk result (λ found. IfNone found (AreCellsFrom view least cells.new.items → ⊥)) }
     ensures memory { IfErr result (λ fault. fault ≡ Fault.Memory) }
 {

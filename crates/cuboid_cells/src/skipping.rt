@@ -1,5 +1,6 @@
 //! Passing over cells of a run.
-ghost use Rattle.std.specs.Prelude.{◌≡◌, ◌+◌, ◌-◌, ◌<◌, ◌≤◌, ℕ, [], List, Option, Some, max, slice_index_or, drop, if◌then◌else◌, All, IfOk, IfSome, MatchResult, OnOk};
+ghost use Rattle.std.specs.Prelude.{◌≡◌, ◌+◌, ◌-◌, ◌<◌, ◌≤◌, ℕ, [], List, Option, Some, max, slice_index_or, drop};
+ghost use Rattle.std.specs.Prelude.{if◌then◌else◌, All, IfOk, IfSome, MatchResult, OnOk};
 ghost use Rattle.cube_model.specs.declared.fault.Fault.{Fault};
 ghost use Rattle.wire.specs.Runs.{HasRead, IsRefused};
 ghost use Rattle.cuboid_cells.specs.Cells.{number_of};

@@ -20,24 +20,30 @@ module _ {D : Type 0} (g : Ghosts D) (a b : Store D g) where
     root_is = λ k. is.root_is (still.word k);
   }
 
-  pub back_still : IsStill g a b → (disk_of g b).keeps_word → (w : Warehouse) → Represents (content_of g b) w → Represents (content_of g a) w
+  pub back_still : IsStill g a b → (disk_of g b).keeps_word → (w : Warehouse) → Represents (content_of g b) w
+      → Represents (content_of g a) w
   back_still still k w represents = subst (λ (x : Content). Represents x w) (still.content k) represents
 
-  pub loaded_still : IsStill g a b → (disk_of g b).keeps_word → (rows : DimRows) (root : PlainRoot) → IsLoaded (content_of g a) rows root → IsLoaded (content_of g b) rows root
+  pub loaded_still : IsStill g a b → (disk_of g b).keeps_word → (rows : DimRows) (root : PlainRoot)
+      → IsLoaded (content_of g a) rows root → IsLoaded (content_of g b) rows root
   loaded_still still k rows root is = subst (λ (x : Content). IsLoaded x rows root) (sym (still.content k)) is
 
   pub at_before : IsAsBefore g a b → (root : PlainRoot) (w : Warehouse) → StoreAt g a root w → StoreAt g b root w
   at_before same root w is = record {
     fine = same.failed ∙ is.fine;
-    represents = λ k. subst (λ (x : Content). Represents x w) (sym same.content) (is.represents (subst (λ (d : D). g.keeps_word d) same.device k));
+    represents =
+        λ k. subst (λ (x : Content). Represents x w) (sym same.content)
+        (is.represents (subst (λ (d : D). g.keeps_word d) same.device k));
     root_is = λ k. is.root_is (subst (λ (d : D). g.keeps_word d) same.device k);
   }
 
-  pub loaded_before : IsAsBefore g a b → (rows : DimRows) (root : PlainRoot) → IsLoaded (content_of g a) rows root → IsLoaded (content_of g b) rows root
+  pub loaded_before : IsAsBefore g a b → (rows : DimRows) (root : PlainRoot) → IsLoaded (content_of g a) rows root
+      → IsLoaded (content_of g b) rows root
   loaded_before same rows root is = subst (λ (x : Content). IsLoaded x rows root) (sym same.content) is
 
 -- where the word counts alone
-pub leaves_if : (P : Content → Type 0) (old new : Disk) → (new.keeps_word → old.keeps_word) → (old.keeps_word → Leaves old new P) → Leaves old new P
+pub leaves_if : (P : Content → Type 0) (old new : Disk) → (new.keeps_word → old.keeps_word)
+    → (old.keeps_word → Leaves old new P) → Leaves old new P
 leaves_if P old new word leaves = record {
   word = word;
   size = λ k. (leaves (word k)).size k;

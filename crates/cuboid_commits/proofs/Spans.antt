@@ -1,5 +1,6 @@
 -- The rows of the batches of spans that follow each other.
-use Rattle.std.proofs.Common.{◌≡◌, ◌≤◌, ◌+◌, ◌-◌, ℕ, List, [], ◌∷◌, ◌++◌, take, drop, All, refl, sym, ◌∙◌, ap, subst, arith}
+use Rattle.std.proofs.Common.{◌≡◌, ◌≤◌, ◌+◌, ◌-◌, ℕ, List, [], ◌∷◌, ◌++◌, take, drop, All, refl, sym, ◌∙◌, ap, subst}
+use Rattle.std.proofs.Common.{arith}
 use Rattle.std.proofs.Math.Seq.{take-add}
 use Rattle.std.proofs.lemmas.Grind.{flat_map-append}
 use Rattle.std.proofs.lemmas.List.{drop-take}
@@ -18,12 +19,16 @@ take_split : {A : Type 0} (xs : List A) (from to : ℕ) → from ≤ to → take
 take_split xs from to order =
     let to_is : from + (to - from) ≡ to = omega (arith, order) in
     ap (λ (n : ℕ). take n xs) (sym to_is) ∙ take-add from (to - from) xs
-    ∙ ap (λ (l : List _). take from xs ++ l) (sym (drop-take from (to - from) xs) ∙ ap (λ (n : ℕ). drop from (take n xs)) to_is)
+    ∙ ap (λ (l : List _). take from xs ++ l)
+    (sym (drop-take from (to - from) xs) ∙ ap (λ (n : ℕ). drop from (take n xs)) to_is)
 
 -- the first batches, and those of a span after them
-pub rows_split : (batches : List (List LineOrder)) (span : Span) → span.from ≤ span.to → all_rows (take span.to batches) ≡ all_rows (take span.from batches) ++ rows_in batches span
+pub rows_split : (batches : List (List LineOrder)) (span : Span) → span.from ≤ span.to
+    → all_rows (take span.to batches) ≡ all_rows (take span.from batches) ++ rows_in batches span
 rows_split batches span order =
-    ap all_rows (take_split batches span.from span.to order) ∙ flat_map-append (λ (batch : List LineOrder). batch) (take span.from batches) (drop span.from (take span.to batches))
+    ap all_rows (take_split batches span.from span.to order)
+    ∙ flat_map-append (λ (batch : List LineOrder). batch) (take span.from batches)
+    (drop span.from (take span.to batches))
 
 -- the rows of a cuboid's batches have their members
 module _ (w : Warehouse) (view : View) where
@@ -31,22 +36,32 @@ module _ (w : Warehouse) (view : View) where
   Known rows = All (HasMembers w.rows (modes_of w) view) rows
 
   runs_known : (from : ℕ) (runs : List StoredRun) (mark : ℕ) → Follow from runs mark → All (λ run. IsSpan run.span) runs
-      → All (λ run. RepresentRows w.rows (modes_of w) (rows_in w.batches run.span) (cells_of view run.cells)) runs → Known (all_rows (take from w.batches)) → Known (all_rows (take mark w.batches))
-  runs_known from [] mark follow spans groupings so_far = subst (λ (n : ℕ). Known (all_rows (take n w.batches))) (sym follow) so_far
+      → All (λ run. RepresentRows w.rows (modes_of w) (rows_in w.batches run.span) (cells_of view run.cells)) runs
+      → Known (all_rows (take from w.batches)) → Known (all_rows (take mark w.batches))
+  runs_known from [] mark follow spans groupings so_far =
+      subst (λ (n : ℕ). Known (all_rows (take n w.batches))) (sym follow) so_far
   runs_known from (run ∷ runs) mark follow spans groupings so_far =
       let span = All-head (λ r. IsSpan r.span) run runs spans in
-      let own = All-head (λ r. RepresentRows w.rows (modes_of w) (rows_in w.batches r.span) (cells_of view r.cells)) run runs groupings in
-      let before : Known (all_rows (take run.span.from w.batches)) = subst (λ (n : ℕ). Known (all_rows (take n w.batches))) (sym follow.0) so_far in
+      let own = All-head (λ r. RepresentRows w.rows (modes_of w) (rows_in w.batches r.span) (cells_of view r.cells)) run
+      runs groupings in
+      let before : Known (all_rows (take run.span.from w.batches)) =
+      subst (λ (n : ℕ). Known (all_rows (take n w.batches))) (sym follow.0) so_far in
       runs_known run.span.to runs mark follow.1 (All-tail (λ r. IsSpan r.span) run runs spans)
-      (All-tail (λ r. RepresentRows w.rows (modes_of w) (rows_in w.batches r.span) (cells_of view r.cells)) run runs groupings)
+      (All-tail (λ r. RepresentRows w.rows (modes_of w) (rows_in w.batches r.span) (cells_of view r.cells)) run runs
+      groupings)
       (subst Known (sym (rows_split w.batches run.span (omega (arith, span.some))))
-      (All-append (HasMembers w.rows (modes_of w) view) (all_rows (take run.span.from w.batches)) (rows_in w.batches run.span) before own.known))
+      (All-append (HasMembers w.rows (modes_of w) view) (all_rows (take run.span.from w.batches))
+      (rows_in w.batches run.span) before own.known))
 
-pub cuboid_known : (w : Warehouse) (cuboid : Cuboid) → HoldsGroupings w cuboid → All (HasMembers w.rows (modes_of w) cuboid.view) (all_rows (take cuboid.mark w.batches))
+pub cuboid_known : (w : Warehouse) (cuboid : Cuboid) → HoldsGroupings w cuboid
+    → All (HasMembers w.rows (modes_of w) cuboid.view) (all_rows (take cuboid.mark w.batches))
 cuboid_known w cuboid holds =
-    runs_known w cuboid.view 0 cuboid.runs cuboid.mark holds.laid.follow holds.laid.spans holds.groupings (All-nil (HasMembers w.rows (modes_of w) cuboid.view))
+    runs_known w cuboid.view 0 cuboid.runs cuboid.mark holds.laid.follow holds.laid.spans holds.groupings
+    (All-nil (HasMembers w.rows (modes_of w) cuboid.view))
 
 -- a run after others goes on where they end
-pub follow_more : (from : ℕ) (runs : List StoredRun) (mark : ℕ) (run : StoredRun) → Follow from runs mark → run.span.from ≡ mark → Follow from (runs ++ run ∷ []) run.span.to
+pub follow_more : (from : ℕ) (runs : List StoredRun) (mark : ℕ) (run : StoredRun) → Follow from runs mark
+    → run.span.from ≡ mark → Follow from (runs ++ run ∷ []) run.span.to
 follow_more from [] mark run follow goes_on = (goes_on ∙ follow, refl)
-follow_more from (first ∷ runs) mark run follow goes_on = (follow.0, follow_more first.span.to runs mark run follow.1 goes_on)
+follow_more from (first ∷ runs) mark run follow goes_on =
+    (follow.0, follow_more first.span.to runs mark run follow.1 goes_on)

@@ -1,5 +1,6 @@
 -- The commit that brings a stored cuboid on.
-use Rattle.std.proofs.Common.{◌≡◌, ◌⊎◌, ⊎_elim, inl, inr, ◌≤◌, ◌<◌, ◌==◌, if◌then◌else◌, ℕ, Bool, false, Option, Some, None, List, [], ◌∷◌, length, All, refl, sym, ◌∙◌, ap, subst, arith}
+use Rattle.std.proofs.Common.{◌≡◌, ◌⊎◌, ⊎_elim, inl, inr, ◌≤◌, ◌<◌, ◌==◌, if◌then◌else◌, ℕ, Bool, false, Option, Some}
+use Rattle.std.proofs.Common.{None, List, [], ◌∷◌, length, All, refl, sym, ◌∙◌, ap, subst, arith}
 use Rattle.std.proofs.lemmas.Bool.Decides.{nat_tests}
 use Rattle.std.proofs.lemmas.List.Elements.{All-head, All-tail}
 use Rattle.cube_model.specs.declared.rows.DimRows.{DimRows}
@@ -25,10 +26,12 @@ use Rattle.warehouse_objects.proofs.Kept.{represents_appended, represents_merged
 use Rattle.cuboid_commits.specs.Nexts.{Appends, BringsOn, Merges, first_run}
 use Rattle.cuboid_commits.specs.declared.keeping.Next.{Next}
 
-pub few_one : (c : Content) (puts : List (ℕ × List ℕ)) (drops bytes : List ℕ) (layout : ℕ) → length puts ≡ 1 → length c.objects < 65536 → IsFew (committed puts drops bytes layout c)
+pub few_one : (c : Content) (puts : List (ℕ × List ℕ)) (drops bytes : List ℕ) (layout : ℕ) → length puts ≡ 1
+    → length c.objects < 65536 → IsFew (committed puts drops bytes layout c)
 few_one c puts drops bytes layout one few = omega (arith, few_after puts drops bytes layout c, one, few)
 
-module _ (c : Content) (w : Warehouse) (old new : Cuboid) (run : StoredRun) (next : Next) (represents : Represents c w) (brings : BringsOn w old new run next) where
+module _ (c : Content) (w : Warehouse) (old new : Cuboid) (run : StoredRun) (next : Next) (represents : Represents c w)
+    (brings : BringsOn w old new run next) where
   abbrev root_bytes : List ℕ
   root_bytes = roots.root_of (root_of (kept w new))
 
@@ -36,50 +39,78 @@ module _ (c : Content) (w : Warehouse) (old new : Cuboid) (run : StoredRun) (nex
   bytes_are = brings.spelled.spelled ∙ ap roots.root_of brings.root
 
   -- where the puts and the drops are such
-  moved : (n : ℕ) (drops : List ℕ) → next.id ≡ run_id (index_of new.view) n → next.drops.items ≡ drops → Represents (committed (run_put new n run) drops root_bytes (number_of w.layout) c) (kept w new)
-      → Represents (committed ((next.id, next.bytes.items) ∷ []) next.drops.items next.root_bytes.items (number_of First) c) (kept w new)
+  moved : (n : ℕ) (drops : List ℕ) → next.id ≡ run_id (index_of new.view) n → next.drops.items ≡ drops
+      → Represents (committed (run_put new n run) drops root_bytes (number_of w.layout) c) (kept w new)
+      → Represents
+      (committed ((next.id, next.bytes.items) ∷ []) next.drops.items next.root_bytes.items (number_of First) c)
+      (kept w new)
   moved n drops id_is drops_are is =
-      subst (λ (i : ℕ). Represents (committed ((i, next.bytes.items) ∷ []) next.drops.items next.root_bytes.items (number_of First) c) (kept w new)) (sym id_is)
-      (subst (λ (b : List ℕ). Represents (committed ((run_id (index_of new.view) n, b) ∷ []) next.drops.items next.root_bytes.items (number_of First) c) (kept w new)) (sym brings.bytes)
-      (subst (λ (d : List ℕ). Represents (committed (run_put new n run) d next.root_bytes.items (number_of First) c) (kept w new)) (sym drops_are)
-      (subst (λ (b : List ℕ). Represents (committed (run_put new n run) drops b (number_of First) c) (kept w new)) (sym bytes_are)
-      (subst (λ (l : ℕ). Represents (committed (run_put new n run) drops root_bytes l c) (kept w new)) (ap number_of represents.first) is))))
+      subst (λ (i : ℕ). Represents
+      (committed ((i, next.bytes.items) ∷ []) next.drops.items next.root_bytes.items (number_of First) c)
+      (kept w new)) (sym id_is)
+      (subst (λ (b : List ℕ). Represents
+      (committed ((run_id (index_of new.view) n, b) ∷ []) next.drops.items next.root_bytes.items (number_of First)
+      c) (kept w new)) (sym brings.bytes)
+      (subst (λ (d : List ℕ). Represents (committed (run_put new n run) d next.root_bytes.items (number_of First) c)
+      (kept w new)) (sym drops_are)
+      (subst (λ (b : List ℕ). Represents (committed (run_put new n run) drops b (number_of First) c) (kept w new))
+      (sym bytes_are)
+      (subst (λ (l : ℕ). Represents (committed (run_put new n run) drops root_bytes l c) (kept w new))
+      (ap number_of represents.first) is))))
 
-  pub represents_next : Represents (committed ((next.id, next.bytes.items) ∷ []) next.drops.items next.root_bytes.items (number_of First) c) (kept w new)
+  pub represents_next : Represents
+      (committed ((next.id, next.bytes.items) ∷ []) next.drops.items next.root_bytes.items (number_of First) c)
+      (kept w new)
   represents_next =
-      ⊎_elim {C = Represents (committed ((next.id, next.bytes.items) ∷ []) next.drops.items next.root_bytes.items (number_of First) c) (kept w new)}
-      (λ (a : Appends old new run next). moved (length old.runs) [] a.id a.drops (represents_appended c w old new represents brings.may run a.runs))
-      (λ (m : Merges old new run next). moved 0 (later_runs old) m.id m.drops (represents_merged c w old new represents brings.may run m.runs))
+      ⊎_elim {C =
+      Represents (committed ((next.id, next.bytes.items) ∷ []) next.drops.items next.root_bytes.items
+      (number_of First) c) (kept w new)}
+      (λ (a : Appends old new run next). moved (length old.runs) [] a.id a.drops
+      (represents_appended c w old new represents brings.may run a.runs))
+      (λ (m : Merges old new run next). moved 0 (later_runs old) m.id m.drops
+      (represents_merged c w old new represents brings.may run m.runs))
       brings.how
 
 -- what was handed to the commit
-module _ (c : Content) (w : Warehouse) (old new : Cuboid) (run : StoredRun) (next : Next) (put drops bytes : List ℕ) (layout : ℕ)
-    (put_is : put ≡ next.bytes.items) (drops_are : drops ≡ next.drops.items) (bytes_are_next : bytes ≡ next.root_bytes.items) (layout_is : layout ≡ number_of First) where
-  pub after : Represents c w → BringsOn w old new run next → Represents (committed ((next.id, put) ∷ []) drops bytes layout c) (kept w new)
+module _ (c : Content) (w : Warehouse) (old new : Cuboid) (run : StoredRun) (next : Next) (put drops bytes : List ℕ)
+    (layout : ℕ)
+    (put_is : put ≡ next.bytes.items) (drops_are : drops ≡ next.drops.items)
+    (bytes_are_next : bytes ≡ next.root_bytes.items) (layout_is : layout ≡ number_of First) where
+  pub after : Represents c w → BringsOn w old new run next
+      → Represents (committed ((next.id, put) ∷ []) drops bytes layout c) (kept w new)
   after represents brings =
       subst (λ (p : List ℕ). Represents (committed ((next.id, p) ∷ []) drops bytes layout c) (kept w new)) (sym put_is)
-      (subst (λ (d : List ℕ). Represents (committed ((next.id, next.bytes.items) ∷ []) d bytes layout c) (kept w new)) (sym drops_are)
-      (subst (λ (b : List ℕ). Represents (committed ((next.id, next.bytes.items) ∷ []) next.drops.items b layout c) (kept w new)) (sym bytes_are_next)
-      (subst (λ (l : ℕ). Represents (committed ((next.id, next.bytes.items) ∷ []) next.drops.items next.root_bytes.items l c) (kept w new)) (sym layout_is)
+      (subst (λ (d : List ℕ). Represents (committed ((next.id, next.bytes.items) ∷ []) d bytes layout c) (kept w new))
+      (sym drops_are)
+      (subst (λ (b : List ℕ). Represents (committed ((next.id, next.bytes.items) ∷ []) next.drops.items b layout c)
+      (kept w new)) (sym bytes_are_next)
+      (subst (λ (l : ℕ). Represents
+      (committed ((next.id, next.bytes.items) ∷ []) next.drops.items next.root_bytes.items l c) (kept w new))
+      (sym layout_is)
       (represents_next c w old new run next represents brings))))
 
   pub next_leaves : (start now : Disk) → (start.keeps_word → Represents c w) → BringsOn w old new run next
-      → Leaves start now (IsOneOf c (committed ((next.id, put) ∷ []) drops bytes layout c)) → Leaves start now (λ x. Represents x w ⊎ Represents x (kept w new))
+      → Leaves start now (IsOneOf c (committed ((next.id, put) ∷ []) drops bytes layout c))
+      → Leaves start now (λ x. Represents x w ⊎ Represents x (kept w new))
   next_leaves start now represents brings leaves =
-      leaves_weaker (IsOneOf c (committed ((next.id, put) ∷ []) drops bytes layout c)) (λ (x : Content). Represents x w ⊎ Represents x (kept w new)) start now
+      leaves_weaker (IsOneOf c (committed ((next.id, put) ∷ []) drops bytes layout c))
+      (λ (x : Content). Represents x w ⊎ Represents x (kept w new)) start now
       (λ k x. ⊎_elim (λ e. inl (subst (λ (y : Content). Represents y w) (sym e) (represents k)))
       (λ e. inr (subst (λ (y : Content). Represents y (kept w new)) (sym e) (after (represents k) brings)))) leaves
 
 -- ---- what is kept in memory
 
-without_runs : (drops : List ℕ) (id : ℕ) (was : Option (List ℕ)) → All (λ drop. first_run ≤ drop) drops → id < first_run → without drops id was ≡ was
+without_runs : (drops : List ℕ) (id : ℕ) (was : Option (List ℕ)) → All (λ drop. first_run ≤ drop) drops → id < first_run
+    → without drops id was ≡ was
 without_runs [] id was runs low = refl
 without_runs (drop ∷ drops) id was runs low =
     let high : first_run ≤ drop = All-head (λ d. first_run ≤ d) drop drops runs in
     let other : (drop == id) ≡ false = grind (arith, nat_tests, high, low) in
-    ap (λ (b : Bool). without drops id (if b then None else was)) other ∙ without_runs drops id was (All-tail (λ d. first_run ≤ d) drop drops runs) low
+    ap (λ (b : Bool). without drops id (if b then None else was)) other
+    ∙ without_runs drops id was (All-tail (λ d. first_run ≤ d) drop drops runs) low
 
-module _ (c : Content) (id : ℕ) (put drops bytes : List ℕ) (layout : ℕ) (runs : All (λ i. first_run ≤ i) (id ∷ drops)) (layout_is : layout ≡ number_of First) where
+module _ (c : Content) (id : ℕ) (put drops bytes : List ℕ) (layout : ℕ) (runs : All (λ i. first_run ≤ i) (id ∷ drops))
+    (layout_is : layout ≡ number_of First) where
   same_at : (low : ℕ) → low < 5 → bytes_of (committed ((id, put) ∷ []) drops bytes layout c) low ≡ bytes_of c low
   same_at low few =
       let high : first_run ≤ id = All-head (λ i. first_run ≤ i) id drops runs in
@@ -89,7 +120,8 @@ module _ (c : Content) (id : ℕ) (put drops bytes : List ℕ) (layout : ℕ) (r
       ∙ without_runs drops low (bytes_of c low) (All-tail (λ i. first_run ≤ i) id drops runs) (omega (arith, few))
 
   -- it is the root of after, and the dimensions of before
-  pub loaded_next : (after : PlainRoot) → bytes ≡ roots.root_of after → after.layout ≡ First → (rows : DimRows) (root : PlainRoot) → IsLoaded c rows root
+  pub loaded_next : (after : PlainRoot) → bytes ≡ roots.root_of after → after.layout ≡ First
+      → (rows : DimRows) (root : PlainRoot) → IsLoaded c rows root
       → IsLoaded (committed ((id, put) ∷ []) drops bytes layout c) rows after
   loaded_next after bytes_are first rows root is = record {
     layout = layout_after ((id, put) ∷ []) drops bytes layout c ∙ layout_is;
@@ -105,7 +137,8 @@ module _ (c : Content) (id : ℕ) (put drops bytes : List ℕ) (layout : ℕ) (r
 
 -- ---- why it is refused
 
-pub refuses_same : (c : Content) (room : Room) (id : ℕ) (put bytes drops dropped root spelled : List ℕ) (fault : Fault) → put ≡ bytes → drops ≡ dropped → root ≡ spelled
+pub refuses_same : (c : Content) (room : Room) (id : ℕ) (put bytes drops dropped root spelled : List ℕ) (fault : Fault)
+    → put ≡ bytes → drops ≡ dropped → root ≡ spelled
     → Refuses c room ((id, put) ∷ []) drops root fault → Refuses c room ((id, bytes) ∷ []) dropped spelled fault
 refuses_same c room id put bytes drops dropped root spelled fault put_is drops_are root_is refuses =
     subst (λ (l : List ℕ). Refuses c room ((id, bytes) ∷ []) dropped l fault) root_is

@@ -1,5 +1,6 @@
 -- Upkeep: the target first, and then the cuboids.
-use Rattle.std.proofs.Common.{◌≡◌, ◌⊎◌, ⊎_elim, inl, inr, ◌≤◌, ℕ, Some, None, Option, List, length, All, refl, sym, ◌∙◌, ap, subst, arith}
+use Rattle.std.proofs.Common.{◌≡◌, ◌⊎◌, ⊎_elim, inl, inr, ◌≤◌, ℕ, Some, None, Option, List, length, All, refl, sym, ◌∙◌}
+use Rattle.std.proofs.Common.{ap, subst, arith}
 use Rattle.std.proofs.lemmas.List.{length-map}
 use Rattle.cube_model.specs.declared.fault.Fault.{Fault}
 use Rattle.cube_model.specs.declared.fault.Fault.TheVariants.{Memory}
@@ -33,10 +34,14 @@ from_aimed w v caught = record {
 abbrev pub Kept : Warehouse → Content → Type 0
 Kept w c = (v : Warehouse) × IsKeptUp w v × Represents c v
 
-pub leaves_same : (w : Warehouse) (c : Content) (old new : Disk) → (old.keeps_word → Represents c w) → Leaves old new (λ x. x ≡ c) → Leaves old new (Kept w)
-leaves_same w c old new represents = leaves_weaker (λ (x : Content). x ≡ c) (Kept w) old new (λ k x e. (w, kept_same w, subst (λ (y : Content). Represents y w) (sym e) (represents k)))
+pub leaves_same : (w : Warehouse) (c : Content) (old new : Disk) → (old.keeps_word → Represents c w)
+    → Leaves old new (λ x. x ≡ c) → Leaves old new (Kept w)
+leaves_same w c old new represents =
+    leaves_weaker (λ (x : Content). x ≡ c) (Kept w) old new
+    (λ k x e. (w, kept_same w, subst (λ (y : Content). Represents y w) (sym e) (represents k)))
 
-pub leaves_aimed : (w : Warehouse) (old new : Disk) → Leaves old new (λ c. Represents c w ⊎ Represents c (aimed w)) → Leaves old new (Kept w)
+pub leaves_aimed : (w : Warehouse) (old new : Disk) → Leaves old new (λ c. Represents c w ⊎ Represents c (aimed w))
+    → Leaves old new (Kept w)
 leaves_aimed w old new = leaves_weaker (λ (c : Content). Represents c w ⊎ Represents c (aimed w)) (Kept w) old new
     (λ k c. ⊎_elim {C = Kept w c} (λ before. (w, kept_same w, before)) (λ after. (aimed w, kept_aimed w, after)))
 
@@ -44,26 +49,34 @@ pub leaves_both : (w : Warehouse) (old mid new : Disk) → Leaves old mid (λ c.
     → Leaves mid new (λ c. (v : Warehouse) × IsCaughtUp (aimed w) v × Represents c v) → Leaves old new (Kept w)
 leaves_both w old mid new first second =
     leaves_then (Kept w) old mid new (leaves_aimed w old mid first)
-    (leaves_weaker (λ (c : Content). (v : Warehouse) × IsCaughtUp (aimed w) v × Represents c v) (Kept w) mid new (λ k c there. (there.0, from_aimed w there.0 there.1, there.2)) second)
+    (leaves_weaker (λ (c : Content). (v : Warehouse) × IsCaughtUp (aimed w) v × Represents c v) (Kept w) mid new
+    (λ k c there. (there.0, from_aimed w there.0 there.1, there.2)) second)
 
 -- a cuboid holds no more batches than there are
 within : (c : Content) (w : Warehouse) → Represents c w → All (λ cuboid. cuboid.mark ≤ length w.batches) w.cuboids
 within c w represents k default less =
-    let proper = All-unmap (IsProperCuboid (root_of w).layout (length (root_of w).batches)) said_of w.cuboids represents.root.proper.each k default less in
+    let proper = All-unmap (IsProperCuboid (root_of w).layout (length (root_of w).batches)) said_of w.cuboids
+    represents.root.proper.each k default less in
     omega (arith, proper.mark, length-map w.batches (λ (batch : List LineOrder). length batch))
 
 -- so one that holds as many as it is to, where that is all of them, holds all
-pub all_whole : (c : Content) (w : Warehouse) (passed : Option View) → Represents c w → w.target ≡ length w.batches → IsDone w passed → AreWholeBut w passed
-all_whole c w None represents target done = λ k default less. let low = done k default less in let high = within c w represents k default less in omega (arith, low, high, target)
+pub all_whole : (c : Content) (w : Warehouse) (passed : Option View) → Represents c w → w.target ≡ length w.batches
+    → IsDone w passed → AreWholeBut w passed
+all_whole c w None represents target done = λ k default less. let low = done k default less in let high =
+    within c w represents k default less in omega (arith, low, high, target)
 all_whole c w (Some view) represents target done = (done, target)
 
 -- the target after upkeep is all batches
 pub target_is : (w v : Warehouse) → IsCaughtUp (aimed w) v → v.target ≡ length v.batches
-target_is w v caught = caught.target ∙ ap (λ (batches : List (List LineOrder)). length batches) (sym (batches_kept (aimed w) v caught.kept))
+target_is w v caught = caught.target
+    ∙ ap (λ (batches : List (List LineOrder)). length batches) (sym (batches_kept (aimed w) v caught.kept))
 
 -- the marks of the cuboids are those that the root says
-pub whole_by_root : (w : Warehouse) (root : PlainRoot) (count : ℕ) → root_of w ≡ root → count ≡ length root.batches → All (λ cuboid. cuboid.mark ≡ count) root.cuboids → AreWhole w
+pub whole_by_root : (w : Warehouse) (root : PlainRoot) (count : ℕ) → root_of w ≡ root → count ≡ length root.batches
+    → All (λ cuboid. cuboid.mark ≡ count) root.cuboids → AreWhole w
 whole_by_root w root count root_is count_is all =
     let there = subst (λ (r : PlainRoot). All (λ cuboid. cuboid.mark ≡ count) r.cuboids) (sym root_is) all in
-    let many : length root.batches ≡ length w.batches = ap (λ (r : PlainRoot). length r.batches) (sym root_is) ∙ length-map w.batches (λ (batch : List LineOrder). length batch) in
-    λ k default less. let own = All-unmap (λ cuboid. cuboid.mark ≡ count) said_of w.cuboids there k default less in own ∙ count_is ∙ many
+    let many : length root.batches ≡ length w.batches = ap (λ (r : PlainRoot). length r.batches) (sym root_is)
+    ∙ length-map w.batches (λ (batch : List LineOrder). length batch) in
+    λ k default less. let own = All-unmap (λ cuboid. cuboid.mark ≡ count) said_of w.cuboids there k default less in own
+    ∙ count_is ∙ many

@@ -48,13 +48,14 @@ abbrev pub IsReached : Option View → Warehouse → Cuboid → Type 0
 IsReached None w cuboid = w.target ≤ cuboid.mark
 IsReached (Some view) w cuboid = (cuboid.view ≡ view) × IsTooLarge w view
 
--- The stored cuboid of the view of a number is the first that is too large: each other one holds as many batches as it is to, or is
--- too large and has no lower view.
+-- The stored cuboid of the view of a number is the first that is too large: each other one holds as many batches as it
+-- is to, or is too large and has no lower view.
 pub record IsLeastTooLarge (w : Warehouse) (number : ℕ) : Type 0 where
   pub cuboid : Cuboid
   pub stored : cuboid_at number w.cuboids ≡ Some cuboid
   pub large : IsTooLarge w cuboid.view
-  pub others : All (λ other. (w.target ≤ other.mark) ⊎ (IsTooLarge w other.view × (number ≤ index_of other.view))) w.cuboids
+  pub others : All (λ other. (w.target ≤ other.mark) ⊎ (IsTooLarge w other.view × (number ≤ index_of other.view)))
+      w.cuboids
 
 -- each stored cuboid holds as many batches as it is to, but those that are too large, of which the first one is given
 abbrev pub IsDone : Warehouse → Option View → Type 0

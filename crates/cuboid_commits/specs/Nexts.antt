@@ -44,7 +44,8 @@ abbrev pub first_run : ℕ
 first_run = run_id 0 0
 
 -- what was made for a commit: the bytes of a run, and the root with a cuboid, and its bytes
-pub record IsMade (root : PlainRoot) (after : StoredCuboid) (id : ℕ) (span : Span) (cells : PlainCells) (drops : List ℕ) (next : Next) : Type 0 where
+pub record IsMade (root : PlainRoot) (after : StoredCuboid) (id : ℕ) (span : Span) (cells : PlainCells) (drops : List ℕ)
+    (next : Next) : Type 0 where
   pub id_is : next.id ≡ id
   pub bytes : IsRun next.bytes.items span cells
   pub drops_are : next.drops.items ≡ drops
@@ -63,9 +64,10 @@ pub record GoesOn (change : Cuboid → Cuboid) : Type 0 where
   pub view : (cuboid : Cuboid) → (change cuboid).view ≡ cuboid.view
   pub mark : (cuboid : Cuboid) → cuboid.mark ≤ (change cuboid).mark
 
--- What brings the cuboid of which a root says something on to a mark, in each warehouse with a property. It can be put whatever
--- the warehouse is.
-pub record IsNext (Holds : Warehouse → Type 0) (root : PlainRoot) (said : StoredCuboid) (mark : ℕ) (next : Next) : Type 0 where
+-- What brings the cuboid of which a root says something on to a mark, in each warehouse with a property. It can be put
+-- whatever the warehouse is.
+pub record IsNext (Holds : Warehouse → Type 0) (root : PlainRoot) (said : StoredCuboid) (mark : ℕ) (next : Next) : Type
+    0 where
   pub put : ArePuts ((next.id, next.bytes.items) ∷ [])
   pub runs : All (λ id. first_run ≤ id) (next.id ∷ next.drops.items)
   pub spelled : IsRoot next.root_bytes.items next.root
@@ -76,9 +78,11 @@ pub record IsNext (Holds : Warehouse → Type 0) (root : PlainRoot) (said : Stor
   pub change : Cuboid → Cuboid
   pub goes_on : GoesOn change
   pub reaches : (cuboid : Cuboid) → cuboid.mark ≤ mark → (change cuboid).mark ≡ mark
-  pub brings : (w : Warehouse) (old : Cuboid) → HasStored root said w old → Holds w → (run : StoredRun) × BringsOn w old (change old) run next
+  pub brings : (w : Warehouse) (old : Cuboid) → HasStored root said w old → Holds w
+      → (run : StoredRun) × BringsOn w old (change old) run next
 
--- Why bringing cuboids on ends: no memory, the device fails, a content of no warehouse, no room, or the last generation.
+-- Why bringing cuboids on ends: no memory, the device fails, a content of no warehouse, no room, or the last
+-- generation.
 abbrev pub EndsBringing : Fault → Type 0
 EndsBringing fault = (fault ≡ Memory) ⊎ ((fault ≡ Device) ⊎ ((fault ≡ BadLayout) ⊎ ((fault ≡ Full) ⊎ (fault ≡ Worn))))
 
@@ -91,9 +95,11 @@ pub record RefusesNext {D : Type 0} (g : Ghosts D) (store : Store D g) (w : Ware
   pub less : old.mark < w.target
   pub target : new.mark ≡ w.target
   pub brings : BringsOn w old new run next
-  pub refuses : stores.Refuses (stores.content_of g store) (stores.room_of store) ((next.id, next.bytes.items) ∷ []) next.drops.items next.root_bytes.items fault
+  pub refuses : stores.Refuses (stores.content_of g store) (stores.room_of store) ((next.id, next.bytes.items) ∷ [])
+      next.drops.items next.root_bytes.items fault
 
--- That cuboid is the least that is to be brought on: each one of a lower view holds as many batches as it is to, or is too large.
+-- That cuboid is the least that is to be brought on: each one of a lower view holds as many batches as it is to, or is
+-- too large.
 pub record RefusesLeast {D : Type 0} (g : Ghosts D) (store : Store D g) (w : Warehouse) (fault : Fault) : Type 0 where
   pub next : RefusesNext g store w fault
   pub lower : All (λ other. index_of other.view < index_of next.old.view → IsReachedOrLarge w other) w.cuboids

@@ -16,14 +16,14 @@ use Rattle.cuboid_commits.specs.Nexts.{RefusesLeast}
 abbrev pub AreWhole : Warehouse → Type 0
 AreWhole w = All (λ cuboid. cuboid.mark ≡ length w.batches) w.cuboids
 
--- Each stored cuboid holds all batches. Or the target is all batches, and each cuboid holds them but those that are too large, of which
--- the first one is given
+-- Each stored cuboid holds all batches. Or the target is all batches, and each cuboid holds them but those that are too
+-- large, of which the first one is given
 abbrev pub AreWholeBut : Warehouse → Option View → Type 0
 AreWholeBut w None = AreWhole w
 AreWholeBut w (Some view) = IsDone w (Some view) × (w.target ≡ length w.batches)
 
--- Why a commit on the way is refused before its first device call: that of the target, or that of the next run of a cuboid. Or there
--- is no memory to make it ready.
+-- Why a commit on the way is refused before its first device call: that of the target, or that of the next run of a
+-- cuboid. Or there is no memory to make it ready.
 abbrev pub KeepUpRefuses : {D : Type 0} (g : Ghosts D) → Store D g → Warehouse → Fault → Type 0
 KeepUpRefuses g store w fault =
     (fault ≡ Memory)

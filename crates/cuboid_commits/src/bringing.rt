@@ -1,11 +1,13 @@
 //! Bringing one stored cuboid to the target.
-ghost use Rattle.std.specs.Prelude.{◌≡◌, ◌≢◌, ◌⊎◌, ◌↔◌, ◌<◌, ◌≤◌, ◌∷◌, [], All, Some, false, length, slice_get, IfErr, IfOk, IsErrOf, IsTrue, OnErr, OnOk};
+ghost use Rattle.std.specs.Prelude.{◌≡◌, ◌≢◌, ◌⊎◌, ◌↔◌, ◌<◌, ◌≤◌, ◌∷◌, [], All, Some, false, length, slice_get, IfErr};
+ghost use Rattle.std.specs.Prelude.{IfOk, IsErrOf, IsTrue, OnErr, OnOk};
 ghost use Rattle.cube_model.specs.declared.fault.Fault.TheVariants.{BadLayout, Device, Failed, Memory, TooManyCells};
 ghost use Rattle.cube_model.specs.FaultNumbers.{number_of};
 ghost use Rattle.cube_model.specs.declared.rows.DimRows.{DimRows};
 ghost use Rattle.object_store.specs.Commit.{ArePuts};
 ghost use Rattle.object_store.specs.Disk.{Leaves};
-ghost use Rattle.object_store.specs.Store.{Breaks, IsAsBefore, Refuses, content_of, device_of, disk_of, has_failed, room_of};
+ghost use Rattle.object_store.specs.Store.{Breaks, IsAsBefore, Refuses, content_of, device_of, disk_of, has_failed};
+ghost use Rattle.object_store.specs.Store.{room_of};
 ghost use Rattle.lattice.specs.Views.{index_of};
 ghost use Rattle.warehouse_root.specs.Root.{IsProperCuboid, IsRoot};
 ghost use Rattle.warehouse_root.specs.declared.layout.Layout.TheVariants.{First};
@@ -26,8 +28,8 @@ use std::alloc::Global;
 use warehouse_root::{Root, StoredCuboid};
 use wire::limits::MOST_OBJECTS;
 
-// Brings the cuboid at a place to the target. The answer is its view where it was passed over, since it would have more than
-// 262,144 cells.
+// Brings the cuboid at a place to the target. The answer is its view where it was passed over, since it would have more
+// than 262,144 cells.
 pub(crate) fn bring_on<D: Sectors>(
     alloc: Global,
     store: &mut Store<D>,
@@ -37,26 +39,34 @@ pub(crate) fn bring_on<D: Sectors>(
 ) -> Result<Option<View>, Fault>
     requires fine { has_failed store.old ≡ false }
     requires place { place < length root.old.cuboids }
-    ensures leaves { (w : Warehouse) → StoreAt D.Sectors store.old root.old w → (D.keeps_word (device_of store.old) → dims.now ≡ w.rows)
-        → Leaves (disk_of D.Sectors store.old) (disk_of D.Sectors store.new) (λ c. (v : Warehouse) × IsCaughtUp w v × Represents c v) }
-    ensures stays { (IsErrOf result Device → ⊥) → (w : Warehouse) → StoreAt D.Sectors store.old root.old w → (D.keeps_word (device_of store.old) → dims.now ≡ w.rows)
+    ensures leaves { (w : Warehouse) → StoreAt D.Sectors store.old root.old w
+        → (D.keeps_word (device_of store.old) → dims.now ≡ w.rows)
+        → Leaves (disk_of D.Sectors store.old) (disk_of D.Sectors store.new)
+        (λ c. (v : Warehouse) × IsCaughtUp w v × Represents c v) }
+    ensures stays { (IsErrOf result Device → ⊥) → (w : Warehouse) → StoreAt D.Sectors store.old root.old w
+        → (D.keeps_word (device_of store.old) → dims.now ≡ w.rows)
         → (v : Warehouse) × IsCaughtUp w v × StoreAt D.Sectors store.new root.new v }
-    ensures reached { IfOk result (λ passed. (v : Warehouse) → StoreAt D.Sectors store.new root.new v → D.keeps_word (device_of store.new) → dims.now ≡ v.rows
+    ensures reached { IfOk result (λ passed. (v : Warehouse) → StoreAt D.Sectors store.new root.new v
+        → D.keeps_word (device_of store.new) → dims.now ≡ v.rows
         → (cuboid : Cuboid) → slice_get v.cuboids place ≡ Some cuboid → IsReached passed v cuboid) }
     ensures many { length root.new.cuboids ≡ length root.old.cuboids }
     ensures fine { OnOk result (has_failed store.new ≡ false) }
     ensures failures { OnOk result ((disk_of D.Sectors store.new).failures ≡ (disk_of D.Sectors store.old).failures) }
-    ensures reason { IfErr result (λ fault. fault ≢ Device → fault ≢ Memory → D.keeps_word (device_of store.new) → (w : Warehouse)
+    ensures reason { IfErr result (λ fault. fault ≢ Device → fault ≢ Memory → D.keeps_word (device_of store.new)
+        → (w : Warehouse)
         → StoreAt D.Sectors store.old root.old w → (D.keeps_word (device_of store.old) → dims.now ≡ w.rows)
         → (next : RefusesNext D.Sectors store.new w fault) × (slice_get w.cuboids place ≡ Some next.old)) }
-    ensures refused { IfErr result (λ fault. fault ≢ Device → (w : Warehouse) → StoreAt D.Sectors store.old root.old w → StoreAt D.Sectors store.new root.new w) }
-    ensures readable { IsErrOf result BadLayout → D.keeps_word (device_of store.new) → (w : Warehouse) → StoreAt D.Sectors store.old root.old w
+    ensures refused { IfErr result (λ fault. fault ≢ Device → (w : Warehouse) → StoreAt D.Sectors store.old root.old w
+        → StoreAt D.Sectors store.new root.new w) }
+    ensures readable { IsErrOf result BadLayout → D.keeps_word (device_of store.new) → (w : Warehouse)
+        → StoreAt D.Sectors store.old root.old w
         → (D.keeps_word (device_of store.old) → dims.now ≡ w.rows) → ⊥ }
     ensures causes { IfErr result EndsBringing }
     ensures failed { IsErrOf result Failed → ⊥ }
     ensures device { IsErrOf result Device → Breaks D.Sectors store.old store.new }
     ensures loaded { has_failed store.new ≡ false → D.keeps_word (device_of store.new) → (rows : DimRows)
-        → IsLoaded (content_of D.Sectors store.old) rows root.old → IsLoaded (content_of D.Sectors store.new) rows root.new }
+        → IsLoaded (content_of D.Sectors store.old) rows root.old
+        → IsLoaded (content_of D.Sectors store.new) rows root.new }
     ensures word { D.keeps_word (device_of store.new) → D.keeps_word (device_of store.old) }
 {
     let _usable = store.is_broken();
@@ -105,20 +115,25 @@ fn put_next<D: Sectors>(
     requires put { ArePuts ((next.id, next.bytes.items) ∷ []) }
     requires runs { All (λ id. first_run ≤ id) (next.id ∷ next.drops.items) }
     requires spelled { IsRoot next.root_bytes.items next.root }
-    ensures leaves { (w v : Warehouse) → StoreAt D.Sectors store.old root.old w → (D.keeps_word (device_of store.old) → IsBroughtBy w next v)
+    ensures leaves { (w v : Warehouse) → StoreAt D.Sectors store.old root.old w
+        → (D.keeps_word (device_of store.old) → IsBroughtBy w next v)
         → Leaves (disk_of D.Sectors store.old) (disk_of D.Sectors store.new) (λ c. Represents c w ⊎ Represents c v) }
-    ensures ok { OnOk result ((w v : Warehouse) → StoreAt D.Sectors store.old root.old w → (D.keeps_word (device_of store.old) → IsBroughtBy w next v)
+    ensures ok { OnOk result ((w v : Warehouse) → StoreAt D.Sectors store.old root.old w
+        → (D.keeps_word (device_of store.old) → IsBroughtBy w next v)
         → StoreAt D.Sectors store.new root.new v) }
-    ensures loaded { OnOk result (D.keeps_word (device_of store.new) → (rows : DimRows) → IsLoaded (content_of D.Sectors store.old) rows root.old
+    ensures loaded { OnOk result (D.keeps_word (device_of store.new) → (rows : DimRows)
+        → IsLoaded (content_of D.Sectors store.old) rows root.old
         → next.root.layout ≡ First → IsLoaded (content_of D.Sectors store.new) rows root.new) }
     ensures root { OnOk result (root.new ≡ next.root) }
     ensures unchanged { OnErr result (root.new ≡ root.old) }
     ensures fine { OnOk result (has_failed store.new ≡ false) }
     ensures failures { OnOk result ((disk_of D.Sectors store.new).failures ≡ (disk_of D.Sectors store.old).failures) }
     ensures refused { IfErr result (λ fault. fault ≢ Device → IsAsBefore D.Sectors store.old store.new) }
-    ensures causes { IfErr result (λ fault. fault ≢ Device → (fault ≡ BadLayout) ⊎ Refuses (content_of D.Sectors store.old) (room_of store.old)
+    ensures causes { IfErr result (λ fault. fault ≢ Device → (fault ≡ BadLayout)
+        ⊎ Refuses (content_of D.Sectors store.old) (room_of store.old)
         ((next.id, next.bytes.items) ∷ []) next.drops.items next.root_bytes.items fault) }
-    ensures readable { IsErrOf result BadLayout → D.keeps_word (device_of store.new) → (w : Warehouse) → StoreAt D.Sectors store.old root.old w → ⊥ }
+    ensures readable { IsErrOf result BadLayout → D.keeps_word (device_of store.new) → (w : Warehouse)
+        → StoreAt D.Sectors store.old root.old w → ⊥ }
     ensures failed { IsErrOf result Failed → ⊥ }
     ensures device { IsErrOf result Device → Breaks D.Sectors store.old store.new }
     ensures word { D.keeps_word (device_of store.new) → D.keeps_word (device_of store.old) }

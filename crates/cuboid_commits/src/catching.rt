@@ -1,5 +1,6 @@
 //! Bringing stored cuboids to their target.
-ghost use Rattle.std.specs.Prelude.{◌≡◌, ◌≢◌, ◌<◌, ◌+◌, ◌-◌, ◌^◌, min, false, true, Some, length, slice_get, IfErr, IfOk, IsErrOf};
+ghost use Rattle.std.specs.Prelude.{◌≡◌, ◌≢◌, ◌<◌, ◌+◌, ◌-◌, ◌^◌, min, false, true, Some, length, slice_get, IfErr};
+ghost use Rattle.std.specs.Prelude.{IfOk, IsErrOf};
 ghost use Rattle.cube_model.specs.declared.fault.Fault.TheVariants.{BadLayout, Device, Failed, Memory};
 ghost use Rattle.cube_model.specs.declared.rows.DimRows.{DimRows};
 ghost use Rattle.object_store.specs.Disk.{Leaves};
@@ -19,11 +20,12 @@ use sector_device::Sectors;
 use std::alloc::Global;
 use warehouse_root::Root;
 
-/// Brings each stored cuboid to the target, by ascending view and in one commit each. A view whose cuboid would have more than
-/// 262,144 cells is passed over; the answer is the first of these.
+/// Brings each stored cuboid to the target, by ascending view and in one commit each. A view whose cuboid would have
+/// more than 262,144 cells is passed over; the answer is the first of these.
 ///
-/// `Full` where the store has no room for the next run, and `Worn` at the last generation: the cuboids brought on until then stay,
-/// as they do where memory is missing. `Device` where the device fails. `BadLayout` where the content is that of no warehouse.
+/// `Full` where the store has no room for the next run, and `Worn` at the last generation: the cuboids brought on until
+/// then stay, as they do where memory is missing. `Device` where the device fails. `BadLayout` where the content is
+/// that of no warehouse.
 pub fn catch_up<D: Sectors>(
     alloc: Global,
     store: &mut Store<D>,
@@ -33,27 +35,36 @@ pub fn catch_up<D: Sectors>(
     requires fine { has_failed store.old ≡ false }
 
     // A crash at any point leaves the warehouse with the cuboids that were brought on until then.
-    ensures leaves { (w : Warehouse) → StoreAt D.Sectors store.old root.old w → (D.keeps_word (device_of store.old) → dims.now ≡ w.rows)
-        → Leaves (disk_of D.Sectors store.old) (disk_of D.Sectors store.new) (λ c. (v : Warehouse) × IsCaughtUp w v × Represents c v) }
-    ensures stays { (IsErrOf result Device → ⊥) → (w : Warehouse) → StoreAt D.Sectors store.old root.old w → (D.keeps_word (device_of store.old) → dims.now ≡ w.rows)
+    ensures leaves { (w : Warehouse) → StoreAt D.Sectors store.old root.old w
+        → (D.keeps_word (device_of store.old) → dims.now ≡ w.rows)
+        → Leaves (disk_of D.Sectors store.old) (disk_of D.Sectors store.new)
+        (λ c. (v : Warehouse) × IsCaughtUp w v × Represents c v) }
+    ensures stays { (IsErrOf result Device → ⊥) → (w : Warehouse) → StoreAt D.Sectors store.old root.old w
+        → (D.keeps_word (device_of store.old) → dims.now ≡ w.rows)
         → (v : Warehouse) × IsCaughtUp w v × StoreAt D.Sectors store.new root.new v }
-    ensures ok { IfOk result (λ passed. (w : Warehouse) → StoreAt D.Sectors store.old root.old w → (D.keeps_word (device_of store.old) → dims.now ≡ w.rows)
-        → (v : Warehouse) × IsCaughtUp w v × StoreAt D.Sectors store.new root.new v × (D.keeps_word (device_of store.new) → IsDone v passed)) }
+    ensures ok { IfOk result (λ passed. (w : Warehouse) → StoreAt D.Sectors store.old root.old w
+        → (D.keeps_word (device_of store.old) → dims.now ≡ w.rows)
+        → (v : Warehouse) × IsCaughtUp w v × StoreAt D.Sectors store.new root.new v
+        × (D.keeps_word (device_of store.new) → IsDone v passed)) }
 
     // The store refused the commit that brings the least of the others on.
-    ensures reason { IfErr result (λ fault. fault ≢ Device → fault ≢ Memory → (w : Warehouse) → StoreAt D.Sectors store.old root.old w
+    ensures reason { IfErr result (λ fault. fault ≢ Device → fault ≢ Memory → (w : Warehouse)
+        → StoreAt D.Sectors store.old root.old w
         → (D.keeps_word (device_of store.old) → dims.now ≡ w.rows)
         → (v : Warehouse) × IsCaughtUp w v × StoreAt D.Sectors store.new root.new v
         × (D.keeps_word (device_of store.new) → RefusesLeast D.Sectors store.new v fault)) }
-    ensures readable { IsErrOf result BadLayout → D.keeps_word (device_of store.new) → (w : Warehouse) → StoreAt D.Sectors store.old root.old w
+    ensures readable { IsErrOf result BadLayout → D.keeps_word (device_of store.new) → (w : Warehouse)
+        → StoreAt D.Sectors store.old root.old w
         → (D.keeps_word (device_of store.old) → dims.now ≡ w.rows) → ⊥ }
     ensures causes { IfErr result EndsBringing }
     ensures failed { IsErrOf result Failed → ⊥ }
-    ensures device { IsErrOf result Device → (has_failed store.new ≡ true) × ((disk_of D.Sectors store.new).failures ≡ min ((disk_of D.Sectors store.old).failures + 1) (2 ^ 64 - 1)) }
+    ensures device { IsErrOf result Device → (has_failed store.new ≡ true)
+        × ((disk_of D.Sectors store.new).failures ≡ min ((disk_of D.Sectors store.old).failures + 1) (2 ^ 64 - 1)) }
 
     // What is kept in memory stays that of the content.
     ensures loaded { has_failed store.new ≡ false → D.keeps_word (device_of store.new) → (rows : DimRows)
-        → IsLoaded (content_of D.Sectors store.old) rows root.old → IsLoaded (content_of D.Sectors store.new) rows root.new }
+        → IsLoaded (content_of D.Sectors store.old) rows root.old
+        → IsLoaded (content_of D.Sectors store.new) rows root.new }
     ensures word { D.keeps_word (device_of store.new) → D.keeps_word (device_of store.old) }
 {
     let _usable = store.is_broken();

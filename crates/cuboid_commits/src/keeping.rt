@@ -5,7 +5,8 @@ ghost use Rattle.cube_model.specs.declared.rows.DimRows.{DimRows};
 ghost use Rattle.wire.specs.Limits.{most_objects};
 ghost use Rattle.object_store.specs.Commit.{ArePuts};
 ghost use Rattle.object_store.specs.Disk.{Leaves};
-ghost use Rattle.object_store.specs.Store.{Breaks, IsAsBefore, Refuses, content_of, device_of, disk_of, has_failed, room_of};
+ghost use Rattle.object_store.specs.Store.{Breaks, IsAsBefore, Refuses, content_of, device_of, disk_of, has_failed};
+ghost use Rattle.object_store.specs.Store.{room_of};
 ghost use Rattle.warehouse_root.specs.Root.{IsRoot, PlainRoot};
 ghost use Rattle.warehouse_root.specs.declared.layout.Layout.TheVariants.{First};
 ghost use Rattle.warehouse_objects.specs.Loaded.{IsLoaded};
@@ -37,8 +38,8 @@ pub struct Next {
 
 /// Brings a stored cuboid on, in one commit.
 ///
-/// `Full` where the store has no room for the run, and `Worn` at the last generation: then all is as before, as it is where
-/// memory is missing. `Device` where the device fails.
+/// `Full` where the store has no room for the run, and `Worn` at the last generation: then all is as before, as it is
+/// where memory is missing. `Device` where the device fails.
 pub fn keep_one<D: Sectors>(alloc: Global, store: &mut Store<D>, next: &Next) -> Result<(), Fault>
     requires fine { has_failed store.old ≡ false }
     requires few { length (content_of D.Sectors store.old).objects < most_objects }
@@ -47,20 +48,25 @@ pub fn keep_one<D: Sectors>(alloc: Global, store: &mut Store<D>, next: &Next) ->
     requires root { IsRoot next.now.root_bytes.items next.now.root }
 
     // A crash at any point leaves the warehouse before or after.
-    ensures leaves { (w : Warehouse) (root : PlainRoot) (old new : Cuboid) (run : StoredRun) → StoreAt D.Sectors store.old root w → BringsOn w old new run next.now
-        → Leaves (disk_of D.Sectors store.old) (disk_of D.Sectors store.new) (λ c. Represents c w ⊎ Represents c (kept w new)) }
+    ensures leaves { (w : Warehouse) (root : PlainRoot) (old new : Cuboid) (run : StoredRun)
+        → StoreAt D.Sectors store.old root w → BringsOn w old new run next.now
+        → Leaves (disk_of D.Sectors store.old) (disk_of D.Sectors store.new)
+        (λ c. Represents c w ⊎ Represents c (kept w new)) }
 
     // Then the warehouse after.
-    ensures ok { OnOk result ((w : Warehouse) (root : PlainRoot) (old new : Cuboid) (run : StoredRun) → StoreAt D.Sectors store.old root w → BringsOn w old new run next.now
+    ensures ok { OnOk result ((w : Warehouse) (root : PlainRoot) (old new : Cuboid) (run : StoredRun)
+        → StoreAt D.Sectors store.old root w → BringsOn w old new run next.now
         → StoreAt D.Sectors store.new next.now.root (kept w new)) }
-    ensures loaded { OnOk result (D.keeps_word (device_of store.new) → (rows : DimRows) (root : PlainRoot) → IsLoaded (content_of D.Sectors store.old) rows root
+    ensures loaded { OnOk result (D.keeps_word (device_of store.new) → (rows : DimRows) (root : PlainRoot)
+        → IsLoaded (content_of D.Sectors store.old) rows root
         → next.now.root.layout ≡ First → IsLoaded (content_of D.Sectors store.new) rows next.now.root) }
     ensures fine { OnOk result (has_failed store.new ≡ false) }
     ensures failures { OnOk result ((disk_of D.Sectors store.new).failures ≡ (disk_of D.Sectors store.old).failures) }
 
     // What a refusal leaves, and when it comes.
     ensures refused { IfErr result (λ fault. fault ≢ Device → IsAsBefore D.Sectors store.old store.new) }
-    ensures causes { IfErr result (λ fault. fault ≢ Device → Refuses (content_of D.Sectors store.old) (room_of store.old)
+    ensures causes { IfErr result
+        (λ fault. fault ≢ Device → Refuses (content_of D.Sectors store.old) (room_of store.old)
         ((next.now.id, next.now.bytes.items) ∷ []) next.now.drops.items next.now.root_bytes.items fault) }
     ensures failed { IsErrOf result Failed → ⊥ }
     ensures device { IsErrOf result Device → Breaks D.Sectors store.old store.new }

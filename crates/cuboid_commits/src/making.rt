@@ -43,7 +43,8 @@ pub(crate) fn appended(
     requires to { span.to ≤ length root.now.batches }
     requires runs { cuboid.runs < most_runs }
     requires cells { cuboid.cells + length tail.now.cells ≤ most_cells }
-    ensures ok { IfOk result (IsNext (λ w. RepresentRows w.rows (modes_of w) (rows_in w.batches span) tail.now) root.now cuboid span.to) }
+    ensures ok { IfOk result
+        (IsNext (λ w. RepresentRows w.rows (modes_of w) (rows_in w.batches span) tail.now) root.now cuboid span.to) }
     ensures memory { IfErr result (λ fault. fault ≡ Memory) }
 {
     let _proper = tail.view();
@@ -69,7 +70,9 @@ pub(crate) fn replaced(
     requires view { index_of cells.now.view ≡ cuboid.view }
     requires above { cuboid.mark < mark }
     requires to { mark ≤ length root.now.batches }
-    ensures ok { IfOk result (IsNext (λ w. RepresentRows w.rows (modes_of w) (all_rows (take mark w.batches)) cells.now) root.now cuboid mark) }
+    ensures ok { IfOk result
+        (IsNext (λ w. RepresentRows w.rows (modes_of w) (all_rows (take mark w.batches)) cells.now) root.now cuboid
+        mark) }
     ensures memory { IfErr result (λ fault. fault ≡ Memory) }
 {
     let _proper = cells.view();

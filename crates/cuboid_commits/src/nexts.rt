@@ -1,15 +1,16 @@
 //! The next run of a stored cuboid.
-ghost use Rattle.std.specs.Prelude.{◌≡◌, ◌⊎◌, ◌<◌, ◌≤◌, ◌++◌, ◌^◌, Some, List, false, length, take, IfErr, IfOk, IsErrOf};
+ghost use Rattle.std.specs.Prelude.{◌≡◌, ◌⊎◌, ◌<◌, ◌≤◌, ◌++◌, ◌^◌, Some, List, false, length, take, IfErr, IfOk};
+ghost use Rattle.std.specs.Prelude.{IsErrOf};
 ghost use Rattle.cube_model.specs.declared.fault.Fault.TheVariants.{BadLayout, Device, Memory, TooManyCells};
 ghost use Rattle.cube_model.specs.declared.rows.LineOrder.{LineOrder};
 ghost use Rattle.cube_model.specs.Admission.{AreInRange, all_rows};
-ghost use Rattle.object_store.specs.Disk.{Leaves};
-ghost use Rattle.object_store.specs.Store.{Breaks, IsStill, content_of, device_of, disk_of, has_failed};
+ghost use Rattle.object_store.specs.Store.{content_of, device_of, has_failed};
 ghost use Rattle.lattice.specs.Views.{index_of};
 ghost use Rattle.cuboid_upkeep.specs.Grouping.{RepresentRows};
 ghost use Rattle.cuboid_upkeep.specs.Steps.{HaveTooMany};
 ghost use Rattle.warehouse_root.specs.Root.{IsProperCuboid};
-ghost use Rattle.warehouse_objects.specs.Represents.{Represents, root_of, rows_in, said_of};
+ghost use Rattle.warehouse_objects.specs.Reads.{ReadsOnly};
+ghost use Rattle.warehouse_objects.specs.Represents.{Represents, rows_in, said_of};
 ghost use Rattle.warehouse_objects.specs.Warehouse.{Cuboid, Warehouse, cuboid_at, modes_of};
 ghost use Rattle.cuboid_commits.specs.Keeping.{IsTooLarge};
 ghost use Rattle.cuboid_commits.specs.Nexts.{HasStored, IsNext};
@@ -32,8 +33,9 @@ use warehouse_root::{Root, StoredCuboid};
 
 // What brings a cuboid of a view on to the target: the next run of it, with the cells of the batches after its mark.
 //
-// `TooManyCells` where the first batches, as many as the target says, have more than 262,144 cells in the view. `BadLayout` where
-// the content is that of no warehouse. It can also fail when out of memory, or because the device does.
+// `TooManyCells` where the first batches, as many as the target says, have more than 262,144 cells in the view.
+// `BadLayout` where the content is that of no warehouse. It can also fail when out of memory, or because the device
+// does.
 pub(crate) fn next_of<D: Sectors>(
     alloc: Global,
     store: &mut Store<D>,
@@ -45,20 +47,24 @@ pub(crate) fn next_of<D: Sectors>(
     requires fine { has_failed store.old ≡ false }
     requires proper { IsProperCuboid root.now.layout (length root.now.batches) cuboid }
     requires view { index_of view ≡ cuboid.view }
-    requires behind { cuboid.mark < root.now.target }
+    requires after { cuboid.mark < root.now.target }
     requires within { root.now.target ≤ length root.now.batches }
-    ensures ok { IfOk result (IsNext (λ w. D.keeps_word (device_of store.new) × Represents (content_of D.Sectors store.old) w × (dims.now ≡ w.rows))
+    ensures ok { IfOk result
+        (IsNext (λ w. D.keeps_word (device_of store.new) × Represents (content_of D.Sectors store.old) w
+        × (dims.now ≡ w.rows))
         root.now cuboid root.now.target) }
-    ensures large { IsErrOf result (TooManyCells (index_of view)) → D.keeps_word (device_of store.new) → (w : Warehouse) (stored : Cuboid)
-        → Represents (content_of D.Sectors store.old) w → HasStored root.now cuboid w stored → dims.now ≡ w.rows → IsTooLarge w view }
+    ensures large { IsErrOf result (TooManyCells (index_of view)) → D.keeps_word (device_of store.new)
+        → (w : Warehouse) (stored : Cuboid)
+        → Represents (content_of D.Sectors store.old) w → HasStored root.now cuboid w stored → dims.now ≡ w.rows
+        → IsTooLarge w view }
     ensures refused { IsErrOf result BadLayout → D.keeps_word (device_of store.new) → (w : Warehouse) (stored : Cuboid)
         → Represents (content_of D.Sectors store.old) w → HasStored root.now cuboid w stored → dims.now ≡ w.rows → ⊥ }
 
     // The content stays, at each moment.
-    ensures leaves { Leaves (disk_of D.Sectors store.old) (disk_of D.Sectors store.new) (λ c. c ≡ content_of D.Sectors store.old) }
-    ensures stays { (IsErrOf result Device → ⊥) → IsStill D.Sectors store.old store.new }
-    ensures device { IsErrOf result Device → Breaks D.Sectors store.old store.new }
-    ensures causes { IfErr result (λ fault. (fault ≡ Memory) ⊎ ((fault ≡ Device) ⊎ ((fault ≡ BadLayout) ⊎ (fault ≡ TooManyCells (index_of view))))) }
+    ensures reads { ReadsOnly D.Sectors store.old store.new result }
+    ensures causes { IfErr result
+        (λ fault. (fault ≡ Memory)
+        ⊎ ((fault ≡ Device) ⊎ ((fault ≡ BadLayout) ⊎ (fault ≡ TooManyCells (index_of view))))) }
 {
     let _usable = store.is_broken();
     rows_have_cells();
@@ -73,8 +79,8 @@ pub(crate) fn next_of<D: Sectors>(
     }
 }
 
-// The next run of a cuboid, from the cells of the batches of a span: put after the others, or in the place of all runs, merged
-// with them, where there would be more than 8 runs or, before common keys are found, more than 262,144 cells.
+// The next run of a cuboid, from the cells of the batches of a span: put after the others, or in the place of all runs,
+// merged with them, where there would be more than 8 runs or, before common keys are found, more than 262,144 cells.
 fn next_run<D: Sectors>(
     alloc: Global,
     store: &mut Store<D>,
@@ -89,17 +95,21 @@ fn next_run<D: Sectors>(
     requires from { span.from ≡ cuboid.mark }
     requires some { span.from < span.to }
     requires to { span.to ≤ length root.now.batches }
-    ensures ok { IfOk result (IsNext (λ w. D.keeps_word (device_of store.new) × Represents (content_of D.Sectors store.old) w
+    ensures ok { IfOk result
+        (IsNext (λ w. D.keeps_word (device_of store.new) × Represents (content_of D.Sectors store.old) w
         × RepresentRows w.rows (modes_of w) (rows_in w.batches span) tail.now) root.now cuboid span.to) }
-    ensures large { IsErrOf result (TooManyCells (index_of tail.now.view)) → D.keeps_word (device_of store.new) → (w : Warehouse) (stored : Cuboid)
-        → Represents (content_of D.Sectors store.old) w → HasStored root.now cuboid w stored → RepresentRows w.rows (modes_of w) (rows_in w.batches span) tail.now
+    ensures large { IsErrOf result (TooManyCells (index_of tail.now.view)) → D.keeps_word (device_of store.new)
+        → (w : Warehouse) (stored : Cuboid)
+        → Represents (content_of D.Sectors store.old) w → HasStored root.now cuboid w stored
+        → RepresentRows w.rows (modes_of w) (rows_in w.batches span) tail.now
         → HaveTooMany w.rows (modes_of w) tail.now.view (all_rows (take span.to w.batches)) }
     ensures refused { IsErrOf result BadLayout → D.keeps_word (device_of store.new) → (w : Warehouse) (stored : Cuboid)
-        → Represents (content_of D.Sectors store.old) w → HasStored root.now cuboid w stored → RepresentRows w.rows (modes_of w) (rows_in w.batches span) tail.now → ⊥ }
-    ensures leaves { Leaves (disk_of D.Sectors store.old) (disk_of D.Sectors store.new) (λ c. c ≡ content_of D.Sectors store.old) }
-    ensures stays { (IsErrOf result Device → ⊥) → IsStill D.Sectors store.old store.new }
-    ensures device { IsErrOf result Device → Breaks D.Sectors store.old store.new }
-    ensures causes { IfErr result (λ fault. (fault ≡ Memory) ⊎ ((fault ≡ Device) ⊎ ((fault ≡ BadLayout) ⊎ (fault ≡ TooManyCells (index_of tail.now.view))))) }
+        → Represents (content_of D.Sectors store.old) w → HasStored root.now cuboid w stored
+        → RepresentRows w.rows (modes_of w) (rows_in w.batches span) tail.now → ⊥ }
+    ensures reads { ReadsOnly D.Sectors store.old store.new result }
+    ensures causes { IfErr result
+        (λ fault. (fault ≡ Memory)
+        ⊎ ((fault ≡ Device) ⊎ ((fault ≡ BadLayout) ⊎ (fault ≡ TooManyCells (index_of tail.now.view))))) }
 {
     let _usable = store.is_broken();
     let _proper = tail.view();
@@ -121,21 +131,29 @@ fn merged_with<D: Sectors>(
 ) -> Result<Cells, Fault>
     requires fine { has_failed store.old ≡ false }
     requires view { index_of tail.now.view ≡ cuboid.view }
-    ensures ok { IfOk result (λ cells. D.keeps_word (device_of store.new) → (w : Warehouse) (stored : Cuboid) (rows : List LineOrder)
-        → Represents (content_of D.Sectors store.old) w → cuboid_at cuboid.view w.cuboids ≡ Some stored → said_of stored ≡ cuboid
-        → RepresentRows w.rows (modes_of w) rows tail.now → RepresentRows w.rows (modes_of w) (all_rows (take cuboid.mark w.batches) ++ rows) cells) }
+    ensures ok { IfOk result (λ cells. D.keeps_word (device_of store.new)
+        → (w : Warehouse) (stored : Cuboid) (rows : List LineOrder)
+        → Represents (content_of D.Sectors store.old) w → cuboid_at cuboid.view w.cuboids ≡ Some stored
+        → said_of stored ≡ cuboid
+        → RepresentRows w.rows (modes_of w) rows tail.now
+        → RepresentRows w.rows (modes_of w) (all_rows (take cuboid.mark w.batches) ++ rows) cells) }
     ensures view { IfOk result (λ cells. cells.view ≡ tail.now.view) }
-    ensures large { IsErrOf result (TooManyCells (index_of tail.now.view)) → D.keeps_word (device_of store.new) → (w : Warehouse) (stored : Cuboid) (rows : List LineOrder)
-        → Represents (content_of D.Sectors store.old) w → cuboid_at cuboid.view w.cuboids ≡ Some stored → said_of stored ≡ cuboid
-        → RepresentRows w.rows (modes_of w) rows tail.now → HaveTooMany w.rows (modes_of w) tail.now.view (all_rows (take cuboid.mark w.batches) ++ rows) }
-    ensures refused { IsErrOf result BadLayout → D.keeps_word (device_of store.new) → (w : Warehouse) (stored : Cuboid) (rows : List LineOrder)
-        → Represents (content_of D.Sectors store.old) w → cuboid_at cuboid.view w.cuboids ≡ Some stored → said_of stored ≡ cuboid
+    ensures large { IsErrOf result (TooManyCells (index_of tail.now.view)) → D.keeps_word (device_of store.new)
+        → (w : Warehouse) (stored : Cuboid) (rows : List LineOrder)
+        → Represents (content_of D.Sectors store.old) w → cuboid_at cuboid.view w.cuboids ≡ Some stored
+        → said_of stored ≡ cuboid
+        → RepresentRows w.rows (modes_of w) rows tail.now
+        → HaveTooMany w.rows (modes_of w) tail.now.view (all_rows (take cuboid.mark w.batches) ++ rows) }
+    ensures refused { IsErrOf result BadLayout → D.keeps_word (device_of store.new)
+        → (w : Warehouse) (stored : Cuboid) (rows : List LineOrder)
+        → Represents (content_of D.Sectors store.old) w → cuboid_at cuboid.view w.cuboids ≡ Some stored
+        → said_of stored ≡ cuboid
         → RepresentRows w.rows (modes_of w) rows tail.now → AreInRange (all_rows (take cuboid.mark w.batches) ++ rows)
         → length (all_rows (take cuboid.mark w.batches) ++ rows) < 2 ^ 63 → ⊥ }
-    ensures leaves { Leaves (disk_of D.Sectors store.old) (disk_of D.Sectors store.new) (λ c. c ≡ content_of D.Sectors store.old) }
-    ensures stays { (IsErrOf result Device → ⊥) → IsStill D.Sectors store.old store.new }
-    ensures device { IsErrOf result Device → Breaks D.Sectors store.old store.new }
-    ensures causes { IfErr result (λ fault. (fault ≡ Memory) ⊎ ((fault ≡ Device) ⊎ ((fault ≡ BadLayout) ⊎ (fault ≡ TooManyCells (index_of tail.now.view))))) }
+    ensures reads { ReadsOnly D.Sectors store.old store.new result }
+    ensures causes { IfErr result
+        (λ fault. (fault ≡ Memory)
+        ⊎ ((fault ≡ Device) ⊎ ((fault ≡ BadLayout) ⊎ (fault ≡ TooManyCells (index_of tail.now.view))))) }
 {
     merges_represent_both();
     rows_in_range_fit();

@@ -4,7 +4,8 @@ ghost use Rattle.cube_model.specs.declared.fault.Fault.TheVariants.{BadLayout, D
 ghost use Rattle.cube_model.specs.declared.rows.DimRows.{DimRows};
 ghost use Rattle.wire.specs.Limits.{most_objects};
 ghost use Rattle.object_store.specs.Disk.{Leaves};
-ghost use Rattle.object_store.specs.Store.{Breaks, IsAsBefore, IsOneOf, Refuses, content_of, device_of, disk_of, has_failed, room_of};
+ghost use Rattle.object_store.specs.Store.{Breaks, IsAsBefore, IsOneOf, Refuses, content_of, device_of, disk_of};
+ghost use Rattle.object_store.specs.Store.{has_failed, room_of};
 ghost use Rattle.warehouse_root.specs.Root.{root_of};
 ghost use Rattle.warehouse_objects.specs.Loaded.{IsLoaded};
 ghost use Rattle.cuboid_commits.specs.Nexts.{first_run};
@@ -17,7 +18,8 @@ use std::alloc::Global;
 use warehouse_root::{Layout, Root};
 use wire::limits::MOST_OBJECTS;
 
-// Commits another root of the same layout, and drops some runs. `BadLayout` where there are more objects than a store takes.
+// Commits another root of the same layout, and drops some runs. `BadLayout` where there are more objects than a store
+// takes.
 pub(crate) fn replace_root<D: Sectors>(
     alloc: Global,
     store: &mut Store<D>,
@@ -34,9 +36,11 @@ pub(crate) fn replace_root<D: Sectors>(
         (IsOneOf (content_of D.Sectors store.old) (replaced next drops.now (content_of D.Sectors store.old))) }
 
     // Then the content after.
-    ensures ok { OnOk result (D.keeps_word (device_of store.new) → content_of D.Sectors store.new ≡ replaced next drops.now (content_of D.Sectors store.old)) }
+    ensures ok { OnOk result (D.keeps_word (device_of store.new)
+        → content_of D.Sectors store.new ≡ replaced next drops.now (content_of D.Sectors store.old)) }
     ensures root { OnOk result (root.new ≡ next) }
-    ensures loaded { OnOk result (D.keeps_word (device_of store.new) → (rows : DimRows) → IsLoaded (content_of D.Sectors store.old) rows root.old
+    ensures loaded { OnOk result (D.keeps_word (device_of store.new) → (rows : DimRows)
+        → IsLoaded (content_of D.Sectors store.old) rows root.old
         → IsLoaded (content_of D.Sectors store.new) rows root.new) }
     ensures fine { OnOk result (has_failed store.new ≡ false) }
     ensures failures { OnOk result ((disk_of D.Sectors store.new).failures ≡ (disk_of D.Sectors store.old).failures) }
@@ -44,7 +48,9 @@ pub(crate) fn replace_root<D: Sectors>(
     // What a refusal leaves, and when it comes.
     ensures kept { OnErr result (root.new ≡ root.old) }
     ensures refused { IfErr result (λ fault. fault ≢ Device → IsAsBefore D.Sectors store.old store.new) }
-    ensures causes { IfErr result (λ fault. fault ≢ Device → ((fault ≡ BadLayout) × (most_objects < length (content_of D.Sectors store.old).objects))
+    ensures causes { IfErr result
+        (λ fault. fault ≢ Device
+        → ((fault ≡ BadLayout) × (most_objects < length (content_of D.Sectors store.old).objects))
         ⊎ Refuses (content_of D.Sectors store.old) (room_of store.old) [] drops.now (root_of next) fault) }
     ensures failed { IsErrOf result Failed → ⊥ }
     ensures device { IsErrOf result Device → Breaks D.Sectors store.old store.new }

@@ -20,12 +20,12 @@ use sector_device::Sectors;
 use std::alloc::Global;
 use warehouse_root::{Root, StoredCuboid};
 
-/// Brings each stored cuboid to all batches: where some mark is less than their count, one commit sets the target to it, and then
-/// each such cuboid, by ascending view, gets its cells and its mark in a commit of its own.
+/// Brings each stored cuboid to all batches: where some mark is less than their count, one commit sets the target to
+/// it, and then each such cuboid, by ascending view, gets its cells and its mark in a commit of its own.
 ///
-/// A view whose cuboid would have more than 262,144 cells is passed over; the answer is the first of these. Any other fault ends
-/// it, and marks that were reached stay: `Memory`, `Full`, `Worn`, and `Device` where the device fails. `BadLayout` where the
-/// content is that of no warehouse.
+/// A view whose cuboid would have more than 262,144 cells is passed over; the answer is the first of these. Any other
+/// fault ends it, and marks that were reached stay: `Memory`, `Full`, `Worn`, and `Device` where the device fails.
+/// `BadLayout` where the content is that of no warehouse.
 pub fn keep_up<D: Sectors>(
     alloc: Global,
     store: &mut Store<D>,
@@ -35,12 +35,17 @@ pub fn keep_up<D: Sectors>(
     requires fine { has_failed store.old ≡ false }
 
     // A crash leaves the same rows, batches and views, and no mark less.
-    ensures leaves { (w : Warehouse) → StoreAt D.Sectors store.old root.old w → (D.keeps_word (device_of store.old) → dims.now ≡ w.rows)
-        → Leaves (disk_of D.Sectors store.old) (disk_of D.Sectors store.new) (λ c. (v : Warehouse) × IsKeptUp w v × Represents c v) }
-    ensures stays { (IsErrOf result Device → ⊥) → (w : Warehouse) → StoreAt D.Sectors store.old root.old w → (D.keeps_word (device_of store.old) → dims.now ≡ w.rows)
+    ensures leaves { (w : Warehouse) → StoreAt D.Sectors store.old root.old w
+        → (D.keeps_word (device_of store.old) → dims.now ≡ w.rows)
+        → Leaves (disk_of D.Sectors store.old) (disk_of D.Sectors store.new)
+        (λ c. (v : Warehouse) × IsKeptUp w v × Represents c v) }
+    ensures stays { (IsErrOf result Device → ⊥) → (w : Warehouse) → StoreAt D.Sectors store.old root.old w
+        → (D.keeps_word (device_of store.old) → dims.now ≡ w.rows)
         → (v : Warehouse) × IsKeptUp w v × StoreAt D.Sectors store.new root.new v }
-    ensures ok { IfOk result (λ passed. (w : Warehouse) → StoreAt D.Sectors store.old root.old w → (D.keeps_word (device_of store.old) → dims.now ≡ w.rows)
-        → (v : Warehouse) × IsKeptUp w v × StoreAt D.Sectors store.new root.new v × (D.keeps_word (device_of store.new) → AreWholeBut v passed)) }
+    ensures ok { IfOk result (λ passed. (w : Warehouse) → StoreAt D.Sectors store.old root.old w
+        → (D.keeps_word (device_of store.old) → dims.now ≡ w.rows)
+        → (v : Warehouse) × IsKeptUp w v × StoreAt D.Sectors store.new root.new v
+        × (D.keeps_word (device_of store.new) → AreWholeBut v passed)) }
 
     // Or a commit on the way was refused.
     ensures refused { IfErr result (λ fault. fault ≢ Device → (w : Warehouse) → StoreAt D.Sectors store.old root.old w
@@ -52,7 +57,8 @@ pub fn keep_up<D: Sectors>(
 
     // What is kept in memory stays that of the content.
     ensures loaded { has_failed store.new ≡ false → D.keeps_word (device_of store.new) → (rows : DimRows)
-        → IsLoaded (content_of D.Sectors store.old) rows root.old → IsLoaded (content_of D.Sectors store.new) rows root.new }
+        → IsLoaded (content_of D.Sectors store.old) rows root.old
+        → IsLoaded (content_of D.Sectors store.new) rows root.new }
     ensures word { D.keeps_word (device_of store.new) → D.keeps_word (device_of store.old) }
 {
     let _usable = store.is_broken();

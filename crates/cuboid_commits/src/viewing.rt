@@ -1,10 +1,12 @@
 //! The commit that chooses which cuboids are stored.
-ghost use Rattle.std.specs.Prelude.{◌≡◌, ◌≢◌, ◌⊎◌, ◌≤◌, ◌==◌, ◌+◌, [], false, length, IfErr, IfOk, IsErrOf, OnErr, OnOk};
+ghost use Rattle.std.specs.Prelude.{◌≡◌, ◌≢◌, ◌⊎◌, ◌≤◌, ◌==◌, ◌+◌, [], false, length, IfErr, IfOk, IsErrOf, OnErr};
+ghost use Rattle.std.specs.Prelude.{OnOk};
 ghost use Rattle.std.specs.List.{find};
 ghost use Rattle.cube_model.specs.declared.fault.Fault.TheVariants.{Device, Failed, Memory};
 ghost use Rattle.cube_model.specs.declared.rows.DimRows.{DimRows};
 ghost use Rattle.object_store.specs.Disk.{Leaves};
-ghost use Rattle.object_store.specs.Store.{Breaks, IsAsBefore, Refuses, content_of, device_of, disk_of, has_failed, room_of};
+ghost use Rattle.object_store.specs.Store.{Breaks, IsAsBefore, Refuses, content_of, device_of, disk_of, has_failed};
+ghost use Rattle.object_store.specs.Store.{room_of};
 ghost use Rattle.warehouse_root.specs.Limits.{most_cuboids};
 ghost use Rattle.warehouse_root.specs.Root as roots;
 ghost use Rattle.warehouse_objects.specs.Loaded.{IsLoaded};
@@ -21,11 +23,11 @@ use sector_device::Sectors;
 use std::alloc::Global;
 use warehouse_root::{Layout, Root, StoredCuboid, push_run_ids};
 
-/// Stores the cuboids of some views, and no others, in one commit: a stored cuboid of one of them stays as it is, another one
-/// holds no batch yet, and the target becomes 0. At most 16 views; those with ship mode are left out.
+/// Stores the cuboids of some views, and no others, in one commit: a stored cuboid of one of them stays as it is,
+/// another one holds no batch yet, and the target becomes 0. At most 16 views; those with ship mode are left out.
 ///
-/// `Full` where the store has no room, and `Worn` at the last generation: then all is as before, as it is where memory is
-/// missing. `Device` where the device fails.
+/// `Full` where the store has no room, and `Worn` at the last generation: then all is as before, as it is where memory
+/// is missing. `Device` where the device fails.
 pub fn set_views<D: Sectors>(
     alloc: Global,
     store: &mut Store<D>,
@@ -37,26 +39,33 @@ pub fn set_views<D: Sectors>(
 
     // A crash at any point leaves the warehouse before or after.
     ensures leaves { (w : Warehouse) → StoreAt D.Sectors store.old root.old w
-        → Leaves (disk_of D.Sectors store.old) (disk_of D.Sectors store.new) (λ c. Represents c w ⊎ Represents c (with_views w views.now)) }
+        → Leaves (disk_of D.Sectors store.old) (disk_of D.Sectors store.new)
+        (λ c. Represents c w ⊎ Represents c (with_views w views.now)) }
 
     // Then the warehouse after.
-    ensures ok { OnOk result ((w : Warehouse) → StoreAt D.Sectors store.old root.old w → StoreAt D.Sectors store.new root.new (with_views w views.now)) }
-    ensures once { OnOk result (D.keeps_word (device_of store.new) → (content_of D.Sectors store.new).generation ≡ (content_of D.Sectors store.old).generation + 1) }
+    ensures ok { OnOk result ((w : Warehouse) → StoreAt D.Sectors store.old root.old w
+        → StoreAt D.Sectors store.new root.new (with_views w views.now)) }
+    ensures once { OnOk result (D.keeps_word (device_of store.new)
+        → (content_of D.Sectors store.new).generation ≡ (content_of D.Sectors store.old).generation + 1) }
     ensures fine { OnOk result (has_failed store.new ≡ false) }
     ensures failures { OnOk result ((disk_of D.Sectors store.new).failures ≡ (disk_of D.Sectors store.old).failures) }
 
     // What a refusal leaves, and when it comes.
     ensures refused { IfErr result (λ fault. fault ≢ Device → (w : Warehouse) → StoreAt D.Sectors store.old root.old w
-        → StoreAt D.Sectors store.new root.new w × Leaves (disk_of D.Sectors store.old) (disk_of D.Sectors store.new) (λ c. Represents c w)) }
+        → StoreAt D.Sectors store.new root.new w
+        × Leaves (disk_of D.Sectors store.old) (disk_of D.Sectors store.new) (λ c. Represents c w)) }
     ensures kept { OnErr result (root.new ≡ root.old) }
     ensures as_before { IfErr result (λ fault. fault ≢ Device → IsAsBefore D.Sectors store.old store.new) }
-    ensures causes { IfErr result (λ fault. fault ≢ Device → (w : Warehouse) → StoreAt D.Sectors store.old root.old w → D.keeps_word (device_of store.new)
-        → Refuses (content_of D.Sectors store.old) (room_of store.old) [] (dropped_ids w views.now) (roots.root_of (root_of (with_views w views.now))) fault) }
+    ensures causes { IfErr result (λ fault. fault ≢ Device → (w : Warehouse) → StoreAt D.Sectors store.old root.old w
+        → D.keeps_word (device_of store.new)
+        → Refuses (content_of D.Sectors store.old) (room_of store.old) [] (dropped_ids w views.now)
+        (roots.root_of (root_of (with_views w views.now))) fault) }
     ensures failed { IsErrOf result Failed → ⊥ }
     ensures device { IsErrOf result Device → Breaks D.Sectors store.old store.new }
 
     // Also after an error.
-    ensures loaded { has_failed store.new ≡ false → D.keeps_word (device_of store.new) → (rows : DimRows) → IsLoaded (content_of D.Sectors store.old) rows root.old
+    ensures loaded { has_failed store.new ≡ false → D.keeps_word (device_of store.new) → (rows : DimRows)
+        → IsLoaded (content_of D.Sectors store.old) rows root.old
         → IsLoaded (content_of D.Sectors store.new) rows root.new }
     ensures word { D.keeps_word (device_of store.new) → D.keeps_word (device_of store.old) }
 {

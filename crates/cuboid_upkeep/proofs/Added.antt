@@ -1,5 +1,6 @@
 -- Cells of fact rows put end to end.
-use Rattle.std.proofs.Common.{◌≡◌, ◌∙◌, sym, ap, refl, subst, inl, inr, ◌⊎◌, ℕ, List, [], ◌∷◌, ◌++◌, Some, All, append_assoc, append-nil, Ok, Err}
+use Rattle.std.proofs.Common.{◌≡◌, ◌∙◌, sym, ap, refl, subst, inl, inr, ◌⊎◌, ℕ, List, [], ◌∷◌, ◌++◌, Some, All}
+use Rattle.std.proofs.Common.{append_assoc, append-nil, Ok, Err}
 use Rattle.std.specs.Prelude.{IfErr, OnOk, Result}
 use Rattle.std.proofs.lemmas.List.Elements.{All-append, All-tail}
 use Rattle.cube_model.specs.declared.fault.Fault.{Fault}
@@ -20,7 +21,8 @@ pub ok_through : {A : Type 0} (r : Result A Fault) (P Q : Type 0) → (P → Q) 
 ok_through (Ok a) P Q f p = f p
 ok_through (Err fault) P Q f p = p
 
-pub err_through : {A : Type 0} (r : Result A Fault) (P Q : Fault → Type 0) → ((fault : Fault) → P fault → Q fault) → IfErr r P → IfErr r Q
+pub err_through : {A : Type 0} (r : Result A Fault) (P Q : Fault → Type 0) → ((fault : Fault) → P fault → Q fault)
+    → IfErr r P → IfErr r Q
 err_through (Ok a) P Q f p = p
 err_through (Err fault) P Q f p = f fault p
 
@@ -34,11 +36,13 @@ both_represent dimensions modes rows others one other new same first second merg
       ascending = merge.cells.ascending;
       group = both_group dimensions modes new.view rows others one.cells other.cells new.cells
           (subst (λ (view : View). Group dimensions modes view rows one.cells) to_new first.group)
-          (subst (λ (view : View). Group dimensions modes view others other.cells) from_other second.group) merge.cells.by_key;
+          (subst (λ (view : View). Group dimensions modes view others other.cells) from_other second.group)
+          merge.cells.by_key;
     }
 
 -- no cell merged with others
-pub merge_of_none : (one other : PlainCells) → one.cells ≡ [] → one.view ≡ other.view → AreAscending other.cells → IsMergeOf one other other
+pub merge_of_none : (one other : PlainCells) → one.cells ≡ [] → one.view ≡ other.view → AreAscending other.cells
+    → IsMergeOf one other other
 merge_of_none one other none same ascending = record {
   view = sym same;
   cells = record {
@@ -47,41 +51,48 @@ merge_of_none one other none same ascending = record {
   };
 }
 
-all_behind : (P : LineOrder → Type 0) (rows others : List LineOrder) → All P (rows ++ others) → All P others
-all_behind P [] others all = all
-all_behind P (row ∷ rows) others all = all_behind P rows others (All-tail P row (rows ++ others) all)
+all_after : (P : LineOrder → Type 0) (rows others : List LineOrder) → All P (rows ++ others) → All P others
+all_after P [] others all = all
+all_after P (row ∷ rows) others all = all_after P rows others (All-tail P row (rows ++ others) all)
 
 module _ (dimensions : DimRows) (modes : List (List ℕ)) (view : View) (so_far rows : List LineOrder) where
   -- rows that are unfit by themselves are so after others
-  pub unfit_behind : AreUnfit dimensions modes view rows → AreUnfit dimensions modes view (so_far ++ rows)
-  unfit_behind (inl none) = inl (λ all. none (all_behind (HasMembers dimensions modes view) so_far rows all))
-  unfit_behind (inr past) = inr (record {
+  pub unfit_after : AreUnfit dimensions modes view rows → AreUnfit dimensions modes view (so_far ++ rows)
+  unfit_after (inl none) = inl (λ all. none (all_after (HasMembers dimensions modes view) so_far rows all))
+  unfit_after (inr past) = inr (record {
     before = so_far ++ past.before;
     part = past.part;
-    behind = past.behind;
+    after = past.after;
     number = past.number;
     cell = past.cell;
-    parts = ap (λ (l : List LineOrder). so_far ++ l) past.parts ∙ sym (append_assoc so_far past.before (past.part ++ past.behind));
+    parts = ap (λ (l : List LineOrder). so_far ++ l) past.parts
+        ∙ sym (append_assoc so_far past.before (past.part ++ past.after));
     is = past.is;
     passes = past.passes;
   })
 
-  pub batch_refused : (fault : Fault) → (fault ≡ Fault.Memory) ⊎ ((fault ≡ Fault.BadLayout) × AreUnfit dimensions modes view rows) → IsAddFault dimensions modes view (so_far ++ rows) fault
+  pub batch_refused : (fault : Fault) → (fault ≡ Fault.Memory)
+      ⊎ ((fault ≡ Fault.BadLayout) × AreUnfit dimensions modes view rows)
+      → IsAddFault dimensions modes view (so_far ++ rows) fault
   batch_refused fault (inl memory) = inl memory
-  batch_refused fault (inr bad) = inr (inl (bad.0, unfit_behind bad.1))
+  batch_refused fault (inr bad) = inr (inl (bad.0, unfit_after bad.1))
 
-  module _ (one other : List Cell) (fit : All CellFits one) (first : RepresentRows dimensions modes so_far (record { view = view; cells = one }))
+  module _ (one other : List Cell) (fit : All CellFits one)
+      (first : RepresentRows dimensions modes so_far (record { view = view; cells = one }))
       (second : RepresentRows dimensions modes rows (record { view = view; cells = other })) where
     passed : PassesType one other → PassType dimensions modes view (so_far ++ rows)
     passed p =
         let number : ℕ = number_of p.left.key in
-        let left_key : KeyFits p.left.key = subst (λ (c : Cell). KeyFits c.key) p.in_one.2 (fit p.in_one.0 p.left p.in_one.1).key in
-        let at_left : cell_at number one ≡ Some p.left = only_one one p.left (ascending_apart one first.ascending) p.in_one in
+        let left_key : KeyFits p.left.key =
+        subst (λ (c : Cell). KeyFits c.key) p.in_one.2 (fit p.in_one.0 p.left p.in_one.1).key in
+        let at_left : cell_at number one ≡ Some p.left =
+        only_one one p.left (ascending_apart one first.ascending) p.in_one in
         let at_right : cell_at number other ≡ Some p.right =
-        ap (λ (n : ℕ). cell_at n other) p.key ∙ only_one other p.right (ascending_apart other second.ascending) p.in_other in record {
+        ap (λ (n : ℕ). cell_at n other) p.key
+        ∙ only_one other p.right (ascending_apart other second.ascending) p.in_other in record {
           before = [];
           part = so_far ++ rows;
-          behind = [];
+          after = [];
           number = number;
           cell = merged p.left p.right;
           parts = sym (append-nil (so_far ++ rows));
@@ -92,7 +103,8 @@ module _ (dimensions : DimRows) (modes : List (List ℕ)) (view : View) (so_far 
           passes = λ numbers. p.passes (record { key = left_key; count = numbers.count; measures = numbers.measures });
         }
 
-    pub merge_refused : (fault : Fault) → IsMergeFault (record { view = view; cells = one }) (record { view = view; cells = other }) fault
+    pub merge_refused : (fault : Fault)
+        → IsMergeFault (record { view = view; cells = one }) (record { view = view; cells = other }) fault
         → IsAddFault dimensions modes view (so_far ++ rows) fault
     merge_refused fault (inl memory) = inl memory
     merge_refused fault (inr (inl bad)) = inr (inl (bad.0, inr (passed bad.1)))
@@ -100,8 +112,10 @@ module _ (dimensions : DimRows) (modes : List (List ℕ)) (view : View) (so_far 
       many.0,
       record {
         cells = many.1.cells;
-        represent = both_represent dimensions modes so_far rows (record { view = view; cells = one }) (record { view = view; cells = other })
-            (record { view = view; cells = many.1.cells }) refl first second (record { view = refl; cells = many.1.are });
+        represent = both_represent dimensions modes so_far rows (record { view = view; cells = one })
+            (record { view = view; cells = other })
+            (record { view = view; cells = many.1.cells }) refl first second
+            (record { view = refl; cells = many.1.are });
         many = many.1.many;
       },
     ))

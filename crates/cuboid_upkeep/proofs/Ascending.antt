@@ -1,5 +1,6 @@
 -- Numbers ascend as the keys do.
-use Rattle.std.proofs.Common.{◌≡◌, ◌⊎◌, inl, inr, ◌∙◌, sym, ap, refl, ℕ, ◌+◌, ◌*◌, ◌==◌, ◌<◌, ◌≤◌, Bool, true, false, cond, arith}
+use Rattle.std.proofs.Common.{◌≡◌, ◌⊎◌, inl, inr, ◌∙◌, sym, ap, refl, ℕ, ◌+◌, ◌*◌, ◌==◌, ◌<◌, ◌≤◌, Bool, true, false}
+use Rattle.std.proofs.Common.{cond, arith}
 use Rattle.std.proofs.Math.Nat.{mul-le-mul_right}
 use Rattle.std.proofs.lemmas.Bool.{cases_lt, cases_eq}
 use Rattle.std.proofs.lemmas.Bool.Decides.{nat_tests}
@@ -21,7 +22,8 @@ abbrev pub Follow : ℕ → ℕ → ℕ → ℕ → Type 0
 Follow place other number next = (place < other → number < next) × (place ≡ other → number ≡ next)
 
 -- the digits of two codes of a level
-digits_follow : (grouped : Level) (a b : ℕ) → IsCodeAt grouped a → IsCodeAt grouped b → Follow (digit_of a) (digit_of b) a b
+digits_follow : (grouped : Level) (a b : ℕ) → IsCodeAt grouped a → IsCodeAt grouped b
+    → Follow (digit_of a) (digit_of b) a b
 digits_follow grouped a b is also = by (a == 65535) (b == 65535) refl refl
   where
     by : (p q : Bool) → (a == 65535) ≡ p → (b == 65535) ≡ q → Follow (cond p 0 a) (cond q 0 b) a b
@@ -40,11 +42,13 @@ digits_follow grouped a b is also = by (a == 65535) (b == 65535) refl refl
     by false false e f = (λ lt. lt, λ same. same)
 
 -- one digit more
-one_digit : (p q m x y : ℕ) (first next c d : ℕ) → Follow p q first next → Follow x y c d → x < m → y < m → c < 65536 → d < 65536
+one_digit : (p q m x y : ℕ) (first next c d : ℕ) → Follow p q first next → Follow x y c d → x < m → y < m → c < 65536
+    → d < 65536
     → Follow (p * m + x) (q * m + y) (first * 65536 + c) (next * 65536 + d)
 one_digit p q m x y first next c d high low lt within fits also = by (cases_lt p q) (cases_eq p q)
   where
-    by : (p < q) ⊎ (q ≤ p) → (p ≡ q) ⊎ (p ≡ q → ⊥) → Follow (p * m + x) (q * m + y) (first * 65536 + c) (next * 65536 + d)
+    by : (p < q) ⊎ (q ≤ p) → (p ≡ q) ⊎ (p ≡ q → ⊥)
+        → Follow (p * m + x) (q * m + y) (first * 65536 + c) (next * 65536 + d)
     by (inl before) other =
         let less : first < next = high.0 before in
         let below : p * m + x < q * m = below_top p q m x before lt in
@@ -60,17 +64,28 @@ one_digit p q m x y first next c d high low lt within fits also = by (cases_lt p
         (λ above. absurd (omega (arith, above, below)), λ same. absurd (omega (arith, same, below)))
 
 -- the numbers of two keys of a view that does not group by ship mode
-module _ (view : View) (members : ViewMembers) (one other : Key) (of : IsKeyOf view one) (also : IsKeyOf view other) (fits : KeyFits one) (fit : KeyFits other)
+module _ (view : View) (members : ViewMembers) (one other : Key) (of : IsKeyOf view one) (also : IsKeyOf view other)
+    (fits : KeyFits one) (fit : KeyFits other)
     (lies : LiesIn members one) (lie : LiesIn members other) (modes : one.ship_mode ≡ other.ship_mode) where
   pub keys_follow : Follow (place_of members one) (place_of members other) (number_of one) (number_of other)
   keys_follow =
       let first = digits_follow view.customer one.customer other.customer of.customer also.customer in
-      let second = one_digit (digit_of one.customer) (digit_of other.customer) members.suppliers.count (digit_of one.supplier) (digit_of other.supplier)
-      one.customer other.customer one.supplier other.supplier first (digits_follow view.supplier one.supplier other.supplier of.supplier also.supplier)
+      let second = one_digit (digit_of one.customer) (digit_of other.customer) members.suppliers.count
+      (digit_of one.supplier) (digit_of other.supplier)
+      one.customer other.customer one.supplier other.supplier first
+      (digits_follow view.supplier one.supplier other.supplier of.supplier also.supplier)
       lies.supplier lie.supplier fits.supplier fit.supplier in
-      let third = one_digit _ _ members.parts.count (digit_of one.part) (digit_of other.part) (one.customer * 65536 + one.supplier) (other.customer * 65536 + other.supplier)
-      one.part other.part second (digits_follow view.part one.part other.part of.part also.part) lies.part lie.part fits.part fit.part in
-      let fourth = one_digit _ _ members.dates.count (digit_of one.date) (digit_of other.date) ((one.customer * 65536 + one.supplier) * 65536 + one.part)
-      ((other.customer * 65536 + other.supplier) * 65536 + other.part) one.date other.date third (digits_follow view.date one.date other.date of.date also.date)
-      lies.date lie.date fits.date fit.date in
-      (λ before. (let less = fourth.0 before in omega (arith, less, modes)), λ same. (let equal = fourth.1 same in omega (arith, equal, modes)))
+      let third =
+      one_digit _ _ members.parts.count (digit_of one.part) (digit_of other.part)
+      (one.customer * 65536 + one.supplier) (other.customer * 65536 + other.supplier)
+      one.part other.part second (digits_follow view.part one.part other.part of.part also.part) lies.part lie.part
+      fits.part fit.part in
+      let fourth =
+      one_digit _ _ members.dates.count (digit_of one.date) (digit_of other.date)
+      ((one.customer * 65536 + one.supplier) * 65536 + one.part)
+      ((other.customer * 65536 + other.supplier) * 65536 + other.part) one.date other.date third
+      (digits_follow view.date one.date other.date of.date also.date)
+      lies.date lie.date fits.date fit.date in (
+        λ before. (let less = fourth.0 before in omega (arith, less, modes)),
+        λ same. (let equal = fourth.1 same in omega (arith, equal, modes)),
+      )

@@ -2,5 +2,5 @@
 pub use Rattle.cuboid_upkeep.proofs.Added.{merge_refused}
 pub use Rattle.cuboid_upkeep.proofs.Existing.{Climbs, ascends, at_insert, climbs_insert, insert, inserted}
 pub use Rattle.cuboid_upkeep.proofs.InRange.{cell_fits, part_small}
-pub use Rattle.cuboid_upkeep.proofs.OneList.{none_behind, one_list, tail_ascends}
+pub use Rattle.cuboid_upkeep.proofs.OneList.{none_after, one_list, tail_ascends}
 pub use Rattle.cuboid_upkeep.proofs.Sorted.{ascending_apart, only_one}

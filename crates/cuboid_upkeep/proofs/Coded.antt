@@ -1,8 +1,11 @@
 -- Codes that are read from the columns of a dimension.
-use Rattle.std.proofs.Common.{◌≡◌, ◌∙◌, sym, ap, refl, subst, ℕ, ◌<◌, ◌≤◌, List, [], map, length, get_or, Option, Some, None, arith}
+use Rattle.std.proofs.Common.{◌≡◌, ◌∙◌, sym, ap, refl, subst, ℕ, ◌<◌, ◌≤◌, List, [], map, length, get_or, Option, Some}
+use Rattle.std.proofs.Common.{None, arith}
 use Rattle.std.proofs.lemmas.List.{get_or-map, length-map}
 use Rattle.cube_model.specs.declared.attr.Attr.{Attr}
-use Rattle.cube_model.specs.declared.attr.Attr.TheVariants.{CustomerCity, CustomerNation, CustomerRegion, SupplierCity, SupplierNation, SupplierRegion, PartBrand1, PartCategory, PartMfgr, DateYearmonthnum, DateYear}
+use Rattle.cube_model.specs.declared.attr.Attr.TheVariants.{CustomerCity, CustomerNation, CustomerRegion, SupplierCity}
+use Rattle.cube_model.specs.declared.attr.Attr.TheVariants.{SupplierNation, SupplierRegion, PartBrand1, PartCategory}
+use Rattle.cube_model.specs.declared.attr.Attr.TheVariants.{PartMfgr, DateYearmonthnum, DateYear}
 use Rattle.cube_model.specs.declared.attr.Axis.{Axis}
 use Rattle.cube_model.specs.declared.attr.Axis.TheVariants.{Customer, Supplier, Part, Date}
 use Rattle.cube_model.specs.declared.rows.DimRows.{DimRows}
@@ -11,7 +14,7 @@ use Rattle.cube_model.specs.Lawful.{ValidRowsKeepTheRules}
 use Rattle.cube_model.specs.Validity.{HaveShortTexts, IsValid}
 use Rattle.dictionary.specs.Dictionary.{firsts}
 use Rattle.dictionary.specs.Columns.{codes_of, place_of}
-use Rattle.dimensions.specs.Coded.{AreGoodRows, place_texts, text_beside, texts_at_places, texts_below}
+use Rattle.dimensions.specs.Coded.{AreGoodRows, place_texts, text_next_to, texts_at_places, texts_below}
 use Rattle.dimensions.specs.Columns.{code_at}
 use Rattle.dimensions.specs.Shapes.{attr_column, lower_of, lowers_of, row_limit_of}
 use Rattle.dimensions.specs.Shown.{rows_on}
@@ -29,44 +32,60 @@ use Rattle.cuboid_cells.specs.Cells.{IsCodeAt}
 use Rattle.cuboid_upkeep.specs.Codes.{code_in, level_column, member_code}
 
 -- the code above that of the lower text
-above : (lowers texts : List (List ℕ)) (place : ℕ) → place < length lowers → length texts ≡ length lowers → IsDetermined lowers texts
+above : (lowers texts : List (List ℕ)) (place : ℕ) → place < length lowers → length texts ≡ length lowers
+    → IsDetermined lowers texts
     → get_or (codes_of (place_texts (Some lowers) texts)) (code_at lowers place) 0 ≡ code_at texts place
 above lowers texts place within count is =
-    let placed : List (List ℕ) = map (text_beside lowers texts) (firsts lowers) in
+    let placed : List (List ℕ) = map (text_next_to lowers texts) (firsts lowers) in
     let low : code_at lowers place < length (firsts lowers) = code_at-within lowers place within in
-    let low_placed : code_at lowers place < length placed = omega (arith, low, length-map (firsts lowers) (text_beside lowers texts)) in
+    let low_placed : code_at lowers place < length placed =
+    omega (arith, low, length-map (firsts lowers) (text_next_to lowers texts)) in
     get_or-map (place_of (firsts placed)) placed (code_at lowers place) [] 0 low_placed
     ∙ ap (place_of (firsts placed))
-    (get_or-map (text_beside lowers texts) (firsts lowers) (code_at lowers place) [] [] low
-    ∙ ap (text_beside lowers texts) (code_at-text lowers place within)
-    ∙ sym (get_or-map (text_beside lowers texts) lowers place [] [] within)
+    (get_or-map (text_next_to lowers texts) (firsts lowers) (code_at lowers place) [] [] low
+    ∙ ap (text_next_to lowers texts) (code_at-text lowers place within)
+    ∙ sym (get_or-map (text_next_to lowers texts) lowers place [] [] within)
     ∙ ap (λ (l : List (List ℕ)). get_or l place []) (sym is))
     ∙ ap (λ (l : List (List ℕ)). place_of l (get_or texts place [])) (firsts_at_places lowers texts is)
 
-module _ (axis : Axis) (rows : List TextRow) (good : AreGoodRows axis rows) (column place : ℕ) (within : place < length rows) where
+module _ (axis : Axis) (rows : List TextRow) (good : AreGoodRows axis rows) (column place : ℕ)
+    (within : place < length rows) where
   pub in_texts : (i : ℕ) → place < length (column_of i rows)
   in_texts i = omega (arith, within, length-map rows (text_in i))
 
   pub read_at_row : lower_of axis column ≡ None
-      → (place < length (codes_of (texts_at_places axis column rows))) × (get_or (codes_of (texts_at_places axis column rows)) place 0 ≡ code_at (column_of column rows) place)
+      → (place < length (codes_of (texts_at_places axis column rows)))
+      × (get_or (codes_of (texts_at_places axis column rows)) place 0 ≡ code_at (column_of column rows) place)
   read_at_row none =
       let texts : List (List ℕ) = column_of column rows in
-      subst (λ (o : Option ℕ). (place < length (codes_of (place_texts (texts_below o rows) texts))) × (get_or (codes_of (place_texts (texts_below o rows) texts)) place 0 ≡ code_at texts place))
-      (sym none)
-      (omega (arith, in_texts column, length-map texts (place_of (firsts texts))), get_or-map (place_of (firsts texts)) texts place [] 0 (in_texts column))
+      subst (λ (o : Option ℕ). (place < length (codes_of (place_texts (texts_below o rows) texts)))
+      × (get_or (codes_of (place_texts (texts_below o rows) texts)) place 0 ≡ code_at texts place))
+      (sym none) (
+        omega (arith, in_texts column, length-map texts (place_of (firsts texts))),
+        get_or-map (place_of (firsts texts)) texts place [] 0 (in_texts column),
+      )
 
   pub read_above : (lower : ℕ) → lower_of axis column ≡ Some lower
       → (code_at (column_of lower rows) place < length (codes_of (texts_at_places axis column rows)))
-      × (get_or (codes_of (texts_at_places axis column rows)) (code_at (column_of lower rows) place) 0 ≡ code_at (column_of column rows) place)
+      × (get_or (codes_of (texts_at_places axis column rows)) (code_at (column_of lower rows) place) 0
+      ≡ code_at (column_of column rows) place)
   read_above lower is =
       let texts : List (List ℕ) = column_of column rows in
       let lowers : List (List ℕ) = column_of lower rows in
-      let placed : List (List ℕ) = map (text_beside lowers texts) (firsts lowers) in
+      let placed : List (List ℕ) = map (text_next_to lowers texts) (firsts lowers) in
       let low : code_at lowers place < length (firsts lowers) = code_at-within lowers place (in_texts lower) in
       subst (λ (o : Option ℕ). (code_at lowers place < length (codes_of (place_texts (texts_below o rows) texts)))
-      × (get_or (codes_of (place_texts (texts_below o rows) texts)) (code_at lowers place) 0 ≡ code_at texts place)) (sym is) (
-        omega (arith, low, length-map (firsts lowers) (text_beside lowers texts), length-map placed (place_of (firsts placed))),
-        above lowers texts place (in_texts lower) (length-map rows (text_in column) ∙ sym (length-map rows (text_in lower))) (determined axis rows good.keep column lower is),
+      × (get_or (codes_of (place_texts (texts_below o rows) texts)) (code_at lowers place) 0 ≡ code_at texts place))
+      (sym is) (
+        omega (
+          arith,
+          low,
+          length-map (firsts lowers) (text_next_to lowers texts),
+          length-map placed (place_of (firsts placed)),
+        ),
+        above lowers texts place (in_texts lower)
+            (length-map rows (text_in column) ∙ sym (length-map rows (text_in lower)))
+            (determined axis rows good.keep column lower is),
       )
 
   -- a code is below the one of ALL
@@ -88,16 +107,23 @@ not_all level code apart below = (λ same. absurd (omega (arith, same, below)), 
 
 -- the members of a level are in its column
 abbrev pub Representative : DimRows → Axis → Level → ℕ → ℕ → Type 0
-Representative dimensions axis level place column = (column < length (lowers_of axis)) × (code_at (column_of column (rows_on dimensions axis)) place ≡ member_code dimensions axis level place)
+Representative dimensions axis level place column = (column < length (lowers_of axis))
+    × (code_at (column_of column (rows_on dimensions axis)) place ≡ member_code dimensions axis level place)
 
 module _ (dimensions : DimRows) (place column : ℕ) where
   in_column : (attr : Attr) → attr_column attr ≡ Some column
-      → (column < length (lowers_of (axis_of attr))) × (code_at (column_of column (rows_on dimensions (axis_of attr))) place ≡ code_in (attr_column attr) dimensions attr place)
+      → (column < length (lowers_of (axis_of attr)))
+      × (code_at (column_of column (rows_on dimensions (axis_of attr))) place
+      ≡ code_in (attr_column attr) dimensions attr place)
   in_column attr e =
-      let has = has_column dimensions attr column e in
-      (has.1, ap (λ (texts : List (List ℕ)). code_at texts place) (sym has.0) ∙ ap (λ (o : Option ℕ). code_in o dimensions attr place) (sym e))
+      let has = has_column dimensions attr column e in (
+        has.1,
+        ap (λ (texts : List (List ℕ)). code_at texts place) (sym has.0)
+            ∙ ap (λ (o : Option ℕ). code_in o dimensions attr place) (sym e),
+      )
 
-  pub in_level_column : (axis : Axis) (level : Level) → level_column (level_attribute axis level) ≡ Some column → Representative dimensions axis level place column
+  pub in_level_column : (axis : Axis) (level : Level) → level_column (level_attribute axis level) ≡ Some column
+      → Representative dimensions axis level place column
   in_level_column Customer Lowest e = in_column CustomerCity e
   in_level_column Customer Middle e = in_column CustomerNation e
   in_level_column Customer Highest e = in_column CustomerRegion e
@@ -116,7 +142,8 @@ module _ (dimensions : DimRows) (place column : ℕ) where
   in_level_column Date All e = absurd cc
 
 -- only days have members that are in no column: a day is its row
-pub in_no_column : (dimensions : DimRows) (place : ℕ) (axis : Axis) (level : Level) → level_column (level_attribute axis level) ≡ None → (level ≡ All → ⊥)
+pub in_no_column : (dimensions : DimRows) (place : ℕ) (axis : Axis) (level : Level)
+    → level_column (level_attribute axis level) ≡ None → (level ≡ All → ⊥)
     → (axis ≡ Date) × (place ≡ member_code dimensions axis level place)
 in_no_column dimensions place Customer Lowest e apart = absurd cc
 in_no_column dimensions place Customer Middle e apart = absurd cc

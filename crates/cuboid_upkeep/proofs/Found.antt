@@ -1,5 +1,6 @@
 -- Finding the cell of a key.
-use Rattle.std.proofs.Common.{◌≡◌, ◌∙◌, sym, ap, refl, ℕ, ◌==◌, ◌<◌, ◌≤◌, Bool, true, false, cond, nat_eq, List, [], ◌∷◌, map, length, get_or, slice_get, Option, Some, None, arith}
+use Rattle.std.proofs.Common.{◌≡◌, ◌∙◌, sym, ap, refl, ℕ, ◌==◌, ◌<◌, ◌≤◌, Bool, true, false, cond, nat_eq, List, []}
+use Rattle.std.proofs.Common.{◌∷◌, map, length, get_or, slice_get, Option, Some, None, arith}
 use Rattle.std.specs.List.{position_or_len}
 use Rattle.std.proofs.lemmas.Bool.Decides.{nat_tests}
 use Rattle.std.proofs.lemmas.List.Folds.{find_at}
@@ -30,27 +31,34 @@ same_key a b e = grind (arith, nat_tests)
 
 -- where a key is among the keys, its cell is among the cells
 pub place_is : (number : ℕ) (cells : List Cell)
-    → position_or_len (nat_eq number) (map (λ (cell : Cell). number_of cell.key) cells) ≡ position_or_len (has_key number) cells
+    → position_or_len (nat_eq number) (map (λ (cell : Cell). number_of cell.key) cells)
+    ≡ position_or_len (has_key number) cells
 place_is number cells =
     position_or_len-map (nat_eq number) (λ (cell : Cell). number_of cell.key) cells
     ∙ ap (λ (test : Cell → Bool). position_or_len test cells) (λ i cell. flipped number (number_of cell.key) i)
 
-pub at_place : (number : ℕ) (cells : List Cell) (place : ℕ) (d : Cell) → place ≡ position_or_len (has_key number) cells → place < length cells
+pub at_place : (number : ℕ) (cells : List Cell) (place : ℕ) (d : Cell) → place ≡ position_or_len (has_key number) cells
+    → place < length cells
     → cell_at number cells ≡ Some (get_or cells place d)
 at_place number cells place d is within =
     find_at (has_key number) cells ∙ ap (slice_get cells) (sym is) ∙ slice_get-get_or cells place d within
 
-pub at_none : (number : ℕ) (cells : List Cell) (place : ℕ) → place ≡ position_or_len (has_key number) cells → length cells ≤ place
+pub at_none : (number : ℕ) (cells : List Cell) (place : ℕ) → place ≡ position_or_len (has_key number) cells
+    → length cells ≤ place
     → cell_at number cells ≡ None
 at_none number cells place is past =
     find_at (has_key number) cells ∙ ap (slice_get cells) (sym is) ∙ slice_get_past cells place past
 
 -- what is found has the key
-pub found_key : (number : ℕ) (cells : List Cell) (found : Cell) → cell_at number cells ≡ Some found → number_of found.key ≡ number
+pub found_key : (number : ℕ) (cells : List Cell) (found : Cell) → cell_at number cells ≡ Some found
+    → number_of found.key ≡ number
 found_key number [] found is = absurd (cc is)
 found_key number (cell ∷ cells) found is =
-    (elim (has_key number cell) as (λ b. has_key number cell ≡ b → cond b (Some cell) (cell_at number cells) ≡ Some found → number_of found.key ≡ number) [
-      | true ↦ λ e same. (let own : cell ≡ found = cc same in ap (λ (c : Cell). number_of c.key) (sym own) ∙ same_key (number_of cell.key) number e)
+    (elim (has_key number cell) as
+    (λ b. has_key number cell ≡ b → cond b (Some cell) (cell_at number cells) ≡ Some found
+    → number_of found.key ≡ number) [
+      | true ↦ λ e same. (let own : cell ≡ found = cc same in ap (λ (c : Cell). number_of c.key) (sym own)
+          ∙ same_key (number_of cell.key) number e)
       | false ↦ λ e same. found_key number cells found same
     ]) refl is
 

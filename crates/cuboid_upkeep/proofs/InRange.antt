@@ -1,12 +1,14 @@
 -- Fact rows whose sums are in range have cells whose numbers fit.
-use Rattle.std.proofs.Common.{◌≡◌, ap, subst, ℕ, ◌+◌, ◌<◌, ◌≤◌, ◌^◌, ℤ, pos, negsuc, ◌+ℤ◌, Bool, true, false, cond, List, [], ◌∷◌, ◌++◌, map, length, length-append, Some, arith, FitsSigned, w64}
+use Rattle.std.proofs.Common.{◌≡◌, ap, subst, ℕ, ◌+◌, ◌<◌, ◌≤◌, ◌^◌, ℤ, pos, negsuc, ◌+ℤ◌, Bool, true, false, cond}
+use Rattle.std.proofs.Common.{List, [], ◌∷◌, ◌++◌, map, length, length-append, Some, arith, FitsSigned, w64}
 use Rattle.std.specs.Prelude.{nat_abs, int_lt, ◌==◌}
 use Rattle.std.specs.Int.{int_max, int_min}
 use Rattle.std.specs.List.{filter, fold, sum_by}
 use Rattle.std.proofs.lemmas.Int.{ints}
 use Rattle.std.proofs.lemmas.List.Sums.{count_by-le-length, length-filter, sum_by-append, sum_by-cons}
 use Rattle.cube_model.specs.declared.measure.Measure.{Measure}
-use Rattle.cube_model.specs.declared.measure.Measure.TheVariants.{Quantity, ExtendedPrice, Revenue, SupplyCost, Discounted, Profit}
+use Rattle.cube_model.specs.declared.measure.Measure.TheVariants.{Quantity, ExtendedPrice, Revenue, SupplyCost}
+use Rattle.cube_model.specs.declared.measure.Measure.TheVariants.{Discounted, Profit}
 use Rattle.cube_model.specs.declared.rows.DimRows.{DimRows}
 use Rattle.cube_model.specs.declared.rows.LineOrder.{LineOrder}
 use Rattle.cube_model.specs.Admission.{AreInRange, absolute_total}
@@ -35,20 +37,25 @@ module _ (number : LineOrder → ℤ) where
   size_cons : (row : LineOrder) (rows : List LineOrder) → size (row ∷ rows) ≡ nat_abs (number row) + size rows
   size_cons row rows = sum_by-cons (λ r. nat_abs (number r)) row rows
 
-  total_from : (a : ℤ) (rows : List LineOrder) → nat_abs (fold (λ so_far z. so_far +ℤ z) a (map number rows)) ≤ nat_abs a + size rows
+  total_from : (a : ℤ) (rows : List LineOrder)
+      → nat_abs (fold (λ so_far z. so_far +ℤ z) a (map number rows)) ≤ nat_abs a + size rows
   total_from a [] = omega arith
-  total_from a (row ∷ rows) = omega (arith, total_from (a +ℤ number row) rows, abs_sum a (number row), size_cons row rows)
+  total_from a (row ∷ rows) =
+      omega (arith, total_from (a +ℤ number row) rows, abs_sum a (number row), size_cons row rows)
 
   total_small : (rows : List LineOrder) → nat_abs (total (map number rows)) ≤ size rows
   total_small rows = omega (arith, total_from (pos 0) rows)
 
   -- a fold that picks one of two numbers
-  picked_small : (pick : ℤ → ℤ → ℤ) → ((a b : ℤ) (most : ℕ) → nat_abs a ≤ most → nat_abs b ≤ most → nat_abs (pick a b) ≤ most)
-      → (most : ℕ) (a : ℤ) (rows : List LineOrder) → nat_abs a ≤ most → size rows ≤ most → nat_abs (fold pick a (map number rows)) ≤ most
+  picked_small : (pick : ℤ → ℤ → ℤ)
+      → ((a b : ℤ) (most : ℕ) → nat_abs a ≤ most → nat_abs b ≤ most → nat_abs (pick a b) ≤ most)
+      → (most : ℕ) (a : ℤ) (rows : List LineOrder) → nat_abs a ≤ most → size rows ≤ most
+      → nat_abs (fold pick a (map number rows)) ≤ most
   picked_small pick closed most a [] first rest = first
   picked_small pick closed most a (row ∷ rows) first rest =
       let whole = size_cons row rows in
-      picked_small pick closed most (pick a (number row)) rows (closed a (number row) most first (omega (arith, whole, rest))) (omega (arith, whole, rest))
+      picked_small pick closed most (pick a (number row)) rows
+      (closed a (number row) most first (omega (arith, whole, rest))) (omega (arith, whole, rest))
 
   pub part_small : (p : LineOrder → Bool) (rows : List LineOrder) → size (filter p rows) ≤ size rows
   part_small p [] = omega arith
@@ -72,24 +79,34 @@ max_closed a b most first second = elim (int_lt b a) as (λ t. nat_abs (cond t a
   | false ↦ second
 ]
 
-summary_fits : (measure : Measure) (row : LineOrder) (rows : List LineOrder) → absolute_total measure (row ∷ rows) < 2 ^ 63 → SummaryFits (summary_over measure (row ∷ rows))
+summary_fits : (measure : Measure) (row : LineOrder) (rows : List LineOrder)
+    → absolute_total measure (row ∷ rows) < 2 ^ 63 → SummaryFits (summary_over measure (row ∷ rows))
 summary_fits measure row rows small =
     let number = measure_of measure in
     let most : ℕ = size number (row ∷ rows) in
     let whole = size_cons number row rows in
     let sum = total_small number (row ∷ rows) in
-    let low = picked_small number int_min min_closed most (number row) rows (omega (arith, whole)) (omega (arith, whole)) in
-    let high = picked_small number int_max max_closed most (number row) rows (omega (arith, whole)) (omega (arith, whole)) in record {
+    let low = picked_small number int_min min_closed most (number row) rows (omega (arith, whole))
+    (omega (arith, whole)) in
+    let high = picked_small number int_max max_closed most (number row) rows (omega (arith, whole))
+    (omega (arith, whole)) in record {
       sum = fits_small (total (map number (row ∷ rows))) (omega (arith, sum, small));
       least = fits_small (fold int_min (number row) (map number rows)) (omega (arith, low, small));
       greatest = fits_small (fold int_max (number row) (map number rows)) (omega (arith, high, small));
     }
 
-pub cell_fits : (dimensions : DimRows) (modes : List (List ℕ)) (view : View) (rows : List LineOrder) (cell : Cell) → cell_over dimensions modes view rows ≡ Some cell
+pub cell_fits : (dimensions : DimRows) (modes : List (List ℕ)) (view : View) (rows : List LineOrder) (cell : Cell)
+    → cell_over dimensions modes view rows ≡ Some cell
     → AreInRange rows → length rows < 2 ^ 63 → NumbersFit cell
 cell_fits dimensions modes view [] cell is small few = absurd (cc is)
 cell_fits dimensions modes view (row ∷ rows) cell is small few =
-    let made : Cell = record { key = key_of dimensions modes view row; count = length (row ∷ rows); measures = summaries_over (row ∷ rows) } in
+    let made : Cell =
+    record {
+      key = key_of dimensions modes view row;
+      count = length (row ∷ rows);
+      measures =
+          summaries_over (row ∷ rows);
+    } in
     let same : made ≡ cell = cc is in
     subst NumbersFit same (record {
       count = omega (arith, few);
@@ -109,9 +126,10 @@ in_range_fit dimensions modes view rows in_range few past =
     let chosen : List LineOrder = rows_of dimensions modes view past.number past.part in
     let small : AreInRange chosen = λ measure.
     let all = in_range measure in
-    let parts : absolute_total measure rows ≡ absolute_total measure (past.before ++ (past.part ++ past.behind)) = ap (absolute_total measure) past.parts in
-    let outer = sum_by-append (λ row. nat_abs (measure_of measure row)) past.before (past.part ++ past.behind) in
-    let inner = sum_by-append (λ row. nat_abs (measure_of measure row)) past.part past.behind in
+    let parts : absolute_total measure rows ≡ absolute_total measure (past.before ++ (past.part ++ past.after)) =
+    ap (absolute_total measure) past.parts in
+    let outer = sum_by-append (λ row. nat_abs (measure_of measure row)) past.before (past.part ++ past.after) in
+    let inner = sum_by-append (λ row. nat_abs (measure_of measure row)) past.part past.after in
     let part = part_small (measure_of measure) of_key past.part in
     omega (arith, all, parts, outer, inner, part) in
     let short : length chosen < 2 ^ 63 =
@@ -119,8 +137,8 @@ in_range_fit dimensions modes view rows in_range few past =
       arith,
       few,
       ap length past.parts,
-      length-append past.before (past.part ++ past.behind),
-      length-append past.part past.behind,
+      length-append past.before (past.part ++ past.after),
+      length-append past.part past.after,
       length-filter of_key past.part,
       count_by-le-length of_key past.part,
     ) in

@@ -6,7 +6,7 @@ mod Added
 mod OneList
 mod Coded
 mod InRange
-mod Told
+mod Determined
 mod OneGroup
 pub mod Represented
 mod Keyed

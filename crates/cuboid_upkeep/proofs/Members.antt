@@ -11,7 +11,8 @@ pub own_digit : (code : ℕ) → code < 65535 → digit_of code ≡ code
 own_digit code below = ap (λ (b : Bool). cond b 0 code) (other_key code 65535 (λ same. omega (arith, same, below)))
 
 -- the fifth code where ship modes are not grouped
-pub no_mode : (grouped : Bool) (modes : List (List ℕ)) (text : List ℕ) → grouped ≡ false → 65535 ≡ mode_code grouped modes text
+pub no_mode : (grouped : Bool) (modes : List (List ℕ)) (text : List ℕ) → grouped ≡ false
+    → 65535 ≡ mode_code grouped modes text
 no_mode true modes text none = absurd (cc none)
 no_mode false modes text none = refl
 

@@ -1,11 +1,15 @@
 -- Fact rows of one key in a view are in one group of each query that the view serves.
-use Rattle.std.proofs.Common.{◌≡◌, ◌∙◌, sym, ap, refl, ℕ, ◌+◌, ◌*◌, ◌<◌, ◌≤◌, true, false, List, [], ◌∷◌, map, Option, Some, None, Bool, arith}
+use Rattle.std.proofs.Common.{◌≡◌, ◌∙◌, sym, ap, refl, ℕ, ◌+◌, ◌*◌, ◌<◌, ◌≤◌, true, false, List, [], ◌∷◌, map, Option}
+use Rattle.std.proofs.Common.{Some, None, Bool, arith}
 use Rattle.std.specs.Prelude.{◌&&◌}
 use Rattle.std.specs.List.{AllByRecursion, list_any}
 use Rattle.std.specs.Str.{bytes_eq}
 use Rattle.cube_model.specs.declared.answer.Member.TheVariants.{Text}
 use Rattle.cube_model.specs.declared.attr.Attr.{Attr}
-use Rattle.cube_model.specs.declared.attr.Attr.TheVariants.{CustomerCity, CustomerNation, CustomerRegion, SupplierCity, SupplierNation, SupplierRegion, PartBrand1, PartCategory, PartMfgr, DateKey, DateYearmonthnum, DateYear, DateYearmonth, DateWeeknuminyear}
+use Rattle.cube_model.specs.declared.attr.Attr.TheVariants.{CustomerCity, CustomerNation, CustomerRegion, SupplierCity}
+use Rattle.cube_model.specs.declared.attr.Attr.TheVariants.{SupplierNation, SupplierRegion, PartBrand1, PartCategory}
+use Rattle.cube_model.specs.declared.attr.Attr.TheVariants.{PartMfgr, DateKey, DateYearmonthnum, DateYear}
+use Rattle.cube_model.specs.declared.attr.Attr.TheVariants.{DateYearmonth, DateWeeknuminyear}
 use Rattle.cube_model.specs.declared.attr.Axis.{Axis}
 use Rattle.cube_model.specs.declared.attr.Axis.TheVariants.{Customer, Supplier, Part, Date}
 use Rattle.cube_model.specs.declared.query.Cond.{Cond}
@@ -35,7 +39,7 @@ use Rattle.cuboid_upkeep.specs.Grouping.{HasMembers, code_on, key_of}
 use Rattle.cuboid_upkeep.specs.Codes.{IsMode, level_column, member_code, mode_code}
 use Rattle.cuboid_upkeep.specs.Lawful.{OneKeyOneGroup}
 use Rattle.cuboid_upkeep.proofs.Coded.{code_below, few_days, good_on, in_level_column, in_no_column}
-use Rattle.cuboid_upkeep.proofs.Told.{tells}
+use Rattle.cuboid_upkeep.proofs.Determined.{tells}
 
 below_all : (attr : Attr) → height (highest_level attr) ≤ 2
 below_all CustomerCity = omega arith
@@ -57,39 +61,49 @@ below_all DateWeeknuminyear = omega arith
 grouped : (view : View) (attr : Attr) → Determines view attr → level_on (axis_of attr) view ≡ level.All → ⊥
 grouped view attr low is = absurd (omega (arith, low, below_all attr, ap height is))
 
-module _ (dimensions : DimRows) (law : ValidRowsKeepTheRules) (valid : IsValid dimensions) (short : HaveShortTexts dimensions) (modes : List (List ℕ)) (view : View) (row other : LineOrder)
-    (members : HasMembers dimensions modes view row) (others : HasMembers dimensions modes view other) (same : key_of dimensions modes view row ≡ key_of dimensions modes view other) where
-  one_code : (axis : Axis) → code_on dimensions axis (level_on axis view) row ≡ code_on dimensions axis (level_on axis view) other
+module _ (dimensions : DimRows) (law : ValidRowsKeepTheRules) (valid : IsValid dimensions)
+    (short : HaveShortTexts dimensions) (modes : List (List ℕ)) (view : View) (row other : LineOrder)
+    (members : HasMembers dimensions modes view row) (others : HasMembers dimensions modes view other)
+    (same : key_of dimensions modes view row ≡ key_of dimensions modes view other) where
+  one_code : (axis : Axis) → code_on dimensions axis (level_on axis view) row
+      ≡ code_on dimensions axis (level_on axis view) other
   one_code Customer = ap (λ (k : Key). k.customer) same
   one_code Supplier = ap (λ (k : Key). k.supplier) same
   one_code Part = ap (λ (k : Key). k.part) same
   one_code Date = ap (λ (k : Key). k.date) same
 
-  one_text : (attr : Attr) → Determines view attr → attribute_of dimensions attr row ≡ attribute_of dimensions attr other
+  one_text : (attr : Attr) → Determines view attr
+      → attribute_of dimensions attr row ≡ attribute_of dimensions attr other
   one_text attr low =
       let axis = axis_of attr in
       let apart = grouped view attr low in
       attribute_at_place dimensions attr row
-      ∙ tells dimensions law valid short (row_index_of dimensions axis (key_on axis row)) (row_index_of dimensions axis (key_on axis other)) attr (level_on axis view) low
+      ∙ tells dimensions law valid short (row_index_of dimensions axis (key_on axis row))
+      (row_index_of dimensions axis (key_on axis other)) attr (level_on axis view) low
       (members.axes axis apart) (others.axes axis apart) (one_code axis)
       ∙ sym (attribute_at_place dimensions attr other)
 
   one_key : (columns : List Attr) → AllByRecursion (Determines view) columns
-      → key_under dimensions row columns (map (λ _. true) columns) ≡ key_under dimensions other columns (map (λ _. true) columns)
+      → key_under dimensions row columns (map (λ _. true) columns)
+      ≡ key_under dimensions other columns (map (λ _. true) columns)
   one_key [] all = refl
   one_key (column ∷ columns) all = λ i. Text (one_text column all.0 i) ∷ one_key columns all.1 i
 
-  one_answer : (condition : Cond) → Decides view condition → holds_of dimensions condition row ≡ holds_of dimensions condition other
-  one_answer (OneOf attr texts) low = ap (λ (own : List ℕ). list_any (λ text. bytes_eq text own) texts) (one_text attr low)
+  one_answer : (condition : Cond) → Decides view condition
+      → holds_of dimensions condition row ≡ holds_of dimensions condition other
+  one_answer (OneOf attr texts) low =
+      ap (λ (own : List ℕ). list_any (λ text. bytes_eq text own) texts) (one_text attr low)
   one_answer (Between attr low high) is = ap (λ (own : List ℕ). text_le low own && text_le own high) (one_text attr is)
   one_answer (Quantity low high) is = absurd is
   one_answer (Discount low high) is = absurd is
 
-  one_choice : (conditions : List Cond) → AllByRecursion (Decides view) conditions → is_selected dimensions conditions row ≡ is_selected dimensions conditions other
+  one_choice : (conditions : List Cond) → AllByRecursion (Decides view) conditions
+      → is_selected dimensions conditions row ≡ is_selected dimensions conditions other
   one_choice [] all = refl
   one_choice (condition ∷ conditions) all = λ i. one_answer condition all.0 i && one_choice conditions all.1 i
 
-  one_number : (query : Query) → Serves view query → (number : Option ℕ) → IsNumber dimensions query row number → IsNumber dimensions query other number
+  one_number : (query : Query) → Serves view query → (number : Option ℕ) → IsNumber dimensions query row number
+      → IsNumber dimensions query other number
   one_number query serves None is = sym (one_choice query.conditions serves.conditions) ∙ is
   one_number query serves (Some number) is = (
     sym (one_choice query.conditions serves.conditions) ∙ is.0,
@@ -98,18 +112,25 @@ module _ (dimensions : DimRows) (law : ValidRowsKeepTheRules) (valid : IsValid d
   )
 
 -- ---- a number is that of one key
-module _ (dimensions : DimRows) (law : ValidRowsKeepTheRules) (valid : IsValid dimensions) (short : HaveShortTexts dimensions) where
+module _ (dimensions : DimRows) (law : ValidRowsKeepTheRules) (valid : IsValid dimensions)
+    (short : HaveShortTexts dimensions) where
   -- codes fit their fields
-  code_fits : (axis : Axis) (grouped : Level) (place : ℕ) → ((grouped ≡ level.All → ⊥) → place < row_count_of dimensions axis) → member_code dimensions axis grouped place < 65536
+  code_fits : (axis : Axis) (grouped : Level) (place : ℕ)
+      → ((grouped ≡ level.All → ⊥) → place < row_count_of dimensions axis)
+      → member_code dimensions axis grouped place < 65536
   code_fits axis grouped place within =
       let rows = rows_on dimensions axis in
       let good = good_on dimensions law valid short axis in
-      (elim (level_column (level_attribute axis grouped)) as (λ o. level_column (level_attribute axis grouped) ≡ o → member_code dimensions axis grouped place < 65536) [
+      (elim (level_column (level_attribute axis grouped)) as (λ o. level_column (level_attribute axis grouped) ≡ o
+      → member_code dimensions axis grouped place < 65536) [
         | None ↦ λ e. day_fits axis grouped place within e
         | Some column ↦ λ e.
             (let represent = in_level_column dimensions place column axis grouped e in
-            let there = within (λ is. absurd (cc (e, ap (λ (l : Level). level_column (level_attribute axis l)) is, no_column axis))) in
-            let low = code_below axis rows good column place (omega (arith, there, count_on dimensions axis)) represent.0 in
+            let there =
+            within (λ is. absurd
+            (cc (e, ap (λ (l : Level). level_column (level_attribute axis l)) is, no_column axis))) in
+            let low = code_below axis rows good column place (omega (arith, there, count_on dimensions axis))
+            represent.0 in
             omega (arith, low, represent.1))
       ]) refl
     where
@@ -125,25 +146,34 @@ module _ (dimensions : DimRows) (law : ValidRowsKeepTheRules) (valid : IsValid d
       every Part place = omega arith
       every Date place = omega arith
 
-      day : (axis : Axis) (grouped : Level) (place : ℕ) → place < row_count_of dimensions axis → level_column (level_attribute axis grouped) ≡ None → (grouped ≡ level.All → ⊥)
+      day : (axis : Axis) (grouped : Level) (place : ℕ) → place < row_count_of dimensions axis
+          → level_column (level_attribute axis grouped) ≡ None → (grouped ≡ level.All → ⊥)
           → member_code dimensions axis grouped place < 65536
       day axis grouped place there e apart =
           let is = in_no_column dimensions place axis grouped e apart in
           let few = few_days axis (rows_on dimensions axis) (good_on dimensions law valid short axis) is.0 in
           omega (arith, there, few, count_on dimensions axis, is.1)
 
-      day_fits : (axis : Axis) (grouped : Level) (place : ℕ) → ((grouped ≡ level.All → ⊥) → place < row_count_of dimensions axis) → level_column (level_attribute axis grouped) ≡ None
+      day_fits : (axis : Axis) (grouped : Level) (place : ℕ)
+          → ((grouped ≡ level.All → ⊥) → place < row_count_of dimensions axis)
+          → level_column (level_attribute axis grouped) ≡ None
           → member_code dimensions axis grouped place < 65536
       day_fits axis level.All place within e = every axis place
-      day_fits axis level.Lowest place within e = day axis level.Lowest place (within (λ is. absurd (cc is))) e (λ is. absurd (cc is))
-      day_fits axis level.Middle place within e = day axis level.Middle place (within (λ is. absurd (cc is))) e (λ is. absurd (cc is))
-      day_fits axis level.Highest place within e = day axis level.Highest place (within (λ is. absurd (cc is))) e (λ is. absurd (cc is))
+      day_fits axis level.Lowest place within e =
+          day axis level.Lowest place (within (λ is. absurd (cc is))) e (λ is. absurd (cc is))
+      day_fits axis level.Middle place within e =
+          day axis level.Middle place (within (λ is. absurd (cc is))) e (λ is. absurd (cc is))
+      day_fits axis level.Highest place within e =
+          day axis level.Highest place (within (λ is. absurd (cc is))) e (λ is. absurd (cc is))
 
-  fits_on : (modes : List (List ℕ)) (view : View) (row : LineOrder) → HasMembers dimensions modes view row → (axis : Axis) → code_on dimensions axis (level_on axis view) row < 65536
-  fits_on modes view row members axis = code_fits axis (level_on axis view) (row_index_of dimensions axis (key_on axis row)) (members.axes axis)
+  fits_on : (modes : List (List ℕ)) (view : View) (row : LineOrder) → HasMembers dimensions modes view row
+      → (axis : Axis) → code_on dimensions axis (level_on axis view) row < 65536
+  fits_on modes view row members axis =
+      code_fits axis (level_on axis view) (row_index_of dimensions axis (key_on axis row)) (members.axes axis)
 
 -- the code of a ship mode fits its field
-mode_fits : (grouped : Bool) (modes : List (List ℕ)) (text : List ℕ) → (grouped ≡ true → IsMode modes text) → mode_code grouped modes text < 65536
+mode_fits : (grouped : Bool) (modes : List (List ℕ)) (text : List ℕ) → (grouped ≡ true → IsMode modes text)
+    → mode_code grouped modes text < 65536
 mode_fits false modes text mode = omega arith
 mode_fits true modes text mode = let below = (mode refl).below in omega (arith, below)
 
@@ -151,21 +181,37 @@ mode_fits true modes text mode = let below = (mode refl).below in omega (arith, 
 last_digit : (a b x y : ℕ) → x < 65536 → y < 65536 → a * 65536 + x ≡ b * 65536 + y → (a ≡ b) × (x ≡ y)
 last_digit a b x y small few same = (omega (arith, small, few, same), omega (arith, small, few, same))
 
-one_key_of : (one other : Key) → one.customer < 65536 → one.supplier < 65536 → one.part < 65536 → one.date < 65536 → one.ship_mode < 65536
-    → other.customer < 65536 → other.supplier < 65536 → other.part < 65536 → other.date < 65536 → other.ship_mode < 65536
+one_key_of : (one other : Key) → one.customer < 65536 → one.supplier < 65536 → one.part < 65536 → one.date < 65536
+    → one.ship_mode < 65536
+    → other.customer < 65536 → other.supplier < 65536 → other.part < 65536 → other.date < 65536
+    → other.ship_mode < 65536
     → number_of one ≡ number_of other → one ≡ other
 one_key_of one other a b c d e p q r s t same =
-    let fifth = last_digit (((one.customer * 65536 + one.supplier) * 65536 + one.part) * 65536 + one.date) (((other.customer * 65536 + other.supplier) * 65536 + other.part) * 65536 + other.date) one.ship_mode other.ship_mode e t same in
-    let fourth = last_digit ((one.customer * 65536 + one.supplier) * 65536 + one.part) ((other.customer * 65536 + other.supplier) * 65536 + other.part) one.date other.date d s fifth.0 in
-    let third = last_digit (one.customer * 65536 + one.supplier) (other.customer * 65536 + other.supplier) one.part other.part c r fourth.0 in
+    let fifth = last_digit (((one.customer * 65536 + one.supplier) * 65536 + one.part) * 65536 + one.date)
+    (((other.customer * 65536 + other.supplier) * 65536 + other.part) * 65536 + other.date) one.ship_mode
+    other.ship_mode e t same in
+    let fourth =
+    last_digit ((one.customer * 65536 + one.supplier) * 65536 + one.part)
+    ((other.customer * 65536 + other.supplier) * 65536 + other.part) one.date other.date d s fifth.0 in
+    let third = last_digit (one.customer * 65536 + one.supplier) (other.customer * 65536 + other.supplier) one.part
+    other.part c r fourth.0 in
     let second = last_digit one.customer other.customer one.supplier other.supplier b q third.0 in
-    λ i. record { customer = second.0 i; supplier = second.1 i; part = third.1 i; date = fourth.1 i; ship_mode = fifth.1 i }
+    λ i. record {
+      customer = second.0 i;
+      supplier = second.1 i;
+      part = third.1 i;
+      date = fourth.1 i;
+      ship_mode = fifth.1 i;
+    }
 
-pub one_group : (dimensions : DimRows) → ValidRowsKeepTheRules → IsValid dimensions → HaveShortTexts dimensions → OneKeyOneGroup dimensions
+pub one_group : (dimensions : DimRows) → ValidRowsKeepTheRules → IsValid dimensions → HaveShortTexts dimensions
+    → OneKeyOneGroup dimensions
 one_group dimensions law valid short modes view query row other number serves members others same is =
     let fits = fits_on dimensions law valid short modes view row members in
     let also = fits_on dimensions law valid short modes view other others in
     let key : key_of dimensions modes view row ≡ key_of dimensions modes view other =
-    one_key_of (key_of dimensions modes view row) (key_of dimensions modes view other) (fits Customer) (fits Supplier) (fits Part) (fits Date) (mode_fits view.ship_mode modes row.shipmode members.ship_mode)
-    (also Customer) (also Supplier) (also Part) (also Date) (mode_fits view.ship_mode modes other.shipmode others.ship_mode) same in
+    one_key_of (key_of dimensions modes view row) (key_of dimensions modes view other) (fits Customer) (fits Supplier)
+    (fits Part) (fits Date) (mode_fits view.ship_mode modes row.shipmode members.ship_mode)
+    (also Customer) (also Supplier) (also Part) (also Date)
+    (mode_fits view.ship_mode modes other.shipmode others.ship_mode) same in
     one_number dimensions law valid short modes view row other members others key query serves number is

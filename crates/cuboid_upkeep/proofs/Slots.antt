@@ -1,5 +1,7 @@
 -- Cells in a table by the numbers of their keys.
-use Rattle.std.proofs.Common.{◌≡◌, ◌∙◌, sym, ap, refl, subst, ℕ, zero, suc, ◌+◌, ◌==◌, ◌<◌, ◌≤◌, Bool, true, false, cond, List, [], ◌∷◌, length, get_or, set, get_or-set_same, length-set, All, Option, Some, None, arith}
+use Rattle.std.proofs.Common.{◌≡◌, ◌∙◌, sym, ap, refl, subst, ℕ, zero, suc, ◌+◌, ◌==◌, ◌<◌, ◌≤◌, Bool, true, false}
+use Rattle.std.proofs.Common.{cond, List, [], ◌∷◌, length, get_or, set, get_or-set_same, length-set, All, Option, Some}
+use Rattle.std.proofs.Common.{None, arith}
 use Rattle.std.proofs.lemmas.Bool.Decides.{nat_tests}
 use Rattle.std.proofs.lemmas.List.Elements.{All-cons, All-nil}
 use Rattle.lattice.specs.declared.view.View.{View}
@@ -25,25 +27,32 @@ pub is_free : (cell : Cell) → cell.count ≡ 0 → is_used cell ≡ false
 is_free cell none = grind (arith, nat_tests, none)
 
 -- a slot that has not the cell of a key is passed over
-passed : (key : ℕ) (slot : Cell) (slots : List Cell) → (is_used slot ≡ true → number_of slot.key ≡ key → ⊥) → cell_at key (used (slot ∷ slots)) ≡ cell_at key (used slots)
+passed : (key : ℕ) (slot : Cell) (slots : List Cell) → (is_used slot ≡ true → number_of slot.key ≡ key → ⊥)
+    → cell_at key (used (slot ∷ slots)) ≡ cell_at key (used slots)
 passed key slot slots apart =
-    (elim (is_used slot) as (λ b. is_used slot ≡ b → cell_at key (cond b (slot ∷ used slots) (used slots)) ≡ cell_at key (used slots)) [
-      | true ↦ λ e. ap (λ (b : Bool). cond b (Some slot) (cell_at key (used slots))) (other_key (number_of slot.key) key (apart e))
+    (elim (is_used slot) as
+    (λ b. is_used slot ≡ b → cell_at key (cond b (slot ∷ used slots) (used slots)) ≡ cell_at key (used slots)) [
+      | true ↦ λ e. ap (λ (b : Bool). cond b (Some slot) (cell_at key (used slots)))
+          (other_key (number_of slot.key) key (apart e))
       | false ↦ λ e. refl
     ]) refl
 
 module _ (view : View) (members : ViewMembers) (no_modes : view.ship_mode ≡ false) where
   -- the numbers of two cells of the view
-  pub cells_follow : (m n : ℕ) (one other : Cell) → IsAt view members m one → IsAt view members n other → Follow m n (number_of one.key) (number_of other.key)
+  pub cells_follow : (m n : ℕ) (one other : Cell) → IsAt view members m one → IsAt view members n other
+      → Follow m n (number_of one.key) (number_of other.key)
   cells_follow m n one other at also =
       let modes : one.key.ship_mode ≡ other.key.ship_mode =
       at.good.is_cell.key.ship_mode.1 no_modes ∙ sym (also.good.is_cell.key.ship_mode.1 no_modes) in
       subst (λ (p : ℕ). Follow p n (number_of one.key) (number_of other.key)) at.place_is
       (subst (λ (p : ℕ). Follow (place_of members one.key) p (number_of one.key) (number_of other.key)) also.place_is
-      (keys_follow view members one.key other.key at.good.is_cell.key also.good.is_cell.key at.good.fits.key also.good.fits.key at.lies also.lies modes))
+      (keys_follow view members one.key other.key at.good.is_cell.key also.good.is_cell.key at.good.fits.key
+      also.good.fits.key at.lies also.lies modes))
 
   -- the cells in use ascend
-  climb : (n low : ℕ) (slots : List Cell) → ((m : ℕ) (cell : Cell) → n ≤ m → IsAt view members m cell → low ≤ number_of cell.key) → AreSlots view members n slots
+  climb : (n low : ℕ) (slots : List Cell)
+      → ((m : ℕ) (cell : Cell) → n ≤ m → IsAt view members m cell → low ≤ number_of cell.key)
+      → AreSlots view members n slots
       → Climbs low (used slots)
   climb n low [] above slots = tt
   climb n low (slot ∷ rest) above slots =
@@ -51,7 +60,9 @@ module _ (view : View) (members : ViewMembers) (no_modes : view.ship_mode ≡ fa
         | true ↦ λ e. (
           above n slot (omega arith) (slots.0 e),
           climb (suc n) (number_of slot.key + 1) rest
-              (λ m cell after at. (let less : number_of slot.key < number_of cell.key = (cells_follow n m slot cell (slots.0 e) at).0 (omega (arith, after)) in omega (arith, less)))
+              (λ m cell after at.
+              (let less : number_of slot.key < number_of cell.key = (cells_follow n m slot cell (slots.0 e) at).0
+              (omega (arith, after)) in omega (arith, less)))
               slots.1,
         )
         | false ↦ λ e. climb (suc n) low rest (λ m cell after at. above m cell (omega (arith, after)) at) slots.1
@@ -69,73 +80,102 @@ module _ (view : View) (members : ViewMembers) (no_modes : view.ship_mode ≡ fa
       ]) refl
 
   -- the slot at a place
-  pub slot_at : (n place : ℕ) (slots : List Cell) (d : Cell) → AreSlots view members n slots → place < length slots → is_used (get_or slots place d) ≡ true
+  pub slot_at : (n place : ℕ) (slots : List Cell) (d : Cell) → AreSlots view members n slots → place < length slots
+      → is_used (get_or slots place d) ≡ true
       → IsAt view members (n + place) (get_or slots place d)
   slot_at n place [] d slots within e = absurd (omega (arith, within))
   slot_at n zero (slot ∷ rest) d slots within e = subst (λ (m : ℕ). IsAt view members m slot) (omega arith) (slots.0 e)
   slot_at n (suc place) (slot ∷ rest) d slots within e =
-      subst (λ (m : ℕ). IsAt view members m (get_or rest place d)) (omega arith) (slot_at (suc n) place rest d slots.1 (omega (arith, within)) e)
+      subst (λ (m : ℕ). IsAt view members m (get_or rest place d)) (omega arith)
+      (slot_at (suc n) place rest d slots.1 (omega (arith, within)) e)
 
   -- another cell at a place
-  pub slots_set : (n place : ℕ) (slots : List Cell) (cell : Cell) → AreSlots view members n slots → place < length slots → IsAt view members (n + place) cell
+  pub slots_set : (n place : ℕ) (slots : List Cell) (cell : Cell) → AreSlots view members n slots → place < length slots
+      → IsAt view members (n + place) cell
       → AreSlots view members n (set slots place cell)
   slots_set n place [] cell slots within at = absurd (omega (arith, within))
-  slots_set n zero (slot ∷ rest) cell slots within at = (λ e. subst (λ (m : ℕ). IsAt view members m cell) (omega arith) at, slots.1)
-  slots_set n (suc place) (slot ∷ rest) cell slots within at =
-      (slots.0, slots_set (suc n) place rest cell slots.1 (omega (arith, within)) (subst (λ (m : ℕ). IsAt view members m cell) (omega arith) at))
+  slots_set n zero (slot ∷ rest) cell slots within at =
+      (λ e. subst (λ (m : ℕ). IsAt view members m cell) (omega arith) at, slots.1)
+  slots_set n (suc place) (slot ∷ rest) cell slots within at = (
+    slots.0,
+    slots_set (suc n) place rest cell slots.1 (omega (arith, within))
+        (subst (λ (m : ℕ). IsAt view members m cell) (omega arith) at),
+  )
 
   -- the cell of a key is that of its slot, if it is in use
-  pub found_at : (n place : ℕ) (slots : List Cell) (cell d : Cell) → AreSlots view members n slots → place < length slots → IsAt view members (n + place) cell
-      → cell_at (number_of cell.key) (used slots) ≡ cond (is_used (get_or slots place d)) (Some (get_or slots place d)) None
+  pub found_at : (n place : ℕ) (slots : List Cell) (cell d : Cell) → AreSlots view members n slots
+      → place < length slots → IsAt view members (n + place) cell
+      → cell_at (number_of cell.key) (used slots) ≡ cond (is_used (get_or slots place d)) (Some (get_or slots place d))
+      None
   found_at n place [] cell d slots within at = absurd (omega (arith, within))
   found_at n zero (slot ∷ rest) cell d slots within at =
-      (elim (is_used slot) as (λ b. is_used slot ≡ b → cell_at (number_of cell.key) (cond b (slot ∷ used rest) (used rest)) ≡ cond b (Some slot) None) [
+      (elim (is_used slot) as
+      (λ b. is_used slot ≡ b → cell_at (number_of cell.key) (cond b (slot ∷ used rest) (used rest))
+      ≡ cond b (Some slot) None) [
         | true ↦ λ e.
-            (let same : number_of slot.key ≡ number_of cell.key = (cells_follow n (n + 0) slot cell (slots.0 e) at).1 (omega arith) in
-            ap (λ (b : Bool). cond b (Some slot) (cell_at (number_of cell.key) (used rest))) (own_key (number_of slot.key) (number_of cell.key) same))
+            (let same : number_of slot.key ≡ number_of cell.key = (cells_follow n (n + 0) slot cell (slots.0 e) at).1
+            (omega arith) in
+            ap (λ (b : Bool). cond b (Some slot) (cell_at (number_of cell.key) (used rest)))
+            (own_key (number_of slot.key) (number_of cell.key) same))
         | false ↦ λ e.
             none_at (number_of cell.key + 1) (number_of cell.key) (used rest)
             (climb (suc n) (number_of cell.key + 1) rest
-            (λ m one after is. (let less : number_of cell.key < number_of one.key = (cells_follow (n + 0) m cell one at is).0 (omega (arith, after)) in omega (arith, less))) slots.1)
+            (λ m one after is.
+            (let less : number_of cell.key < number_of one.key = (cells_follow (n + 0) m cell one at is).0
+            (omega (arith, after)) in omega (arith, less))) slots.1)
             (omega arith)
       ]) refl
   found_at n (suc place) (slot ∷ rest) cell d slots within at =
-      let behind = found_at (suc n) place rest cell d slots.1 (omega (arith, within)) (subst (λ (m : ℕ). IsAt view members m cell) (omega arith) at) in
-      (elim (is_used slot) as (λ b. is_used slot ≡ b → cell_at (number_of cell.key) (cond b (slot ∷ used rest) (used rest)) ≡ cond (is_used (get_or rest place d)) (Some (get_or rest place d)) None) [
+      let after =
+      found_at (suc n) place rest cell d slots.1 (omega (arith, within))
+      (subst (λ (m : ℕ). IsAt view members m cell) (omega arith) at) in
+      (elim (is_used slot) as
+      (λ b. is_used slot ≡ b → cell_at (number_of cell.key) (cond b (slot ∷ used rest) (used rest))
+      ≡ cond (is_used (get_or rest place d)) (Some (get_or rest place d)) None) [
         | true ↦ λ e.
-            (let less : number_of slot.key < number_of cell.key = (cells_follow n (n + suc place) slot cell (slots.0 e) at).0 (omega arith) in
-            ap (λ (b : Bool). cond b (Some slot) (cell_at (number_of cell.key) (used rest))) (other_key (number_of slot.key) (number_of cell.key) (λ same. omega (arith, same, less)))
-            ∙ behind)
-        | false ↦ λ e. behind
+            (let less : number_of slot.key < number_of cell.key =
+            (cells_follow n (n + suc place) slot cell (slots.0 e) at).0 (omega arith) in
+            ap (λ (b : Bool). cond b (Some slot) (cell_at (number_of cell.key) (used rest)))
+            (other_key (number_of slot.key) (number_of cell.key) (λ same. omega (arith, same, less)))
+            ∙ after)
+        | false ↦ λ e. after
       ]) refl
 
 -- a slot that is in use has the number of its place
-pub own_slot : (view : View) (members : ViewMembers) → view.ship_mode ≡ false → (slots : List Cell) (place : ℕ) (slot : Cell) → AreSlots view members 0 slots → place < length slots
+pub own_slot : (view : View) (members : ViewMembers) → view.ship_mode ≡ false
+    → (slots : List Cell) (place : ℕ) (slot : Cell) → AreSlots view members 0 slots → place < length slots
     → slot ≡ get_or slots place slot → is_used slot ≡ true → IsAt view members place slot
 own_slot view members no_modes slots place slot are within is e =
     subst (λ (m : ℕ). IsAt view members m slot) (omega arith)
-    (subst (λ (c : Cell). IsAt view members (0 + place) c) (sym is) (slot_at view members no_modes 0 place slots slot are within (ap is_used (sym is) ∙ e)))
+    (subst (λ (c : Cell). IsAt view members (0 + place) c) (sym is)
+    (slot_at view members no_modes 0 place slots slot are within (ap is_used (sym is) ∙ e)))
 
 -- the cell of another key stays
 pub others_stay : (key place : ℕ) (slots : List Cell) (cell d : Cell) → place < length slots
-    → (is_used (get_or slots place d) ≡ true → number_of (get_or slots place d).key ≡ key → ⊥) → (number_of cell.key ≡ key → ⊥)
+    → (is_used (get_or slots place d) ≡ true → number_of (get_or slots place d).key ≡ key → ⊥)
+    → (number_of cell.key ≡ key → ⊥)
     → cell_at key (used (set slots place cell)) ≡ cell_at key (used slots)
 others_stay key place [] cell d within old new = absurd (omega (arith, within))
-others_stay key zero (slot ∷ rest) cell d within old new = passed key cell rest (λ e. new) ∙ sym (passed key slot rest old)
+others_stay key zero (slot ∷ rest) cell d within old new = passed key cell rest (λ e. new)
+    ∙ sym (passed key slot rest old)
 others_stay key (suc place) (slot ∷ rest) cell d within old new =
-    let behind = others_stay key place rest cell d (omega (arith, within)) old new in
-    (elim (is_used slot) as (λ b. cell_at key (cond b (slot ∷ used (set rest place cell)) (used (set rest place cell))) ≡ cell_at key (cond b (slot ∷ used rest) (used rest))) [
-      | true ↦ ap (λ (o : Option Cell). cond (number_of slot.key == key) (Some slot) o) behind
-      | false ↦ behind
+    let after = others_stay key place rest cell d (omega (arith, within)) old new in
+    (elim (is_used slot) as (λ b. cell_at key (cond b (slot ∷ used (set rest place cell)) (used (set rest place cell)))
+    ≡ cell_at key (cond b (slot ∷ used rest) (used rest))) [
+      | true ↦ ap (λ (o : Option Cell). cond (number_of slot.key == key) (Some slot) o) after
+      | false ↦ after
     ])
 
-either_taken : (slot cell : Cell) (b : Bool) → Some (cond b (merged slot cell) cell) ≡ merged_if_any (cond b (Some slot) None) (Some cell)
+either_taken : (slot cell : Cell) (b : Bool)
+    → Some (cond b (merged slot cell) cell) ≡ merged_if_any (cond b (Some slot) None) (Some cell)
 either_taken slot cell true = refl
 either_taken slot cell false = refl
 
 -- a cell was taken in at its number
-module _ (view : View) (members : ViewMembers) (no_modes : view.ship_mode ≡ false) (old : List Cell) (place : ℕ) (cell : Cell) (new : List Cell)
-    (slots : AreSlots view members 0 old) (within : place < length old) (at : IsAt view members place cell) (takes : TakesAt old place cell new) where
+module _ (view : View) (members : ViewMembers) (no_modes : view.ship_mode ≡ false) (old : List Cell) (place : ℕ)
+    (cell : Cell) (new : List Cell)
+    (slots : AreSlots view members 0 old) (within : place < length old) (at : IsAt view members place cell)
+    (takes : TakesAt old place cell new) where
   abbrev slot : Cell
   slot = takes.slot
 
@@ -150,18 +190,23 @@ module _ (view : View) (members : ViewMembers) (no_modes : view.ship_mode ≡ fa
 
   taken_at : IsAt view members place (taken slot cell)
   taken_at =
-      (elim (is_used slot) as (λ b. is_used slot ≡ b → CellFits (cond b (merged slot cell) cell) → IsAt view members place (cond b (merged slot cell) cell)) [
+      (elim (is_used slot) as (λ b. is_used slot ≡ b → CellFits (cond b (merged slot cell) cell)
+      → IsAt view members place (cond b (merged slot cell) cell)) [
         | true ↦ λ e fits.
             (let own = slot_own e in record {
               lies = own.lies;
               place_is = own.place_is;
-              good = record { is_cell = record { key = own.good.is_cell.key; count = omega (arith, own.good.is_cell.count) }; fits = fits };
+              good = record {
+                is_cell = record { key = own.good.is_cell.key; count = omega (arith, own.good.is_cell.count) };
+                fits = fits;
+              };
             })
         | false ↦ λ e fits. at
       ]) refl (takes.fits at.good.fits)
 
   set_slots : AreSlots view members 0 (set old place (taken slot cell))
-  set_slots = slots_set view members no_modes 0 place old (taken slot cell) slots within (from_none (taken slot cell) taken_at)
+  set_slots =
+      slots_set view members no_modes 0 place old (taken slot cell) slots within (from_none (taken slot cell) taken_at)
 
   pub slots_then : AreSlots view members 0 new
   slots_then = subst (AreSlots view members 0) (sym takes.is) set_slots
@@ -171,10 +216,14 @@ module _ (view : View) (members : ViewMembers) (no_modes : view.ship_mode ≡ fa
 
   own_then : cell_at (number_of cell.key) (used (set old place (taken slot cell))) ≡ Some (taken slot cell)
   own_then =
-      let set_within : place < length (set old place (taken slot cell)) = omega (arith, within, length-set old place (taken slot cell)) in
-      let here : get_or (set old place (taken slot cell)) place slot ≡ taken slot cell = get_or-set_same old place (taken slot cell) slot within in
-      let some : is_used (get_or (set old place (taken slot cell)) place slot) ≡ true = ap is_used here ∙ in_use (taken slot cell) taken_at.good.is_cell.count in
-      found_at view members no_modes 0 place (set old place (taken slot cell)) cell slot set_slots set_within (from_none cell at)
+      let set_within : place < length (set old place (taken slot cell)) =
+      omega (arith, within, length-set old place (taken slot cell)) in
+      let here : get_or (set old place (taken slot cell)) place slot ≡ taken slot cell =
+      get_or-set_same old place (taken slot cell) slot within in
+      let some : is_used (get_or (set old place (taken slot cell)) place slot) ≡ true = ap is_used here
+      ∙ in_use (taken slot cell) taken_at.good.is_cell.count in
+      found_at view members no_modes 0 place (set old place (taken slot cell)) cell slot set_slots set_within
+      (from_none cell at)
       ∙ ap (λ (b : Bool). cond b (Some (get_or (set old place (taken slot cell)) place slot)) None) some
       ∙ ap Some here
 
@@ -183,17 +232,26 @@ module _ (view : View) (members : ViewMembers) (no_modes : view.ship_mode ≡ fa
       found_at view members no_modes 0 place old cell slot slots within (from_none cell at)
       ∙ ap (λ (c : Cell). cond (is_used c) (Some c) None) (sym takes.slot_is)
 
-  by_key : (key : ℕ) → cell_at key (used (set old place (taken slot cell))) ≡ merged_if_any (cell_at key (used old)) (cell_at key (cell ∷ []))
+  by_key : (key : ℕ) → cell_at key (used (set old place (taken slot cell))) ≡ merged_if_any (cell_at key (used old))
+      (cell_at key (cell ∷ []))
   by_key key =
-      (elim (number_of cell.key == key) as (λ b. (number_of cell.key == key) ≡ b → cell_at key (used (set old place (taken slot cell))) ≡ merged_if_any (cell_at key (used old)) (cond b (Some cell) None)) [
+      (elim (number_of cell.key == key) as (λ b. (number_of cell.key == key) ≡ b
+      → cell_at key (used (set old place (taken slot cell))) ≡ merged_if_any (cell_at key (used old))
+      (cond b (Some cell) None)) [
         | true ↦ λ e.
             (let own : number_of cell.key ≡ key = same_key (number_of cell.key) key e in
-            subst (λ (k : ℕ). cell_at k (used (set old place (taken slot cell))) ≡ merged_if_any (cell_at k (used old)) (Some cell)) own
-            (own_then ∙ either_taken slot cell (is_used slot) ∙ ap (λ (o : Option Cell). merged_if_any o (Some cell)) (sym own_before)))
+            subst (λ (k : ℕ). cell_at k (used (set old place (taken slot cell)))
+            ≡ merged_if_any (cell_at k (used old)) (Some cell)) own
+            (own_then ∙ either_taken slot cell (is_used slot)
+            ∙ ap (λ (o : Option Cell). merged_if_any o (Some cell)) (sym own_before)))
         | false ↦ λ e.
-            (let apart : number_of cell.key ≡ key → ⊥ = λ same. absurd (cc (e, own_key (number_of cell.key) key same)) in
+            (let apart : number_of cell.key ≡ key
+            → ⊥ = λ same. absurd (cc (e, own_key (number_of cell.key) key same)) in
             others_stay key place old (taken slot cell) slot within
-            (λ used_here same. apart (sym ((cells_follow view members no_modes place place slot cell (slot_own (ap is_used takes.slot_is ∙ used_here)) at).1 refl) ∙ ap (λ (c : Cell). number_of c.key) takes.slot_is ∙ same))
+            (λ used_here same. apart
+            (sym ((cells_follow view members no_modes place place slot cell
+            (slot_own (ap is_used takes.slot_is ∙ used_here)) at).1 refl)
+            ∙ ap (λ (c : Cell). number_of c.key) takes.slot_is ∙ same))
             (λ same. apart (sym own_number ∙ same))
             ∙ sym (none_else (cell_at key (used old))))
       ]) refl
@@ -208,16 +266,21 @@ module _ (view : View) (members : ViewMembers) (no_modes : view.ship_mode ≡ fa
   }
 
 -- the slot of a cell's number is in use
-module _ (view : View) (members : ViewMembers) (no_modes : view.ship_mode ≡ false) (old : List Cell) (place : ℕ) (cell : Cell)
-    (slots : AreSlots view members 0 old) (within : place < length old) (at : IsAt view members place cell) (past : PassesAt old place cell) where
+module _ (view : View) (members : ViewMembers) (no_modes : view.ship_mode ≡ false) (old : List Cell) (place : ℕ)
+    (cell : Cell)
+    (slots : AreSlots view members 0 old) (within : place < length old) (at : IsAt view members place cell)
+    (past : PassesAt old place cell) where
   pub past_is : cell_at (number_of cell.key) (used old) ≡ Some past.slot
   past_is =
-      found_at view members no_modes 0 place old cell past.slot slots within (subst (λ (m : ℕ). IsAt view members m cell) (omega arith) at)
+      found_at view members no_modes 0 place old cell past.slot slots within
+      (subst (λ (m : ℕ). IsAt view members m cell) (omega arith) at)
       ∙ ap (λ (c : Cell). cond (is_used c) (Some c) None) (sym past.slot_is)
       ∙ ap (λ (b : Bool). cond b (Some past.slot) None) past.in_use
 
   pub past_key : number_of past.slot.key ≡ number_of cell.key
   past_key =
-      let own = slot_at view members no_modes 0 place old past.slot slots within (ap is_used (sym past.slot_is) ∙ past.in_use) in
+      let own = slot_at view members no_modes 0 place old past.slot slots within
+      (ap is_used (sym past.slot_is) ∙ past.in_use) in
       (cells_follow view members no_modes place place past.slot cell
-      (subst (λ (m : ℕ). IsAt view members m past.slot) (omega arith) (subst (λ (c : Cell). IsAt view members (0 + place) c) (sym past.slot_is) own)) at).1 refl
+      (subst (λ (m : ℕ). IsAt view members m past.slot) (omega arith)
+      (subst (λ (c : Cell). IsAt view members (0 + place) c) (sym past.slot_is) own)) at).1 refl

@@ -1,5 +1,7 @@
 -- A table of cells.
-use Rattle.std.proofs.Common.{◌≡◌, ◌⊎◌, ◌∙◌, inl, inr, sym, ap, refl, subst, ℕ, zero, suc, ◌+◌, ◌-◌, ◌<◌, Bool, false, cond, List, [], ◌∷◌, ◌++◌, take, length, length-set, get_or, get_or-set_same, get_or-set_other, set, arith}
+use Rattle.std.proofs.Common.{◌≡◌, ◌⊎◌, ◌∙◌, inl, inr, sym, ap, refl, subst, ℕ, zero, suc, ◌+◌, ◌-◌, ◌<◌, Bool, false}
+use Rattle.std.proofs.Common.{cond, List, [], ◌∷◌, ◌++◌, take, length, length-set, get_or, get_or-set_same}
+use Rattle.std.proofs.Common.{get_or-set_other, set, arith}
 use Rattle.std.specs.Prelude.{replicate}
 use Rattle.std.proofs.lemmas.Bool.{cases_eq}
 use Rattle.std.proofs.lemmas.List.Sums.{count_by-le-length, length-filter}
@@ -17,11 +19,18 @@ use Rattle.cuboid_upkeep.specs.Keys.{AreRowKeys, AreRowNumbers, IsKeyOfRow, IsNu
 use Rattle.cuboid_upkeep.specs.Slots.{AreSlots, cells_in, is_used, used}
 use Rattle.cuboid_upkeep.proofs.Slots.{used_ascend, used_good}
 
-pub table_proper : (dimensions : DimRows) (table : CellTable) → IsTableOver dimensions table → AreProper (cells_in table.view table.slots.items)
+pub table_proper : (dimensions : DimRows) (table : CellTable) → IsTableOver dimensions table
+    → AreProper (cells_in table.view table.slots.items)
 table_proper dimensions table is =
     let good = used_good table.view table.members is.no_modes 0 table.slots.items is.slots in record {
       rules = record {
-        few = omega (arith, length-filter is_used table.slots.items, count_by-le-length is_used table.slots.items, is.size, is.few.four);
+        few = omega (
+          arith,
+          length-filter is_used table.slots.items,
+          count_by-le-length is_used table.slots.items,
+          is.size,
+          is.few.four,
+        );
         each = λ k d within. (good k d within).is_cell;
         ascending = used_ascend table.view table.members is.no_modes 0 table.slots.items is.slots;
       };
@@ -35,7 +44,8 @@ none_of = []
 module _ (free : Cell) (none : is_used free ≡ false) where
   pub none_used : (n : ℕ) → used (replicate n free) ≡ []
   none_used zero = refl
-  none_used (suc n) = ap (λ (b : Bool). cond b (free ∷ used (replicate n free)) (used (replicate n free))) none ∙ none_used n
+  none_used (suc n) = ap (λ (b : Bool). cond b (free ∷ used (replicate n free)) (used (replicate n free))) none
+      ∙ none_used n
 
   pub all_free : (view : View) (members : ViewMembers) (from n : ℕ) → AreSlots view members from (replicate n free)
   all_free view members from zero = tt
@@ -46,7 +56,8 @@ take_none zero = refl
 take_none (suc n) = refl
 
 -- what a resize makes of no slot
-module _ (size count : ℕ) (old new : List Cell) (free : Cell) (empty : count ≡ 0) (none : old ≡ []) (is : new ≡ take size old ++ replicate (size - count) free) (unused : is_used free ≡ false) where
+module _ (size count : ℕ) (old new : List Cell) (free : Cell) (empty : count ≡ 0) (none : old ≡ [])
+    (is : new ≡ take size old ++ replicate (size - count) free) (unused : is_used free ≡ false) where
   resized : new ≡ replicate size free
   resized =
       let many : size - count ≡ size = omega (arith, empty) in
@@ -61,7 +72,8 @@ module _ (size count : ℕ) (old new : List Cell) (free : Cell) (empty : count �
   resized_slots view members = subst (AreSlots view members 0) (sym resized) (all_free free unused view members 0 size)
 
 -- one key more
-pub one_key_more : (dimensions : DimRows) (view : View) (members : ViewMembers) (rows : List LineOrder) (place : ℕ) (keys : List Key) (key : Key)
+pub one_key_more : (dimensions : DimRows) (view : View) (members : ViewMembers) (rows : List LineOrder) (place : ℕ)
+    (keys : List Key) (key : Key)
     → AreRowKeys dimensions view members rows place keys → IsKeyOfRow dimensions view members (row_at rows place) key
     → AreRowKeys dimensions view members rows (place + 1) (set keys place key)
 one_key_more dimensions view members rows place keys key so_far own = record {
@@ -69,35 +81,48 @@ one_key_more dimensions view members rows place keys key so_far own = record {
   each = λ k d before inside. by k d before (omega (arith, inside, length-set keys place key)) (cases_eq k place);
 }
   where
-    by : (k : ℕ) (d : Key) → k < place + 1 → k < length keys → (k ≡ place) ⊎ (k ≡ place → ⊥) → IsKeyOfRow dimensions view members (row_at rows k) (get_or (set keys place key) k d)
+    by : (k : ℕ) (d : Key) → k < place + 1 → k < length keys → (k ≡ place) ⊎ (k ≡ place → ⊥)
+        → IsKeyOfRow dimensions view members (row_at rows k) (get_or (set keys place key) k d)
     by k d before inside (inl same) =
-        subst (λ (n : ℕ). IsKeyOfRow dimensions view members (row_at rows n) (get_or (set keys place key) n d)) (sym same)
-        (subst (λ (one : Key). IsKeyOfRow dimensions view members (row_at rows place) one) (sym (get_or-set_same keys place key d (omega (arith, inside, same)))) own)
+        subst (λ (n : ℕ). IsKeyOfRow dimensions view members (row_at rows n) (get_or (set keys place key) n d))
+        (sym same)
+        (subst (λ (one : Key). IsKeyOfRow dimensions view members (row_at rows place) one)
+        (sym (get_or-set_same keys place key d (omega (arith, inside, same)))) own)
     by k d before inside (inr apart) =
-        subst (λ (one : Key). IsKeyOfRow dimensions view members (row_at rows k) one) (sym (get_or-set_other keys place k key d apart))
+        subst (λ (one : Key). IsKeyOfRow dimensions view members (row_at rows k) one)
+        (sym (get_or-set_other keys place k key d apart))
         (so_far.each k d (omega (arith, before, apart)) inside)
 
 -- one number more
-pub one_number_more : (dimensions : DimRows) (view : View) (members : ViewMembers) (rows : List LineOrder) (place : ℕ) (numbers : List ℕ) (number : ℕ)
-    → AreRowNumbers dimensions view members rows place numbers → IsNumberOfRow dimensions view members (row_at rows place) number
+pub one_number_more : (dimensions : DimRows) (view : View) (members : ViewMembers) (rows : List LineOrder) (place : ℕ)
+    (numbers : List ℕ) (number : ℕ)
+    → AreRowNumbers dimensions view members rows place numbers
+    → IsNumberOfRow dimensions view members (row_at rows place) number
     → AreRowNumbers dimensions view members rows (place + 1) (set numbers place number)
 one_number_more dimensions view members rows place numbers number so_far own = record {
   many = length-set numbers place number ∙ so_far.many;
   each = λ k before inside. by k before (omega (arith, inside, length-set numbers place number)) (cases_eq k place);
 }
   where
-    by : (k : ℕ) → k < place + 1 → k < length numbers → (k ≡ place) ⊎ (k ≡ place → ⊥) → IsNumberOfRow dimensions view members (row_at rows k) (get_or (set numbers place number) k 0)
+    by : (k : ℕ) → k < place + 1 → k < length numbers → (k ≡ place) ⊎ (k ≡ place → ⊥)
+        → IsNumberOfRow dimensions view members (row_at rows k) (get_or (set numbers place number) k 0)
     by k before inside (inl same) =
-        subst (λ (n : ℕ). IsNumberOfRow dimensions view members (row_at rows n) (get_or (set numbers place number) n 0)) (sym same)
-        (subst (λ (one : ℕ). IsNumberOfRow dimensions view members (row_at rows place) one) (sym (get_or-set_same numbers place number 0 (omega (arith, inside, same)))) own)
+        subst (λ (n : ℕ). IsNumberOfRow dimensions view members (row_at rows n) (get_or (set numbers place number) n 0))
+        (sym same)
+        (subst (λ (one : ℕ). IsNumberOfRow dimensions view members (row_at rows place) one)
+        (sym (get_or-set_same numbers place number 0 (omega (arith, inside, same)))) own)
     by k before inside (inr apart) =
-        subst (λ (one : ℕ). IsNumberOfRow dimensions view members (row_at rows k) one) (sym (get_or-set_other numbers place k number 0 apart))
+        subst (λ (one : ℕ). IsNumberOfRow dimensions view members (row_at rows k) one)
+        (sym (get_or-set_other numbers place k number 0 apart))
         (so_far.each k (omega (arith, before, apart)) inside)
 
 -- the key of a row among the keys of all
-pub own_key_in : (dimensions : DimRows) (view : View) (members : ViewMembers) (rows : List LineOrder) (place : ℕ) → place < length rows → (keys : List Key) (key : Key)
-    → ((d : Key) → place < length keys → key ≡ get_or keys place d) → AreRowKeys dimensions view members rows (length rows) keys
+pub own_key_in : (dimensions : DimRows) (view : View) (members : ViewMembers) (rows : List LineOrder) (place : ℕ)
+    → place < length rows → (keys : List Key) (key : Key)
+    → ((d : Key) → place < length keys → key ≡ get_or keys place d)
+    → AreRowKeys dimensions view members rows (length rows) keys
     → IsKeyOfRow dimensions view members (row_at rows place) key
 own_key_in dimensions view members rows place within keys key here are =
     let inside : place < length keys = omega (arith, within, are.many) in
-    subst (IsKeyOfRow dimensions view members (row_at rows place)) (sym (here key inside)) (are.each place key within inside)
+    subst (IsKeyOfRow dimensions view members (row_at rows place)) (sym (here key inside))
+    (are.each place key within inside)

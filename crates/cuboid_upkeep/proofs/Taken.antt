@@ -1,5 +1,7 @@
 -- Taking a cell in.
-use Rattle.std.proofs.Common.{◌≡◌, ◌∙◌, sym, ap, refl, subst, ℕ, ◌==◌, ◌<◌, ◌≤◌, Bool, true, false, cond, nat_eq, List, [], ◌∷◌, ◌++◌, map, length, get_or, slice_set, Option, Some, None, arith, All, length-set, if◌then◌else◌}
+use Rattle.std.proofs.Common.{◌≡◌, ◌∙◌, sym, ap, refl, subst, ℕ, ◌==◌, ◌<◌, ◌≤◌, Bool, true, false, cond, nat_eq, List}
+use Rattle.std.proofs.Common.{[], ◌∷◌, ◌++◌, map, length, get_or, slice_set, Option, Some, None, arith, All, length-set}
+use Rattle.std.proofs.Common.{if◌then◌else◌}
 use Rattle.std.specs.List.{IsDistinct, position_or_len}
 use Rattle.std.specs.Option.{option_or}
 use Rattle.std.proofs.lemmas.List.{length_push}
@@ -18,35 +20,43 @@ use Rattle.cuboid_upkeep.specs.Steps.{AreKeyed, IsGood, MergesAt, Overflows, Ove
 use Rattle.cuboid_upkeep.proofs.Found.{at_none, at_place, found_key, has_key, none_else, own_key, place_is, same_key}
 
 -- the keys stay where one is among them
-pub keys_stay : (keys : List ℕ) (number place : ℕ) → place ≡ position_or_len (nat_eq number) keys → place < length keys → insert_key nat_eq keys number ≡ keys
+pub keys_stay : (keys : List ℕ) (number place : ℕ) → place ≡ position_or_len (nat_eq number) keys → place < length keys
+    → insert_key nat_eq keys number ≡ keys
 keys_stay keys number place is within =
     let first : position_or_len (nat_eq number) keys < length keys = omega (arith, is, within) in
     ap (λ (b : Bool). if b then keys else keys ++ number ∷ [])
-    (any_passes_from_place (nat_eq number) keys (position_or_len (nat_eq number) keys) (get_or keys (position_or_len (nat_eq number) keys) 0)
-    (slice_get-get_or keys (position_or_len (nat_eq number) keys) 0 first) (passes_at_first (nat_eq number) keys 0 first))
+    (any_passes_from_place (nat_eq number) keys (position_or_len (nat_eq number) keys)
+    (get_or keys (position_or_len (nat_eq number) keys) 0)
+    (slice_get-get_or keys (position_or_len (nat_eq number) keys) 0 first)
+    (passes_at_first (nat_eq number) keys 0 first))
 
 -- one cell after others, or merged with none
-put_behind : (cell : Cell) (a : Option Cell) (is : Bool) → (is ≡ true → a ≡ None) → option_or a (cond is (Some cell) None) ≡ merged_if_any a (cond is (Some cell) None)
-put_behind cell a true none = rw (none refl) refl
-put_behind cell None false none = refl
-put_behind cell (Some other) false none = refl
+put_after : (cell : Cell) (a : Option Cell) (is : Bool) → (is ≡ true → a ≡ None)
+    → option_or a (cond is (Some cell) None) ≡ merged_if_any a (cond is (Some cell) None)
+put_after cell a true none = rw (none refl) refl
+put_after cell None false none = refl
+put_after cell (Some other) false none = refl
 
-good_behind : (view : View) (cells : List Cell) (cell : Cell) → All (IsGood view) cells → IsGood view cell → All (IsGood view) (cells ++ cell ∷ [])
-good_behind view cells cell good is = All-append (IsGood view) cells (cell ∷ []) good (All-cons (IsGood view) cell [] is (All-nil (IsGood view)))
+good_after : (view : View) (cells : List Cell) (cell : Cell) → All (IsGood view) cells → IsGood view cell
+    → All (IsGood view) (cells ++ cell ∷ [])
+good_after view cells cell good is =
+    All-append (IsGood view) cells (cell ∷ []) good (All-cons (IsGood view) cell [] is (All-nil (IsGood view)))
 
-module _ (cells : List Cell) (cell : Cell) (place : ℕ) (is : place ≡ position_or_len (nat_eq (number_of cell.key)) (map (λ (c : Cell). number_of c.key) cells)) where
+module _ (cells : List Cell) (cell : Cell) (place : ℕ)
+    (is : place ≡ position_or_len (nat_eq (number_of cell.key)) (map (λ (c : Cell). number_of c.key) cells)) where
   place_at : place ≡ position_or_len (has_key (number_of cell.key)) cells
   place_at = is ∙ place_is (number_of cell.key) cells
 
   -- a new key
-  pub taken_behind : length cells ≤ place → (new : List Cell) → new ≡ cells ++ cell ∷ [] → TakesIn cells cell new
-  taken_behind past new new_is = subst (TakesIn cells cell) (sym new_is) (record {
+  pub taken_after : length cells ≤ place → (new : List Cell) → new ≡ cells ++ cell ∷ [] → TakesIn cells cell new
+  taken_after past new new_is = subst (TakesIn cells cell) (sym new_is) (record {
     longer = omega (arith, length_push cells cell);
-    good = λ view good own. good_behind view cells cell good own;
+    good = λ view good own. good_after view cells cell good own;
     by_key = λ number.
         find-append (has_key number) cells (cell ∷ [])
-        ∙ put_behind cell (cell_at number cells) (number_of cell.key == number)
-        (λ e. ap (λ (n : ℕ). cell_at n cells) (sym (same_key (number_of cell.key) number e)) ∙ at_none (number_of cell.key) cells place place_at past);
+        ∙ put_after cell (cell_at number cells) (number_of cell.key == number)
+        (λ e. ap (λ (n : ℕ). cell_at n cells) (sym (same_key (number_of cell.key) number e))
+        ∙ at_none (number_of cell.key) cells place place_at past);
   })
 
   module _ (within : place < length cells) (before : Cell) (before_is : before ≡ get_or cells place before) where
@@ -63,10 +73,14 @@ module _ (cells : List Cell) (cell : Cell) (place : ℕ) (is : place ≡ positio
       key_both : number_of both.key ≡ number_of cell.key
       key_both = ap (λ (c : Cell). number_of c.key) both_is ∙ key_before
 
-      pub same_keys : map (λ (c : Cell). number_of c.key) (slice_set cells place both) ≡ map (λ (c : Cell). number_of c.key) cells
-      same_keys = map-set_same (λ (c : Cell). number_of c.key) cells place both before (key_both ∙ sym key_before ∙ ap (λ (c : Cell). number_of c.key) before_is)
+      pub same_keys : map (λ (c : Cell). number_of c.key) (slice_set cells place both)
+          ≡ map (λ (c : Cell). number_of c.key) cells
+      same_keys =
+          map-set_same (λ (c : Cell). number_of c.key) cells place both before
+          (key_both ∙ sym key_before ∙ ap (λ (c : Cell). number_of c.key) before_is)
 
-      pub keyed_still : (keys new : List ℕ) → keys ≡ map (λ (c : Cell). number_of c.key) cells → new ≡ keys → IsDistinct nat_eq new → AreKeyed new (slice_set cells place both)
+      pub keyed_still : (keys new : List ℕ) → keys ≡ map (λ (c : Cell). number_of c.key) cells → new ≡ keys
+          → IsDistinct nat_eq new → AreKeyed new (slice_set cells place both)
       keyed_still keys new keys_are new_is once = record { keys_are = new_is ∙ keys_are ∙ sym same_keys; once = once }
 
       good_both : (view : View) → All (IsGood view) cells → CellFits both → IsGood view both
@@ -83,29 +97,36 @@ module _ (cells : List Cell) (cell : Cell) (place : ℕ) (is : place ≡ positio
         good = λ view good own. All-set (IsGood view) cells place both (good_both view good fits) good;
         by_key = λ number.
             (elim (number_of cell.key == number) as (λ b. (number_of cell.key == number) ≡ b
-            → cell_at number (slice_set cells place both) ≡ merged_if_any (cell_at number cells) (cond b (Some cell) None)) [
+            → cell_at number (slice_set cells place both)
+            ≡ merged_if_any (cell_at number cells) (cond b (Some cell) None)) [
               | true ↦ λ e.
                   let same : number_of cell.key ≡ number = same_key (number_of cell.key) number e in
                   ap (λ (n : ℕ). cell_at n (slice_set cells place both)) (sym same)
-                  ∙ find-set (has_key (number_of cell.key)) cells place both place_at within (own_key (number_of both.key) (number_of cell.key) key_both)
+                  ∙ find-set (has_key (number_of cell.key)) cells place both place_at within
+                  (own_key (number_of both.key) (number_of cell.key) key_both)
                   ∙ ap Some both_is
                   ∙ ap (λ (o : Option Cell). merged_if_any o (Some cell)) (sym found_before)
                   ∙ ap (λ (n : ℕ). merged_if_any (cell_at n cells) (Some cell)) same
               | false ↦ λ e.
                   let apart : (number_of before.key == number) ≡ false = ap (λ (n : ℕ). n == number) key_before ∙ e in
                   let apart_both : (number_of both.key == number) ≡ false = ap (λ (n : ℕ). n == number) key_both ∙ e in
-                  find_past (has_key number) cells place both before (ap (has_key number) (sym before_is) ∙ apart) apart_both
+                  find_past (has_key number) cells place both before (ap (has_key number) (sym before_is) ∙ apart)
+                  apart_both
                   ∙ sym (none_else (cell_at number cells))
             ]) refl;
       }
 
   module _ (within : place < length cells) (new : List Cell) (m : MergesAt cells place cell new) where
     pub merged_taken : TakesIn cells cell new
-    merged_taken = subst (TakesIn cells cell) (sym m.is) (taken_over within m.before m.before_is (merged m.before cell) refl m.fits)
+    merged_taken =
+        subst (TakesIn cells cell) (sym m.is)
+        (taken_over within m.before m.before_is (merged m.before cell) refl m.fits)
 
-    pub merged_keyed : (keys new_keys : List ℕ) → keys ≡ map (λ (c : Cell). number_of c.key) cells → new_keys ≡ keys → IsDistinct nat_eq new_keys → AreKeyed new_keys new
+    pub merged_keyed : (keys new_keys : List ℕ) → keys ≡ map (λ (c : Cell). number_of c.key) cells → new_keys ≡ keys
+        → IsDistinct nat_eq new_keys → AreKeyed new_keys new
     merged_keyed keys new_keys keys_are same once =
-        subst (AreKeyed new_keys) (sym m.is) (keyed_still within m.before m.before_is (merged m.before cell) refl keys new_keys keys_are same once)
+        subst (AreKeyed new_keys) (sym m.is)
+        (keyed_still within m.before m.before_is (merged m.before cell) refl keys new_keys keys_are same once)
 
   pub merge_overflows : place < length cells → OverflowsAt cells place cell → Overflows cells cell
   merge_overflows within over = overflows within over.before over.before_is over.passes

@@ -1,5 +1,6 @@
 -- Fact rows are taken in, one after another.
-use Rattle.std.proofs.Common.{◌≡◌, ◌∙◌, sym, ap, refl, subst, inl, inr, ℕ, ◌+◌, ◌*◌, ◌<◌, false, List, [], ◌∷◌, ◌++◌, length, take, Some, All, append_assoc, append-nil, arith}
+use Rattle.std.proofs.Common.{◌≡◌, ◌∙◌, sym, ap, refl, subst, inl, inr, ℕ, ◌+◌, ◌*◌, ◌<◌, false, List, [], ◌∷◌, ◌++◌}
+use Rattle.std.proofs.Common.{length, take, Some, All, append_assoc, append-nil, arith}
 use Rattle.std.proofs.lemmas.List.Elements.{All-cons, All-nil}
 use Rattle.cube_model.specs.declared.fault.Fault.TheVariants.{BadLayout}
 use Rattle.cube_model.specs.declared.rows.DimRows.{DimRows}
@@ -24,31 +25,40 @@ use Rattle.cuboid_upkeep.proofs.Sorted.{found_in}
 use Rattle.cuboid_upkeep.proofs.Slots.{merge_then, past_is, past_key, slots_then, used_good}
 
 -- no row yet
-pub none_taken : (dimensions : DimRows) (view : View) (members : ViewMembers) (rows : List LineOrder) (slots : List Cell) → AreSlots view members 0 slots → IsTaken dimensions view members rows 0 slots slots
+pub none_taken : (dimensions : DimRows) (view : View) (members : ViewMembers) (rows : List LineOrder)
+    (slots : List Cell) → AreSlots view members 0 slots → IsTaken dimensions view members rows 0 slots slots
 none_taken dimensions view members rows slots are = record {
   size = refl;
   slots = are;
-  represent = λ so_far represent. subst (λ (l : List LineOrder). RepresentRows dimensions [] l (cells_in view slots)) (sym (append-nil so_far)) represent;
+  represent = λ so_far represent. subst (λ (l : List LineOrder). RepresentRows dimensions [] l (cells_in view slots))
+      (sym (append-nil so_far)) represent;
 }
 
 -- what the cell of a row is, whatever the dimensions of its key are
 abbrev pub IsRowCell : LineOrder → Key → Cell → Type 0
-IsRowCell row key cell = (dimensions : DimRows) (modes : List (List ℕ)) (view : View) → IsRowKey dimensions modes view row key → IsCellOfRow dimensions modes view row cell
+IsRowCell row key cell = (dimensions : DimRows) (modes : List (List ℕ)) (view : View)
+    → IsRowKey dimensions modes view row key → IsCellOfRow dimensions modes view row cell
 
 -- it has the key
-key_is : (dimensions : DimRows) (view : View) (row : LineOrder) (key : Key) (cell : Cell) → IsRowKey dimensions [] view row key → IsCellOfRow dimensions [] view row cell → cell.key ≡ key
+key_is : (dimensions : DimRows) (view : View) (row : LineOrder) (key : Key) (cell : Cell)
+    → IsRowKey dimensions [] view row key → IsCellOfRow dimensions [] view row cell → cell.key ≡ key
 key_is dimensions view row key cell own is =
     let made : Cell = record { key = key_of dimensions [] view row; count = 1; measures = summaries_over (row ∷ []) } in
     let same : made ≡ cell = cc is.is in
     ap (λ (c : Cell). c.key) (sym same) ∙ sym own.is
 
 -- the number of a row is that of its key
-pub number_of_key : (dimensions : DimRows) (view : View) (members : ViewMembers) (row : LineOrder) (key : Key) (number : ℕ)
-    → IsKeyOfRow dimensions view members row key → IsNumberOfRow dimensions view members row number → place_of members key ≡ number
-number_of_key dimensions view members row key number own told = ap (place_of members) (own.is.is ∙ sym told.own.is.is) ∙ sym told.is
+pub number_of_key : (dimensions : DimRows) (view : View) (members : ViewMembers) (row : LineOrder) (key : Key)
+    (number : ℕ)
+    → IsKeyOfRow dimensions view members row key → IsNumberOfRow dimensions view members row number
+    → place_of members key ≡ number
+number_of_key dimensions view members row key number own fact = ap (place_of members) (own.is.is ∙ sym fact.own.is.is)
+    ∙ sym fact.is
 
-module _ (dimensions : DimRows) (view : View) (members : ViewMembers) (no_modes : view.ship_mode ≡ false) (rows : List LineOrder) (place : ℕ) (within : place < length rows) (key : Key) (cell : Cell)
-    (own : IsKeyOfRow dimensions view members (row_at rows place) key) (cell_is : IsRowCell (row_at rows place) key cell) where
+module _ (dimensions : DimRows) (view : View) (members : ViewMembers) (no_modes : view.ship_mode ≡ false)
+    (rows : List LineOrder) (place : ℕ) (within : place < length rows) (key : Key) (cell : Cell)
+    (own : IsKeyOfRow dimensions view members (row_at rows place) key)
+    (cell_is : IsRowCell (row_at rows place) key cell) where
   abbrev row : LineOrder
   row = row_at rows place
 
@@ -69,15 +79,19 @@ module _ (dimensions : DimRows) (view : View) (members : ViewMembers) (no_modes 
         group = row_alone dimensions [] view row cell is;
       }
 
-  module _ (old now : List Cell) (so_far : IsTaken dimensions view members rows place old now) (low : place_of members key < length now) where
-    pub one_taken : (next : List Cell) → length next ≡ length now → TakesAt now (place_of members key) cell next → IsTaken dimensions view members rows (place + 1) old next
+  module _ (old now : List Cell) (so_far : IsTaken dimensions view members rows place old now)
+      (low : place_of members key < length now) where
+    pub one_taken : (next : List Cell) → length next ≡ length now → TakesAt now (place_of members key) cell next
+        → IsTaken dimensions view members rows (place + 1) old next
     one_taken next many takes = record {
       size = many ∙ so_far.size;
       slots = slots_then view members no_modes now (place_of members key) cell next so_far.slots low there takes;
       represent = λ front represent.
           subst (λ (l : List LineOrder). RepresentRows dimensions [] l (cells_in view next))
-          (append_assoc front (take place rows) (row ∷ []) ∙ ap (λ (l : List LineOrder). front ++ l) (sym (one_row_more dimensions [] view rows place within)))
-          (both_represent dimensions [] (front ++ take place rows) (row ∷ []) (cells_in view now) (record { view = view; cells = cell ∷ [] }) (cells_in view next) refl
+          (append_assoc front (take place rows) (row ∷ [])
+          ∙ ap (λ (l : List LineOrder). front ++ l) (sym (one_row_more dimensions [] view rows place within)))
+          (both_represent dimensions [] (front ++ take place rows) (row ∷ []) (cells_in view now)
+          (record { view = view; cells = cell ∷ [] }) (cells_in view next) refl
           (so_far.represent front represent) alone
           (merge_then view members no_modes now (place_of members key) cell next so_far.slots low there takes));
     }
@@ -88,7 +102,8 @@ module _ (dimensions : DimRows) (view : View) (members : ViewMembers) (no_modes 
     one_passes past front represent =
         let first = so_far.represent front represent in
         let number : ℕ = number_of cell.key in
-        let before : cell_at number (used now) ≡ Some past.slot = past_is view members no_modes now (place_of members key) cell so_far.slots low there past in
+        let before : cell_at number (used now) ≡ Some past.slot =
+        past_is view members no_modes now (place_of members key) cell so_far.slots low there past in
         let passes : PassesType (used now) (cell ∷ []) = record {
           left = past.slot;
           right = cell;
@@ -97,11 +112,14 @@ module _ (dimensions : DimRows) (view : View) (members : ViewMembers) (no_modes 
           key = past_key view members no_modes now (place_of members key) cell so_far.slots low there past;
           passes = past.passes;
         } in
-        let fit : All CellFits (used now) = λ k d in_used. (used_good view members no_modes 0 now so_far.slots k d in_used).fits in
+        let fit : All CellFits (used now) =
+        λ k d in_used. (used_good view members no_modes 0 now so_far.slots k d in_used).fits in
         all_unfit dimensions [] view rows place within front
-        (unfit_of (merge_refused dimensions [] view (front ++ take place rows) (row ∷ []) (used now) (cell ∷ []) fit first alone BadLayout (inr (inl (refl, passes)))))
+        (unfit_of (merge_refused dimensions [] view (front ++ take place rows) (row ∷ []) (used now) (cell ∷ []) fit
+        first alone BadLayout (inr (inl (refl, passes)))))
       where
-        unfit_of : {rest : List LineOrder} → IsAddFault dimensions [] view rest BadLayout → AreUnfit dimensions [] view rest
+        unfit_of : {rest : List LineOrder} → IsAddFault dimensions [] view rest BadLayout
+            → AreUnfit dimensions [] view rest
         unfit_of (inl memory) = absurd (cc memory)
         unfit_of (inr (inl bad)) = bad.1
         unfit_of (inr (inr many)) = absurd (cc many.0)
@@ -112,18 +130,29 @@ digits_are a b c d one other same = (omega (arith, one, other, same), omega (ari
 
 key_by_number : (one other : Key) → KeyFits one → KeyFits other → number_of one ≡ number_of other → one ≡ other
 key_by_number one other fits fit same =
-    let fifth = digits_are (((one.customer * 65536 + one.supplier) * 65536 + one.part) * 65536 + one.date) one.ship_mode (((other.customer * 65536 + other.supplier) * 65536 + other.part) * 65536 + other.date) other.ship_mode fits.ship_mode fit.ship_mode same in
-    let fourth = digits_are ((one.customer * 65536 + one.supplier) * 65536 + one.part) one.date ((other.customer * 65536 + other.supplier) * 65536 + other.part) other.date fits.date fit.date fifth.0 in
-    let third = digits_are (one.customer * 65536 + one.supplier) one.part (other.customer * 65536 + other.supplier) other.part fits.part fit.part fourth.0 in
-    let second = digits_are one.customer one.supplier other.customer other.supplier fits.supplier fit.supplier third.0 in
+    let fifth = digits_are (((one.customer * 65536 + one.supplier) * 65536 + one.part) * 65536 + one.date) one.ship_mode
+    (((other.customer * 65536 + other.supplier) * 65536 + other.part) * 65536 + other.date) other.ship_mode
+    fits.ship_mode fit.ship_mode same in
+    let fourth =
+    digits_are ((one.customer * 65536 + one.supplier) * 65536 + one.part) one.date
+    ((other.customer * 65536 + other.supplier) * 65536 + other.part) other.date fits.date fit.date fifth.0 in
+    let third = digits_are (one.customer * 65536 + one.supplier) one.part (other.customer * 65536 + other.supplier)
+    other.part fits.part fit.part fourth.0 in
+    let second = digits_are one.customer one.supplier other.customer other.supplier fits.supplier fit.supplier
+    third.0 in
     key_by one.customer one.supplier one.part one.date one.ship_mode other second.0 second.1 third.1 fourth.1 fifth.1
 
 -- the key of the slot that a row's number has is the row's
-pub key_there : (dimensions : DimRows) (view : View) (members : ViewMembers) → view.ship_mode ≡ false → (row : LineOrder) (number : ℕ) (slot : Cell)
-    → IsNumberOfRow dimensions view members row number → IsAt view members number slot → IsKeyOfRow dimensions view members row slot.key
-key_there dimensions view members no_modes row number slot told at =
-    let own = told.own in
-    let modes : told.key.ship_mode ≡ slot.key.ship_mode = own.is.of.ship_mode.1 no_modes ∙ sym (at.good.is_cell.key.ship_mode.1 no_modes) in
-    let alike : number_of told.key ≡ number_of slot.key =
-    (keys_follow view members told.key slot.key own.is.of at.good.is_cell.key own.is.fits at.good.fits.key own.lies at.lies modes).1 (sym told.is ∙ sym at.place_is) in
-    subst (IsKeyOfRow dimensions view members row) (key_by_number told.key slot.key own.is.fits at.good.fits.key alike) own
+pub key_there : (dimensions : DimRows) (view : View) (members : ViewMembers) → view.ship_mode ≡ false
+    → (row : LineOrder) (number : ℕ) (slot : Cell)
+    → IsNumberOfRow dimensions view members row number → IsAt view members number slot
+    → IsKeyOfRow dimensions view members row slot.key
+key_there dimensions view members no_modes row number slot fact at =
+    let own = fact.own in
+    let modes : fact.key.ship_mode ≡ slot.key.ship_mode = own.is.of.ship_mode.1 no_modes
+    ∙ sym (at.good.is_cell.key.ship_mode.1 no_modes) in
+    let alike : number_of fact.key ≡ number_of slot.key =
+    (keys_follow view members fact.key slot.key own.is.of at.good.is_cell.key own.is.fits at.good.fits.key own.lies
+    at.lies modes).1 (sym fact.is ∙ sym at.place_is) in
+    subst (IsKeyOfRow dimensions view members row) (key_by_number fact.key slot.key own.is.fits at.good.fits.key alike)
+    own

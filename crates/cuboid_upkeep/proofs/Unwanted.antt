@@ -1,5 +1,6 @@
 -- Cells that need not be looked at, by a code of theirs.
-use Rattle.std.proofs.Common.{◌≡◌, ◌∙◌, inl, inr, ◌^◌, sym, ap, refl, subst, arith, ℕ, ◌+◌, ◌-◌, ◌*◌, ◌/◌, ◌<◌, ◌≤◌, Bool, true, false, ◌&&◌, Option, Some, None, cond, ◌==◌, length, get_or}
+use Rattle.std.proofs.Common.{◌≡◌, ◌∙◌, inl, inr, ◌^◌, sym, ap, refl, subst, arith, ℕ, ◌+◌, ◌-◌, ◌*◌, ◌/◌, ◌<◌, ◌≤◌}
+use Rattle.std.proofs.Common.{Bool, true, false, ◌&&◌, Option, Some, None, cond, ◌==◌, length, get_or}
 use Rattle.std.specs.List.{list_all}
 use Rattle.std.proofs.Math.ListN.{get_or-eq_default}
 use Rattle.std.specs.Prelude.{IfSome}

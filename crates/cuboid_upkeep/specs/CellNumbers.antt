@@ -46,9 +46,11 @@ AreUnwanted asked from to = (cell : Cell) → IsCellOf asked.view cell → KeyFi
     → IfSome to (λ end. number_of cell.key < end) → IsUnwanted asked cell
 
 -- whether rows of zeros keep the conditions on the numbers of rows, and what the members of each level give
-pub record AreTables (asked : AskedOfCells) (within : Bool) (customers suppliers parts dates : MemberParts) : Type 0 where
-  pub noughts : (row : LineOrder) → row.quantity ≡ 0 → row.discount ≡ 0 → list_all (holds_in row) asked.query.conditions ≡ within
-  pub by_customer : AreParts asked.dimensions asked.query Customer asked.view.customer customers
-  pub by_supplier : AreParts asked.dimensions asked.query Supplier asked.view.supplier suppliers
-  pub by_part : AreParts asked.dimensions asked.query Part asked.view.part parts
-  pub by_date : AreParts asked.dimensions asked.query Date asked.view.date dates
+pub record AreTables (asked : AskedOfCells) (within : Bool) (customers suppliers parts dates : MemberParts) : Type 0
+  where
+    pub noughts : (row : LineOrder) → row.quantity ≡ 0 → row.discount ≡ 0
+        → list_all (holds_in row) asked.query.conditions ≡ within
+    pub by_customer : AreParts asked.dimensions asked.query Customer asked.view.customer customers
+    pub by_supplier : AreParts asked.dimensions asked.query Supplier asked.view.supplier suppliers
+    pub by_part : AreParts asked.dimensions asked.query Part asked.view.part parts
+    pub by_date : AreParts asked.dimensions asked.query Date asked.view.date dates

@@ -1,6 +1,7 @@
--- The codes of members: each is the place of the member's text among those of its attribute, in the order of their first
--- use by the rows of the dimension. So a code stays when rows are added. A day's code is the place of its row. The code of a
--- ship mode is the place of its text in the list of ship modes, each in the order of its first use. Our layout.
+-- The codes of members: each is the place of the member's text among those of its attribute, in the order of their
+-- first use by the rows of the dimension. So a code stays when rows are added. A day's code is the place of its row.
+-- The code of a ship mode is the place of its text in the list of ship modes, each in the order of its first use. Our
+-- layout.
 use Rattle.std.specs.Prelude.{ℕ, ◌<◌, Bool, true, false, Option, Some, None, List, [], length}
 use Rattle.cube_model.specs.declared.attr.Attr.{Attr}
 use Rattle.cube_model.specs.declared.attr.Axis.{Axis}

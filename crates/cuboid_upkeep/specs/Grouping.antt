@@ -1,11 +1,12 @@
--- The plain grouping of fact rows by the levels of a view: a cell for each choice of members that some row has, with the
--- count of its rows and, for each measure, the sum, the least and the greatest of their numbers (Gray et al. 1997).
+-- The plain grouping of fact rows by the levels of a view: a cell for each choice of members that some row has, with
+-- the count of its rows and, for each measure, the sum, the least and the greatest of their numbers (Gray et al. 1997).
 use Rattle.std.specs.Prelude.{◌≡◌, ℕ, ◌==◌, ◌<◌, ◌^◌, true, Option, Some, None, List, [], ◌∷◌, ◌++◌, length, map, All}
 use Rattle.std.specs.List.{filter}
 use Rattle.cube_model.specs.declared.attr.Axis.{Axis}
 use Rattle.cube_model.specs.declared.attr.Axis.TheVariants.{Customer, Supplier, Part, Date}
 use Rattle.cube_model.specs.declared.measure.Measure.{Measure}
-use Rattle.cube_model.specs.declared.measure.Measure.TheVariants.{Quantity, ExtendedPrice, Revenue, SupplyCost, Discounted, Profit}
+use Rattle.cube_model.specs.declared.measure.Measure.TheVariants.{Quantity, ExtendedPrice, Revenue, SupplyCost}
+use Rattle.cube_model.specs.declared.measure.Measure.TheVariants.{Discounted, Profit}
 use Rattle.cube_model.specs.declared.rows.DimRows.{DimRows}
 use Rattle.cube_model.specs.declared.rows.LineOrder.{LineOrder}
 use Rattle.cube_model.specs.Aggregates.{greatest, least, total}
@@ -75,14 +76,15 @@ abbrev pub Group : DimRows → List (List ℕ) → View → List LineOrder → L
 Group dimensions modes view rows cells = (number : ℕ)
     → cell_at number cells ≡ cell_over dimensions modes view (rows_of dimensions modes view number rows)
 
--- a fact row has a member at each level by which a view groups: its key is in the dimension, and its ship mode is one of the
--- modes where the view groups by it
+-- a fact row has a member at each level by which a view groups: its key is in the dimension, and its ship mode is one
+-- of the modes where the view groups by it
 pub record HasMembers (dimensions : DimRows) (modes : List (List ℕ)) (view : View) (row : LineOrder) : Type 0 where
   pub axes : (axis : Axis) → (level_on axis view ≡ level.All → ⊥) → IsKnownOn dimensions row axis
   pub ship_mode : view.ship_mode ≡ true → IsMode modes row.shipmode
 
 -- the cells of a view represent fact rows: each row has its members, and the cells group the rows
-pub record RepresentRows (dimensions : DimRows) (modes : List (List ℕ)) (rows : List LineOrder) (plain : PlainCells) : Type 0 where
+pub record RepresentRows (dimensions : DimRows) (modes : List (List ℕ)) (rows : List LineOrder)
+    (plain : PlainCells) : Type 0 where
   pub known : All (HasMembers dimensions modes plain.view) rows
   pub ascending : AreAscending plain.cells
   pub group : Group dimensions modes plain.view rows plain.cells
@@ -92,13 +94,14 @@ pub record NumbersFit (cell : Cell) : Type 0 where
   pub count : cell.count < 2 ^ 64
   pub measures : SummariesFit cell.measures
 
--- those of one key among some fact rows one after the other have a cell whose count, sum, least or greatest passes its type
+-- those of one key among some fact rows one after the other have a cell whose count, sum, least or greatest passes its
+-- type
 pub record PassType (dimensions : DimRows) (modes : List (List ℕ)) (view : View) (rows : List LineOrder) : Type 0 where
   pub before : List LineOrder
   pub part : List LineOrder
-  pub behind : List LineOrder
+  pub after : List LineOrder
   pub number : ℕ
   pub cell : Cell
-  pub parts : rows ≡ before ++ (part ++ behind)
+  pub parts : rows ≡ before ++ (part ++ after)
   pub is : cell_over dimensions modes view (rows_of dimensions modes view number part) ≡ Some cell
   pub passes : NumbersFit cell → ⊥

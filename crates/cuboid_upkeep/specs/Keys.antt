@@ -22,23 +22,29 @@ pub record IsAxisCode (dimensions : DimRows) (axis : Axis) (grouped : Level) (ro
   pub known : (grouped ≡ level.All → ⊥) → IsKnownOn dimensions row axis
 
 -- the key of a fact row, which has its members, and a number
-pub record IsKeyOfRow (dimensions : DimRows) (view : View) (members : ViewMembers) (row : LineOrder) (key : Key) : Type 0 where
+pub record IsKeyOfRow (dimensions : DimRows) (view : View) (members : ViewMembers) (row : LineOrder) (key : Key) : Type
+    0 where
   pub is : IsRowKey dimensions [] view row key
   pub lies : LiesIn members key
 
 -- the keys of the first of some fact rows, so many
-pub record AreRowKeys (dimensions : DimRows) (view : View) (members : ViewMembers) (rows : List LineOrder) (count : ℕ) (keys : List Key) : Type 0 where
+pub record AreRowKeys (dimensions : DimRows) (view : View) (members : ViewMembers) (rows : List LineOrder) (count : ℕ)
+    (keys : List Key) : Type 0 where
   pub many : length keys ≡ length rows
-  pub each : (place : ℕ) (key : Key) → place < count → place < length keys → IsKeyOfRow dimensions view members (row_at rows place) (slice_index_or keys place key)
+  pub each : (place : ℕ) (key : Key) → place < count → place < length keys
+      → IsKeyOfRow dimensions view members (row_at rows place) (slice_index_or keys place key)
 
 -- the number of the key of a fact row, which has its members
-pub record IsNumberOfRow (dimensions : DimRows) (view : View) (members : ViewMembers) (row : LineOrder) (number : ℕ) : Type 0 where
+pub record IsNumberOfRow (dimensions : DimRows) (view : View) (members : ViewMembers) (row : LineOrder)
+    (number : ℕ) : Type 0 where
   pub key : Key
   pub own : IsKeyOfRow dimensions view members row key
   pub is : number ≡ place_of members key
   pub below : number < size_of members
 
 -- the numbers of the keys of the first of some fact rows, so many
-pub record AreRowNumbers (dimensions : DimRows) (view : View) (members : ViewMembers) (rows : List LineOrder) (count : ℕ) (numbers : List ℕ) : Type 0 where
+pub record AreRowNumbers (dimensions : DimRows) (view : View) (members : ViewMembers) (rows : List LineOrder)
+    (count : ℕ) (numbers : List ℕ) : Type 0 where
   pub many : length numbers ≡ length rows
-  pub each : (place : ℕ) → place < count → place < length numbers → IsNumberOfRow dimensions view members (row_at rows place) (slice_index numbers place)
+  pub each : (place : ℕ) → place < count → place < length numbers
+      → IsNumberOfRow dimensions view members (row_at rows place) (slice_index numbers place)

@@ -14,19 +14,21 @@ use Rattle.cuboid_upkeep.specs.Grouping.{HasMembers, PassType, RepresentRows, ke
 
 -- the cells of fact rows put end to end are the merge of their cells
 abbrev pub MergesRepresentBoth : Type 0
-MergesRepresentBoth = (dimensions : DimRows) (modes : List (List ℕ)) (rows others : List LineOrder) (one other new : PlainCells)
+MergesRepresentBoth =
+    (dimensions : DimRows) (modes : List (List ℕ)) (rows others : List LineOrder) (one other new : PlainCells)
     → one.view ≡ other.view → RepresentRows dimensions modes rows one → RepresentRows dimensions modes others other
     → IsMergeOf one other new → RepresentRows dimensions modes (rows ++ others) new
 
 -- Cells represent the same rows when modes are added after the others: the codes of those that were there stay.
-abbrev pub ModesAreAddedBehind : Type 0
-ModesAreAddedBehind = (dimensions : DimRows) (modes more : List (List ℕ)) (rows : List LineOrder) (plain : PlainCells)
+abbrev pub ModesAreAddedAfter : Type 0
+ModesAreAddedAfter = (dimensions : DimRows) (modes more : List (List ℕ)) (rows : List LineOrder) (plain : PlainCells)
     → RepresentRows dimensions modes rows plain → RepresentRows dimensions (modes ++ more) rows plain
 
 -- fact rows have one list of cells
 abbrev pub CellsAreTheOne : Type 0
 CellsAreTheOne = (dimensions : DimRows) (modes : List (List ℕ)) (rows : List LineOrder) (one other : PlainCells)
-    → one.view ≡ other.view → RepresentRows dimensions modes rows one → RepresentRows dimensions modes rows other → one ≡ other
+    → one.view ≡ other.view → RepresentRows dimensions modes rows one → RepresentRows dimensions modes rows other
+    → one ≡ other
 
 -- no cell of fact rows passes a type where the sums of the rows are in range
 abbrev pub RowsInRangeFit : Type 0
@@ -35,18 +37,23 @@ RowsInRangeFit = (dimensions : DimRows) (modes : List (List ℕ)) (view : View) 
 
 -- Fact rows of one key in a view, given by its number, are in one group of each query that the view serves, or in none.
 abbrev pub OneKeyOneGroup : DimRows → Type 0
-OneKeyOneGroup dimensions = (modes : List (List ℕ)) (view : View) (query : Query) (row other : LineOrder) (number : Option ℕ)
+OneKeyOneGroup dimensions =
+    (modes : List (List ℕ)) (view : View) (query : Query) (row other : LineOrder) (number : Option ℕ)
     → Serves view query → HasMembers dimensions modes view row → HasMembers dimensions modes view other
     → number_of (key_of dimensions modes view row) ≡ number_of (key_of dimensions modes view other)
     → IsNumber dimensions query row number → IsNumber dimensions query other number
 
 -- fact rows that have their members have cells
 abbrev pub RowsHaveCells : Type 0
-RowsHaveCells = (dimensions : DimRows) (modes : List (List ℕ)) (view : View) (rows : List LineOrder) → All (HasMembers dimensions modes view) rows
+RowsHaveCells = (dimensions : DimRows) (modes : List (List ℕ)) (view : View) (rows : List LineOrder)
+    → All (HasMembers dimensions modes view) rows
     → (cells : List Cell) × RepresentRows dimensions modes rows (record { view = view; cells = cells })
 
 -- cells of some of the fact rows are no more than those of all
 abbrev pub MoreRowsHaveNoFewerCells : Type 0
-MoreRowsHaveNoFewerCells = (dimensions : DimRows) (modes : List (List ℕ)) (view : View) (before rows behind : List LineOrder) (one other : List Cell)
+MoreRowsHaveNoFewerCells =
+    (dimensions : DimRows) (modes : List (List ℕ)) (view : View) (before rows after : List LineOrder)
+    (one other : List Cell)
     → RepresentRows dimensions modes rows (record { view = view; cells = one })
-    → RepresentRows dimensions modes (before ++ (rows ++ behind)) (record { view = view; cells = other }) → length one ≤ length other
+    → RepresentRows dimensions modes (before ++ (rows ++ after)) (record { view = view; cells = other })
+    → length one ≤ length other

@@ -19,7 +19,8 @@ IsOfRow dimensions axis key = IfSome key (λ own. row_index_of dimensions axis o
 
 -- what the row with a key gives, if there is a key
 abbrev pub part_by : DimRows → Query → Axis → Option ℕ → Option (Option ℕ)
-part_by dimensions query axis key = option_map (λ own. given_at dimensions query axis (row_index_of dimensions axis own)) key
+part_by dimensions query axis key =
+    option_map (λ own. given_at dimensions query axis (row_index_of dimensions axis own)) key
 
 -- what rows with a member give, if there is a member
 abbrev pub given_by : MemberPart → Option (Option ℕ)
@@ -35,7 +36,8 @@ part_in parts code = given_by (cond (code == all_code) parts.every (slice_index_
 abbrev pub IsPartAt : DimRows → Query → Axis → Level → ℕ → Option (Option ℕ) → Type 0
 IsPartAt dimensions query axis level code None = (key : ℕ) → HasCode dimensions axis level key code → ⊥
 IsPartAt dimensions query axis level code (Some part) =
-    (key : ℕ) × HasCode dimensions axis level key code × (part ≡ given_at dimensions query axis (row_index_of dimensions axis key))
+    (key : ℕ) × HasCode dimensions axis level key code
+    × (part ≡ given_at dimensions query axis (row_index_of dimensions axis key))
 
 -- so it is at each code
 abbrev pub AreParts : DimRows → Query → Axis → Level → MemberParts → Type 0

@@ -20,7 +20,8 @@ pub record HasCodeAt (dimensions : DimRows) (axis : Axis) (grouped : Level) (cod
 
 -- the same at the index of each row
 abbrev pub HaveCodes : DimRows → Axis → Level → List ℕ → Type 0
-HaveCodes dimensions axis grouped codes = (place : ℕ) → place < row_count_of dimensions axis → HasCodeAt dimensions axis grouped codes place
+HaveCodes dimensions axis grouped codes = (place : ℕ) → place < row_count_of dimensions axis
+    → HasCodeAt dimensions axis grouped codes place
 
 -- the codes of a level, if it has members, and a count that is above each of them
 pub record AreCodesAt (dimensions : DimRows) (axis : Axis) (grouped : Level) (members : MemberCodes) : Type 0 where

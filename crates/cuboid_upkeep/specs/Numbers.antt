@@ -1,5 +1,5 @@
--- The numbers of keys: the codes of a key are the digits of a number, the customer's first, on each axis to the base of its
--- count. So the numbers of a view's keys are close together, and ascend as the keys do. Our own.
+-- The numbers of keys: the codes of a key are the digits of a number, the customer's first, on each axis to the base of
+-- its count. So the numbers of a view's keys are close together, and ascend as the keys do. Our own.
 use Rattle.std.specs.Prelude.{ℕ, ◌+◌, ◌*◌, ◌<◌, ◌≤◌, ◌==◌, cond}
 use Rattle.cuboid_cells.specs.declared.key.Key.{Key}
 use Rattle.cuboid_cells.specs.Limits.{all_code, most_cells}
@@ -12,7 +12,8 @@ digit_of code = cond (code == all_code) 0 code
 -- the number of a key
 abbrev pub place_of : ViewMembers → Key → ℕ
 place_of members key =
-    ((digit_of key.customer * members.suppliers.count + digit_of key.supplier) * members.parts.count + digit_of key.part) * members.dates.count + digit_of key.date
+    ((digit_of key.customer * members.suppliers.count + digit_of key.supplier) * members.parts.count
+    + digit_of key.part) * members.dates.count + digit_of key.date
 
 -- how many numbers there are
 abbrev pub size_of : ViewMembers → ℕ

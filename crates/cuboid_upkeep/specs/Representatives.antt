@@ -1,5 +1,6 @@
 -- Rows that represent cells: each has the members of its cell, and nothing else is looked at. Our own.
-use Rattle.std.specs.Prelude.{◌≡◌, ℕ, suc, ◌<◌, ◌==◌, cond, true, Option, Some, None, List, [], ◌∷◌, length, slice_index_or, slice_set}
+use Rattle.std.specs.Prelude.{◌≡◌, ℕ, suc, ◌<◌, ◌==◌, cond, true, Option, Some, None, List, [], ◌∷◌, length}
+use Rattle.std.specs.Prelude.{slice_index_or, slice_set}
 use Rattle.std.specs.Option.{is_some}
 use Rattle.cube_model.specs.declared.attr.Axis.{Axis}
 use Rattle.cube_model.specs.declared.rows.DimRows.{DimRows}
@@ -37,18 +38,22 @@ pub record HasCode (dimensions : DimRows) (axis : Axis) (level : Level) (key cod
 
 -- the key at a code is that of a row with its member
 abbrev pub AreKeysOf : DimRows → Axis → Level → MemberKeys → Type 0
-AreKeysOf dimensions axis level keys = (code key : ℕ) → key_at keys code ≡ Some key → HasCode dimensions axis level key code
+AreKeysOf dimensions axis level keys = (code key : ℕ) → key_at keys code ≡ Some key
+    → HasCode dimensions axis level key code
 
 -- there is a key at the code of each member
 abbrev pub HaveAllCodes : DimRows → Axis → Level → MemberKeys → Type 0
-HaveAllCodes dimensions axis level keys = (key code : ℕ) → HasCode dimensions axis level key code → key_at keys code ≡ None → ⊥
+HaveAllCodes dimensions axis level keys = (key code : ℕ) → HasCode dimensions axis level key code
+    → key_at keys code ≡ None → ⊥
 
 -- the same of keys by the codes of a level that has members
 abbrev pub AreAtCodes : DimRows → Axis → Level → List (Option ℕ) → Type 0
-AreAtCodes dimensions axis level keys = (code key : ℕ) → slice_index_or keys code None ≡ Some key → HasCode dimensions axis level key code
+AreAtCodes dimensions axis level keys = (code key : ℕ) → slice_index_or keys code None ≡ Some key
+    → HasCode dimensions axis level key code
 
 abbrev pub HoldAllCodes : DimRows → Axis → Level → List (Option ℕ) → Type 0
-HoldAllCodes dimensions axis level keys = (key code : ℕ) → HasCode dimensions axis level key code → slice_index_or keys code None ≡ None → ⊥
+HoldAllCodes dimensions axis level keys = (key code : ℕ) → HasCode dimensions axis level key code
+    → slice_index_or keys code None ≡ None → ⊥
 
 -- a code is that of a mode, whose text has this code
 pub record IsCodeOfMode (modes : List (List ℕ)) (code : ℕ) : Type 0 where
@@ -67,7 +72,8 @@ representative modes customer supplier part date code = record no_row {
 }
 
 -- a row has known keys, a ship mode that is one of the modes where the view groups by it, and the key of a cell
-pub record IsRepresentative (dimensions : DimRows) (modes : List (List ℕ)) (view : View) (cell : Cell) (row : LineOrder) : Type 0 where
+pub record IsRepresentative (dimensions : DimRows) (modes : List (List ℕ)) (view : View) (cell : Cell)
+    (row : LineOrder) : Type 0 where
   pub known : IsKnown dimensions row
   pub ship_mode : view.ship_mode ≡ true → IsMode modes row.shipmode
   pub key_is : key_of dimensions modes view row ≡ cell.key

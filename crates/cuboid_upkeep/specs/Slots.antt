@@ -1,5 +1,6 @@
 -- Cells in a table by the numbers of their keys. A slot whose cell groups no row is free. Our own.
-use Rattle.std.specs.Prelude.{◌≡◌, ℕ, suc, Bool, true, cond, nat_lt, List, [], ◌∷◌, ◌++◌, length, take, slice_index_or, slice_set}
+use Rattle.std.specs.Prelude.{◌≡◌, ℕ, suc, Bool, true, cond, nat_lt, List, [], ◌∷◌, ◌++◌, length, take, slice_index_or}
+use Rattle.std.specs.Prelude.{slice_set}
 use Rattle.std.specs.List.{filter}
 use Rattle.cube_model.specs.declared.rows.DimRows.{DimRows}
 use Rattle.cube_model.specs.declared.rows.LineOrder.{LineOrder}
@@ -33,7 +34,8 @@ pub record IsAt (view : View) (members : ViewMembers) (place : ℕ) (cell : Cell
 -- each slot that is in use, from a number on, has the cell of its number
 abbrev pub AreSlots : View → ViewMembers → ℕ → List Cell → Type 0
 AreSlots view members place [] = Unit {0}
-AreSlots view members place (slot ∷ slots) = (is_used slot ≡ true → IsAt view members place slot) × AreSlots view members (suc place) slots
+AreSlots view members place (slot ∷ slots) = (is_used slot ≡ true → IsAt view members place slot)
+    × AreSlots view members (suc place) slots
 
 -- a cell taken in where another may be
 abbrev pub taken : Cell → Cell → Cell
@@ -54,7 +56,8 @@ pub record PassesAt (slots : List Cell) (place : ℕ) (cell : Cell) : Type 0 whe
   pub passes : CellFits (merged slot cell) → ⊥
 
 -- the cells of the first of some fact rows, so many, were taken in by the numbers of their keys
-pub record IsTaken (dimensions : DimRows) (view : View) (members : ViewMembers) (rows : List LineOrder) (count : ℕ) (old new : List Cell) : Type 0 where
+pub record IsTaken (dimensions : DimRows) (view : View) (members : ViewMembers) (rows : List LineOrder) (count : ℕ)
+    (old new : List Cell) : Type 0 where
   pub size : length new ≡ length old
   pub slots : AreSlots view members 0 new
   pub represent : (so_far : List LineOrder) → RepresentRows dimensions [] so_far (cells_in view old)

@@ -1,5 +1,6 @@
 -- Cells while fact rows are grouped, in the order of the first rows of their keys. Our own.
-use Rattle.std.specs.Prelude.{◌≡◌, ◌⊎◌, ℕ, ◌+◌, ◌≤◌, ◌<◌, nat_eq, Some, List, [], ◌∷◌, length, map, slice_index_or, slice_set, All}
+use Rattle.std.specs.Prelude.{◌≡◌, ◌⊎◌, ℕ, ◌+◌, ◌≤◌, ◌<◌, nat_eq, Some, List, [], ◌∷◌, length, map, slice_index_or}
+use Rattle.std.specs.Prelude.{slice_set, All}
 use Rattle.std.specs.List.{IsDistinct}
 use Rattle.cube_model.specs.declared.fault.Fault.{Fault}
 use Rattle.cube_model.specs.declared.fault.Fault.TheVariants.{BadLayout, Memory, TooManyCells}
@@ -20,14 +21,16 @@ pub record IsGood (view : View) (cell : Cell) : Type 0 where
   pub fits : CellFits cell
 
 -- the key of a fact row, which has its members
-pub record IsRowKey (dimensions : DimRows) (modes : List (List ℕ)) (view : View) (row : LineOrder) (key : Key) : Type 0 where
-  pub is : key ≡ key_of dimensions modes view row
-  pub of : IsKeyOf view key
-  pub fits : KeyFits key
-  pub members : HasMembers dimensions modes view row
+pub record IsRowKey (dimensions : DimRows) (modes : List (List ℕ)) (view : View) (row : LineOrder) (key : Key) : Type 0
+  where
+    pub is : key ≡ key_of dimensions modes view row
+    pub of : IsKeyOf view key
+    pub fits : KeyFits key
+    pub members : HasMembers dimensions modes view row
 
 -- the cell of one fact row, which has its members
-pub record IsCellOfRow (dimensions : DimRows) (modes : List (List ℕ)) (view : View) (row : LineOrder) (cell : Cell) : Type 0 where
+pub record IsCellOfRow (dimensions : DimRows) (modes : List (List ℕ)) (view : View) (row : LineOrder)
+    (cell : Cell) : Type 0 where
   pub is : cell_over dimensions modes view (row ∷ []) ≡ Some cell
   pub good : IsGood view cell
   pub members : HasMembers dimensions modes view row
@@ -69,7 +72,8 @@ pub record OverflowsAt (cells : List Cell) (place : ℕ) (cell : Cell) : Type 0 
   pub passes : CellFits (merged before cell) → ⊥
 
 -- fact rows were grouped
-pub record AreGrouped (dimensions : DimRows) (modes : List (List ℕ)) (view : View) (rows : List LineOrder) (cells : List Cell) : Type 0 where
+pub record AreGrouped (dimensions : DimRows) (modes : List (List ℕ)) (view : View) (rows : List LineOrder)
+    (cells : List Cell) : Type 0 where
   pub few : length cells ≤ length rows
   pub known : All (HasMembers dimensions modes view) rows
   pub once : IsDistinct nat_eq (map (λ cell. number_of cell.key) cells)
@@ -78,13 +82,15 @@ pub record AreGrouped (dimensions : DimRows) (modes : List (List ℕ)) (view : V
 
 -- why fact rows are not grouped: one has not its members, or numbers pass their type
 abbrev pub AreUnfit : DimRows → List (List ℕ) → View → List LineOrder → Type 0
-AreUnfit dimensions modes view rows = (All (HasMembers dimensions modes view) rows → ⊥) ⊎ PassType dimensions modes view rows
+AreUnfit dimensions modes view rows = (All (HasMembers dimensions modes view) rows → ⊥)
+    ⊎ PassType dimensions modes view rows
 
 -- the cells of a view that represent fact rows are more than a cuboid can have
-pub record HaveTooMany (dimensions : DimRows) (modes : List (List ℕ)) (view : View) (rows : List LineOrder) : Type 0 where
-  pub cells : List Cell
-  pub represent : RepresentRows dimensions modes rows (record { view = view; cells = cells })
-  pub many : most_cells < length cells
+pub record HaveTooMany (dimensions : DimRows) (modes : List (List ℕ)) (view : View) (rows : List LineOrder) : Type 0
+  where
+    pub cells : List Cell
+    pub represent : RepresentRows dimensions modes rows (record { view = view; cells = cells })
+    pub many : most_cells < length cells
 
 -- why fact rows are not added to others
 abbrev pub IsAddFault : DimRows → List (List ℕ) → View → List LineOrder → Fault → Type 0

@@ -24,9 +24,11 @@ tables_of (Twice lowest lowers codes) = lowest.now ∷ lowers.now ∷ codes.now 
 
 -- from each row of a dimension they lead to the code of its member at a level, which is below that of ALL
 pub record LeadToMembers (dimensions : DimRows) (axis : Axis) (grouped : Level) (tables : List (List ℕ)) : Type 0 where
-  pub leads : (place : ℕ) → place < row_count_of dimensions axis → Leads tables place (member_code dimensions axis grouped place)
+  pub leads : (place : ℕ) → place < row_count_of dimensions axis
+      → Leads tables place (member_code dimensions axis grouped place)
   pub below : (place : ℕ) → place < row_count_of dimensions axis → member_code dimensions axis grouped place < all_code
 
 -- codes are those of a level of a dimension, if the level has members
 abbrev pub AreCodesOf : DimRows → Axis → Level → LevelCodes → Type 0
-AreCodesOf dimensions axis grouped codes = (grouped ≡ level.All → ⊥) → LeadToMembers dimensions axis grouped (tables_of codes)
+AreCodesOf dimensions axis grouped codes = (grouped ≡ level.All → ⊥)
+    → LeadToMembers dimensions axis grouped (tables_of codes)

@@ -15,7 +15,7 @@ use cuboid_cells::Cell;
 use cuboid_cells::limits::ALL_CODE;
 use dictionary::Dictionary;
 use dimensions::Dims;
-use group_plan::{Plan, PlanOver};
+use group_plan::{GroupPlan, GroupPlanOver};
 use lattice::View;
 use std::alloc::{AllocError, Global};
 use std::marker::Model;
@@ -30,14 +30,14 @@ const EVERY: u128 = 65_535;
 #[derive(Clone, Copy, Debug, PartialEq, Eq)]
 pub struct UnknownMember;
 
-/// The numbers of the groups that the cells of a view belong to by a plan. Contracts see the dimensions, the query, the view
-/// and the ship modes.
+/// The numbers of the groups that the cells of a view belong to by a plan. Contracts see the dimensions, the query, the
+/// view and the ship modes.
 ///
-/// A number is the sum of what the members of a cell give to it. That follows from their codes, from tables that are made
-/// once, so that for a cell neither keys nor rows of dimensions are looked at.
+/// A number is the sum of what the members of a cell give to it. That follows from their codes, from tables that are
+/// made once, so that for a cell neither keys nor rows of dimensions are looked at.
 #[derive(Drop)]
 pub struct CellNumbers<'a> {
-    plan: PlanOver<'a>,
+    plan: GroupPlanOver<'a>,
     view: View,
     modes: Option<&'a Dictionary>,
     // Whether rows of zeros keep the conditions on the numbers of rows.
@@ -76,7 +76,7 @@ impl<'a> CellNumbers<'a> {
     pub fn of(
         alloc: Global,
         dims: &'a Dims,
-        plan: &'a Plan,
+        plan: &'a GroupPlan,
         view: View,
         modes: Option<&'a Dictionary>,
     ) -> Result<CellNumbers<'a>, AllocError>
@@ -106,8 +106,8 @@ impl<'a> CellNumbers<'a> {
         })
     }
 
-    /// The number of the group of a cell of the view, if the rows of the cell are selected. It refuses a cell with a code
-    /// that no member has: no row represents it.
+    /// The number of the group of a cell of the view, if the rows of the cell are selected. It refuses a cell with a
+    /// code that no member has: no row represents it.
     #[inline]
     pub fn number(&self, cell: &Cell) -> Result<Option<u128>, UnknownMember>
         requires { IsCellOf self.now.view cell.now }

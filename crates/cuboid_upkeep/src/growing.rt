@@ -21,8 +21,8 @@ use std::alloc::Global;
 /// The cells of a view, batch after batch of fact rows.
 #[derive(Drop)]
 pub enum GrowingCells {
-    /// In one table, where the members of the view's levels have no more choices than a cuboid can have cells. A row is taken in
-    /// where it belongs, and nothing is sorted or merged.
+    /// In one table, where the members of the view's levels have no more choices than a cuboid can have cells. A row is
+    /// taken in where it belongs, and nothing is sorted or merged.
     ByNumber(CellTable),
     /// Those of each batch merged into those of the batches before, by the codes of the members, for every other view.
     Merged(Cells, ViewMembers),
@@ -48,9 +48,9 @@ impl GrowingCells {
 
     /// Takes fact rows in: the cells then represent the rows that they represented with these after them.
     ///
-    /// `TooManyCells` where there would be more than 262,144 cells. `BadLayout` where a row has a key that is not in its
-    /// dimension, where the view groups by ship mode, or where a count, a sum or a number would exceed its type. It can also
-    /// fail when out of memory. After an error the cells represent nothing.
+    /// `TooManyCells` where there would be more than 262,144 cells. `BadLayout` where a row has a key that is not in
+    /// its dimension, where the view groups by ship mode, or where a count, a sum or a number would exceed its type. It
+    /// can also fail when out of memory. After an error the cells represent nothing.
     pub fn add_rows<F: FactRows>(
         &mut self,
         alloc: Global,
@@ -62,7 +62,8 @@ impl GrowingCells {
         ensures ok { OnOk result ((so_far : List LineOrder) → RepresentRows dims.now [] so_far (grown self.old)
             → RepresentRows dims.now [] (so_far ++ F.rows rows.now) (grown self.new)) }
         ensures over { OnOk result (GrowOver dims.now self.new) }
-        ensures refused { IfErr result (λ fault. (so_far : List LineOrder) → RepresentRows dims.now [] so_far (grown self.old)
+        ensures refused { IfErr result (λ fault. (so_far : List LineOrder)
+            → RepresentRows dims.now [] so_far (grown self.old)
             → IsAddFault dims.now [] (grown self.old).view (so_far ++ F.rows rows.now) fault) }
 
         // Also after an error.

@@ -1,5 +1,6 @@
 //! The keys of fact rows.
-ghost use Rattle.std.specs.Prelude.{◌≡◌, ◌⊎◌, ◌<◌, [], All, IfErr, IfNone, IfOk, IfSome, false, true, length, slice_index_or};
+ghost use Rattle.std.specs.Prelude.{◌≡◌, ◌⊎◌, ◌<◌, [], All, IfErr, IfNone, IfOk, IfSome, false, true, length};
+ghost use Rattle.std.specs.Prelude.{slice_index_or};
 ghost use Rattle.cube_model.specs.declared.fault.Fault.{Fault};
 ghost use Rattle.group_plan.specs.Rows.{row_at};
 ghost use Rattle.cuboid_cells.specs.declared.key.Key.{Key};
@@ -27,7 +28,8 @@ pub(crate) const NO_KEY: Key = Key {
 
 // The keys of fact rows, in their order. `BadLayout` where a row has not its members.
 //
-// They are found in a loop that does nothing else, so that the processor waits for the memory of many rows' look-ups at once.
+// They are found in a loop that does nothing else, so that the processor waits for the memory of many rows' look-ups at
+// once.
 pub(crate) fn keys_of_rows<F: FactRows>(
     alloc: Global,
     dims: &Dims,
@@ -36,7 +38,8 @@ pub(crate) fn keys_of_rows<F: FactRows>(
     rows: &F,
 ) -> Result<Vec<Key>, Fault>
     requires members { AreMembersOf dims.now view members.now }
-    ensures ok { IfOk result (λ keys. AreRowKeys dims.now view members.now (F.rows rows.now) (length (F.rows rows.now)) keys.items) }
+    ensures ok { IfOk result
+        (λ keys. AreRowKeys dims.now view members.now (F.rows rows.now) (length (F.rows rows.now)) keys.items) }
     ensures refused { IfErr result (λ fault. (fault ≡ Fault.Memory)
         ⊎ ((fault ≡ Fault.BadLayout) × (All (HasMembers dims.now [] view) (F.rows rows.now) → ⊥))) }
 {
@@ -58,7 +61,8 @@ fn put_keys<F: FactRows>(
 ) -> bool
     requires members { AreMembersOf dims.now view members.now }
     requires count { length keys.old ≡ length (F.rows rows.now) }
-    ensures ok { result ≡ true → AreRowKeys dims.now view members.now (F.rows rows.now) (length (F.rows rows.now)) keys.new }
+    ensures ok { result ≡ true
+        → AreRowKeys dims.now view members.now (F.rows rows.now) (length (F.rows rows.now)) keys.new }
     ensures lacks { result ≡ false → All (HasMembers dims.now [] view) (F.rows rows.now) → ⊥ }
 {
     for place in 0..keys.len() {

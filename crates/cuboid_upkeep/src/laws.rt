@@ -1,5 +1,6 @@
 //! Laws of the definitions: each function proves the statement that its contract names, and does nothing.
-ghost use Rattle.cuboid_upkeep.specs.Lawful.{CellsAreTheOne, MergesRepresentBoth, ModesAreAddedBehind, MoreRowsHaveNoFewerCells, OneKeyOneGroup, RowsHaveCells, RowsInRangeFit};
+ghost use Rattle.cuboid_upkeep.specs.Lawful.{CellsAreTheOne, MergesRepresentBoth, ModesAreAddedAfter};
+ghost use Rattle.cuboid_upkeep.specs.Lawful.{MoreRowsHaveNoFewerCells, OneKeyOneGroup, RowsHaveCells, RowsInRangeFit};
 
 use cube_model::{Axis, valid_rows_keep_the_rules};
 use dimensions::Dims;
@@ -10,8 +11,8 @@ pub fn merges_represent_both()
 {}
 
 /// Cells represent the same rows when modes are added after the others.
-pub fn modes_are_added_behind()
-    ensures { ModesAreAddedBehind }
+pub fn modes_are_added_after()
+    ensures { ModesAreAddedAfter }
 {}
 
 /// Fact rows have one list of cells.

@@ -20,8 +20,8 @@ mod taking;
 pub use cell_numbers::{CellNumbers, UnknownMember};
 pub use growing::GrowingCells;
 pub use laws::{
-    cells_are_the_one, merges_represent_both, modes_are_added_behind,
-    more_rows_have_no_fewer_cells, one_key_one_group, rows_have_cells, rows_in_range_fit,
+    cells_are_the_one, merges_represent_both, modes_are_added_after, more_rows_have_no_fewer_cells,
+    one_key_one_group, rows_have_cells, rows_in_range_fit,
 };
 pub use member_codes::{MemberCodes, ViewMembers};
 pub use table::CellTable;

@@ -80,7 +80,8 @@ impl MemberCodes {
         Ok(MemberCodes { codes, count })
     }
 
-    // The code of the member that the row at a place has. Nothing where the level has members and the row's key has none.
+    // The code of the member that the row at a place has. Nothing where the level has members and the row's key has
+    // none.
     #[inline(always)]
     pub(crate) fn code<F: FactRows>(
         &self,

@@ -6,7 +6,8 @@ ghost use Rattle.dimensions.specs.Shown.{rows_on};
 ghost use Rattle.lattice.specs.declared.level.Level.TheVariants as level;
 ghost use Rattle.cuboid_cells.specs.Limits.{all_code};
 ghost use Rattle.cuboid_upkeep.specs.Codes.{member_code};
-ghost use Rattle.cuboid_upkeep.specs.Representatives.{AreAtCodes, AreKeysOf, HaveAllCodes, HoldAllCodes, missing_in, with_key};
+ghost use Rattle.cuboid_upkeep.specs.Representatives.{AreAtCodes, AreKeysOf, HaveAllCodes, HoldAllCodes, missing_in};
+ghost use Rattle.cuboid_upkeep.specs.Representatives.{with_key};
 
 use crate::codes::{LevelCodes, code_count};
 use cube_model::{Axis, valid_rows_keep_the_rules};
@@ -23,8 +24,8 @@ pub struct MemberKeys {
     pub members: Vec<Option<u32>>,
 }
 
-// For each code of a level, the key of a row of the dimension whose member has the code. One row will do for every member
-// together, and no row is looked at where that is the level.
+// For each code of a level, the key of a row of the dimension whose member has the code. One row will do for every
+// member together, and no row is looked at where that is the level.
 pub(crate) fn keys_of_members(
     alloc: Global,
     dims: &Dims,

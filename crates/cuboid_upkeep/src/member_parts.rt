@@ -1,6 +1,7 @@
 //! What the members of a level give to the numbers of groups.
 ghost use Rattle.std.specs.Prelude.{◌≡◌, ◌↔◌, ◌+◌, ◌*◌, ◌<◌, ◌≤◌, ◌^◌, ℕ, All, IfNone, IfOk, IfSome, IsTrue, map};
-ghost use Rattle.cuboid_upkeep.specs.MemberParts.{AreParts, AreUnselected, IsOfRow, IsUnselected, given_by, part_by, part_in};
+ghost use Rattle.cuboid_upkeep.specs.MemberParts.{AreParts, AreUnselected, IsOfRow, IsUnselected, given_by, part_by};
+ghost use Rattle.cuboid_upkeep.specs.MemberParts.{part_in};
 ghost use Rattle.cuboid_cells.specs.Limits.{all_code};
 ghost use Rattle.cuboid_upkeep.specs.declared.member_parts.MemberPart.TheVariants.{Nothing};
 
@@ -8,7 +9,7 @@ use crate::member_keys::keys_of_members;
 use cube_model::Axis;
 use cuboid_cells::limits::ALL_CODE;
 use dimensions::Dims;
-use group_plan::PlanOver;
+use group_plan::GroupPlanOver;
 use lattice::Level;
 use std::alloc::{AllocError, Global};
 
@@ -121,7 +122,7 @@ impl MemberParts {
 pub(crate) fn parts_of_members(
     alloc: Global,
     dims: &Dims,
-    plan: &PlanOver,
+    plan: &GroupPlanOver,
     axis: Axis,
     grouped: Level,
 ) -> Result<MemberParts, AllocError>
@@ -139,7 +140,7 @@ pub(crate) fn parts_of_members(
 // What the rows with some keys give, each in its place.
 fn parts_by_code(
     alloc: Global,
-    plan: &PlanOver,
+    plan: &GroupPlanOver,
     axis: Axis,
     keys: &[Option<u32>],
 ) -> Result<Vec<MemberPart>, AllocError>
@@ -155,7 +156,7 @@ fn parts_by_code(
 }
 
 // What the row with a key gives, if there is a key.
-fn part_of(plan: &PlanOver, axis: Axis, key: Option<u32>) -> MemberPart
+fn part_of(plan: &GroupPlanOver, axis: Axis, key: Option<u32>) -> MemberPart
     requires { IsOfRow plan.now.dimensions axis key }
     ensures { given_by result ≡ part_by plan.now.dimensions plan.now.query axis key }
 {

@@ -17,7 +17,8 @@ use std::alloc::Global;
 
 // The numbers of the keys of fact rows, in their order. `BadLayout` where a row has not its members.
 //
-// They are found in a loop that does nothing else, so that the processor waits for the memory of many rows' look-ups at once.
+// They are found in a loop that does nothing else, so that the processor waits for the memory of many rows' look-ups at
+// once.
 pub(crate) fn numbers_of_rows<F: FactRows>(
     alloc: Global,
     dims: &Dims,
@@ -27,7 +28,9 @@ pub(crate) fn numbers_of_rows<F: FactRows>(
 ) -> Result<Vec<u32>, Fault>
     requires members { AreMembersOf dims.now view members.now }
     requires few { AreFew members.now }
-    ensures ok { IfOk result (λ numbers. AreRowNumbers dims.now view members.now (F.rows rows.now) (length (F.rows rows.now)) numbers.items) }
+    ensures ok { IfOk result
+        (λ numbers. AreRowNumbers dims.now view members.now (F.rows rows.now) (length (F.rows rows.now))
+        numbers.items) }
     ensures refused { IfErr result (λ fault. (fault ≡ Fault.Memory)
         ⊎ ((fault ≡ Fault.BadLayout) × (All (HasMembers dims.now [] view) (F.rows rows.now) → ⊥))) }
 {
@@ -50,7 +53,8 @@ fn put_numbers<F: FactRows>(
     requires members { AreMembersOf dims.now view members.now }
     requires few { AreFew members.now }
     requires count { length numbers.old ≡ length (F.rows rows.now) }
-    ensures ok { result ≡ true → AreRowNumbers dims.now view members.now (F.rows rows.now) (length (F.rows rows.now)) numbers.new }
+    ensures ok { result ≡ true
+        → AreRowNumbers dims.now view members.now (F.rows rows.now) (length (F.rows rows.now)) numbers.new }
     ensures lacks { result ≡ false → All (HasMembers dims.now [] view) (F.rows rows.now) → ⊥ }
 {
     for place in 0..numbers.len() {

@@ -1,5 +1,6 @@
 //! A table of the cells of a view, by the numbers of their keys.
-ghost use Rattle.std.specs.Prelude.{◌≡◌, ◌⊎◌, ◌<◌, ◌++◌, [], List, IfErr, IfOk, IsTrue, OnOk, false, length, slice_index_or, true};
+ghost use Rattle.std.specs.Prelude.{◌≡◌, ◌⊎◌, ◌<◌, ◌++◌, [], List, IfErr, IfOk, IsTrue, OnOk, false, length};
+ghost use Rattle.std.specs.Prelude.{slice_index_or, true};
 ghost use Rattle.group_plan.specs.Rows.{row_at};
 ghost use Rattle.cuboid_cells.specs.declared.cell.Cell.{Cell};
 ghost use Rattle.cube_model.specs.declared.fault.Fault.{Fault};
@@ -83,8 +84,12 @@ impl CellTable {
         requires no_modes { view.ship_mode ≡ false }
         requires few { AreFew members }
         requires size { size ≡ size_of members }
-        ensures over { IfOk result (λ table. (dimensions : DimRows) → AreMembersOf dimensions view members → IsTableOver dimensions table) }
-        ensures none { IfOk result (λ table. cells_in table.view table.slots.items ≡ record { view = view; cells = [] }) }
+        ensures over { IfOk result (λ table. (dimensions : DimRows) → AreMembersOf dimensions view members
+            → IsTableOver dimensions table) }
+        ensures none { IfOk result (λ table. cells_in table.view table.slots.items ≡ record {
+          view = view;
+          cells = [];
+        }) }
     {
         let slots = free_slots(alloc, size)?;
         Ok(CellTable {
@@ -103,12 +108,15 @@ impl CellTable {
         rows: &F,
     ) -> Result<(), Fault>
         requires over { IsTableOver dims.now self.old }
-        ensures ok { OnOk result ((so_far : List LineOrder) → RepresentRows dims.now [] so_far (cells_in self.old.view self.old.slots.items)
+        ensures ok { OnOk result
+            ((so_far : List LineOrder) → RepresentRows dims.now [] so_far (cells_in self.old.view self.old.slots.items)
             → RepresentRows dims.now [] (so_far ++ F.rows rows.now) (cells_in self.new.view self.new.slots.items)) }
         ensures over { OnOk result (IsTableOver dims.now self.new) }
         ensures view { self.new.view ≡ self.old.view }
-        ensures refused { IfErr result (λ fault. (so_far : List LineOrder) → RepresentRows dims.now [] so_far (cells_in self.old.view self.old.slots.items)
-            → (fault ≡ Fault.Memory) ⊎ ((fault ≡ Fault.BadLayout) × AreUnfit dims.now [] self.old.view (so_far ++ F.rows rows.now))) }
+        ensures refused { IfErr result (λ fault. (so_far : List LineOrder)
+            → RepresentRows dims.now [] so_far (cells_in self.old.view self.old.slots.items)
+            → (fault ≡ Fault.Memory)
+            ⊎ ((fault ≡ Fault.BadLayout) × AreUnfit dims.now [] self.old.view (so_far ++ F.rows rows.now))) }
     {
         let numbers = numbers_of_rows(alloc, dims, self.view, &self.members, rows)?;
         let free = take_in_rows(
@@ -145,8 +153,8 @@ fn free_slots(alloc: Global, size: usize) -> Result<Vec<Cell>, AllocError>
     Ok(slots)
 }
 
-// Takes fact rows in, of whose keys the numbers are given. It answers how many of the slots were free, each as often as rows
-// that came together were to go there.
+// Takes fact rows in, of whose keys the numbers are given. It answers how many of the slots were free, each as often as
+// rows that came together were to go there.
 fn take_in_rows<F: FactRows>(
     slots: &mut Vec<Cell>,
     dims: &Dims,
@@ -159,10 +167,14 @@ fn take_in_rows<F: FactRows>(
     requires no_modes { view.ship_mode ≡ false }
     requires size { length slots.old.items ≡ size_of members.now }
     requires slots { AreSlots view members.now 0 slots.old.items }
-    requires numbers { AreRowNumbers dims.now view members.now (F.rows rows.now) (length (F.rows rows.now)) numbers.now }
-    ensures ok { IfOk result (λ _. IsTaken dims.now view members.now (F.rows rows.now) (length (F.rows rows.now)) slots.old.items slots.new.items) }
+    requires numbers { AreRowNumbers dims.now view members.now (F.rows rows.now) (length (F.rows rows.now))
+        numbers.now }
+    ensures ok { IfOk result
+        (λ _. IsTaken dims.now view members.now (F.rows rows.now) (length (F.rows rows.now)) slots.old.items
+        slots.new.items) }
     ensures refused { IfErr result (λ fault. (fault ≡ Fault.BadLayout) × ((so_far : List LineOrder)
-        → RepresentRows dims.now [] so_far (cells_in view slots.old.items) → AreUnfit dims.now [] view (so_far ++ F.rows rows.now))) }
+        → RepresentRows dims.now [] so_far (cells_in view slots.old.items)
+        → AreUnfit dims.now [] view (so_far ++ F.rows rows.now))) }
 {
     let mut free = 0;
     for place in 0..rows.count() {
@@ -214,8 +226,8 @@ fn with_free_ahead(slots: &[Cell], numbers: &[u32], place: usize, free: usize) -
 
 // How many of the slots of the 64 numbers from a place on are free.
 //
-// Of each slot all parts are looked at, so that the processor waits for the memory of many slots at once, and has it when their
-// rows are taken in one after another.
+// Of each slot all parts are looked at, so that the processor waits for the memory of many slots at once, and has it
+// when their rows are taken in one after another.
 fn free_ahead(slots: &[Cell], numbers: &[u32], place: usize) -> usize {
     let end = numbers.len().min(place.saturating_add(AHEAD));
     match numbers.get(place..end) {
@@ -237,7 +249,8 @@ fn free_among(slots: &[Cell], numbers: &[u32]) -> usize {
 // Whether the slot at a place is free.
 #[inline(always)]
 fn is_free(slots: &[Cell], place: usize) -> bool
-    ensures { IsTrue result → (slot : Cell) → place < length slots.now → (slice_index_or slots.now place slot).count ≡ 0 }
+    ensures { IsTrue result → (slot : Cell) → place < length slots.now
+        → (slice_index_or slots.now place slot).count ≡ 0 }
 {
     match slots.get(place) {
         Some(slot) => {

@@ -1,4 +1,5 @@
-//! A demonstration of a warehouse: tables are loaded, the power fails within a commit, and what was acknowledged is reported.
+//! A demonstration of a warehouse: tables are loaded, the power fails within a commit, and what was acknowledged is
+//! reported.
 #![tactic(auto)]
 
 mod outage;

@@ -7,11 +7,12 @@ use std::alloc::Global;
 use std::io::Write;
 use warehouse::{Session, open};
 
-/// The call of the disk, counted from its opening, at which the power fails: it is one of the commit of the third batch.
+/// The call of the disk, counted from its opening, at which the power fails: it is one of the commit of the third
+/// batch.
 const LAST_CALL: u64 = 70;
 
-/// Which writes of those that were not synced the disk has kept: the first to have been replaced takes the second of its contents, and
-/// all others the oldest.
+/// Which writes of those that were not synced the disk has kept: the first to have been replaced takes the second of
+/// its contents, and all others the oldest.
 const KEPT: [u32; 1] = [1];
 
 /// Loads the fact table into the warehouse on a disk until the power fails, and gives what the disk has kept.

@@ -13,8 +13,9 @@ use warehouse::{Session, create, open};
 /// How many sectors the disk has.
 const SECTORS: u32 = 256;
 
-/// Makes a warehouse on a disk in memory from the sample tables, loads it until the power fails within a commit, opens what the disk has
-/// kept, loads the rest, stores cuboids, and writes reports. Before the lines of each step it writes the command that does it on a file.
+/// Makes a warehouse on a disk in memory from the sample tables, loads it until the power fails within a commit, opens
+/// what the disk has kept, loads the rest, stores cuboids, and writes reports. Before the lines of each step it writes
+/// the command that does it on a file.
 ///
 /// It fails with `Output` where a write fails, and with `Memory`.
 pub fn demonstrate<W: Write>(alloc: Global, out: &mut W) -> Result<(), Fault> {

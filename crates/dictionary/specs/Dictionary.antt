@@ -1,5 +1,6 @@
 -- A dictionary: texts in the order of their first use, and the code of a text, which is its place there. Our own.
-use Rattle.std.specs.Prelude.{◌≡◌, ℕ, ◌<◌, ◌≤◌, false, not, Option, Some, List, [], ◌∷◌, ◌++◌, length, position, MatchOption}
+use Rattle.std.specs.Prelude.{◌≡◌, ℕ, ◌<◌, ◌≤◌, false, not, Option, Some, List, [], ◌∷◌, ◌++◌, length, position}
+use Rattle.std.specs.Prelude.{MatchOption}
 use Rattle.std.specs.List.{filter, list_any}
 use Rattle.std.specs.Str.{bytes_eq}
 
@@ -29,5 +30,6 @@ with_text old text = record { texts = old.texts ++ text ∷ []; limit = old.limi
 -- a text that was seen keeps its code, and a new one gets the next code, or none where the limit is reached
 abbrev pub Adds : Texts → List ℕ → Option ℕ → Texts → Type 0
 Adds old text code new = MatchOption (code_of old.texts text)
-    (MatchOption code ((old.limit ≤ length old.texts) × (new ≡ old)) (λ c. (c ≡ length old.texts) × (length old.texts < old.limit) × (new ≡ with_text old text)))
+    (MatchOption code ((old.limit ≤ length old.texts) × (new ≡ old))
+    (λ c. (c ≡ length old.texts) × (length old.texts < old.limit) × (new ≡ with_text old text)))
     (λ c. (code ≡ Some c) × (new ≡ old))

@@ -30,4 +30,5 @@ pub record ReadsTexts (limit : ℕ) (old new : List ℕ) (texts : List (List ℕ
 
 -- bytes that begin with no proper texts
 abbrev pub BeginsWithNone : ℕ → List ℕ → Type 0
-BeginsWithNone limit bytes = (texts : List (List ℕ)) (rest : List ℕ) → AreProper limit texts → bytes ≢ texts_spelling texts ++ rest
+BeginsWithNone limit bytes = (texts : List (List ℕ)) (rest : List ℕ) → AreProper limit texts
+    → bytes ≢ texts_spelling texts ++ rest

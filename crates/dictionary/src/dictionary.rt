@@ -1,5 +1,6 @@
 //! The texts that were seen, and their codes.
-ghost use Rattle.std.specs.Prelude.{◌≡◌, ◌⊎◌, ◌<◌, ◌≤◌, ◌^◌, ◌++◌, [], length, map, slice_get, Some, IfOk, IfSome, IfErr, IsOkUnless, IsTrue, OnErr, OnOk};
+ghost use Rattle.std.specs.Prelude.{◌≡◌, ◌⊎◌, ◌<◌, ◌≤◌, ◌^◌, ◌++◌, [], length, map, slice_get, Some, IfOk, IfSome};
+ghost use Rattle.std.specs.Prelude.{IfErr, IsOkUnless, IsTrue, OnErr, OnOk};
 ghost use Rattle.std.specs.Option.{option_map};
 ghost use Rattle.dictionary.specs.Dictionary.{code_of, Adds, EachOnce};
 ghost use Rattle.dictionary.specs.Spelling.{AreShort, BeginsWithNone, ReadsTexts, texts_spelling};
@@ -32,7 +33,8 @@ impl Model for Dictionary {
 
     ghost view = { λ d. record { texts = map (λ v. v.items) d.texts.keys; limit = d.limit } };
 
-    ghost invariant = { λ d. (index_set_len d.texts ≤ d.limit) × (d.limit < 2 ^ 32) × EachOnce (map (λ v. v.items) d.texts.keys) };
+    ghost invariant = { λ d. (index_set_len d.texts ≤ d.limit) × (d.limit < 2 ^ 32)
+        × EachOnce (map (λ v. v.items) d.texts.keys) };
 }
 
 impl Dictionary {
@@ -99,7 +101,7 @@ impl Dictionary {
         ensures memory { IfErr result (λ fault. fault ≡ Fault.Memory) }
     {
         let guess = self.memo.guess(text);
-        if self.stands_at(text, guess) {
+        if self.has_text_at(text, guess) {
             return Ok(Some(guess as u32));
         }
         self.find_or_add(alloc, text)
@@ -144,7 +146,8 @@ impl Dictionary {
         requires none { self.old.texts ≡ [] }
         requires once { EachOnce (map (λ text. text.items) texts.now) }
         requires few { length texts.now ≤ self.old.limit }
-        ensures ok { OnOk result (self.new ≡ record { texts = map (λ text. text.items) texts.now; limit = self.old.limit }) }
+        ensures ok { OnOk result
+            (self.new ≡ record { texts = map (λ text. text.items) texts.now; limit = self.old.limit }) }
         ensures memory { IfErr result (λ fault. fault ≡ Fault.Memory) }
     {
         for text in texts {
@@ -155,7 +158,7 @@ impl Dictionary {
 
     // Whether a text is the one at a place.
     #[inline(always)]
-    fn stands_at(&self, text: &[u8], place: usize) -> bool
+    fn has_text_at(&self, text: &[u8], place: usize) -> bool
         ensures seen { IsTrue result → code_of self.now.texts text.now ≡ Some place }
         ensures within { IsTrue result → place < self.now.limit }
     {

@@ -8,8 +8,8 @@ const PLACES: usize = 8192;
 // Spreads numbers that lie close together: 2 to the power of 64 by the golden ratio.
 const SPREAD: u64 = 11_400_714_819_323_198_485;
 
-/// A place for each of some thousand marks, where a text of that mark was found last. It is a guess, and nothing rests on
-/// it: a text has to be compared with the one that is there.
+/// A place for each of some thousand marks, where a text of that mark was found last. It is a guess, and nothing rests
+/// on it: a text has to be compared with the one that is there.
 #[derive(Drop)]
 pub(crate) struct Memo {
     places: Vec<u16>,

@@ -1,7 +1,8 @@
 //! Reading texts from the front of bytes.
 ghost use Rattle.std.specs.Prelude.{◌≡◌, ◌⊎◌, ℕ, List, [], IfErr, IfOk, IsErr, IsOkUnless, OnOk};
 ghost use Rattle.cube_model.specs.declared.fault.Fault.{Fault};
-ghost use Rattle.dictionary.specs.Reading.{BeginsWithNew, BeginsWithShort, BeginsWithSome, ReadsEach, ReadsNew, ReadsShort};
+ghost use Rattle.dictionary.specs.Reading.{BeginsWithNew, BeginsWithShort, BeginsWithSome, ReadsEach, ReadsNew};
+ghost use Rattle.dictionary.specs.Reading.{ReadsShort};
 
 use crate::dictionary::Dictionary;
 use cube_model::Fault;

@@ -10,7 +10,8 @@ use wire::{push_bytes, push_u8};
 // Adds texts to bytes.
 pub(crate) fn push_texts(out: &mut Vec<u8>, texts: &[Vec<u8>]) -> Result<(), Fault>
     requires short { All (λ text. length text.items ≤ longest_text) texts.now }
-    ensures ok { OnOk result (out.new.items ≡ out.old.items ++ flat_map text_spelling (map (λ text. text.items) texts.now)) }
+    ensures ok { OnOk result
+        (out.new.items ≡ out.old.items ++ flat_map text_spelling (map (λ text. text.items) texts.now)) }
     ensures memory { IsOkUnless result Fault.Memory }
 {
     for text in texts {

@@ -11,7 +11,8 @@ use Rattle.dimensions.specs.declared.coded.CodedRows.{CodedRows}
 use Rattle.dimensions.specs.TextRows.{TextRow}
 use Rattle.dimensions.specs.Shapes.{lowers_of, lower_of}
 use Rattle.dimensions.specs.Coded.{AreGoodRows, HaveTexts, no_coded, place_total}
-use Rattle.dimension_objects.specs.Spelled.{Parts, HaveKeys, codes_in_order, dimension_spelling, header_of, keys_spelling, linked_columns, parts_spelling, row_columns, texts_in_order}
+use Rattle.dimension_objects.specs.Spelled.{Parts, HaveKeys, codes_in_order, dimension_spelling, header_of}
+use Rattle.dimension_objects.specs.Spelled.{keys_spelling, linked_columns, parts_spelling, row_columns, texts_in_order}
 
 -- the texts and the codes of a column with a number
 abbrev pub texts_in : List CodedColumn → ℕ → List (List ℕ)
@@ -48,7 +49,8 @@ pub record ReadsTexts (order bytes left : List ℕ) (old new : List CodedColumn)
 -- the bytes begin with no proper texts of columns
 abbrev pub BeginsWithNoTexts : List ℕ → List ℕ → Type 0
 BeginsWithNoTexts order bytes = (texts : ℕ → List (List ℕ)) (rest : List ℕ)
-    → AllByRecursion (λ column. AreProper most_members (texts column)) order → bytes ≢ texts_in_order texts order ++ rest
+    → AllByRecursion (λ column. AreProper most_members (texts column)) order
+    → bytes ≢ texts_in_order texts order ++ rest
 
 -- so many codes were read from the front of `old`, and `new` is left
 pub record ReadsCodes (count : ℕ) (old new codes : List ℕ) : Type 0 where
@@ -64,7 +66,8 @@ pub record ReadsColumns (axis : Axis) (rows : ℕ) (order bytes left : List ℕ)
   pub count : length new ≡ length old
   pub have : HaveTexts new
   pub texts_stay : (column : ℕ) → texts_in new column ≡ texts_in old column
-  pub others_stay : (column : ℕ) → AllByRecursion (λ other. other ≢ column) order → codes_in new column ≡ codes_in old column
+  pub others_stay : (column : ℕ) → AllByRecursion (λ other. other ≢ column) order
+      → codes_in new column ≡ codes_in old column
 
 -- the bytes begin with no such codes
 abbrev pub BeginsWithNoCodes : Axis → ℕ → List ℕ → List CodedColumn → List ℕ → Type 0
@@ -89,11 +92,17 @@ pub record IsSpelled (axis : Axis) (bytes : List ℕ) (coded : CodedRows) : Type
   pub keys_fit : AllByRecursion (λ key. key < 2 ^ 32) coded.keys
   pub count : length coded.columns ≡ length (lowers_of axis)
   pub have : HaveTexts coded.columns
-  pub linked_many : AllByRecursion (λ column. length (codes_in coded.columns column) ≡ place_total coded (lower_of axis column)) (linked_columns axis)
-  pub linked_fit : AllByRecursion (λ column. AllByRecursion (λ code. code < 2 ^ 16) (codes_in coded.columns column)) (linked_columns axis)
-  pub rows_many : AllByRecursion (λ column. length (codes_in coded.columns column) ≡ place_total coded (lower_of axis column)) (row_columns axis)
-  pub codes_fit : AllByRecursion (λ column. AllByRecursion (λ code. code < 2 ^ 16) (codes_in coded.columns column)) (row_columns axis)
+  pub linked_many : AllByRecursion
+      (λ column. length (codes_in coded.columns column) ≡ place_total coded (lower_of axis column))
+      (linked_columns axis)
+  pub linked_fit : AllByRecursion (λ column. AllByRecursion (λ code. code < 2 ^ 16) (codes_in coded.columns column))
+      (linked_columns axis)
+  pub rows_many : AllByRecursion
+      (λ column. length (codes_in coded.columns column) ≡ place_total coded (lower_of axis column)) (row_columns axis)
+  pub codes_fit : AllByRecursion (λ column. AllByRecursion (λ code. code < 2 ^ 16) (codes_in coded.columns column))
+      (row_columns axis)
 
 -- no rows that keep the rules have these bytes
 abbrev pub SpellsNoRows : Axis → List ℕ → Type 0
-SpellsNoRows axis bytes = (rows : List TextRow) → AreGoodRows axis rows → HaveKeys rows → bytes ≢ dimension_spelling axis rows
+SpellsNoRows axis bytes = (rows : List TextRow) → AreGoodRows axis rows → HaveKeys rows
+    → bytes ≢ dimension_spelling axis rows

@@ -65,8 +65,8 @@ fn read_rows(alloc: Global, axis: Axis, bytes: &[u8]) -> Result<CodedRows, Fault
     })
 }
 
-// Reads what is after the header into columns with no text and no code, and answers the keys. `BadLayout` only where no rows have
-// bytes that begin so.
+// Reads what is after the header into columns with no text and no code, and answers the keys. `BadLayout` only where no
+// rows have bytes that begin so.
 fn read_parts(
     alloc: Global,
     cursor: &mut Cursor<'_>,
@@ -78,7 +78,7 @@ fn read_parts(
     requires have { HaveTexts columns.old.items }
     ensures ok { IfOk result (λ keys. (bytes : List ℕ) → ReadsHeader axis bytes cursor.old rows → cursor.new ≡ []
         → IsSpelled axis bytes (record { keys = keys; columns = columns.new.items })) }
-    ensures behind { IfOk result (λ _. (bytes : List ℕ) → ReadsHeader axis bytes cursor.old rows → cursor.new ≢ []
+    ensures after { IfOk result (λ _. (bytes : List ℕ) → ReadsHeader axis bytes cursor.old rows → cursor.new ≢ []
         → SpellsNoRows axis bytes) }
     ensures refused { IfErr result (λ fault. (fault ≡ Fault.Memory) ⊎ ((fault ≡ Fault.BadLayout)
         × ((bytes : List ℕ) → ReadsHeader axis bytes cursor.old rows → SpellsNoRows axis bytes))) }

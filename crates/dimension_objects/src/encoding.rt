@@ -5,7 +5,8 @@ ghost use Rattle.cube_model.specs.declared.fault.Fault.{Fault};
 ghost use Rattle.dictionary.specs.Columns.{codes_spelling};
 ghost use Rattle.dimensions.specs.Shapes.{lowers_of};
 ghost use Rattle.dimensions.specs.Shown.{rows_on};
-ghost use Rattle.dimension_objects.specs.Spelled.{codes_in_order, dimension_spelling, header_of, keys_spelling, parts_of, texts_in_order};
+ghost use Rattle.dimension_objects.specs.Spelled.{codes_in_order, dimension_spelling, header_of, keys_spelling};
+ghost use Rattle.dimension_objects.specs.Spelled.{parts_of, texts_in_order};
 
 use crate::order::{axis_number, linked_columns, row_columns, stored_columns};
 use cube_model::{Axis, Fault};
@@ -44,7 +45,8 @@ fn push_header(out: &mut Vec<u8>, axis: Axis, rows: u32) -> Result<(), Fault>
 // Adds the texts of columns.
 fn push_texts(out: &mut Vec<u8>, dims: &Dims, axis: Axis, columns: &[usize]) -> Result<(), Fault>
     requires { AllByRecursion (λ column. column < length (lowers_of axis)) columns.now }
-    ensures ok { OnOk result (out.new.items ≡ out.old.items ++ texts_in_order (parts_of axis (rows_on dims.now axis)).texts columns.now) }
+    ensures ok { OnOk result
+        (out.new.items ≡ out.old.items ++ texts_in_order (parts_of axis (rows_on dims.now axis)).texts columns.now) }
     ensures memory { IfErr result (λ fault. fault ≡ Fault.Memory) }
 {
     for column in columns {
@@ -56,7 +58,8 @@ fn push_texts(out: &mut Vec<u8>, dims: &Dims, axis: Axis, columns: &[usize]) -> 
 // Adds the codes of columns.
 fn push_columns(out: &mut Vec<u8>, dims: &Dims, axis: Axis, columns: &[usize]) -> Result<(), Fault>
     requires { AllByRecursion (λ column. column < length (lowers_of axis)) columns.now }
-    ensures ok { OnOk result (out.new.items ≡ out.old.items ++ codes_in_order (parts_of axis (rows_on dims.now axis)).codes columns.now) }
+    ensures ok { OnOk result
+        (out.new.items ≡ out.old.items ++ codes_in_order (parts_of axis (rows_on dims.now axis)).codes columns.now) }
     ensures memory { IfErr result (λ fault. fault ≡ Fault.Memory) }
 {
     for column in columns {

@@ -3,7 +3,8 @@ ghost use Rattle.std.specs.Prelude.{◌≡◌, ◌⊎◌, ◌<◌, ◌^◌, ◌*
 ghost use Rattle.cube_model.specs.declared.fault.Fault.{Fault};
 ghost use Rattle.dimensions.specs.Coded.{HaveTexts};
 ghost use Rattle.dimensions.specs.Shapes.{lowers_of};
-ghost use Rattle.dimension_objects.specs.Columns.{AreColumns, BeginsWithNoCodes, BeginsWithNoHeader, BeginsWithNoTexts, ReadsCodes, ReadsColumns, ReadsHeader, ReadsKeys, ReadsTexts};
+ghost use Rattle.dimension_objects.specs.Columns.{AreColumns, BeginsWithNoCodes, BeginsWithNoHeader, BeginsWithNoTexts};
+ghost use Rattle.dimension_objects.specs.Columns.{ReadsCodes, ReadsColumns, ReadsHeader, ReadsKeys, ReadsTexts};
 
 use crate::columns::place_count;
 use crate::encoding::NAME;
@@ -63,7 +64,8 @@ pub(crate) fn read_columns(
     requires order { AreColumns (length (lowers_of axis)) order.now }
     requires count { length columns.old.items ≡ length (lowers_of axis) }
     requires have { HaveTexts columns.old.items }
-    ensures ok { OnOk result (ReadsColumns axis rows order.now cursor.old cursor.new columns.old.items columns.new.items) }
+    ensures ok { OnOk result
+        (ReadsColumns axis rows order.now cursor.old cursor.new columns.old.items columns.new.items) }
     ensures refused { IfErr result (λ fault. (fault ≡ Fault.Memory) ⊎ ((fault ≡ Fault.BadLayout)
         × BeginsWithNoCodes axis rows order.now columns.old.items cursor.old)) }
 {

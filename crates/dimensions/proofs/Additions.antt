@@ -1,10 +1,13 @@
 -- Rows that come after others: their causes, and tables that hold them.
-use Rattle.std.proofs.Common.{◌≡◌, ◌<◌, ◌≤◌, ◌+◌, ◌-◌, ◌∙◌, ◌⊎◌, inl, inr, suc, sym, ap, refl, subst, arith, ℕ, true, nat_lt, List, [], ◌∷◌, ◌++◌, length, take, drop, get_or, Option, Some, None, Ok, Err, append_assoc, length-append}
+use Rattle.std.proofs.Common.{◌≡◌, ◌<◌, ◌≤◌, ◌+◌, ◌-◌, ◌∙◌, ◌⊎◌, inl, inr, suc, sym, ap, refl, subst, arith, ℕ, true}
+use Rattle.std.proofs.Common.{nat_lt, List, [], ◌∷◌, ◌++◌, length, take, drop, get_or, Option, Some, None, Ok, Err}
+use Rattle.std.proofs.Common.{append_assoc, length-append}
 use Rattle.std.specs.Option.{option_map}
 use Rattle.std.proofs.lemmas.List.{append-nil, length-map, length-take-le}
 use Rattle.cube_model.specs.declared.attr.Axis.{Axis}
 use Rattle.cube_model.specs.declared.fault.Fault.{Fault}
-use Rattle.cube_model.specs.declared.fault.Fault.TheVariants.{DuplicateKey, HierarchyBroken, ReservedMember, TooManyMembers, TooManyRows, Memory}
+use Rattle.cube_model.specs.declared.fault.Fault.TheVariants.{DuplicateKey, HierarchyBroken, ReservedMember}
+use Rattle.cube_model.specs.declared.fault.Fault.TheVariants.{TooManyMembers, TooManyRows, Memory}
 use Rattle.cube_model.specs.Causes.{first_cause, cause_if}
 use Rattle.cube_model.specs.Validity.{Rules, row_cause, rows_cause, dimension_cause}
 use Rattle.dimensions.specs.declared.table.Table.{Table}
@@ -18,7 +21,8 @@ use Rattle.dimensions.proofs.BuildSteps.{SoFar, few_rows, goes_on, stops, done}
 -- ---- causes
 
 -- there is no cause where there is none of two
-none_of_two : (first second : Option Fault) → first_cause (first ∷ second ∷ []) ≡ None → (first ≡ None) × (second ≡ None)
+none_of_two : (first second : Option Fault) → first_cause (first ∷ second ∷ []) ≡ None
+    → (first ≡ None) × (second ≡ None)
 none_of_two None None e = (refl, refl)
 none_of_two None (Some fault) e = absurd cc
 none_of_two (Some fault) second e = absurd cc
@@ -30,7 +34,8 @@ second_of_two (Some fault) second e = absurd cc
 
 module _ {Row : Type 0} (rules_of : Rules Row) where
   -- the cause of rows and of others after them, where there is none of the first
-  pub rows_cause-append : (earlier rows others : List Row) → rows_cause rules_of earlier rows ≡ None → rows_cause rules_of earlier (rows ++ others) ≡ rows_cause rules_of (earlier ++ rows) others
+  pub rows_cause-append : (earlier rows others : List Row) → rows_cause rules_of earlier rows ≡ None
+      → rows_cause rules_of earlier (rows ++ others) ≡ rows_cause rules_of (earlier ++ rows) others
   rows_cause-append earlier [] others none = ap (λ l. rows_cause rules_of l others) (sym (append-nil earlier))
   rows_cause-append earlier (row ∷ rows) others none =
       let both = none_of_two (row_cause rules_of earlier row) (rows_cause rules_of (earlier ++ row ∷ []) rows) none in
@@ -39,14 +44,18 @@ module _ {Row : Type 0} (rules_of : Rules Row) where
       ∙ ap (λ l. rows_cause rules_of l others) (append_assoc earlier (row ∷ []) rows)
 
   pub no_rows_cause : (rows : List Row) → dimension_cause rules_of rows ≡ None → rows_cause rules_of [] rows ≡ None
-  no_rows_cause rows none = (none_of_two (cause_if (nat_lt rules_of.row_limit (length rows)) TooManyRows) (rows_cause rules_of [] rows) none).1
+  no_rows_cause rows none =
+      (none_of_two (cause_if (nat_lt rules_of.row_limit (length rows)) TooManyRows) (rows_cause rules_of [] rows)
+      none).1
 
   -- too many rows with those added
-  pub too_many : (old new : List Row) → rules_of.row_limit < length old + length new → added_cause rules_of old new ≡ Some TooManyRows
+  pub too_many : (old new : List Row) → rules_of.row_limit < length old + length new
+      → added_cause rules_of old new ≡ Some TooManyRows
   too_many old new above =
       let count : length (old ++ new) ≡ length old + length new = length-append old new in
       let many : nat_lt rules_of.row_limit (length (old ++ new)) ≡ true = grind arith in
-      λ i. option_map (counted_after (length old)) (first_cause (cause_if (many i) TooManyRows ∷ rows_cause rules_of [] (old ++ new) ∷ []))
+      λ i. option_map (counted_after (length old))
+      (first_cause (cause_if (many i) TooManyRows ∷ rows_cause rules_of [] (old ++ new) ∷ []))
 
 -- rows that count from the first after none
 from_none : (fault : Fault) → counted_after 0 fault ≡ fault
@@ -61,8 +70,10 @@ all_from_none None = refl
 all_from_none (Some fault) = ap (λ f. Some f) (from_none fault)
 
 -- a fault that names no row of a dimension
-pub names_no_row : (count : ℕ) (fault : Fault) → ((axis : Axis) (row : ℕ) → fault ≡ DuplicateKey axis row → ⊥) → ((axis : Axis) (row : ℕ) → fault ≡ HierarchyBroken axis row → ⊥)
-    → ((axis : Axis) (row : ℕ) → fault ≡ ReservedMember axis row → ⊥) → ((axis : Axis) (row : ℕ) → fault ≡ TooManyMembers axis row → ⊥) → fault ≡ counted_after count fault
+pub names_no_row : (count : ℕ) (fault : Fault) → ((axis : Axis) (row : ℕ) → fault ≡ DuplicateKey axis row → ⊥)
+    → ((axis : Axis) (row : ℕ) → fault ≡ HierarchyBroken axis row → ⊥)
+    → ((axis : Axis) (row : ℕ) → fault ≡ ReservedMember axis row → ⊥)
+    → ((axis : Axis) (row : ℕ) → fault ≡ TooManyMembers axis row → ⊥) → fault ≡ counted_after count fault
 names_no_row count (DuplicateKey axis row) key link name room = absurd (key axis row refl)
 names_no_row count (HierarchyBroken axis row) key link name room = absurd (link axis row refl)
 names_no_row count (ReservedMember axis row) key link name room = absurd (name axis row refl)
@@ -79,43 +90,54 @@ drop_front : {X : Type 0} (xs ys : List X) → drop (length xs) (xs ++ ys) ≡ y
 drop_front [] ys = refl
 drop_front (x ∷ xs) ys = drop_front xs ys
 
-pub get_behind : {X : Type 0} (xs ys : List X) (i : ℕ) (d : X) → get_or (xs ++ ys) (length xs + i) d ≡ get_or ys i d
-get_behind [] ys i d = let e : 0 + i ≡ i = omega arith in ap (λ n. get_or ys n d) e
-get_behind (x ∷ xs) ys i d = let e : length (x ∷ xs) + i ≡ suc (length xs + i) = omega arith in ap (λ n. get_or (x ∷ xs ++ ys) n d) e ∙ get_behind xs ys i d
+pub get_after : {X : Type 0} (xs ys : List X) (i : ℕ) (d : X) → get_or (xs ++ ys) (length xs + i) d ≡ get_or ys i d
+get_after [] ys i d = let e : 0 + i ≡ i = omega arith in ap (λ n. get_or ys n d) e
+get_after (x ∷ xs) ys i d = let e : length (x ∷ xs) + i ≡ suc (length xs + i) = omega arith in
+    ap (λ n. get_or (x ∷ xs ++ ys) n d) e ∙ get_after xs ys i d
 
-pub holds_count : (axis : Axis) (rows : List TextRow) (table : Table) → IsTable axis rows table → length table.keys ≡ length rows
+pub holds_count : (axis : Axis) (rows : List TextRow) (table : Table) → IsTable axis rows table
+    → length table.keys ≡ length rows
 holds_count axis rows table is = ap length is.keys ∙ length-map rows (λ r. r.key)
 
 -- a table does not hang on where its parts are
-pub same_table : (axis : Axis) (rows : List TextRow) (old new : Table) → new.keys ≡ old.keys → new.columns.items ≡ old.columns.items → IsTable axis rows old → IsTable axis rows new
+pub same_table : (axis : Axis) (rows : List TextRow) (old new : Table) → new.keys ≡ old.keys
+    → new.columns.items ≡ old.columns.items → IsTable axis rows old → IsTable axis rows new
 same_table axis rows old new keys columns is = record {
   keys = keys ∙ is.keys;
   count = ap length columns ∙ is.count;
   lowers = λ i lt. ap (λ l. (get_or l i no_column).lower) columns ∙ is.lowers i lt;
-  columns = λ i lt. subst (λ l. IsColumn (column_of i rows) (lower_texts axis i rows) (get_or l i no_column)) (sym columns) (is.columns i lt);
+  columns = λ i lt. subst (λ l. IsColumn (column_of i rows) (lower_texts axis i rows) (get_or l i no_column))
+      (sym columns) (is.columns i lt);
 }
 
 -- before the first of the rows added
-pub so_far_first : (axis : Axis) (old new : List TextRow) (table : Table) → HoldsRows axis old table → SoFar axis (old ++ new) (length old + 0) table
+pub so_far_first : (axis : Axis) (old new : List TextRow) (table : Table) → HoldsRows axis old table
+    → SoFar axis (old ++ new) (length old + 0) table
 so_far_first axis old new table holds =
     let here : length old + 0 ≡ length old = omega arith in
     let front : take (length old + 0) (old ++ new) ≡ old = ap (λ n. take n (old ++ new)) here ∙ take_front old new in
     let rest : drop (length old + 0) (old ++ new) ≡ new = ap (λ n. drop n (old ++ new)) here ∙ drop_front old new in (
       subst (λ l. IsTable axis l table) (sym front) holds.0,
-      rows_cause-append (text_rules axis) [] old new (no_rows_cause (text_rules axis) old holds.1) ∙ (λ i. rows_cause (text_rules axis) (sym front i) (sym rest i)),
+      rows_cause-append (text_rules axis) [] old new (no_rows_cause (text_rules axis) old holds.1)
+          ∙ (λ i. rows_cause (text_rules axis) (sym front i) (sym rest i)),
     )
 
-pub so_far_count : (axis : Axis) (all : List TextRow) (i : ℕ) (table : Table) → i ≤ length all → SoFar axis all i table → length table.keys ≡ i
+pub so_far_count : (axis : Axis) (all : List TextRow) (i : ℕ) (table : Table) → i ≤ length all → SoFar axis all i table
+    → length table.keys ≡ i
 so_far_count axis all i table le so_far = holds_count axis (take i all) table so_far.0 ∙ length-take-le i all le
 
 -- the cause of a row that was added
-pub counted_cause : (axis : Axis) (old new : List TextRow) (count : ℕ) (fault : Fault) → count ≡ length old → (fault ≡ Memory) ⊎ (dimension_cause (text_rules axis) (old ++ new) ≡ Some fault)
+pub counted_cause : (axis : Axis) (old new : List TextRow) (count : ℕ) (fault : Fault) → count ≡ length old
+    → (fault ≡ Memory) ⊎ (dimension_cause (text_rules axis) (old ++ new) ≡ Some fault)
     → (counted_after count fault ≡ Memory) ⊎ (added_cause (text_rules axis) old new ≡ Some (counted_after count fault))
 counted_cause axis old new count fault is (inl memory) = inl (ap (counted_after count) memory)
-counted_cause axis old new count fault is (inr cause) = inr (ap (λ n. option_map (counted_after n) (dimension_cause (text_rules axis) (old ++ new))) (sym is) ∙ ap (option_map (counted_after count)) cause)
+counted_cause axis old new count fault is (inr cause) =
+    inr (ap (λ n. option_map (counted_after n) (dimension_cause (text_rules axis) (old ++ new))) (sym is)
+    ∙ ap (option_map (counted_after count)) cause)
 
 -- one more of the rows added
-module _ (axis : Axis) (old new : List TextRow) (few : length old + length new ≤ row_limit_of axis) (i : ℕ) (before : Table) (so_far : SoFar axis (old ++ new) (length old + i) before)
+module _ (axis : Axis) (old new : List TextRow) (few : length old + length new ≤ row_limit_of axis) (i : ℕ)
+    (before : Table) (so_far : SoFar axis (old ++ new) (length old + i) before)
     (row : TextRow) (lt : i < length new) (at : get_or new i row ≡ row) where
   all_few : length (old ++ new) ≤ row_limit_of axis
   all_few = omega (arith, few, length-append old new)
@@ -123,17 +145,26 @@ module _ (axis : Axis) (old new : List TextRow) (few : length old + length new �
   all_lt : length old + i < length (old ++ new)
   all_lt = omega (arith, lt, length-append old new)
 
-  pub goes_on_after : (after : Table) → AddsRow axis (take (length old + i) (old ++ new)) row after (Ok tt) → SoFar axis (old ++ new) (length old + (i + 1)) after
+  pub goes_on_after : (after : Table) → AddsRow axis (take (length old + i) (old ++ new)) row after (Ok tt)
+      → SoFar axis (old ++ new) (length old + (i + 1)) after
   goes_on_after after adds =
       let next : length old + i + 1 ≡ length old + (i + 1) = omega arith in
-      subst (λ n. SoFar axis (old ++ new) n after) next (goes_on axis (old ++ new) all_few (length old + i) before so_far row all_lt (get_behind old new i row ∙ at) after adds)
+      subst (λ n. SoFar axis (old ++ new) n after) next
+      (goes_on axis (old ++ new) all_few (length old + i) before so_far row all_lt (get_after old new i row ∙ at)
+      after adds)
 
-  pub stops_after : (after : Table) (count : ℕ) (fault : Fault) → count ≡ length old → AddsRow axis (take (length old + i) (old ++ new)) row after (Err fault)
-      → (counted_after count fault ≡ Memory) ⊎ (added_cause (text_rules axis) old new ≡ Some (counted_after count fault))
-  stops_after after count fault is adds = counted_cause axis old new count fault is (stops axis (old ++ new) all_few (length old + i) before so_far row all_lt (get_behind old new i row ∙ at) after fault adds)
+  pub stops_after : (after : Table) (count : ℕ) (fault : Fault) → count ≡ length old
+      → AddsRow axis (take (length old + i) (old ++ new)) row after (Err fault)
+      → (counted_after count fault ≡ Memory)
+      ⊎ (added_cause (text_rules axis) old new ≡ Some (counted_after count fault))
+  stops_after after count fault is adds =
+      counted_cause axis old new count fault is
+      (stops axis (old ++ new) all_few (length old + i) before so_far row all_lt (get_after old new i row ∙ at) after
+      fault adds)
 
 -- after the last of them
-pub done_after : (axis : Axis) (old new : List TextRow) (i : ℕ) (before after : Table) → length old + length new ≤ row_limit_of axis → i ≡ length new → SoFar axis (old ++ new) (length old + i) before
+pub done_after : (axis : Axis) (old new : List TextRow) (i : ℕ) (before after : Table)
+    → length old + length new ≤ row_limit_of axis → i ≡ length new → SoFar axis (old ++ new) (length old + i) before
     → after.keys ≡ before.keys → after.columns ≡ before.columns → AddsRows axis old new after (Ok tt)
 done_after axis old new i before after few last so_far keys columns =
     let all_few : length (old ++ new) ≤ row_limit_of axis = omega (arith, few, length-append old new) in
@@ -145,6 +176,7 @@ done_after axis old new i before after few last so_far keys columns =
 pub none_at_first : (axis : Axis) → dimension_cause (text_rules axis) [] ≡ None
 none_at_first axis = few_rows (text_rules axis) [] (omega arith)
 
-pub not_built : (axis : Axis) (rows : List TextRow) (table : Table) (fault : Fault) → AddsRows axis [] rows table (Err fault) → BuildsTable axis rows (Err fault)
+pub not_built : (axis : Axis) (rows : List TextRow) (table : Table) (fault : Fault)
+    → AddsRows axis [] rows table (Err fault) → BuildsTable axis rows (Err fault)
 not_built axis rows table fault (inl memory) = inl memory
 not_built axis rows table fault (inr cause) = inr (sym (all_from_none (dimension_cause (text_rules axis) rows)) ∙ cause)

@@ -1,5 +1,6 @@
 -- The attributes of the dimensions by columns and row indexes.
-use Rattle.std.proofs.Common.{◌≡◌, ◌<◌, ◌≤◌, ◌∙◌, ◌==◌, zero, suc, sym, ap, refl, subst, arith, ℕ, List, [], ◌∷◌, map, length, get_or, slice_get, find, Option, Some, None}
+use Rattle.std.proofs.Common.{◌≡◌, ◌<◌, ◌≤◌, ◌∙◌, ◌==◌, zero, suc, sym, ap, refl, subst, arith, ℕ, List, [], ◌∷◌, map}
+use Rattle.std.proofs.Common.{length, get_or, slice_get, find, Option, Some, None}
 use Rattle.std.specs.List.{position_or_len}
 use Rattle.std.specs.Option.{option_and_then, option_map}
 use Rattle.std.specs.Fmt.{decimal}
@@ -7,7 +8,10 @@ use Rattle.std.proofs.lemmas.List.{length-map}
 use Rattle.std.proofs.lemmas.List.Folds.{find_at}
 use Rattle.std.proofs.lemmas.Option.{slice_get-map}
 use Rattle.cube_model.specs.declared.attr.Attr.{Attr}
-use Rattle.cube_model.specs.declared.attr.Attr.TheVariants.{CustomerCity, CustomerNation, CustomerRegion, SupplierCity, SupplierNation, SupplierRegion, PartBrand1, PartCategory, PartMfgr, DateKey, DateYearmonthnum, DateYear, DateYearmonth, DateWeeknuminyear}
+use Rattle.cube_model.specs.declared.attr.Attr.TheVariants.{CustomerCity, CustomerNation, CustomerRegion, SupplierCity}
+use Rattle.cube_model.specs.declared.attr.Attr.TheVariants.{SupplierNation, SupplierRegion, PartBrand1, PartCategory}
+use Rattle.cube_model.specs.declared.attr.Attr.TheVariants.{PartMfgr, DateKey, DateYearmonthnum, DateYear}
+use Rattle.cube_model.specs.declared.attr.Attr.TheVariants.{DateYearmonth, DateWeeknuminyear}
 use Rattle.cube_model.specs.declared.attr.Axis.{Axis}
 use Rattle.cube_model.specs.declared.attr.Axis.TheVariants.{Customer, Supplier, Part, Date}
 use Rattle.cube_model.specs.declared.rows.CustomerRow.{CustomerRow}
@@ -30,26 +34,42 @@ map_map g f (x ∷ xs) = ap (λ l. g (f x) ∷ l) (map_map g f xs)
 
 -- an attribute is the column with its number, among those of its dimension
 abbrev pub HasColumn : DimRows → Attr → ℕ → Type 0
-HasColumn rows attr column = (texts_of rows attr ≡ column_of column (rows_on rows (axis_of attr))) × (column < length (lowers_of (axis_of attr)))
+HasColumn rows attr column = (texts_of rows attr ≡ column_of column (rows_on rows (axis_of attr)))
+    × (column < length (lowers_of (axis_of attr)))
 
-pub has_column : (rows : DimRows) (attr : Attr) (column : ℕ) → attr_column attr ≡ Some column → HasColumn rows attr column
-has_column rows CustomerCity column e = let is : 0 ≡ column = cc in subst (HasColumn rows CustomerCity) is (sym (map_map (text_in 0) row_of_customer rows.customers), omega arith)
-has_column rows CustomerNation column e = let is : 1 ≡ column = cc in subst (HasColumn rows CustomerNation) is (sym (map_map (text_in 1) row_of_customer rows.customers), omega arith)
-has_column rows CustomerRegion column e = let is : 2 ≡ column = cc in subst (HasColumn rows CustomerRegion) is (sym (map_map (text_in 2) row_of_customer rows.customers), omega arith)
-has_column rows SupplierCity column e = let is : 0 ≡ column = cc in subst (HasColumn rows SupplierCity) is (sym (map_map (text_in 0) row_of_supplier rows.suppliers), omega arith)
-has_column rows SupplierNation column e = let is : 1 ≡ column = cc in subst (HasColumn rows SupplierNation) is (sym (map_map (text_in 1) row_of_supplier rows.suppliers), omega arith)
-has_column rows SupplierRegion column e = let is : 2 ≡ column = cc in subst (HasColumn rows SupplierRegion) is (sym (map_map (text_in 2) row_of_supplier rows.suppliers), omega arith)
-has_column rows PartBrand1 column e = let is : 0 ≡ column = cc in subst (HasColumn rows PartBrand1) is (sym (map_map (text_in 0) row_of_part rows.parts), omega arith)
-has_column rows PartCategory column e = let is : 1 ≡ column = cc in subst (HasColumn rows PartCategory) is (sym (map_map (text_in 1) row_of_part rows.parts), omega arith)
-has_column rows PartMfgr column e = let is : 2 ≡ column = cc in subst (HasColumn rows PartMfgr) is (sym (map_map (text_in 2) row_of_part rows.parts), omega arith)
+pub has_column : (rows : DimRows) (attr : Attr) (column : ℕ) → attr_column attr ≡ Some column
+    → HasColumn rows attr column
+has_column rows CustomerCity column e = let is : 0 ≡ column = cc in
+    subst (HasColumn rows CustomerCity) is (sym (map_map (text_in 0) row_of_customer rows.customers), omega arith)
+has_column rows CustomerNation column e = let is : 1 ≡ column = cc in
+    subst (HasColumn rows CustomerNation) is (sym (map_map (text_in 1) row_of_customer rows.customers), omega arith)
+has_column rows CustomerRegion column e = let is : 2 ≡ column = cc in
+    subst (HasColumn rows CustomerRegion) is (sym (map_map (text_in 2) row_of_customer rows.customers), omega arith)
+has_column rows SupplierCity column e = let is : 0 ≡ column = cc in
+    subst (HasColumn rows SupplierCity) is (sym (map_map (text_in 0) row_of_supplier rows.suppliers), omega arith)
+has_column rows SupplierNation column e = let is : 1 ≡ column = cc in
+    subst (HasColumn rows SupplierNation) is (sym (map_map (text_in 1) row_of_supplier rows.suppliers), omega arith)
+has_column rows SupplierRegion column e = let is : 2 ≡ column = cc in
+    subst (HasColumn rows SupplierRegion) is (sym (map_map (text_in 2) row_of_supplier rows.suppliers), omega arith)
+has_column rows PartBrand1 column e = let is : 0 ≡ column = cc in
+    subst (HasColumn rows PartBrand1) is (sym (map_map (text_in 0) row_of_part rows.parts), omega arith)
+has_column rows PartCategory column e = let is : 1 ≡ column = cc in
+    subst (HasColumn rows PartCategory) is (sym (map_map (text_in 1) row_of_part rows.parts), omega arith)
+has_column rows PartMfgr column e = let is : 2 ≡ column = cc in
+    subst (HasColumn rows PartMfgr) is (sym (map_map (text_in 2) row_of_part rows.parts), omega arith)
 has_column rows DateKey column e = absurd cc
-has_column rows DateYearmonthnum column e = let is : 0 ≡ column = cc in subst (HasColumn rows DateYearmonthnum) is (sym (map_map (text_in 0) row_of_date rows.dates), omega arith)
-has_column rows DateYear column e = let is : 1 ≡ column = cc in subst (HasColumn rows DateYear) is (sym (map_map (text_in 1) row_of_date rows.dates), omega arith)
-has_column rows DateYearmonth column e = let is : 2 ≡ column = cc in subst (HasColumn rows DateYearmonth) is (sym (map_map (text_in 2) row_of_date rows.dates), omega arith)
-has_column rows DateWeeknuminyear column e = let is : 3 ≡ column = cc in subst (HasColumn rows DateWeeknuminyear) is (sym (map_map (text_in 3) row_of_date rows.dates), omega arith)
+has_column rows DateYearmonthnum column e = let is : 0 ≡ column = cc in
+    subst (HasColumn rows DateYearmonthnum) is (sym (map_map (text_in 0) row_of_date rows.dates), omega arith)
+has_column rows DateYear column e = let is : 1 ≡ column = cc in
+    subst (HasColumn rows DateYear) is (sym (map_map (text_in 1) row_of_date rows.dates), omega arith)
+has_column rows DateYearmonth column e = let is : 2 ≡ column = cc in
+    subst (HasColumn rows DateYearmonth) is (sym (map_map (text_in 2) row_of_date rows.dates), omega arith)
+has_column rows DateWeeknuminyear column e = let is : 3 ≡ column = cc in
+    subst (HasColumn rows DateWeeknuminyear) is (sym (map_map (text_in 3) row_of_date rows.dates), omega arith)
 
 -- the attribute without a column is the day's own
-pub has_key : (rows : DimRows) (attr : Attr) → attr_column attr ≡ None → texts_of rows attr ≡ map (λ row. decimal row.key) rows.dates
+pub has_key : (rows : DimRows) (attr : Attr) → attr_column attr ≡ None
+    → texts_of rows attr ≡ map (λ row. decimal row.key) rows.dates
 has_key rows DateKey e = refl
 has_key rows _ e = absurd cc
 
@@ -61,11 +81,16 @@ count_on rows Supplier = length-map rows.suppliers row_of_supplier
 count_on rows Part = length-map rows.parts row_of_part
 count_on rows Date = length-map rows.dates row_of_date
 
-pub index_on : (rows : DimRows) (axis : Axis) (key : ℕ) → position_or_len (λ other. other == key) (map (λ row. row.key) (rows_on rows axis)) ≡ row_index_of rows axis key
-index_on rows Customer key = position_or_len-map (λ other. other == key) (λ row. row.key) (rows_on rows Customer) ∙ position_or_len-map (λ row. row.key == key) row_of_customer rows.customers
-index_on rows Supplier key = position_or_len-map (λ other. other == key) (λ row. row.key) (rows_on rows Supplier) ∙ position_or_len-map (λ row. row.key == key) row_of_supplier rows.suppliers
-index_on rows Part key = position_or_len-map (λ other. other == key) (λ row. row.key) (rows_on rows Part) ∙ position_or_len-map (λ row. row.key == key) row_of_part rows.parts
-index_on rows Date key = position_or_len-map (λ other. other == key) (λ row. row.key) (rows_on rows Date) ∙ position_or_len-map (λ row. row.key == key) row_of_date rows.dates
+pub index_on : (rows : DimRows) (axis : Axis) (key : ℕ)
+    → position_or_len (λ other. other == key) (map (λ row. row.key) (rows_on rows axis)) ≡ row_index_of rows axis key
+index_on rows Customer key = position_or_len-map (λ other. other == key) (λ row. row.key) (rows_on rows Customer)
+    ∙ position_or_len-map (λ row. row.key == key) row_of_customer rows.customers
+index_on rows Supplier key = position_or_len-map (λ other. other == key) (λ row. row.key) (rows_on rows Supplier)
+    ∙ position_or_len-map (λ row. row.key == key) row_of_supplier rows.suppliers
+index_on rows Part key = position_or_len-map (λ other. other == key) (λ row. row.key) (rows_on rows Part)
+    ∙ position_or_len-map (λ row. row.key == key) row_of_part rows.parts
+index_on rows Date key = position_or_len-map (λ other. other == key) (λ row. row.key) (rows_on rows Date)
+    ∙ position_or_len-map (λ row. row.key == key) row_of_date rows.dates
 
 -- ---- attributes
 
@@ -74,12 +99,15 @@ something f None = refl
 something f (Some a) = refl
 
 found : {Row : Type 0} (text : Row → List ℕ) (key_of : Row → ℕ) (key : ℕ) (rows : List Row)
-    → option_and_then (λ row. Some (text row)) (find (λ row. key_of row == key) rows) ≡ slice_get (map text rows) (position_or_len (λ row. key_of row == key) rows)
-found text key_of key rows = something text (find (λ row. key_of row == key) rows) ∙ ap (option_map text) (find_at (λ row. key_of row == key) rows)
+    → option_and_then (λ row. Some (text row)) (find (λ row. key_of row == key) rows)
+    ≡ slice_get (map text rows) (position_or_len (λ row. key_of row == key) rows)
+found text key_of key rows = something text (find (λ row. key_of row == key) rows)
+    ∙ ap (option_map text) (find_at (λ row. key_of row == key) rows)
     ∙ sym (slice_get-map text rows (position_or_len (λ row. key_of row == key) rows))
 
 -- an attribute of its own dimension is that of the row with the key
-pub on_axis : (rows : DimRows) (attr : Attr) (key : ℕ) → attribute_at rows (axis_of attr) key attr ≡ slice_get (texts_of rows attr) (row_index_of rows (axis_of attr) key)
+pub on_axis : (rows : DimRows) (attr : Attr) (key : ℕ)
+    → attribute_at rows (axis_of attr) key attr ≡ slice_get (texts_of rows attr) (row_index_of rows (axis_of attr) key)
 on_axis rows CustomerCity key = found (λ row. row.city) (λ row. row.key) key rows.customers
 on_axis rows CustomerNation key = found (λ row. row.nation) (λ row. row.key) key rows.customers
 on_axis rows CustomerRegion key = found (λ row. row.region) (λ row. row.key) key rows.customers
@@ -126,11 +154,16 @@ nothing f None none = refl
 nothing f (Some a) none = none a
 
 -- an attribute of another dimension is none
-pub off_axis : (rows : DimRows) (axis : Axis) (attr : Attr) (key : ℕ) → (axis_of attr ≡ axis → ⊥) → attribute_at rows axis key attr ≡ None
-off_axis rows Customer attr key other = nothing (of_customer attr) (find (λ row. row.key == key) rows.customers) (λ row. not_customer attr row other)
-off_axis rows Supplier attr key other = nothing (of_supplier attr) (find (λ row. row.key == key) rows.suppliers) (λ row. not_supplier attr row other)
-off_axis rows Part attr key other = nothing (of_part attr) (find (λ row. row.key == key) rows.parts) (λ row. not_part attr row other)
-off_axis rows Date attr key other = nothing (of_date attr) (find (λ row. row.key == key) rows.dates) (λ row. not_date attr row other)
+pub off_axis : (rows : DimRows) (axis : Axis) (attr : Attr) (key : ℕ) → (axis_of attr ≡ axis → ⊥)
+    → attribute_at rows axis key attr ≡ None
+off_axis rows Customer attr key other =
+    nothing (of_customer attr) (find (λ row. row.key == key) rows.customers) (λ row. not_customer attr row other)
+off_axis rows Supplier attr key other =
+    nothing (of_supplier attr) (find (λ row. row.key == key) rows.suppliers) (λ row. not_supplier attr row other)
+off_axis rows Part attr key other =
+    nothing (of_part attr) (find (λ row. row.key == key) rows.parts) (λ row. not_part attr row other)
+off_axis rows Date attr key other =
+    nothing (of_date attr) (find (λ row. row.key == key) rows.dates) (λ row. not_date attr row other)
 
 -- as many texts as rows
 pub texts_count : (rows : DimRows) (attr : Attr) → length (texts_of rows attr) ≡ row_count_of rows (axis_of attr)
@@ -154,7 +187,8 @@ slice_get-past [] k le = refl
 slice_get-past (x ∷ xs) zero le = absurd (omega (arith, le))
 slice_get-past (x ∷ xs) (suc k) le = slice_get-past xs k (omega (arith, le))
 
-pub slice_get-within : {X : Type 0} (xs : List X) (k : ℕ) (d : X) → k < length xs → slice_get xs k ≡ Some (get_or xs k d)
+pub slice_get-within : {X : Type 0} (xs : List X) (k : ℕ) (d : X) → k < length xs
+    → slice_get xs k ≡ Some (get_or xs k d)
 slice_get-within [] k d lt = absurd (omega (arith, lt))
 slice_get-within (x ∷ xs) zero d lt = refl
 slice_get-within (x ∷ xs) (suc k) d lt = slice_get-within xs k d (omega (arith, lt))

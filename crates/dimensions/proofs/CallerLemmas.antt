@@ -31,7 +31,8 @@ pub bytes_eq-symm : (a b : List ℕ) → bytes_eq a b ≡ bytes_eq b a
 bytes_eq-symm = texts.bytes_eq-symm
 
 -- the members of a list are its texts
-pub has-members_of : (text : List ℕ) (list : List (List ℕ)) → list_any (bytes_eq text) (members_of list) ≡ list_any (bytes_eq text) list
+pub has-members_of : (text : List ℕ) (list : List (List ℕ))
+    → list_any (bytes_eq text) (members_of list) ≡ list_any (bytes_eq text) list
 has-members_of = members.has-members_of
 
 -- ---- rows by codes that keep the rules
@@ -43,15 +44,18 @@ module _ (axis : Axis) (rows : List TextRow) (good : AreGoodRows axis rows) wher
   pub good_texts : (i : ℕ) → i < length (lowers_of axis) → AreProper most_members (firsts (texts_at_places axis i rows))
   good_texts = codes.good_texts axis rows good
 
-  pub good_codes : (i : ℕ) → i < length (lowers_of axis) → AllByRecursion (λ code. code < 2 ^ 16) (codes_of (texts_at_places axis i rows))
+  pub good_codes : (i : ℕ) → i < length (lowers_of axis)
+      → AllByRecursion (λ code. code < 2 ^ 16) (codes_of (texts_at_places axis i rows))
   good_codes = codes.good_codes axis rows good
 
   -- above the rows a column has a place for each row
-  pub good_places_of_rows : (i : ℕ) → i < length (lowers_of axis) → lower_of axis i ≡ None → length (codes_of (texts_at_places axis i rows)) ≡ length rows
+  pub good_places_of_rows : (i : ℕ) → i < length (lowers_of axis) → lower_of axis i ≡ None
+      → length (codes_of (texts_at_places axis i rows)) ≡ length rows
   good_places_of_rows i lt e = codes.good_places axis rows good i lt ∙ ap (codes.places_of_rows axis rows) e
 
   -- above a lower column it has a place for each of its texts
-  pub good_places_above : (i j : ℕ) → i < length (lowers_of axis) → lower_of axis i ≡ Some j → length (codes_of (texts_at_places axis i rows)) ≡ length (firsts (texts_at_places axis j rows))
+  pub good_places_above : (i j : ℕ) → i < length (lowers_of axis) → lower_of axis i ≡ Some j
+      → length (codes_of (texts_at_places axis i rows)) ≡ length (firsts (texts_at_places axis j rows))
   good_places_above i j lt e = codes.good_places axis rows good i lt ∙ ap (codes.places_of_rows axis rows) e
 
 -- a lower column is before those that it determines

@@ -1,5 +1,6 @@
 -- A table whose columns have codes in order is that of its rows.
-use Rattle.std.proofs.Common.{◌≡◌, ◌<◌, ◌≤◌, ◌∙◌, zero, suc, sym, ap, refl, subst, arith, ℕ, List, [], ◌∷◌, map, length, get_or, unwrap_or, Option, Some, None}
+use Rattle.std.proofs.Common.{◌≡◌, ◌<◌, ◌≤◌, ◌∙◌, zero, suc, sym, ap, refl, subst, arith, ℕ, List, [], ◌∷◌, map, length}
+use Rattle.std.proofs.Common.{get_or, unwrap_or, Option, Some, None}
 use Rattle.std.specs.List.{position_or_len}
 use Rattle.std.specs.Option.{option_map}
 use Rattle.std.specs.Str.{bytes_eq}
@@ -33,13 +34,17 @@ each_row-get row zero k d lt = absurd (omega (arith, lt))
 each_row-get row (suc n) zero d lt = refl
 each_row-get row (suc n) (suc k) d lt = each_row-get (λ i. row (suc i)) n k d (omega (arith, lt))
 
-pub each_row-map : {X Y : Type 0} (f : X → Y) (row : ℕ → X) (n : ℕ) → map f (each_row row n) ≡ each_row (λ k. f (row k)) n
+pub each_row-map : {X Y : Type 0} (f : X → Y) (row : ℕ → X) (n : ℕ)
+    → map f (each_row row n) ≡ each_row (λ k. f (row k)) n
 each_row-map f row zero = refl
 each_row-map f row (suc n) = ap (λ l. f (row 0) ∷ l) (each_row-map f (λ k. row (suc k)) n)
 
-pub each_row-same : {X : Type 0} (row other : ℕ → X) (n : ℕ) → ((k : ℕ) → k < n → row k ≡ other k) → each_row row n ≡ each_row other n
+pub each_row-same : {X : Type 0} (row other : ℕ → X) (n : ℕ) → ((k : ℕ) → k < n → row k ≡ other k)
+    → each_row row n ≡ each_row other n
 each_row-same row other zero same = refl
-each_row-same row other (suc n) same = λ i. same 0 (omega arith) i ∷ each_row-same (λ k. row (suc k)) (λ k. other (suc k)) n (λ k lt. same (suc k) (omega (arith, lt))) i
+each_row-same row other (suc n) same =
+    λ i. same 0 (omega arith) i ∷ each_row-same (λ k. row (suc k)) (λ k. other (suc k)) n
+    (λ k lt. same (suc k) (omega (arith, lt))) i
 
 pub each_row-of : {X : Type 0} (xs : List X) (d : X) → each_row (λ k. get_or xs k d) (length xs) ≡ xs
 each_row-of [] d = refl
@@ -70,7 +75,8 @@ pub record IsInOrder (places : ℕ) (column : Column) : Type 0 where
 pub record AreInOrder (axis : Axis) (table : Table) : Type 0 where
   pub count : length table.columns.items ≡ length (lowers_of axis)
   pub lowers : (i : ℕ) → i < length (lowers_of axis) → (column_at table i).lower ≡ lower_of axis i
-  pub columns : (i : ℕ) → i < length (lowers_of axis) → IsInOrder (places_in table (lower_of axis i)) (column_at table i)
+  pub columns : (i : ℕ) → i < length (lowers_of axis)
+      → IsInOrder (places_in table (lower_of axis i)) (column_at table i)
 
 module _ (axis : Axis) (table : Table) (are : AreInOrder axis table) where
   abbrev n : ℕ
@@ -100,23 +106,36 @@ module _ (axis : Axis) (table : Table) (are : AreInOrder axis table) where
   enough (suc s) zero i row _ below lt = absurd (omega (arith, below))
   enough (suc s) (suc t) i row below below' lt =
       ap (λ o. get_or (codes i) (unwrap_or (option_map (λ lower. code_up s table lower row) o) row) 0) (are.lowers i lt)
-      ∙ elim (lower_of axis i) as (λ o. lower_of axis i ≡ o → get_or (codes i) (unwrap_or (option_map (λ lower. code_up s table lower row) o) row) 0 ≡ get_or (codes i) (unwrap_or (option_map (λ lower. code_up t table lower row) o) row) 0) [
+      ∙ elim (lower_of axis i) as
+      (λ o. lower_of axis i ≡ o
+      → get_or (codes i) (unwrap_or (option_map (λ lower. code_up s table lower row) o) row) 0
+      ≡ get_or (codes i) (unwrap_or (option_map (λ lower. code_up t table lower row) o) row) 0) [
         | None ↦ λ e. refl
         | Some j ↦ λ e.
             let before = lower_below axis i j e in
-            ap (λ k. get_or (codes i) k 0) (enough s t j row (omega (arith, before, below)) (omega (arith, before, below')) (omega (arith, before, lt)))
+            ap (λ k. get_or (codes i) k 0)
+            (enough s t j row (omega (arith, before, below)) (omega (arith, before, below'))
+            (omega (arith, before, lt)))
       ] refl
-      ∙ sym (ap (λ o. get_or (codes i) (unwrap_or (option_map (λ lower. code_up t table lower row) o) row) 0) (are.lowers i lt))
+      ∙ sym (ap (λ o. get_or (codes i) (unwrap_or (option_map (λ lower. code_up t table lower row) o) row) 0)
+      (are.lowers i lt))
 
-  code_above_rows : (i row : ℕ) → i < length (lowers_of axis) → lower_of axis i ≡ None → code i row ≡ get_or (codes i) row 0
-  code_above_rows i row lt e = ap (λ o. get_or (codes i) (unwrap_or (option_map (λ lower. code_up 3 table lower row) o) row) 0) (are.lowers i lt ∙ e)
+  code_above_rows : (i row : ℕ) → i < length (lowers_of axis) → lower_of axis i ≡ None
+      → code i row ≡ get_or (codes i) row 0
+  code_above_rows i row lt e =
+      ap (λ o. get_or (codes i) (unwrap_or (option_map (λ lower. code_up 3 table lower row) o) row) 0)
+      (are.lowers i lt ∙ e)
 
-  code_above : (i j row : ℕ) → i < length (lowers_of axis) → lower_of axis i ≡ Some j → code i row ≡ get_or (codes i) (code j row) 0
+  code_above : (i j row : ℕ) → i < length (lowers_of axis) → lower_of axis i ≡ Some j
+      → code i row ≡ get_or (codes i) (code j row) 0
   code_above i j row lt e =
       let before = lower_below axis i j e in
       let few = few_columns axis in
-      ap (λ o. get_or (codes i) (unwrap_or (option_map (λ lower. code_up 3 table lower row) o) row) 0) (are.lowers i lt ∙ e)
-      ∙ ap (λ k. get_or (codes i) k 0) (enough 3 4 j row (omega (arith, before, lt, few)) (omega (arith, before, lt, few)) (omega (arith, before, lt)))
+      ap (λ o. get_or (codes i) (unwrap_or (option_map (λ lower. code_up 3 table lower row) o) row) 0)
+      (are.lowers i lt ∙ e)
+      ∙ ap (λ k. get_or (codes i) k 0)
+      (enough 3 4 j row (omega (arith, before, lt, few)) (omega (arith, before, lt, few))
+      (omega (arith, before, lt)))
 
   -- ---- one column
 
@@ -140,7 +159,9 @@ module _ (axis : Axis) (table : Table) (are : AreInOrder axis table) where
     code_within : (k : ℕ) → k < length (codes i) → get_or (codes i) k 0 < length (texts i)
     code_within k k_lt =
         let is : get_or (codes i) k 0 ≡ code_at (placed i) k =
-        ap (λ l. get_or l k 0) (sym placed_codes) ∙ get_or-map (λ text. position_or_len (bytes_eq text) (firsts (placed i))) (placed i) k [] 0 (omega (arith, placed_count, k_lt)) in
+        ap (λ l. get_or l k 0) (sym placed_codes)
+        ∙ get_or-map (λ text. position_or_len (bytes_eq text) (firsts (placed i))) (placed i) k [] 0
+        (omega (arith, placed_count, k_lt)) in
         let within = code_at-within (placed i) k (omega (arith, placed_count, k_lt)) in
         omega (arith, is, within, ap length placed_firsts)
 
@@ -152,16 +173,20 @@ module _ (axis : Axis) (table : Table) (are : AreInOrder axis table) where
   column_count : (i : ℕ) → length (column_up i) ≡ n
   column_count i = each_row-length (text_up table i) n
 
-  good_above_rows : (i : ℕ) (lt : i < length (lowers_of axis)) → lower_of axis i ≡ None → (column_up i ≡ placed i) × IsGood i
+  good_above_rows : (i : ℕ) (lt : i < length (lowers_of axis)) → lower_of axis i ≡ None → (column_up i ≡ placed i)
+      × IsGood i
   good_above_rows i lt e =
       let count : length (codes i) ≡ n = (own i lt).places_are ∙ ap (places_in table) e in
-      let same : column_up i ≡ placed i = ext_get_or [] (column_up i) (placed i) (omega (arith, column_count i, placed_count i lt, count)) (λ k k_lt.
+      let same : column_up i ≡ placed i =
+      ext_get_or [] (column_up i) (placed i) (omega (arith, column_count i, placed_count i lt, count)) (λ k k_lt.
       let k_n : k < n = omega (arith, k_lt, column_count i) in
-      each_row-get (text_up table i) n k [] k_n ∙ ap (λ c. get_or (texts i) c []) (code_above_rows i k lt e) ∙ sym (placed_at i lt k (omega (arith, k_n, count)))) in (
+      each_row-get (text_up table i) n k [] k_n ∙ ap (λ c. get_or (texts i) c []) (code_above_rows i k lt e)
+      ∙ sym (placed_at i lt k (omega (arith, k_n, count)))) in (
         same,
         record {
           firsts_are = ap firsts same ∙ placed_firsts i lt;
-          within = λ row row_lt. let w = code_within i lt row (omega (arith, row_lt, count)) in omega (arith, w, code_above_rows i row lt e);
+          within = λ row row_lt. let w = code_within i lt row (omega (arith, row_lt, count)) in
+              omega (arith, w, code_above_rows i row lt e);
         },
       )
 
@@ -191,13 +216,16 @@ module _ (axis : Axis) (table : Table) (are : AreInOrder axis table) where
         ∙ ap (λ c. get_or (texts i) c []) (sym (code_above i j row lt e))))
 
     pub image_texts : map (image i j) (texts j) ≡ placed i
-    image_texts = ext_get_or [] (map (image i j) (texts j)) (placed i) (omega (arith, length-map (texts j) (image i j), placed_count i lt, count_above)) (λ k k_lt.
+    image_texts =
+        ext_get_or [] (map (image i j) (texts j)) (placed i)
+        (omega (arith, length-map (texts j) (image i j), placed_count i lt, count_above)) (λ k k_lt.
         let k_j : k < length (texts j) = omega (arith, k_lt, length-map (texts j) (image i j)) in
         get_or-map (image i j) (texts j) k [] [] k_j ∙ image_at k k_j)
 
     good_above : IsGood i
     good_above = record {
-      firsts_are = ap firsts image_column ∙ sym (firsts-map (image i j) (column_up j)) ∙ ap (λ l. firsts (map (image i j) l)) below.firsts_are ∙ ap firsts image_texts ∙ placed_firsts i lt;
+      firsts_are = ap firsts image_column ∙ sym (firsts-map (image i j) (column_up j))
+          ∙ ap (λ l. firsts (map (image i j) l)) below.firsts_are ∙ ap firsts image_texts ∙ placed_firsts i lt;
       within = within_above;
     }
 
@@ -222,16 +250,20 @@ module _ (axis : Axis) (table : Table) (are : AreInOrder axis table) where
       ∙ own_place (texts i) (code i row) (own i lt).once ((good i lt).within row row_lt)
 
   -- a column is that of its texts
-  is_column : (i : ℕ) → i < length (lowers_of axis) → IsColumn (column_up i) (option_map column_up (lower_of axis i)) (column_at table i)
+  is_column : (i : ℕ) → i < length (lowers_of axis)
+      → IsColumn (column_up i) (option_map column_up (lower_of axis i)) (column_at table i)
   is_column i lt =
-      let room : length (firsts (column_up i)) ≤ most_members = omega (arith, (own i lt).room, ap length (good i lt).firsts_are) in
-      elim (lower_of axis i) as (λ o. lower_of axis i ≡ o → IsColumn (column_up i) (option_map column_up o) (column_at table i)) [
+      let room : length (firsts (column_up i)) ≤ most_members =
+      omega (arith, (own i lt).room, ap length (good i lt).firsts_are) in
+      elim (lower_of axis i) as
+      (λ o. lower_of axis i ≡ o → IsColumn (column_up i) (option_map column_up o) (column_at table i)) [
         | None ↦ λ e. record {
           limit = (own i lt).limit;
           texts_are = sym (good i lt).firsts_are;
           room = room;
           count = (own i lt).places_are ∙ ap (places_in table) e ∙ sym (column_count i);
-          reads = λ row row_lt. let row_n : row < n = omega (arith, row_lt, column_count i) in sym (code_above_rows i row lt e) ∙ sym (code_is i row lt row_n);
+          reads = λ row row_lt. let row_n : row < n = omega (arith, row_lt, column_count i) in
+              sym (code_above_rows i row lt e) ∙ sym (code_is i row lt row_n);
         }
         | Some j ↦ λ e.
             let before = lower_below axis i j e in
@@ -242,7 +274,8 @@ module _ (axis : Axis) (table : Table) (are : AreInOrder axis table) where
               count = (own i lt).places_are ∙ ap (places_in table) e ∙ ap length (sym (good j j_lt).firsts_are);
               reads = λ row row_lt.
                   let row_n : row < n = omega (arith, row_lt, column_count i) in
-                  ap (λ k. get_or (codes i) k 0) (code_is j row j_lt row_n) ∙ sym (code_above i j row lt e) ∙ sym (code_is i row lt row_n);
+                  ap (λ k. get_or (codes i) k 0) (code_is j row j_lt row_n) ∙ sym (code_above i j row lt e)
+                  ∙ sym (code_is i row lt row_n);
             }
       ] refl
 
@@ -251,7 +284,8 @@ module _ (axis : Axis) (table : Table) (are : AreInOrder axis table) where
   pub column_is : (i : ℕ) → i < length (lowers_of axis) → column_of i (table_rows axis table) ≡ column_up i
   column_is i lt =
       each_row-map (text_in i) (table_row axis table) n
-      ∙ each_row-same _ _ n (λ row row_lt. each_row-get (λ column. text_up table column row) (length (lowers_of axis)) i [] lt)
+      ∙ each_row-same _ _ n
+      (λ row row_lt. each_row-get (λ column. text_up table column row) (length (lowers_of axis)) i [] lt)
 
   pub table_is : IsTable axis (table_rows axis table) table
   table_is = record {
@@ -260,16 +294,23 @@ module _ (axis : Axis) (table : Table) (are : AreInOrder axis table) where
     lowers = are.lowers;
     columns = λ i lt.
         subst (λ l. IsColumn l (lower_texts axis i (table_rows axis table)) (column_at table i)) (sym (column_is i lt))
-        (elim (lower_of axis i) as (λ o. lower_of axis i ≡ o → IsColumn (column_up i) (option_map column_up o) (column_at table i) → IsColumn (column_up i) (option_map (λ lower. column_of lower (table_rows axis table)) o) (column_at table i)) [
+        (elim (lower_of axis i) as
+        (λ o. lower_of axis i ≡ o → IsColumn (column_up i) (option_map column_up o) (column_at table i)
+        → IsColumn (column_up i) (option_map (λ lower. column_of lower (table_rows axis table)) o)
+        (column_at table i)) [
           | None ↦ λ e is. is
-          | Some j ↦ λ e is. let before = lower_below axis i j e in subst (λ l. IsColumn (column_up i) (Some l) (column_at table i)) (sym (column_is j (omega (arith, before, lt)))) is
+          | Some j ↦ λ e is. let before = lower_below axis i j e in
+              subst (λ l. IsColumn (column_up i) (Some l) (column_at table i))
+              (sym (column_is j (omega (arith, before, lt)))) is
         ] refl (is_column i lt));
   }
 
   -- the texts at the places of a column are those of its codes
   pub places_are : (i : ℕ) → i < length (lowers_of axis) → texts_at_places axis i (table_rows axis table) ≡ placed i
   places_are i lt =
-      elim (lower_of axis i) as (λ o. lower_of axis i ≡ o → place_texts (texts_below o (table_rows axis table)) (column_of i (table_rows axis table)) ≡ placed i) [
+      elim (lower_of axis i) as
+      (λ o. lower_of axis i ≡ o
+      → place_texts (texts_below o (table_rows axis table)) (column_of i (table_rows axis table)) ≡ placed i) [
         | None ↦ λ e. column_is i lt ∙ (good_above_rows i lt e).0
         | Some j ↦ λ e.
             let before = lower_below axis i j e in

@@ -1,5 +1,6 @@
 -- The places of keys that count on.
-use Rattle.std.proofs.Common.{◌≡◌, sym, inl, inr, ap, ◌∙◌, ℕ, ◌+◌, ◌-◌, ◌<◌, ◌≤◌, ◌==◌, true, false, List, [], ◌∷◌, ◌++◌, length, get_or, arith}
+use Rattle.std.proofs.Common.{◌≡◌, sym, inl, inr, ap, ◌∙◌, ℕ, ◌+◌, ◌-◌, ◌<◌, ◌≤◌, ◌==◌, true, false, List, [], ◌∷◌}
+use Rattle.std.proofs.Common.{◌++◌, length, get_or, arith}
 use Rattle.std.specs.List.{position_or_len}
 use Rattle.std.proofs.Math.ListN.{get_or-append}
 use Rattle.std.proofs.Math.Seq.{get_or-append_seam}
@@ -21,7 +22,8 @@ same : (a b : ℕ) → a ≡ b → (a == b) ≡ true
 same a b is = grind (arith, nat_tests)
 
 -- a key from the first on is where it says, or after all
-pub place_from : (first key : ℕ) (keys : List ℕ) → CountOn first keys → first ≤ key → (place : ℕ) → place ≤ length keys → place ≤ key - first
+pub place_from : (first key : ℕ) (keys : List ℕ) → CountOn first keys → first ≤ key → (place : ℕ) → place ≤ length keys
+    → place ≤ key - first
     → (place < length keys → place ≡ key - first) → place ≡ position_or_len (λ other. other == key) keys
 place_from first key keys counted from place within low reached =
     sym (position_or_len_is (λ other. other == key) keys place 0 within
@@ -29,7 +31,8 @@ place_from first key keys counted from place within low reached =
     (λ below. same (get_or keys place 0) key (omega (arith, counted place below, reached below))))
 
 -- a key before the first is none of them
-pub place_before : (first key : ℕ) (keys : List ℕ) → CountOn first keys → key < first → length keys ≡ position_or_len (λ other. other == key) keys
+pub place_before : (first key : ℕ) (keys : List ℕ) → CountOn first keys → key < first
+    → length keys ≡ position_or_len (λ other. other == key) keys
 place_before first key keys counted before =
     sym (position_or_len_is (λ other. other == key) keys (length keys) 0 (omega arith)
     (λ k below. later (get_or keys k 0) key (omega (arith, counted k below)))
@@ -40,14 +43,17 @@ pub counted_distinct : (first : ℕ) (keys : List ℕ) → CountOn first keys �
 counted_distinct first keys counted =
     places_distinct keys (λ row lt.
     let at : get_or keys row 0 ≡ first + row = counted row lt in
-    sym (place_from first (get_or keys row 0) keys counted (omega (arith, at)) row (omega (arith, lt)) (omega (arith, at)) (λ below. omega (arith, at))))
+    sym (place_from first (get_or keys row 0) keys counted (omega (arith, at)) row (omega (arith, lt))
+    (omega (arith, at)) (λ below. omega (arith, at))))
 
 -- and they count on with the next key after them
-pub count_one_more : (first : ℕ) (keys : List ℕ) (key : ℕ) → CountOn first keys → key ≡ first + length keys → CountOn first (keys ++ key ∷ [])
+pub count_one_more : (first : ℕ) (keys : List ℕ) (key : ℕ) → CountOn first keys → key ≡ first + length keys
+    → CountOn first (keys ++ key ∷ [])
 count_one_more first keys key counted next = λ row lt.
     elim (cases_lt row (length keys)) [
       | inl here ↦ get_or-append keys (key ∷ []) 0 row here ∙ counted row here
-      | inr behind ↦
-          let last : row ≡ length keys = omega (arith, length-append keys (key ∷ []), lt, behind) in
-          ap (λ i. get_or (keys ++ key ∷ []) i 0) last ∙ get_or-append_seam keys key [] 0 ∙ next ∙ ap (λ n. first + n) (sym last)
+      | inr after ↦
+          let last : row ≡ length keys = omega (arith, length-append keys (key ∷ []), lt, after) in
+          ap (λ i. get_or (keys ++ key ∷ []) i 0) last ∙ get_or-append_seam keys key [] 0 ∙ next
+          ∙ ap (λ n. first + n) (sym last)
     ]

@@ -1,5 +1,6 @@
 -- What the codes of rows that keep the rules are like.
-use Rattle.std.proofs.Common.{◌≡◌, ◌<◌, ◌≤◌, ◌^◌, ◌∙◌, sym, ap, arith, ℕ, List, [], map, length, get_or, Option, Some, None}
+use Rattle.std.proofs.Common.{◌≡◌, ◌<◌, ◌≤◌, ◌^◌, ◌∙◌, sym, ap, arith, ℕ, List, [], map, length, get_or, Option, Some}
+use Rattle.std.proofs.Common.{None}
 use Rattle.std.specs.List.{AllByRecursion, position_or_len}
 use Rattle.std.specs.Str.{bytes_eq}
 use Rattle.std.proofs.lemmas.List.{length-map, get_or-map}
@@ -13,7 +14,7 @@ use Rattle.dictionary.specs.Columns.{codes_of}
 use Rattle.dictionary.proofs.CallerLemmas.{EachOnce-firsts}
 use Rattle.dimensions.specs.TextRows.{TextRow, text_in, column_of}
 use Rattle.dimensions.specs.Shapes.{lowers_of, lower_of, row_limit_of}
-use Rattle.dimensions.specs.Coded.{AreGoodRows, place_texts, text_beside, texts_below, texts_at_places}
+use Rattle.dimensions.specs.Coded.{AreGoodRows, place_texts, text_next_to, texts_below, texts_at_places}
 use Rattle.dimensions.specs.Columns.{code_at}
 use Rattle.dimensions.proofs.ColumnLaws.{code_at-within}
 use Rattle.dimensions.proofs.MemberLaws.{length-members}
@@ -39,28 +40,39 @@ module _ (axis : Axis) (rows : List TextRow) (good : AreGoodRows axis rows) wher
   module _ (i : ℕ) (lt : i < length (lowers_of axis)) where
     few_texts : length (firsts (texts_at_places axis i rows)) ≤ most_members
     few_texts =
-        let members = one_column (λ text. length (members_of (map text rows)) ≤ most_members) (lowers_of axis) i lt good.keep.few_members in
+        let members = one_column (λ text. length (members_of (map text rows)) ≤ most_members) (lowers_of axis) i lt
+        good.keep.few_members in
         omega (arith, members, length-members (column_of i rows), ap length (firsts_placed axis rows good.keep i))
 
     pub good_texts : AreProper most_members (firsts (texts_at_places axis i rows))
     good_texts = record {
       each_once = EachOnce-firsts (texts_at_places axis i rows);
-      short = short_of (firsts (texts_at_places axis i rows)) (all_texts axis rows good.keep (λ text. length text ≤ longest_text) i (short_column i rows good.short));
+      short = short_of (firsts (texts_at_places axis i rows))
+          (all_texts axis rows good.keep (λ text. length text ≤ longest_text) i (short_column i rows good.short));
       most = few_texts;
     }
 
     pub good_codes : AllByRecursion (λ code. code < 2 ^ 16) (codes_of (texts_at_places axis i rows))
     good_codes = all_from_get (λ code. code < 2 ^ 16) (codes_of (texts_at_places axis i rows)) 0 (λ k k_lt.
         let texts : List (List ℕ) = texts_at_places axis i rows in
-        let k_texts : k < length (texts_at_places axis i rows) = omega (arith, k_lt, length-map (texts_at_places axis i rows) (λ text. position_or_len (bytes_eq text) (firsts (texts_at_places axis i rows)))) in
-        let at : get_or (codes_of (texts_at_places axis i rows)) k 0 ≡ code_at (texts_at_places axis i rows) k = get_or-map (λ text. position_or_len (bytes_eq text) (firsts texts)) texts k [] 0 k_texts in
+        let k_texts : k < length (texts_at_places axis i rows) =
+        omega (
+          arith,
+          k_lt,
+          length-map (texts_at_places axis i rows)
+              (λ text. position_or_len (bytes_eq text) (firsts (texts_at_places axis i rows))),
+        ) in
+        let at : get_or (codes_of (texts_at_places axis i rows)) k 0 ≡ code_at (texts_at_places axis i rows) k =
+        get_or-map (λ text. position_or_len (bytes_eq text) (firsts texts)) texts k [] 0 k_texts in
         let within = code_at-within (texts_at_places axis i rows) k k_texts in
         omega (arith, at, within, few_texts))
 
     pub good_places : length (codes_of (texts_at_places axis i rows)) ≡ places_of_rows axis rows (lower_of axis i)
     good_places =
         length-map (texts_at_places axis i rows) _
-        ∙ elim (lower_of axis i) as (λ o. length (place_texts (texts_below o rows) (column_of i rows)) ≡ places_of_rows axis rows o) [
+        ∙ elim (lower_of axis i) as
+        (λ o. length (place_texts (texts_below o rows) (column_of i rows)) ≡ places_of_rows axis rows o) [
           | None ↦ length-map rows (text_in i)
-          | Some j ↦ length-map (firsts (column_of j rows)) (text_beside (column_of j rows) (column_of i rows)) ∙ ap length (sym (firsts_placed axis rows good.keep j))
+          | Some j ↦ length-map (firsts (column_of j rows)) (text_next_to (column_of j rows) (column_of i rows))
+              ∙ ap length (sym (firsts_placed axis rows good.keep j))
         ]

@@ -1,5 +1,6 @@
 -- Codes that stay where rows come after others.
-use Rattle.std.proofs.Common.{◌≡◌, ◌<◌, ◌∙◌, ◌==◌, zero, suc, sym, ap, refl, subst, arith, ℕ, Bool, true, false, ◌||◌, not, nat_lt, List, [], ◌∷◌, ◌++◌, map, length, get_or, Some, None}
+use Rattle.std.proofs.Common.{◌≡◌, ◌<◌, ◌∙◌, ◌==◌, zero, suc, sym, ap, refl, subst, arith, ℕ, Bool, true, false, ◌||◌}
+use Rattle.std.proofs.Common.{not, nat_lt, List, [], ◌∷◌, ◌++◌, map, length, get_or, Some, None}
 use Rattle.std.specs.List.{filter, list_any, position_or_len}
 use Rattle.std.specs.Str.{bytes_eq}
 use Rattle.std.proofs.lemmas.List.{length-map, map-append}
@@ -12,23 +13,26 @@ use Rattle.dictionary.specs.Columns.{place_of, codes_of}
 use Rattle.dictionary.specs.Dictionary.{firsts}
 use Rattle.dictionary.proofs.CallerLemmas.{bytes_eq-refl, list_any-firsts, list_any_place, place_append, place_within}
 use Rattle.dimensions.specs.Added.{joined}
-use Rattle.dimensions.specs.Coded.{place_texts, text_beside, texts_at_places, texts_below}
+use Rattle.dimensions.specs.Coded.{place_texts, text_next_to, texts_at_places, texts_below}
 use Rattle.dimensions.specs.KeptCodes.{GoesOn, KeepCodes}
 use Rattle.dimensions.specs.Shapes.{lower_of}
 use Rattle.dimensions.specs.Shown.{rows_on}
-use Rattle.dimensions.specs.TextRows.{TextRow, text_in, column_of, row_of_customer, row_of_supplier, row_of_part, row_of_date}
+use Rattle.dimensions.specs.TextRows.{TextRow, text_in, column_of, row_of_customer, row_of_supplier, row_of_part}
+use Rattle.dimensions.specs.TextRows.{row_of_date}
 
 or_after : (a b : Bool) → b ≡ true → (a || b) ≡ true
 or_after true b e = refl
 or_after false b e = e
 
 -- functions that are the same at each text of a list that is among others
-same_among : {X : Type 0} (f g : List ℕ → X) (all texts : List (List ℕ)) → ((text : List ℕ) → list_any (bytes_eq text) texts ≡ true → list_any (bytes_eq text) all ≡ true)
+same_among : {X : Type 0} (f g : List ℕ → X) (all texts : List (List ℕ))
+    → ((text : List ℕ) → list_any (bytes_eq text) texts ≡ true → list_any (bytes_eq text) all ≡ true)
     → ((text : List ℕ) → list_any (bytes_eq text) all ≡ true → f text ≡ g text) → map f texts ≡ map g texts
 same_among f g all [] among same = refl
 same_among f g all (text ∷ texts) among same =
     let here = same text (among text (ap (λ b. b || list_any (bytes_eq text) texts) (bytes_eq-refl text))) in
-    let rest = same_among f g all texts (λ other some. among other (or_after (bytes_eq other text) (list_any (bytes_eq other) texts) some)) same in
+    let rest = same_among f g all texts
+    (λ other some. among other (or_after (bytes_eq other text) (list_any (bytes_eq other) texts) some)) same in
     λ i. here i ∷ rest i
 
 get_front : {X : Type 0} (xs ys : List X) (k : ℕ) (d : X) → k < length xs → get_or (xs ++ ys) k d ≡ get_or xs k d
@@ -43,7 +47,8 @@ firsts_go_on [] others = (firsts others, refl)
 firsts_go_on (text ∷ texts) others =
     let rest = firsts_go_on texts others in (
       filter (λ other. not (bytes_eq text other)) rest.0,
-      ap (λ l. text ∷ filter (λ other. not (bytes_eq text other)) l) rest.1 ∙ ap (λ l. text ∷ l) (filter-append (λ other. not (bytes_eq text other)) (firsts texts) rest.0),
+      ap (λ l. text ∷ filter (λ other. not (bytes_eq text other)) l) rest.1
+          ∙ ap (λ l. text ∷ l) (filter-append (λ other. not (bytes_eq text other)) (firsts texts) rest.0),
     )
 
 -- the codes of a column of texts go on
@@ -51,39 +56,61 @@ pub codes_go_on : (texts others : List (List ℕ)) → GoesOn (codes_of texts) (
 codes_go_on texts others =
     let more = firsts_go_on texts others in
     let same : map (place_of (firsts (texts ++ others))) texts ≡ codes_of texts =
-    same_among (place_of (firsts (texts ++ others))) (place_of (firsts texts)) texts texts (λ text some. some) (λ text some.
-    ap (position_or_len (bytes_eq text)) more.1 ∙ place_append (bytes_eq text) (firsts texts) more.0 (list_any-firsts text texts ∙ some)) in
-    (map (place_of (firsts (texts ++ others))) others, map-append (place_of (firsts (texts ++ others))) texts others ∙ ap (λ l. l ++ map (place_of (firsts (texts ++ others))) others) same)
+    same_among (place_of (firsts (texts ++ others))) (place_of (firsts texts)) texts texts (λ text some. some)
+    (λ text some.
+    ap (position_or_len (bytes_eq text)) more.1
+    ∙ place_append (bytes_eq text) (firsts texts) more.0 (list_any-firsts text texts ∙ some)) in (
+      map (place_of (firsts (texts ++ others))) others,
+      map-append (place_of (firsts (texts ++ others))) texts others
+          ∙ ap (λ l. l ++ map (place_of (firsts (texts ++ others))) others) same,
+    )
 
--- the texts beside those of a lower column go on
-beside_go_on : (lowers texts more_lowers more : List (List ℕ)) → length texts ≡ length lowers → GoesOn (place_texts (Some lowers) texts) (place_texts (Some (lowers ++ more_lowers)) (texts ++ more))
-beside_go_on lowers texts more_lowers more many =
+-- the texts next_to those of a lower column go on
+next_to_go_on : (lowers texts more_lowers more : List (List ℕ)) → length texts ≡ length lowers
+    → GoesOn (place_texts (Some lowers) texts) (place_texts (Some (lowers ++ more_lowers)) (texts ++ more))
+next_to_go_on lowers texts more_lowers more many =
     let next = firsts_go_on lowers more_lowers in
-    let beside : List ℕ → List ℕ = text_beside (lowers ++ more_lowers) (texts ++ more) in
-    let same : map beside (firsts lowers) ≡ map (text_beside lowers texts) (firsts lowers) =
-    same_among beside (text_beside lowers texts) lowers (firsts lowers) (λ text some. sym (list_any-firsts text lowers) ∙ some) (λ text some.
+    let next_to : List ℕ → List ℕ = text_next_to (lowers ++ more_lowers) (texts ++ more) in
+    let same : map next_to (firsts lowers) ≡ map (text_next_to lowers texts) (firsts lowers) =
+    same_among next_to (text_next_to lowers texts) lowers (firsts lowers)
+    (λ text some. sym (list_any-firsts text lowers)
+    ∙ some) (λ text some.
     let within = place_within (bytes_eq text) lowers some in
-    ap (λ n. get_or (texts ++ more) n []) (place_append (bytes_eq text) lowers more_lowers some) ∙ get_front texts more (position_or_len (bytes_eq text) lowers) [] (omega (arith, within, many))) in
-    (map beside next.0, ap (map beside) next.1 ∙ map-append beside (firsts lowers) next.0 ∙ ap (λ l. l ++ map beside next.0) same)
+    ap (λ n. get_or (texts ++ more) n []) (place_append (bytes_eq text) lowers more_lowers some)
+    ∙ get_front texts more (position_or_len (bytes_eq text) lowers) [] (omega (arith, within, many))) in (
+      map next_to next.0,
+      ap (map next_to) next.1 ∙ map-append next_to (firsts lowers) next.0
+          ∙ ap (λ l. l ++ map next_to next.0) same,
+    )
 
 -- ---- columns
 
 module _ (axis : Axis) (old new : List TextRow) where
   pub places_go_on : (column : ℕ) → GoesOn (texts_at_places axis column old) (texts_at_places axis column (old ++ new))
-  places_go_on column = elim (lower_of axis column) as (λ o. GoesOn (place_texts (texts_below o old) (column_of column old)) (place_texts (texts_below o (old ++ new)) (column_of column (old ++ new)))) [
-    | None ↦ (column_of column new, map-append (text_in column) old new)
-    | Some lower ↦
-        let on = beside_go_on (column_of lower old) (column_of column old) (column_of lower new) (column_of column new) (length-map old (text_in column) ∙ sym (length-map old (text_in lower))) in
-        (on.0, (λ i. place_texts (Some (map-append (text_in lower) old new i)) (map-append (text_in column) old new i)) ∙ on.1)
-  ]
+  places_go_on column =
+      elim (lower_of axis column) as
+      (λ o. GoesOn (place_texts (texts_below o old) (column_of column old))
+      (place_texts (texts_below o (old ++ new)) (column_of column (old ++ new)))) [
+        | None ↦ (column_of column new, map-append (text_in column) old new)
+        | Some lower ↦
+            let on = next_to_go_on (column_of lower old) (column_of column old) (column_of lower new)
+            (column_of column new)
+            (length-map old (text_in column) ∙ sym (length-map old (text_in lower))) in (
+              on.0,
+              (λ i. place_texts (Some (map-append (text_in lower) old new i)) (map-append (text_in column) old new i))
+                  ∙ on.1,
+            )
+      ]
 
-  pub texts_stay : (column : ℕ) → GoesOn (firsts (texts_at_places axis column old)) (firsts (texts_at_places axis column (old ++ new)))
+  pub texts_stay : (column : ℕ)
+      → GoesOn (firsts (texts_at_places axis column old)) (firsts (texts_at_places axis column (old ++ new)))
   texts_stay column =
       let on = places_go_on column in
       let more = firsts_go_on (texts_at_places axis column old) on.0 in
       (more.0, ap firsts on.1 ∙ more.1)
 
-  pub codes_stay : (column : ℕ) → GoesOn (codes_of (texts_at_places axis column old)) (codes_of (texts_at_places axis column (old ++ new)))
+  pub codes_stay : (column : ℕ)
+      → GoesOn (codes_of (texts_at_places axis column old)) (codes_of (texts_at_places axis column (old ++ new)))
   codes_stay column =
       let on = places_go_on column in
       let more = codes_go_on (texts_at_places axis column old) on.0 in
@@ -91,19 +118,22 @@ module _ (axis : Axis) (old new : List TextRow) where
 
 -- ---- the four dimensions
 
-pub rows_on-joined : (old new : DimRows) (axis : Axis) → rows_on (joined old new) axis ≡ rows_on old axis ++ rows_on new axis
+pub rows_on-joined : (old new : DimRows) (axis : Axis) → rows_on (joined old new) axis ≡ rows_on old axis
+    ++ rows_on new axis
 rows_on-joined old new Customer = map-append row_of_customer old.customers new.customers
 rows_on-joined old new Supplier = map-append row_of_supplier old.suppliers new.suppliers
 rows_on-joined old new Part = map-append row_of_part old.parts new.parts
 rows_on-joined old new Date = map-append row_of_date old.dates new.dates
 
 -- the first row of a key stays the first
-first_stays : {Row : Type 0} (p : Row → Bool) (old new : List Row) → position_or_len p old < length old → position_or_len p (old ++ new) ≡ position_or_len p old
+first_stays : {Row : Type 0} (p : Row → Bool) (old new : List Row) → position_or_len p old < length old
+    → position_or_len p (old ++ new) ≡ position_or_len p old
 first_stays p old new lt =
     let test : nat_lt (position_or_len p old) (length old) ≡ true = grind arith in
     place_append p old new (list_any_place p old ∙ test)
 
-index_stays : (old new : DimRows) (axis : Axis) (key : ℕ) → row_index_of old axis key < row_count_of old axis → row_index_of (joined old new) axis key ≡ row_index_of old axis key
+index_stays : (old new : DimRows) (axis : Axis) (key : ℕ) → row_index_of old axis key < row_count_of old axis
+    → row_index_of (joined old new) axis key ≡ row_index_of old axis key
 index_stays old new Customer key lt = first_stays (λ row. row.key == key) old.customers new.customers lt
 index_stays old new Supplier key lt = first_stays (λ row. row.key == key) old.suppliers new.suppliers lt
 index_stays old new Part key lt = first_stays (λ row. row.key == key) old.parts new.parts lt
@@ -111,10 +141,18 @@ index_stays old new Date key lt = first_stays (λ row. row.key == key) old.dates
 
 pub keep_codes : (old new : DimRows) → KeepCodes old (joined old new)
 keep_codes old new = record {
-  texts = λ axis column lt. subst (λ rows. GoesOn (firsts (texts_at_places axis column (rows_on old axis))) (firsts (texts_at_places axis column rows))) (sym (rows_on-joined old new axis))
+  texts = λ axis column lt. subst
+      (λ rows. GoesOn (firsts (texts_at_places axis column (rows_on old axis)))
+      (firsts (texts_at_places axis column rows))) (sym (rows_on-joined old new axis))
       (texts_stay axis (rows_on old axis) (rows_on new axis) column);
-  codes = λ axis column lt. subst (λ rows. GoesOn (codes_of (texts_at_places axis column (rows_on old axis))) (codes_of (texts_at_places axis column rows))) (sym (rows_on-joined old new axis))
+  codes = λ axis column lt. subst
+      (λ rows. GoesOn (codes_of (texts_at_places axis column (rows_on old axis)))
+      (codes_of (texts_at_places axis column rows))) (sym (rows_on-joined old new axis))
       (codes_stay axis (rows_on old axis) (rows_on new axis) column);
-  keys = λ axis. (map (λ row. row.key) (rows_on new axis), ap (map (λ row. row.key)) (rows_on-joined old new axis) ∙ map-append (λ row. row.key) (rows_on old axis) (rows_on new axis));
+  keys = λ axis. (
+    map (λ row. row.key) (rows_on new axis),
+    ap (map (λ row. row.key)) (rows_on-joined old new axis)
+        ∙ map-append (λ row. row.key) (rows_on old axis) (rows_on new axis),
+  );
   row_indexes = index_stays old new;
 }

@@ -1,5 +1,6 @@
 -- Tables and dimensions that are made of rows by codes.
-use Rattle.std.proofs.Common.{◌≡◌, ◌≢◌, ◌<◌, ◌≤◌, ◌+◌, ◌∙◌, ◌⊎◌, inl, inr, zero, suc, sym, ap, refl, subst, arith, ℕ, List, [], ◌∷◌, ◌++◌, map, length, get_or, codes, Some, None}
+use Rattle.std.proofs.Common.{◌≡◌, ◌≢◌, ◌<◌, ◌≤◌, ◌+◌, ◌∙◌, ◌⊎◌, inl, inr, zero, suc, sym, ap, refl, subst, arith, ℕ}
+use Rattle.std.proofs.Common.{List, [], ◌∷◌, ◌++◌, map, length, get_or, codes, Some, None}
 use Rattle.std.specs.List.{AllByRecursion}
 use Rattle.std.specs.Fmt.{decimal}
 use Rattle.std.proofs.lemmas.List.{length-map}
@@ -25,21 +26,28 @@ use Rattle.dimensions.specs.declared.table.Table.{Table}
 use Rattle.dimensions.specs.TextRows.{row_of_customer, row_of_supplier, row_of_part, row_of_date}
 use Rattle.dimensions.specs.Shapes.{lowers_of, lower_of, text_rules}
 use Rattle.dimensions.specs.ShortTexts.{IsShortRow}
-use Rattle.dimensions.specs.Coded.{no_coded, coded_at, AreCodedRows, AreGoodRows, HaveTexts, place_total, HaveProperColumns, AreDistinct}
-use Rattle.dimensions.specs.Made.{IsTableOf, IsDimensionOf, IsRefusal, AreCodedDims, StandForNone, StandForNoRows}
+use Rattle.dimensions.specs.Coded.{no_coded, coded_at, AreCodedRows, AreGoodRows, HaveTexts, place_total}
+use Rattle.dimensions.specs.Coded.{HaveProperColumns, AreDistinct}
+use Rattle.dimensions.specs.Made.{IsTableOf, IsDimensionOf, IsRefusal, AreCodedDims, EncodeNone, EncodeNoRows}
 use Rattle.dimensions.specs.Tables.{no_column, column_at, columns_from, IsTable}
-use Rattle.dimensions.specs.Shown.{IsDimension, rows_on, table_rows, shown_customer, shown_supplier, shown_part, shown_date, shown_rows, AreDimensions}
+use Rattle.dimensions.specs.Shown.{IsDimension, rows_on, table_rows, shown_customer, shown_supplier, shown_part}
+use Rattle.dimensions.specs.Shown.{shown_date, shown_rows, AreDimensions}
 use Rattle.dimensions.proofs.Refusals.{rules_through}
 use Rattle.dimensions.proofs.ShapeLaws.{lower_below}
 use Rattle.dimensions.proofs.ShortLaws.{all_at, all_map, all_unmap}
 use Rattle.dimensions.proofs.CodedRules.{pairs_map, pairs_unmap, good_rows, proper_columns, distinct_keys}
-use Rattle.dimensions.proofs.CodedTables.{each_row-map, places_in, IsInOrder, AreInOrder, placed_firsts, placed_codes, places_are, table_is}
+use Rattle.dimensions.proofs.CodedTables.{each_row-map, places_in, IsInOrder, AreInOrder, placed_firsts, placed_codes}
+use Rattle.dimensions.proofs.CodedTables.{places_are, table_is}
 use Rattle.dimensions.proofs.ShownLaws.{are_dimensions}
 
 -- ---- a table
 
 columns_from-get : (axis : Axis) (n : ℕ) (coded : List CodedColumn) (i : ℕ) → i < length coded
-    → get_or (columns_from axis n coded) i no_column ≡ record { lower = lower_of axis (n + i); texts = (get_or coded i no_coded).texts; codes = (get_or coded i no_coded).codes }
+    → get_or (columns_from axis n coded) i no_column ≡ record {
+      lower = lower_of axis (n + i);
+      texts = (get_or coded i no_coded).texts;
+      codes = (get_or coded i no_coded).codes;
+    }
 columns_from-get axis n [] i lt = absurd (omega (arith, lt))
 columns_from-get axis n (column ∷ others) zero lt =
     let here : n ≡ n + 0 = omega arith in
@@ -47,84 +55,115 @@ columns_from-get axis n (column ∷ others) zero lt =
 columns_from-get axis n (column ∷ others) (suc i) lt =
     let next : suc n + i ≡ n + suc i = omega arith in
     columns_from-get axis (suc n) others i (omega (arith, lt))
-    ∙ ap (λ k. record { lower = lower_of axis k; texts = (get_or others i no_coded).texts; codes = (get_or others i no_coded).codes }) next
+    ∙ ap (λ k. record {
+      lower = lower_of axis k;
+      texts = (get_or others i no_coded).texts;
+      codes = (get_or others i no_coded).codes;
+    }) next
 
-pub columns_from-length : (axis : Axis) (n : ℕ) (coded : List CodedColumn) → length (columns_from axis n coded) ≡ length coded
+pub columns_from-length : (axis : Axis) (n : ℕ) (coded : List CodedColumn)
+    → length (columns_from axis n coded) ≡ length coded
 columns_from-length axis n [] = refl
 columns_from-length axis n (column ∷ others) = ap suc (columns_from-length axis (suc n) others)
 
-pub columns_from-push : (axis : Axis) (n : ℕ) (coded : List CodedColumn) (column : CodedColumn) (new : Column) → new ≡ record { lower = lower_of axis (n + length coded); texts = column.texts; codes = column.codes }
+pub columns_from-push : (axis : Axis) (n : ℕ) (coded : List CodedColumn) (column : CodedColumn) (new : Column)
+    → new ≡ record { lower = lower_of axis (n + length coded); texts = column.texts; codes = column.codes }
     → columns_from axis n coded ++ new ∷ [] ≡ columns_from axis n (coded ++ column ∷ [])
 columns_from-push axis n [] column new is =
     let here : n + 0 ≡ n = omega arith in
-    (λ i. is i ∷ []) ∙ ap (λ k. record { lower = lower_of axis k; texts = column.texts; codes = column.codes } ∷ []) here
+    (λ i. is i ∷ []) ∙ ap (λ k. record { lower = lower_of axis k; texts = column.texts; codes = column.codes } ∷ [])
+    here
 columns_from-push axis n (other ∷ coded) column new is =
     let next : n + suc (length coded) ≡ suc n + length coded = omega arith in
     ap (λ l. record { lower = lower_of axis n; texts = other.texts; codes = other.codes } ∷ l)
-    (columns_from-push axis (suc n) coded column new (is ∙ ap (λ k. record { lower = lower_of axis k; texts = column.texts; codes = column.codes }) next))
+    (columns_from-push axis (suc n) coded column new
+    (is ∙ ap (λ k. record { lower = lower_of axis k; texts = column.texts; codes = column.codes }) next))
 
-module _ (axis : Axis) (coded : CodedRows) (have : HaveTexts coded.columns) (proper : HaveProperColumns axis coded) (distinct : AreDistinct coded.keys)
-    (table : Table) (keys : table.keys ≡ coded.keys) (columns : table.columns.items ≡ columns_from axis 0 coded.columns) where
-  column_is : (i : ℕ) → i < length (lowers_of axis) → column_at table i ≡ record { lower = lower_of axis i; texts = (coded_at coded i).texts; codes = (coded_at coded i).codes }
-  column_is i lt =
-      let same : 0 + i ≡ i = omega arith in
-      ap (λ l. get_or l i no_column) columns ∙ columns_from-get axis 0 coded.columns i (omega (arith, lt, proper.count))
-      ∙ ap (λ k. record { lower = lower_of axis k; texts = (coded_at coded i).texts; codes = (coded_at coded i).codes }) same
+module _ (axis : Axis) (coded : CodedRows) (have : HaveTexts coded.columns) (proper : HaveProperColumns axis coded)
+    (distinct : AreDistinct coded.keys)
+    (table : Table) (keys : table.keys ≡ coded.keys) (columns : table.columns.items ≡ columns_from axis 0 coded.columns)
+  where
+    column_is : (i : ℕ) → i < length (lowers_of axis) → column_at table i ≡ record {
+      lower = lower_of axis i;
+      texts = (coded_at coded i).texts;
+      codes = (coded_at coded i).codes;
+    }
+    column_is i lt =
+        let same : 0 + i ≡ i = omega arith in
+        ap (λ l. get_or l i no_column) columns
+        ∙ columns_from-get axis 0 coded.columns i (omega (arith, lt, proper.count))
+        ∙ ap (λ k. record {
+          lower = lower_of axis k;
+          texts = (coded_at coded i).texts;
+          codes = (coded_at coded i).codes;
+        })
+        same
 
-  texts_is : (i : ℕ) → i < length (lowers_of axis) → (column_at table i).texts ≡ (coded_at coded i).texts
-  texts_is i lt = ap (λ c. c.texts) (column_is i lt)
+    texts_is : (i : ℕ) → i < length (lowers_of axis) → (column_at table i).texts ≡ (coded_at coded i).texts
+    texts_is i lt = ap (λ c. c.texts) (column_is i lt)
 
-  places_same : (i : ℕ) → i < length (lowers_of axis) → place_total coded (lower_of axis i) ≡ places_in table (lower_of axis i)
-  places_same i lt = elim (lower_of axis i) as (λ o. lower_of axis i ≡ o → place_total coded o ≡ places_in table o) [
-    | None ↦ λ e. ap length (sym keys)
-    | Some j ↦ λ e. let before = lower_below axis i j e in ap (λ t. length t.texts) (sym (texts_is j (omega (arith, before, lt))))
-  ] refl
+    places_same : (i : ℕ) → i < length (lowers_of axis)
+        → place_total coded (lower_of axis i) ≡ places_in table (lower_of axis i)
+    places_same i lt = elim (lower_of axis i) as (λ o. lower_of axis i ≡ o → place_total coded o ≡ places_in table o) [
+      | None ↦ λ e. ap length (sym keys)
+      | Some j ↦ λ e. let before = lower_below axis i j e in
+          ap (λ t. length t.texts) (sym (texts_is j (omega (arith, before, lt))))
+    ] refl
 
-  proper_at : (i : ℕ) → i < length (lowers_of axis) → AreProper most_members (coded_at coded i).texts.texts
-  proper_at i lt = all_at (λ column. AreProper most_members column.texts.texts) coded.columns i no_coded (omega (arith, lt, proper.count)) have.proper
+    proper_at : (i : ℕ) → i < length (lowers_of axis) → AreProper most_members (coded_at coded i).texts.texts
+    proper_at i lt = all_at (λ column. AreProper most_members column.texts.texts) coded.columns i no_coded
+        (omega (arith, lt, proper.count)) have.proper
 
-  in_order : AreInOrder axis table
-  in_order = record {
-    count = ap length columns ∙ columns_from-length axis 0 coded.columns ∙ proper.count;
-    lowers = λ i lt. ap (λ c. c.lower) (column_is i lt);
-    columns = λ i lt. subst (λ c. IsInOrder (places_in table (lower_of axis i)) c) (sym (column_is i lt)) (record {
-      limit = all_at (λ column. column.texts.limit ≡ most_members) coded.columns i no_coded (omega (arith, lt, proper.count)) have.limits;
-      once = (proper_at i lt).each_once;
-      room = (proper_at i lt).most;
-      places_are = (proper.columns i lt).places_are ∙ places_same i lt;
-      order = (proper.columns i lt).order;
-    });
-  }
+    in_order : AreInOrder axis table
+    in_order = record {
+      count = ap length columns ∙ columns_from-length axis 0 coded.columns ∙ proper.count;
+      lowers = λ i lt. ap (λ c. c.lower) (column_is i lt);
+      columns = λ i lt. subst (λ c. IsInOrder (places_in table (lower_of axis i)) c) (sym (column_is i lt)) (record {
+        limit = all_at (λ column. column.texts.limit ≡ most_members) coded.columns i no_coded
+            (omega (arith, lt, proper.count)) have.limits;
+        once = (proper_at i lt).each_once;
+        room = (proper_at i lt).most;
+        places_are = (proper.columns i lt).places_are ∙ places_same i lt;
+        order = (proper.columns i lt).order;
+      });
+    }
 
-  short_all : (texts : List (List ℕ)) → AreShort texts → AllByRecursion (λ text. length text ≤ longest_text) texts
-  short_all [] all = tt
-  short_all (text ∷ texts) all = (All-head (λ t. length t ≤ longest_text) text texts all, short_all texts (All-tail (λ t. length t ≤ longest_text) text texts all))
+    short_all : (texts : List (List ℕ)) → AreShort texts → AllByRecursion (λ text. length text ≤ longest_text) texts
+    short_all [] all = tt
+    short_all (text ∷ texts) all = (
+      All-head (λ t. length t ≤ longest_text) text texts all,
+      short_all texts (All-tail (λ t. length t ≤ longest_text) text texts all),
+    )
 
-  pub made : IsTableOf axis coded table
-  made = record {
-    is = table_is axis table in_order;
-    good = good_rows axis table in_order
-        (λ i lt. subst (λ t. AllByRecursion (λ text. length text ≤ longest_text) t.texts) (sym (texts_is i lt)) (short_all (coded_at coded i).texts.texts (proper_at i lt).short))
-        (λ i lt. subst (λ t. AllByRecursion (λ text. text ≢ codes "ALL") t.texts) (sym (texts_is i lt)) (proper.columns i lt).members)
-        (omega (arith, proper.few_rows, ap length keys)) (subst AreDistinct (sym keys) distinct);
-    codes_are = record {
-      keys_are = sym keys ∙ keys_of_rows;
-      count = proper.count;
-      columns = λ i lt. record {
-        texts_are = ap (λ t. t.texts) (sym (texts_is i lt)) ∙ sym (placed_firsts axis table in_order i lt) ∙ ap firsts (sym (places_are axis table in_order i lt));
-        codes_are = ap (λ c. c.codes) (sym (column_is i lt)) ∙ sym (placed_codes axis table in_order i lt) ∙ ap codes_of (sym (places_are axis table in_order i lt));
+    pub made : IsTableOf axis coded table
+    made = record {
+      is = table_is axis table in_order;
+      good = good_rows axis table in_order
+          (λ i lt. subst (λ t. AllByRecursion (λ text. length text ≤ longest_text) t.texts) (sym (texts_is i lt))
+          (short_all (coded_at coded i).texts.texts (proper_at i lt).short))
+          (λ i lt. subst (λ t. AllByRecursion (λ text. text ≢ codes "ALL") t.texts) (sym (texts_is i lt))
+          (proper.columns i lt).members)
+          (omega (arith, proper.few_rows, ap length keys)) (subst AreDistinct (sym keys) distinct);
+      codes_are = record {
+        keys_are = sym keys ∙ keys_of_rows;
+        count = proper.count;
+        columns = λ i lt. record {
+          texts_are = ap (λ t. t.texts) (sym (texts_is i lt)) ∙ sym (placed_firsts axis table in_order i lt)
+              ∙ ap firsts (sym (places_are axis table in_order i lt));
+          codes_are = ap (λ c. c.codes) (sym (column_is i lt)) ∙ sym (placed_codes axis table in_order i lt)
+              ∙ ap codes_of (sym (places_are axis table in_order i lt));
+        };
       };
-    };
-  }
-    where
-      keys_of_rows : table.keys ≡ map (λ row. row.key) (table_rows axis table)
-      keys_of_rows = (table_is axis table in_order).keys
+    }
+      where
+        keys_of_rows : table.keys ≡ map (λ row. row.key) (table_rows axis table)
+        keys_of_rows = (table_is axis table in_order).keys
 
 -- codes that break a rule represent no rows
-pub refused_columns : (axis : Axis) (coded : CodedRows) → (HaveProperColumns axis coded → ⊥) → StandForNone axis coded
+pub refused_columns : (axis : Axis) (coded : CodedRows) → (HaveProperColumns axis coded → ⊥) → EncodeNone axis coded
 refused_columns axis coded bad = λ rows good is. bad (proper_columns axis rows good.keep coded is)
 
-pub refused_keys : (axis : Axis) (coded : CodedRows) → (AreDistinct coded.keys → ⊥) → StandForNone axis coded
+pub refused_keys : (axis : Axis) (coded : CodedRows) → (AreDistinct coded.keys → ⊥) → EncodeNone axis coded
 refused_keys axis coded bad = λ rows good is. bad (distinct_keys axis rows good.keep coded is)
 
 -- ---- rules of rows seen through a function
@@ -134,7 +173,8 @@ module _ {A B : Type 0} (to : Rules B) (f : A → B) (rows : List A) where
   map-map g h [] = refl
   map-map g h (x ∷ xs) = ap (λ l. g (h x) ∷ l) (map-map g h xs)
 
-  all_same : {X : Type 0} (P Q : X → Type 0) (xs : List X) → ((x : X) → P x → Q x) → AllByRecursion P xs → AllByRecursion Q xs
+  all_same : {X : Type 0} (P Q : X → Type 0) (xs : List X) → ((x : X) → P x → Q x) → AllByRecursion P xs
+      → AllByRecursion Q xs
   all_same P Q [] weaker all = tt
   all_same P Q (x ∷ xs) weaker all = (weaker x all.0, all_same P Q xs weaker all.1)
 
@@ -143,41 +183,70 @@ module _ {A B : Type 0} (to : Rules B) (f : A → B) (rows : List A) where
     few_rows = omega (arith, keep.few_rows, length-map rows f);
     keys_differ = pairs_map (λ row other. to.key row ≢ to.key other) f rows keep.keys_differ;
     none_reserved = all_map (λ row. AllByRecursion (λ text. text row ≢ codes "ALL") to.texts) f rows
-        (all_same _ _ rows (λ row all. all_unmap (λ text. text row ≢ codes "ALL") (λ text a. text (f a)) to.texts all) keep.none_reserved);
-    few_members = all_same _ _ to.texts (λ text few. subst (λ l. length (members_of l) ≤ most_members) (sym (map-map text f rows)) few)
-        (all_unmap (λ text. length (members_of (map text rows)) ≤ most_members) (λ text a. text (f a)) to.texts keep.few_members);
-    one_upper = all_same _ _ to.links (λ link pairs. pairs_map (λ row other. link.0 row ≡ link.0 other → link.1 row ≡ link.1 other) f rows pairs)
-        (all_unmap (λ link. EachPair (λ row other. link.0 row ≡ link.0 other → link.1 row ≡ link.1 other) rows) (λ link. ((λ a. link.0 (f a)), (λ a. link.1 (f a)))) to.links keep.one_upper);
+        (all_same _ _ rows (λ row all. all_unmap (λ text. text row ≢ codes "ALL") (λ text a. text (f a)) to.texts all)
+        keep.none_reserved);
+    few_members =
+        all_same _ _ to.texts
+        (λ text few. subst (λ l. length (members_of l) ≤ most_members) (sym (map-map text f rows)) few)
+        (all_unmap (λ text. length (members_of (map text rows)) ≤ most_members) (λ text a. text (f a)) to.texts
+        keep.few_members);
+    one_upper =
+        all_same _ _ to.links
+        (λ link pairs. pairs_map (λ row other. link.0 row ≡ link.0 other → link.1 row ≡ link.1 other) f rows pairs)
+        (all_unmap (λ link. EachPair (λ row other. link.0 row ≡ link.0 other → link.1 row ≡ link.1 other) rows)
+        (λ link. ((λ a. link.0 (f a)), (λ a. link.1 (f a)))) to.links keep.one_upper);
   }
 
   pub keeps_back : KeepsRules to (map f rows) → KeepsRules (rules_through to f) rows
   keeps_back keep = record {
     few_rows = omega (arith, keep.few_rows, length-map rows f);
     keys_differ = pairs_unmap (λ row other. to.key row ≢ to.key other) f rows keep.keys_differ;
-    none_reserved = all_same _ _ rows (λ row all. all_map (λ text. text row ≢ codes "ALL") (λ text a. text (f a)) to.texts all)
+    none_reserved =
+        all_same _ _ rows (λ row all. all_map (λ text. text row ≢ codes "ALL") (λ text a. text (f a)) to.texts all)
         (all_unmap (λ row. AllByRecursion (λ text. text row ≢ codes "ALL") to.texts) f rows keep.none_reserved);
     few_members = all_map (λ text. length (members_of (map text rows)) ≤ most_members) (λ text a. text (f a)) to.texts
-        (all_same _ _ to.texts (λ text few. subst (λ l. length (members_of l) ≤ most_members) (map-map text f rows) few) keep.few_members);
-    one_upper = all_map (λ link. EachPair (λ row other. link.0 row ≡ link.0 other → link.1 row ≡ link.1 other) rows) (λ link. ((λ a. link.0 (f a)), (λ a. link.1 (f a)))) to.links
-        (all_same _ _ to.links (λ link pairs. pairs_unmap (λ row other. link.0 row ≡ link.0 other → link.1 row ≡ link.1 other) f rows pairs) keep.one_upper);
+        (all_same _ _ to.texts (λ text few. subst (λ l. length (members_of l) ≤ most_members) (map-map text f rows) few)
+        keep.few_members);
+    one_upper = all_map (λ link. EachPair (λ row other. link.0 row ≡ link.0 other → link.1 row ≡ link.1 other) rows)
+        (λ link. ((λ a. link.0 (f a)), (λ a. link.1 (f a)))) to.links
+        (all_same _ _ to.links
+        (λ link pairs. pairs_unmap (λ row other. link.0 row ≡ link.0 other → link.1 row ≡ link.1 other) f rows
+        pairs) keep.one_upper);
   }
 
 -- ---- the four dimensions
 
 module _ (rows : DimRows) where
   pub good_customers : KeepAllRules rows → HaveShortTexts rows → AreGoodRows Customer (rows_on rows Customer)
-  good_customers keep short = record { keep = keeps_through (text_rules Customer) row_of_customer rows.customers keep.customers; short = all_map IsShortRow row_of_customer rows.customers short.customers }
+  good_customers keep short =
+      record {
+        keep = keeps_through (text_rules Customer) row_of_customer rows.customers keep.customers;
+        short = all_map IsShortRow row_of_customer rows.customers short.customers;
+      }
 
   pub good_suppliers : KeepAllRules rows → HaveShortTexts rows → AreGoodRows Supplier (rows_on rows Supplier)
-  good_suppliers keep short = record { keep = keeps_through (text_rules Supplier) row_of_supplier rows.suppliers keep.suppliers; short = all_map IsShortRow row_of_supplier rows.suppliers short.suppliers }
+  good_suppliers keep short =
+      record {
+        keep = keeps_through (text_rules Supplier) row_of_supplier rows.suppliers keep.suppliers;
+        short = all_map IsShortRow row_of_supplier rows.suppliers short.suppliers;
+      }
 
   pub good_parts : KeepAllRules rows → HaveShortTexts rows → AreGoodRows Part (rows_on rows Part)
-  good_parts keep short = record { keep = keeps_through (text_rules Part) row_of_part rows.parts keep.parts; short = all_map IsShortRow row_of_part rows.parts short.parts }
+  good_parts keep short =
+      record {
+        keep = keeps_through (text_rules Part) row_of_part rows.parts keep.parts;
+        short = all_map IsShortRow row_of_part rows.parts short.parts;
+      }
 
   pub good_dates : KeepAllRules rows → HaveShortTexts rows → AreGoodRows Date (rows_on rows Date)
-  good_dates keep short = record { keep = keeps_through (text_rules Date) row_of_date rows.dates keep.dates; short = all_map IsShortRow row_of_date rows.dates short.dates }
+  good_dates keep short =
+      record {
+        keep = keeps_through (text_rules Date) row_of_date rows.dates keep.dates;
+        short = all_map IsShortRow row_of_date rows.dates short.dates;
+      }
 
-  pub keep_all : AreGoodRows Customer (rows_on rows Customer) → AreGoodRows Supplier (rows_on rows Supplier) → AreGoodRows Part (rows_on rows Part) → AreGoodRows Date (rows_on rows Date) → KeepAllRules rows
+  pub keep_all : AreGoodRows Customer (rows_on rows Customer) → AreGoodRows Supplier (rows_on rows Supplier)
+      → AreGoodRows Part (rows_on rows Part) → AreGoodRows Date (rows_on rows Date) → KeepAllRules rows
   keep_all c s p d = record {
     customers = keeps_back (text_rules Customer) row_of_customer rows.customers c.keep;
     suppliers = keeps_back (text_rules Supplier) row_of_supplier rows.suppliers s.keep;
@@ -185,7 +254,8 @@ module _ (rows : DimRows) where
     dates = keeps_back (text_rules Date) row_of_date rows.dates d.keep;
   }
 
-  pub all_short : AreGoodRows Customer (rows_on rows Customer) → AreGoodRows Supplier (rows_on rows Supplier) → AreGoodRows Part (rows_on rows Part) → AreGoodRows Date (rows_on rows Date) → HaveShortTexts rows
+  pub all_short : AreGoodRows Customer (rows_on rows Customer) → AreGoodRows Supplier (rows_on rows Supplier)
+      → AreGoodRows Part (rows_on rows Part) → AreGoodRows Date (rows_on rows Date) → HaveShortTexts rows
   all_short c s p d = record {
     customers = all_unmap IsShortRow row_of_customer rows.customers c.short;
     suppliers = all_unmap IsShortRow row_of_supplier rows.suppliers s.short;
@@ -196,23 +266,43 @@ module _ (rows : DimRows) where
 -- codes of one dimension that represent no rows
 module _ (law : ValidRowsKeepTheRules) (coded : CodedDims) (fault : Fault) where
   abbrev pub IsRefused : Type 0
-  IsRefused = (fault ≡ Memory) ⊎ ((fault ≡ BadLayout) × StandForNoRows coded)
+  IsRefused = (fault ≡ Memory) ⊎ ((fault ≡ BadLayout) × EncodeNoRows coded)
 
   pub refused_customers : IsRefusal Customer coded.customers fault → IsRefused
   refused_customers (inl memory) = inl memory
-  refused_customers (inr bad) = inr (bad.0, λ rows valid short are. bad.1 (rows_on rows Customer) (good_customers rows ((law rows).0 valid) short) are.customers)
+  refused_customers (inr bad) =
+      inr (
+        bad.0,
+        λ rows valid short are. bad.1 (rows_on rows Customer) (good_customers rows ((law rows).0 valid) short)
+            are.customers,
+      )
 
   pub refused_suppliers : IsRefusal Supplier coded.suppliers fault → IsRefused
   refused_suppliers (inl memory) = inl memory
-  refused_suppliers (inr bad) = inr (bad.0, λ rows valid short are. bad.1 (rows_on rows Supplier) (good_suppliers rows ((law rows).0 valid) short) are.suppliers)
+  refused_suppliers (inr bad) =
+      inr (
+        bad.0,
+        λ rows valid short are. bad.1 (rows_on rows Supplier) (good_suppliers rows ((law rows).0 valid) short)
+            are.suppliers,
+      )
 
   pub refused_parts : IsRefusal Part coded.parts fault → IsRefused
   refused_parts (inl memory) = inl memory
-  refused_parts (inr bad) = inr (bad.0, λ rows valid short are. bad.1 (rows_on rows Part) (good_parts rows ((law rows).0 valid) short) are.parts)
+  refused_parts (inr bad) =
+      inr (
+        bad.0,
+        λ rows valid short are. bad.1 (rows_on rows Part) (good_parts rows ((law rows).0 valid) short)
+            are.parts,
+      )
 
   pub refused_dates : IsRefusal Date coded.dates fault → IsRefused
   refused_dates (inl memory) = inl memory
-  refused_dates (inr bad) = inr (bad.0, λ rows valid short are. bad.1 (rows_on rows Date) (good_dates rows ((law rows).0 valid) short) are.dates)
+  refused_dates (inr bad) =
+      inr (
+        bad.0,
+        λ rows valid short are. bad.1 (rows_on rows Date) (good_dates rows ((law rows).0 valid) short)
+            are.dates,
+      )
 
   pub refused_places : IsRefusal Customer coded.customers fault ⊎ IsRefusal Supplier coded.suppliers fault → IsRefused
   refused_places (inl customers) = refused_customers customers
@@ -223,15 +313,25 @@ module _ (law : ValidRowsKeepTheRules) (coded : CodedDims) (fault : Fault) where
   refused_parts_or_dates (inr dates) = refused_dates dates
 
 -- there are no more days than an attribute may have members
-pub few_coded_days : (coded : CodedRows) (dates : Dimension) → IsDimensionOf Date coded dates → (keys : List ℕ) → keys ≡ dates.table.keys → length keys ≤ most_members
+pub few_coded_days : (coded : CodedRows) (dates : Dimension) → IsDimensionOf Date coded dates → (keys : List ℕ)
+    → keys ≡ dates.table.keys → length keys ≤ most_members
 few_coded_days coded dates made keys are =
-    omega (arith, ap length are, ap length made.is.table.keys, length-map (table_rows Date dates.table) (λ row. row.key), made.good.keep.few_rows)
+    omega (
+      arith,
+      ap length are,
+      ap length made.is.table.keys,
+      length-map (table_rows Date dates.table)
+          (λ row. row.key),
+      made.good.keep.few_rows,
+    )
 
 -- the days by their keys
-pub days_of : (rows : List DateRow) (table : Table) → IsTable Date (map row_of_date rows) table → map decimal table.keys ≡ map (λ row. decimal row.key) rows
+pub days_of : (rows : List DateRow) (table : Table) → IsTable Date (map row_of_date rows) table
+    → map decimal table.keys ≡ map (λ row. decimal row.key) rows
 days_of rows table is = ap (map decimal) is.keys ∙ days rows
   where
-    days : (rows : List DateRow) → map decimal (map (λ row. row.key) (map row_of_date rows)) ≡ map (λ row. decimal row.key) rows
+    days : (rows : List DateRow) → map decimal (map (λ row. row.key) (map row_of_date rows))
+        ≡ map (λ row. decimal row.key) rows
     days [] = refl
     days (row ∷ rows) = ap (λ l. decimal row.key ∷ l) (days rows)
 
@@ -252,7 +352,8 @@ module _ (customers suppliers parts dates : Dimension) where
   unfolding shown_rows
   on_dates = each_row-map row_of_date (shown_date dates.table) (length dates.table.keys)
 
-  module _ (coded : CodedDims) (c : IsDimensionOf Customer coded.customers customers) (s : IsDimensionOf Supplier coded.suppliers suppliers)
+  module _ (coded : CodedDims) (c : IsDimensionOf Customer coded.customers customers)
+      (s : IsDimensionOf Supplier coded.suppliers suppliers)
       (p : IsDimensionOf Part coded.parts parts) (d : IsDimensionOf Date coded.dates dates) where
     abbrev all : DimRows
     all = shown_rows customers suppliers parts dates
@@ -266,16 +367,24 @@ module _ (customers suppliers parts dates : Dimension) where
     }
 
     pub keep_shown : KeepAllRules all
-    keep_shown = keep_all all (subst (AreGoodRows Customer) (sym on_customers) c.good) (subst (AreGoodRows Supplier) (sym on_suppliers) s.good)
+    keep_shown =
+        keep_all all (subst (AreGoodRows Customer) (sym on_customers) c.good)
+        (subst (AreGoodRows Supplier) (sym on_suppliers) s.good)
         (subst (AreGoodRows Part) (sym on_parts) p.good) (subst (AreGoodRows Date) (sym on_dates) d.good)
 
     pub short_shown : HaveShortTexts all
-    short_shown = all_short all (subst (AreGoodRows Customer) (sym on_customers) c.good) (subst (AreGoodRows Supplier) (sym on_suppliers) s.good)
+    short_shown =
+        all_short all (subst (AreGoodRows Customer) (sym on_customers) c.good)
+        (subst (AreGoodRows Supplier) (sym on_suppliers) s.good)
         (subst (AreGoodRows Part) (sym on_parts) p.good) (subst (AreGoodRows Date) (sym on_dates) d.good)
 
-    pub dimensions_shown : (days : List (List ℕ)) → days ≡ map decimal dates.table.keys → IsValid all → AreDimensions all customers suppliers parts dates days
+    pub dimensions_shown : (days : List (List ℕ)) → days ≡ map decimal dates.table.keys → IsValid all
+        → AreDimensions all customers suppliers parts dates days
     dimensions_shown days is valid =
-        let date : IsDimension Date (rows_on all Date) dates = subst (λ l. IsDimension Date l dates) (sym on_dates) d.is in
-        are_dimensions all customers suppliers parts dates (subst (λ l. IsDimension Customer l customers) (sym on_customers) c.is)
-        (subst (λ l. IsDimension Supplier l suppliers) (sym on_suppliers) s.is) (subst (λ l. IsDimension Part l parts) (sym on_parts) p.is) date
+        let date : IsDimension Date (rows_on all Date) dates =
+        subst (λ l. IsDimension Date l dates) (sym on_dates) d.is in
+        are_dimensions all customers suppliers parts dates
+        (subst (λ l. IsDimension Customer l customers) (sym on_customers) c.is)
+        (subst (λ l. IsDimension Supplier l suppliers) (sym on_suppliers) s.is)
+        (subst (λ l. IsDimension Part l parts) (sym on_parts) p.is) date
         days (is ∙ days_of all.dates dates.table date.table) valid short_shown

@@ -16,7 +16,8 @@ use Rattle.dimensions.specs.Ranked.{IsRankAt}
 use Rattle.dimensions.proofs.ColumnLaws.{code_at-within, code_at-text}
 use Rattle.dimensions.proofs.MemberLaws.{members_of-firsts}
 
-module _ (axis : Axis) (rows : List TextRow) (table : Table) (is : IsTable axis rows table) (column : ℕ) (lt : column < length table.columns.items) (row : ℕ) (within : row < length table.keys) where
+module _ (axis : Axis) (rows : List TextRow) (table : Table) (is : IsTable axis rows table) (column : ℕ)
+    (lt : column < length table.columns.items) (row : ℕ) (within : row < length table.keys) where
   pub column_lt : column < length (lowers_of axis)
   column_lt = omega (arith, lt, is.count)
 
@@ -27,13 +28,18 @@ module _ (axis : Axis) (rows : List TextRow) (table : Table) (is : IsTable axis 
   in_column = omega (arith, row_lt, length-map rows (text_in column))
 
   -- the code at the place of a row
-  pub code_within : get_or (column_at table column).codes (place_of (lower_texts axis column rows) row) 0 ≡ code_at (column_of column rows) row
+  pub code_within : get_or (column_at table column).codes (place_of (lower_texts axis column rows) row) 0
+      ≡ code_at (column_of column rows) row
   code_within = (is.columns column column_lt).reads row in_column
 
   pub place_within : place_of (lower_texts axis column rows) row < length (column_at table column).codes
   place_within =
-      let step : (o : Option ℕ) → IsColumn (column_of column rows) (option_map (λ j. column_of j rows) o) (column_at table column) → place_of (option_map (λ j. column_of j rows) o) row < length (column_at table column).codes =
-      λ o. elim o as (λ p. IsColumn (column_of column rows) (option_map (λ j. column_of j rows) p) (column_at table column) → place_of (option_map (λ j. column_of j rows) p) row < length (column_at table column).codes) [
+      let step : (o : Option ℕ)
+      → IsColumn (column_of column rows) (option_map (λ j. column_of j rows) o) (column_at table column)
+      → place_of (option_map (λ j. column_of j rows) o) row < length (column_at table column).codes =
+      λ o. elim o as
+      (λ p. IsColumn (column_of column rows) (option_map (λ j. column_of j rows) p) (column_at table column)
+      → place_of (option_map (λ j. column_of j rows) p) row < length (column_at table column).codes) [
         | None ↦ λ col. let r = in_column in omega (arith, r, col.count)
         | Some j ↦ λ col.
             let inside = code_at-within (column_of j rows) row (omega (arith, row_lt, length-map rows (text_in j))) in
@@ -41,7 +47,8 @@ module _ (axis : Axis) (rows : List TextRow) (table : Table) (is : IsTable axis 
       ] in
       step (lower_of axis column) (is.columns column column_lt)
 
-module _ (axis : Axis) (rows : List TextRow) (dimension : Dimension) (is : IsDimension axis rows dimension) (column : ℕ) (lt : column < length dimension.ranks.items) where
+module _ (axis : Axis) (rows : List TextRow) (dimension : Dimension) (is : IsDimension axis rows dimension) (column : ℕ)
+    (lt : column < length dimension.ranks.items) where
   pub column_in : column < length dimension.table.columns.items
   column_in = omega (arith, lt, is.count)
 
@@ -51,16 +58,22 @@ module _ (axis : Axis) (rows : List TextRow) (dimension : Dimension) (is : IsDim
   pub members_are : members_of (get_or dimension.ranks.items column []) ≡ members_of (column_of column rows)
   members_are = ap members_of ranks_are ∙ members_of-firsts (column_of column rows)
 
-  module _ (row : ℕ) (within : row < length dimension.table.keys) (code : ℕ) (is_code : code ≡ code_at (column_of column rows) row) (ranks : List (List ℕ)) (is_ranks : ranks ≡ get_or dimension.ranks.items column []) where
+  module _ (row : ℕ) (within : row < length dimension.table.keys) (code : ℕ)
+      (is_code : code ≡ code_at (column_of column rows) row) (ranks : List (List ℕ))
+      (is_ranks : ranks ≡ get_or dimension.ranks.items column []) where
     at : row < length (column_of column rows)
     at = in_column axis rows dimension.table is.table column column_in row within
 
     pub rank_within : code < length ranks
-    rank_within = let inside = code_at-within (column_of column rows) row at in omega (arith, inside, is_code, ap length (is_ranks ∙ ranks_are))
+    rank_within = let inside = code_at-within (column_of column rows) row at in
+        omega (arith, inside, is_code, ap length (is_ranks ∙ ranks_are))
 
-    pub rank_is : (rank : ℕ) → rank < length (members_of ranks) → get_or (members_of ranks) rank [] ≡ get_or ranks code [] → IsRankAt (column_of column rows) row rank
+    pub rank_is : (rank : ℕ) → rank < length (members_of ranks)
+        → get_or (members_of ranks) rank [] ≡ get_or ranks code [] → IsRankAt (column_of column rows) row rank
     rank_is rank below text =
         let same : members_of ranks ≡ members_of (column_of column rows) = ap members_of is_ranks ∙ members_are in (
           subst (λ m. rank < length m) same below,
-          ap (λ m. get_or m rank []) (sym same) ∙ text ∙ ap (λ l. get_or l code []) (is_ranks ∙ ranks_are) ∙ ap (λ n. get_or (firsts (column_of column rows)) n []) is_code ∙ code_at-text (column_of column rows) row at,
+          ap (λ m. get_or m rank []) (sym same) ∙ text ∙ ap (λ l. get_or l code []) (is_ranks ∙ ranks_are)
+              ∙ ap (λ n. get_or (firsts (column_of column rows)) n []) is_code
+              ∙ code_at-text (column_of column rows) row at,
         )

@@ -2,7 +2,8 @@
 use Rattle.std.specs.Prelude.{ℕ, ◌-◌, Option, List, [], ◌∷◌, ◌++◌, length}
 use Rattle.std.specs.Option.{option_map}
 use Rattle.cube_model.specs.declared.fault.Fault.{Fault}
-use Rattle.cube_model.specs.declared.fault.Fault.TheVariants.{DuplicateKey, HierarchyBroken, ReservedMember, TooManyMembers}
+use Rattle.cube_model.specs.declared.fault.Fault.TheVariants.{DuplicateKey, HierarchyBroken, ReservedMember}
+use Rattle.cube_model.specs.declared.fault.Fault.TheVariants.{TooManyMembers}
 use Rattle.cube_model.specs.declared.rows.DimRows.{DimRows}
 use Rattle.cube_model.specs.Causes.{first_cause}
 use Rattle.cube_model.specs.Validity.{Rules, customer_rules, supplier_rules, part_rules, date_rules, dimension_cause}

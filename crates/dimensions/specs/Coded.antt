@@ -1,6 +1,6 @@
--- The rows of a dimension by codes. A column has places: one for each row or, where the texts of a lower column determine
--- its own, one for each text of the lower column. It has its texts, each once in the order of their first use by the
--- places, and the code of the text at each place. Our layout.
+-- The rows of a dimension by codes. A column has places: one for each row or, where the texts of a lower column
+-- determine its own, one for each text of the lower column. It has its texts, each once in the order of their first use
+-- by the places, and the code of the text at each place. Our layout.
 use Rattle.std.specs.Prelude.{◌≡◌, ◌≢◌, ℕ, ◌<◌, ◌≤◌, Option, Some, None, List, [], map, length, slice_index_or, codes}
 use Rattle.std.specs.List.{AllByRecursion, position_or_len}
 use Rattle.std.specs.Str.{bytes_eq}
@@ -17,13 +17,13 @@ use Rattle.dimensions.specs.Shapes.{lowers_of, lower_of, row_limit_of, text_rule
 use Rattle.dimensions.specs.ShortTexts.{AreShortRows}
 
 -- the text of a column in the first row that has a text in the lower column
-abbrev pub text_beside : List (List ℕ) → List (List ℕ) → List ℕ → List ℕ
-text_beside lowers texts lower = slice_index_or texts (position_or_len (bytes_eq lower) lowers) []
+abbrev pub text_next_to : List (List ℕ) → List (List ℕ) → List ℕ → List ℕ
+text_next_to lowers texts lower = slice_index_or texts (position_or_len (bytes_eq lower) lowers) []
 
 -- the text at each place of a column: in each row, or next to each text of the lower column
 abbrev pub place_texts : Option (List (List ℕ)) → List (List ℕ) → List (List ℕ)
 place_texts None texts = texts
-place_texts (Some lowers) texts = map (text_beside lowers texts) (firsts lowers)
+place_texts (Some lowers) texts = map (text_next_to lowers texts) (firsts lowers)
 
 -- the texts of the lower column, if there is one
 abbrev pub texts_below : Option ℕ → List TextRow → Option (List (List ℕ))
@@ -78,7 +78,8 @@ pub record IsProperColumn (places : ℕ) (column : CodedColumn) : Type 0 where
 pub record HaveProperColumns (axis : Axis) (coded : CodedRows) : Type 0 where
   pub few_rows : length coded.keys ≤ row_limit_of axis
   pub count : length coded.columns ≡ length (lowers_of axis)
-  pub columns : (i : ℕ) → i < length (lowers_of axis) → IsProperColumn (place_total coded (lower_of axis i)) (coded_at coded i)
+  pub columns : (i : ℕ) → i < length (lowers_of axis)
+      → IsProperColumn (place_total coded (lower_of axis i)) (coded_at coded i)
 
 -- no key occurs twice
 abbrev pub AreDistinct : List ℕ → Type 0

@@ -1,6 +1,7 @@
 -- A column by codes: its texts in the order of their first use, and the code of the text at each place of the column
 -- below. The places are the rows, or the codes of a lower column whose texts determine those of this one.
-use Rattle.std.specs.Prelude.{◌≡◌, ℕ, ◌<◌, ◌≤◌, Bool, false, Option, Some, None, List, [], length, slice_index_or, if◌then◌else◌}
+use Rattle.std.specs.Prelude.{◌≡◌, ℕ, ◌<◌, ◌≤◌, Bool, false, Option, Some, None, List, [], length, slice_index_or}
+use Rattle.std.specs.Prelude.{if◌then◌else◌}
 use Rattle.std.specs.List.{list_any, position_or_len}
 use Rattle.std.specs.Str.{bytes_eq}
 use Rattle.cube_model.specs.Limits.{most_members}

@@ -17,7 +17,12 @@ module _ {X : Type 0} where
 -- Rows keep their codes: each column's texts go on from those that it had, its codes at its places too, and so do the
 -- keys. A key has the row index that it had.
 pub record KeepCodes (old new : DimRows) : Type 0 where
-  pub texts : (axis : Axis) (column : ℕ) → column < length (lowers_of axis) → GoesOn (firsts (texts_at_places axis column (rows_on old axis))) (firsts (texts_at_places axis column (rows_on new axis)))
-  pub codes : (axis : Axis) (column : ℕ) → column < length (lowers_of axis) → GoesOn (codes_of (texts_at_places axis column (rows_on old axis))) (codes_of (texts_at_places axis column (rows_on new axis)))
+  pub texts : (axis : Axis) (column : ℕ) → column < length (lowers_of axis)
+      → GoesOn (firsts (texts_at_places axis column (rows_on old axis)))
+      (firsts (texts_at_places axis column (rows_on new axis)))
+  pub codes : (axis : Axis) (column : ℕ) → column < length (lowers_of axis)
+      → GoesOn (codes_of (texts_at_places axis column (rows_on old axis)))
+      (codes_of (texts_at_places axis column (rows_on new axis)))
   pub keys : (axis : Axis) → GoesOn (map (λ row. row.key) (rows_on old axis)) (map (λ row. row.key) (rows_on new axis))
-  pub row_indexes : (axis : Axis) (key : ℕ) → row_index_of old axis key < row_count_of old axis → row_index_of new axis key ≡ row_index_of old axis key
+  pub row_indexes : (axis : Axis) (key : ℕ) → row_index_of old axis key < row_count_of old axis
+      → row_index_of new axis key ≡ row_index_of old axis key

@@ -16,12 +16,12 @@ use Rattle.dimensions.specs.Shown.{IsDimension, rows_on, table_rows}
 use Rattle.dimensions.specs.Tables.{IsTable}
 
 -- no rows that keep the rules are those of the codes
-abbrev pub StandForNone : Axis → CodedRows → Type 0
-StandForNone axis coded = (rows : List TextRow) → AreGoodRows axis rows → ¬ AreCodedRows axis rows coded
+abbrev pub EncodeNone : Axis → CodedRows → Type 0
+EncodeNone axis coded = (rows : List TextRow) → AreGoodRows axis rows → ¬ AreCodedRows axis rows coded
 
 -- why rows by codes are refused
 abbrev pub IsRefusal : Axis → CodedRows → Fault → Type 0
-IsRefusal axis coded fault = (fault ≡ Memory) ⊎ ((fault ≡ BadLayout) × StandForNone axis coded)
+IsRefusal axis coded fault = (fault ≡ Memory) ⊎ ((fault ≡ BadLayout) × EncodeNone axis coded)
 
 -- a table is that of rows by codes, which keep the rules
 pub record IsTableOf (axis : Axis) (coded : CodedRows) (table : Table) : Type 0 where
@@ -58,5 +58,5 @@ pub record HaveAllTexts (coded : CodedDims) : Type 0 where
   pub dates : HaveTexts coded.dates.columns
 
 -- no valid rows with short texts are those of the codes
-abbrev pub StandForNoRows : CodedDims → Type 0
-StandForNoRows coded = (rows : DimRows) → IsValid rows → HaveShortTexts rows → ¬ AreCodedDims rows coded
+abbrev pub EncodeNoRows : CodedDims → Type 0
+EncodeNoRows coded = (rows : DimRows) → IsValid rows → HaveShortTexts rows → ¬ AreCodedDims rows coded

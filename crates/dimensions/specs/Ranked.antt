@@ -19,4 +19,5 @@ pub record AreRanks (members : List (List ℕ)) (ranks : List ℕ) : Type 0 wher
 
 -- the rank of the text at a row of a column among the column's members
 abbrev pub IsRankAt : List (List ℕ) → ℕ → ℕ → Type 0
-IsRankAt texts row rank = (rank < length (members_of texts)) × (slice_index_or (members_of texts) rank [] ≡ slice_index_or texts row [])
+IsRankAt texts row rank = (rank < length (members_of texts))
+    × (slice_index_or (members_of texts) rank [] ≡ slice_index_or texts row [])

@@ -1,5 +1,6 @@
 -- A dimension with the ranks of its members, and the rows that four dimensions represent.
-use Rattle.std.specs.Prelude.{◌≡◌, ℕ, zero, suc, ◌<◌, ◌⊎◌, Some, None, Result, MatchResult, List, [], ◌∷◌, ◌++◌, map, length, slice_index_or, unwrap_or}
+use Rattle.std.specs.Prelude.{◌≡◌, ℕ, zero, suc, ◌<◌, ◌⊎◌, Some, None, Result, MatchResult, List, [], ◌∷◌, ◌++◌, map}
+use Rattle.std.specs.Prelude.{length, slice_index_or, unwrap_or}
 use Rattle.std.specs.Option.{option_map}
 use Rattle.std.specs.Fmt.{decimal}
 use Rattle.cube_model.specs.declared.attr.Axis.{Axis}
@@ -23,7 +24,8 @@ use Rattle.dimensions.specs.Tables.{column_at, IsTable}
 pub record IsDimension (axis : Axis) (rows : List TextRow) (dimension : Dimension) : Type 0 where
   pub table : IsTable axis rows dimension.table
   pub count : length dimension.ranks.items ≡ length dimension.table.columns.items
-  pub ranks : (i : ℕ) → i < length dimension.table.columns.items → slice_index_or dimension.ranks.items i [] ≡ (column_at dimension.table i).texts.texts
+  pub ranks : (i : ℕ) → i < length dimension.table.columns.items
+      → slice_index_or dimension.ranks.items i [] ≡ (column_at dimension.table i).texts.texts
 
 -- the same of some rows that a caller does not name
 abbrev pub IsSomeDimension : Axis → Dimension → Type 0
@@ -60,7 +62,8 @@ rows_on rows Date = map row_of_date rows.dates
 abbrev pub code_up : ℕ → Table → ℕ → ℕ → ℕ
 code_up zero table column row = row
 code_up (suc steps) table column row =
-    slice_index_or (column_at table column).codes (unwrap_or (option_map (λ lower. code_up steps table lower row) (column_at table column).lower) row) 0
+    slice_index_or (column_at table column).codes
+    (unwrap_or (option_map (λ lower. code_up steps table lower row) (column_at table column).lower) row) 0
 
 -- the text of a row in a column
 abbrev pub text_up : Table → ℕ → ℕ → List ℕ
@@ -82,13 +85,31 @@ abbrev pub table_rows : Axis → Table → List TextRow
 table_rows axis table = each_row (table_row axis table) (length table.keys)
 
 abbrev pub shown_customer : Table → ℕ → CustomerRow
-shown_customer table row = record { key = slice_index_or table.keys row 0; city = text_up table 0 row; nation = text_up table 1 row; region = text_up table 2 row }
+shown_customer table row =
+    record {
+      key = slice_index_or table.keys row 0;
+      city = text_up table 0 row;
+      nation = text_up table 1 row;
+      region = text_up table 2 row;
+    }
 
 abbrev pub shown_supplier : Table → ℕ → SupplierRow
-shown_supplier table row = record { key = slice_index_or table.keys row 0; city = text_up table 0 row; nation = text_up table 1 row; region = text_up table 2 row }
+shown_supplier table row =
+    record {
+      key = slice_index_or table.keys row 0;
+      city = text_up table 0 row;
+      nation = text_up table 1 row;
+      region = text_up table 2 row;
+    }
 
 abbrev pub shown_part : Table → ℕ → PartRow
-shown_part table row = record { key = slice_index_or table.keys row 0; brand1 = text_up table 0 row; category = text_up table 1 row; mfgr = text_up table 2 row }
+shown_part table row =
+    record {
+      key = slice_index_or table.keys row 0;
+      brand1 = text_up table 0 row;
+      category = text_up table 1 row;
+      mfgr = text_up table 2 row;
+    }
 
 abbrev pub shown_date : Table → ℕ → DateRow
 shown_date table row = record {
@@ -110,11 +131,12 @@ shown_rows customers suppliers parts dates = record {
 }
 
 -- the dimensions are those of some valid rows with short texts, and each day has its rank
-pub record AreDimensions (rows : DimRows) (customers suppliers parts dates : Dimension) (days : List (List ℕ)) : Type 0 where
-  pub customers_are : IsDimension Customer (rows_on rows Customer) customers
-  pub suppliers_are : IsDimension Supplier (rows_on rows Supplier) suppliers
-  pub parts_are : IsDimension Part (rows_on rows Part) parts
-  pub dates_are : IsDimension Date (rows_on rows Date) dates
-  pub days_are : days ≡ map (λ row. decimal row.key) rows.dates
-  pub valid : IsValid rows
-  pub short : HaveShortTexts rows
+pub record AreDimensions (rows : DimRows) (customers suppliers parts dates : Dimension) (days : List (List ℕ)) : Type 0
+  where
+    pub customers_are : IsDimension Customer (rows_on rows Customer) customers
+    pub suppliers_are : IsDimension Supplier (rows_on rows Supplier) suppliers
+    pub parts_are : IsDimension Part (rows_on rows Part) parts
+    pub dates_are : IsDimension Date (rows_on rows Date) dates
+    pub days_are : days ≡ map (λ row. decimal row.key) rows.dates
+    pub valid : IsValid rows
+    pub short : HaveShortTexts rows

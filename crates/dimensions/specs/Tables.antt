@@ -1,5 +1,6 @@
 -- A table of columns by codes, and what adding a row to it comes to.
-use Rattle.std.specs.Prelude.{◌≡◌, ℕ, suc, ◌<◌, ◌⊎◌, Bool, Option, Some, None, Result, MatchResult, List, [], ◌∷◌, ◌++◌, map, length, slice_index_or}
+use Rattle.std.specs.Prelude.{◌≡◌, ℕ, suc, ◌<◌, ◌⊎◌, Bool, Option, Some, None, Result, MatchResult, List, [], ◌∷◌, ◌++◌}
+use Rattle.std.specs.Prelude.{map, length, slice_index_or}
 use Rattle.std.specs.Option.{option_map}
 use Rattle.cube_model.specs.declared.attr.Axis.{Axis}
 use Rattle.cube_model.specs.declared.fault.Fault.{Fault}
@@ -24,7 +25,8 @@ column_at table column = slice_index_or table.columns.items column no_column
 -- the columns of a table from those by codes, the first of which has a number
 abbrev pub columns_from : Axis → ℕ → List CodedColumn → List Column
 columns_from axis i [] = []
-columns_from axis i (coded ∷ others) = record { lower = lower_of axis i; texts = coded.texts; codes = coded.codes } ∷ columns_from axis (suc i) others
+columns_from axis i (coded ∷ others) = record { lower = lower_of axis i; texts = coded.texts; codes = coded.codes }
+    ∷ columns_from axis (suc i) others
 
 -- the texts of the lower column of a column
 abbrev pub lower_texts : Axis → ℕ → List TextRow → Option (List (List ℕ))
@@ -35,7 +37,8 @@ pub record IsTable (axis : Axis) (rows : List TextRow) (table : Table) : Type 0 
   pub keys : table.keys ≡ map (λ row. row.key) rows
   pub count : length table.columns.items ≡ length (lowers_of axis)
   pub lowers : (i : ℕ) → i < length (lowers_of axis) → (column_at table i).lower ≡ lower_of axis i
-  pub columns : (i : ℕ) → i < length (lowers_of axis) → IsColumn (column_of i rows) (lower_texts axis i rows) (column_at table i)
+  pub columns : (i : ℕ) → i < length (lowers_of axis)
+      → IsColumn (column_of i rows) (lower_texts axis i rows) (column_at table i)
 
 -- the same of some rows that a caller does not name
 abbrev pub IsSomeTable : Axis → Table → Type 0
@@ -43,7 +46,8 @@ IsSomeTable axis table = (rows : List TextRow) × IsTable axis rows table
 
 -- the codes of a row's texts
 abbrev pub Numbers : Table → TextRow → List ℕ → Type 0
-Numbers table row codes = (i : ℕ) → i < length table.columns.items → HasCode (column_at table i).texts (text_in i row) (slice_index_or codes i 0)
+Numbers table row codes = (i : ℕ) → i < length table.columns.items
+    → HasCode (column_at table i).texts (text_in i row) (slice_index_or codes i 0)
 
 -- some column has no room for a row's text
 abbrev pub HasNoRoom : Table → TextRow → Type 0
@@ -57,7 +61,8 @@ place_for (Some lower) row codes = slice_index_or codes lower 0
 -- a column takes a row's text, or not
 abbrev pub EntersAt : Table → TextRow → List ℕ → ℕ → Bool → Column → Type 0
 EntersAt table row codes i fits new =
-    Enters (column_at table i) (place_for (column_at table i).lower (length table.keys) codes) (text_in i row) (slice_index_or codes i 0) fits new
+    Enters (column_at table i) (place_for (column_at table i).lower (length table.keys) codes) (text_in i row)
+    (slice_index_or codes i 0) fits new
 
 -- what adding a row comes to: one row more, or the first cause to refuse it
 abbrev pub AddsRow : Axis → List TextRow → TextRow → Table → Result (Unit {0}) Fault → Type 0

@@ -37,8 +37,8 @@ pub fn counts_next(first: u32, count: usize, key: u32) -> bool
     first <= key && (key - first) as usize == count
 }
 
-/// Where a key is among so many that are consecutive from a first one, or how many they are where it is none of them. No
-/// memory is read.
+/// Where a key is among so many that are consecutive from a first one, or how many they are where it is none of them.
+/// No memory is read.
 #[inline(always)]
 pub fn place_counted(first: u32, count: usize, key: u32) -> usize
     ensures { (keys : List ℕ) → CountOn first keys → length keys ≡ count

@@ -31,7 +31,8 @@ impl Dimension {
     ghost use Rattle.dimensions.specs.Tables.{column_at};
     ghost use Rattle.dimensions.specs.Coded.{HaveTexts};
     ghost use Rattle.dimensions.specs.Made.{MakesDimension};
-    ghost use Rattle.dimensions.specs.Shown.{IsDimension, IsSomeDimension, BuildsDimension, ExtendsDimension, HoldsDimension, HoldsSomeDimension};
+    ghost use Rattle.dimensions.specs.Shown.{IsDimension, IsSomeDimension, BuildsDimension, ExtendsDimension};
+    ghost use Rattle.dimensions.specs.Shown.{HoldsDimension, HoldsSomeDimension};
 
     /// The dimension of some rows, or the first cause to refuse them: first for too many rows, and then row by row.
     pub fn build<R: TableRow>(alloc: Global, axis: Axis, rows: &[R]) -> Result<Dimension, Fault>
@@ -54,8 +55,8 @@ impl Dimension {
         Ok(Dimension { table, ranks })
     }
 
-    /// The dimension of these rows and of others after them, or the first cause to refuse the others: first for too many
-    /// rows, and then row by row. Rows count from 1 among the others.
+    /// The dimension of these rows and of others after them, or the first cause to refuse the others: first for too
+    /// many rows, and then row by row. Rows count from 1 among the others.
     pub fn with_rows<R: TableRow>(
         &self,
         alloc: Global,
@@ -64,7 +65,8 @@ impl Dimension {
     ) -> Result<Dimension, Fault>
         requires sound { HoldsSomeDimension axis self.now }
         requires texts { (row : R) → length (R.shown row).texts ≡ length (lowers_of axis) }
-        ensures { (old : List TextRow) → HoldsDimension axis old self.now → ExtendsDimension axis old (map R.shown rows.now) result }
+        ensures { (old : List TextRow) → HoldsDimension axis old self.now
+            → ExtendsDimension axis old (map R.shown rows.now) result }
     {
         let mut table = self.table.copied(alloc)?;
         table.extend(alloc, axis, rows)?;
@@ -116,7 +118,8 @@ impl Dimension {
         requires sound { (axis : Axis) × IsSomeDimension axis self.now }
         requires column { column < vec_len self.now.ranks }
         requires row { row < length self.now.table.keys }
-        ensures { (axis : Axis) (rows : List TextRow) → IsDimension axis rows self.now → IsRankAt (column_of column rows) row result }
+        ensures { (axis : Axis) (rows : List TextRow) → IsDimension axis rows self.now
+            → IsRankAt (column_of column rows) row result }
     {
         let code = self.table.code(column, row);
         self.ranks(column).rank(usize::from(code))

@@ -12,7 +12,7 @@ ghost use Rattle.dimensions.specs.Added.{addition_cause, joined};
 ghost use Rattle.dimensions.specs.KeptCodes.{KeepCodes};
 ghost use Rattle.dimensions.specs.Shapes.{lowers_of};
 ghost use Rattle.dimensions.specs.Coded.{HaveTexts, texts_at_places};
-ghost use Rattle.dimensions.specs.Made.{AreCodedDims, HaveAllTexts, IsDimensionOf, IsRefusal, StandForNoRows};
+ghost use Rattle.dimensions.specs.Made.{AreCodedDims, HaveAllTexts, IsDimensionOf, IsRefusal, EncodeNoRows};
 ghost use Rattle.dimensions.specs.Shown.{IsDimension, rows_on};
 
 use crate::coded::{CodedDims, CodedRows};
@@ -42,7 +42,8 @@ impl Model for Dims {
 
     ghost view = { λ d. shown_rows d.customers d.suppliers d.parts d.dates };
 
-    ghost invariant = { λ d. AreDimensions (shown_rows d.customers d.suppliers d.parts d.dates) d.customers d.suppliers d.parts d.dates d.days };
+    ghost invariant = { λ d. AreDimensions (shown_rows d.customers d.suppliers d.parts d.dates) d.customers d.suppliers
+        d.parts d.dates d.days };
 }
 
 // Written out, so that a caller's proof has one call to follow where it lets the dimensions go.
@@ -81,9 +82,9 @@ impl Dims {
         })
     }
 
-    /// The dimensions of these rows and of others after them, or the first cause to refuse the others: customer, supplier,
-    /// part, date, each first for too many rows and then row by row. Rows count from 1 among the others. What these
-    /// dimensions know by codes and row indexes holds there too.
+    /// The dimensions of these rows and of others after them, or the first cause to refuse the others: customer,
+    /// supplier, part, date, each first for too many rows and then row by row. Rows count from 1 among the others. What
+    /// these dimensions know by codes and row indexes holds there too.
     pub fn with_rows(&self, alloc: Global, rows: &DimRows) -> Result<Dims, Fault>
         requires short { HaveShortTexts rows.now }
         ensures ok { IfOk result (λ dims. dims ≡ joined self.now rows.now) }
@@ -120,7 +121,8 @@ impl Dims {
         ensures ok { IfOk result (λ dims. AreCodedDims dims coded) }
         ensures valid { IfOk result IsValid }
         ensures short { IfOk result HaveShortTexts }
-        ensures err { IfErr result (λ fault. (fault ≡ Fault.Memory) ⊎ ((fault ≡ Fault.BadLayout) × StandForNoRows coded)) }
+        ensures err { IfErr result
+            (λ fault. (fault ≡ Fault.Memory) ⊎ ((fault ≡ Fault.BadLayout) × EncodeNoRows coded)) }
     {
         valid_rows_keep_the_rules();
         let CodedDims {
@@ -182,7 +184,8 @@ impl Dims {
         self.dimension(axis).len()
     }
 
-    /// The row index of a key: that of the row with the key, or the number of rows where no row has it. They count from 0.
+    /// The row index of a key: that of the row with the key, or the number of rows where no row has it. They count from
+    /// 0.
     #[inline(always)]
     pub fn row_index(&self, axis: Axis, key: u32) -> usize
         ensures { result ≡ row_index_of self.now axis key }

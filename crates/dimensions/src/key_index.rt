@@ -1,5 +1,6 @@
 //! Keys and their row indexes.
-ghost use Rattle.std.specs.Prelude.{◌≡◌, ◌<◌, ◌^◌, ◌==◌, ◌++◌, ◌∷◌, ◌≤◌, ⊤, ℕ, [], length, position, MatchOption, IfOk, OnOk, OnErr, IfErr};
+ghost use Rattle.std.specs.Prelude.{◌≡◌, ◌<◌, ◌^◌, ◌==◌, ◌++◌, ◌∷◌, ◌≤◌, ⊤, ℕ, [], length, position, MatchOption, IfOk};
+ghost use Rattle.std.specs.Prelude.{OnOk, OnErr, IfErr};
 ghost use Rattle.std.specs.Bool.{OnTrue, OnFalse};
 ghost use Rattle.std.specs.List.{position_or_len};
 ghost use Rattle.cube_model.specs.Limits.{most_dimension_rows};
@@ -14,7 +15,8 @@ use std::marker::Model;
 
 /// Distinct keys in the order of their rows. Contracts see it as the list of the keys.
 ///
-/// The row index of a key is computed where the keys are consecutive from the first, and looked up in a map where they are not.
+/// The row index of a key is computed where the keys are consecutive from the first, and looked up in a map where they
+/// are not.
 #[derive(Drop)]
 pub struct KeyIndex {
     keys: Vec<u32>,
@@ -52,7 +54,9 @@ impl KeyIndex {
     /// The keys of a list, if none occurs twice. It can only fail when out of memory.
     pub fn of(alloc: Global, keys: Vec<u32>) -> Result<Option<KeyIndex>, Fault>
         requires few { length keys.items ≤ most_dimension_rows }
-        ensures ok { IfOk result (λ found. MatchOption found (¬ AreDistinct keys.items) (λ index. (index ≡ keys.items) × AreDistinct keys.items)) }
+        ensures ok { IfOk result
+            (λ found. MatchOption found (¬ AreDistinct keys.items)
+            (λ index. (index ≡ keys.items) × AreDistinct keys.items)) }
         ensures memory { IfErr result (λ fault. fault ≡ Fault.Memory) }
     {
         match first_counted(&keys) {
@@ -68,7 +72,9 @@ impl KeyIndex {
     // The same, where the keys need a map.
     fn mapped(alloc: Global, keys: Vec<u32>) -> Result<Option<KeyIndex>, Fault>
         requires few { length keys.items ≤ most_dimension_rows }
-        ensures ok { IfOk result (λ found. MatchOption found (¬ AreDistinct keys.items) (λ index. (index ≡ keys.items) × AreDistinct keys.items)) }
+        ensures ok { IfOk result
+            (λ found. MatchOption found (¬ AreDistinct keys.items)
+            (λ index. (index ≡ keys.items) × AreDistinct keys.items)) }
         ensures memory { IfErr result (λ fault. fault ≡ Fault.Memory) }
     {
         let map = KeyMap::of(alloc, keys.as_slice())?;
@@ -148,8 +154,8 @@ impl KeyIndex {
         }
     }
 
-    // Adds a new key after the others if all are consecutive from the first then, and says whether it did. It can only fail
-    // when out of memory.
+    // Adds a new key after the others if all are consecutive from the first then, and says whether it did. It can only
+    // fail when out of memory.
     fn push_counted(&mut self, key: u32) -> Result<bool, Fault>
         requires few { length self.old < 4294967295 }
         ensures added { IfOk result (λ added. OnTrue added (self.new ≡ self.old ++ key ∷ [])) }
@@ -169,8 +175,8 @@ impl KeyIndex {
         Ok(true)
     }
 
-    /// Reads the row indexes direct from now on, at the key, if the keys are not consecutive from the first but lie close
-    /// together. It can only fail when out of memory.
+    /// Reads the row indexes direct from now on, at the key, if the keys are not consecutive from the first but lie
+    /// close together. It can only fail when out of memory.
     pub fn densify(&mut self, alloc: Global) -> Result<(), Fault>
         ensures keys { self.new ≡ self.old }
         ensures memory { IfErr result (λ fault. fault ≡ Fault.Memory) }

@@ -1,5 +1,7 @@
 //! From keys to row indexes.
-ghost use Rattle.std.specs.Prelude.{◌≡◌, ◌==◌, ◌<◌, ◌≤◌, ◌+◌, ◌^◌, ℕ, Some, None, false, nat_eq, position, length, vec_len, slice_index, slice_set, if◌then◌else◌, unwrap_or, IfOk, OnOk, OnErr, IfSome};
+ghost use Rattle.std.specs.Prelude.{◌≡◌, ◌==◌, ◌<◌, ◌≤◌, ◌+◌, ◌^◌, ℕ, Some, None, false, nat_eq, position, length};
+ghost use Rattle.std.specs.Prelude.{vec_len, slice_index, slice_set, if◌then◌else◌, unwrap_or, IfOk, OnOk, OnErr};
+ghost use Rattle.std.specs.Prelude.{IfSome};
 ghost use Rattle.std.specs.List.{AllWithin};
 ghost use Rattle.dimensions.specs.Entries.{entry_row};
 
@@ -80,7 +82,9 @@ impl KeyMap {
     /// Puts a key at a row index. It can only fail when out of memory, and then changes nothing.
     pub fn put(&mut self, key: u32, row: u32) -> Result<(), AllocError>
         requires { row < 4294967295 }
-        ensures ok { OnOk result ((other : ℕ) → row_index_in self.new other ≡ (if nat_eq key other then Some row else row_index_in self.old other)) }
+        ensures ok { OnOk result
+            ((other : ℕ)
+            → row_index_in self.new other ≡ (if nat_eq key other then Some row else row_index_in self.old other)) }
         ensures err { OnErr result ((other : ℕ) → row_index_in self.new other ≡ row_index_in self.old other) }
     {
         if self.covers(key) {
@@ -90,14 +94,16 @@ impl KeyMap {
         if self.direct.is_empty() {
             self.first = key;
         }
-        self.put_behind(key, row)
+        self.put_after(key, row)
     }
 
     // Puts a key that has no direct entry: direct where it comes next after them, else by hash.
-    fn put_behind(&mut self, key: u32, row: u32) -> Result<(), AllocError>
+    fn put_after(&mut self, key: u32, row: u32) -> Result<(), AllocError>
         requires row { row < 4294967295 }
         requires elsewhere { covers self.old key ≡ false }
-        ensures ok { OnOk result ((other : ℕ) → row_index_in self.new other ≡ (if nat_eq key other then Some row else row_index_in self.old other)) }
+        ensures ok { OnOk result
+            ((other : ℕ)
+            → row_index_in self.new other ≡ (if nat_eq key other then Some row else row_index_in self.old other)) }
         ensures err { OnErr result ((other : ℕ) → row_index_in self.new other ≡ row_index_in self.old other) }
     {
         if self.first <= key && (key - self.first) as usize == self.direct.len() {
@@ -144,7 +150,9 @@ impl KeyMap {
     // Direct entries for the keys of a list, if they lie close together.
     fn dense(alloc: Global, keys: &[u32]) -> Result<Option<KeyMap>, AllocError>
         requires { length keys.now < 2 ^ 32 }
-        ensures { IfOk result (λ found. IfSome found (λ map. (key : ℕ) → row_index_in map key ≡ position (λ other. other == key) keys.now)) }
+        ensures { IfOk result
+            (λ found. IfSome found
+            (λ map. (key : ℕ) → row_index_in map key ≡ position (λ other. other == key) keys.now)) }
     {
         let Some((first, last)) = span(keys) else {
             return Ok(None);
@@ -165,7 +173,8 @@ impl KeyMap {
 // The first and the last of some keys, if there are any.
 fn span(keys: &[u32]) -> Option<(u32, u32)>
     ensures order { IfSome result (λ span. span.0 ≤ span.1) }
-    ensures within { IfSome result (λ span. AllWithin (λ key. (span.0 ≤ key) × (key ≤ span.1)) keys.now 0 (length keys.now)) }
+    ensures within { IfSome result
+        (λ span. AllWithin (λ key. (span.0 ≤ key) × (key ≤ span.1)) keys.now 0 (length keys.now)) }
 {
     let mut first = *keys.first()?;
     let mut last = first;
@@ -181,7 +190,8 @@ fn direct_of(alloc: Global, keys: &[u32], first: u32, width: usize) -> Result<Ve
     requires within { AllWithin (λ key. (first ≤ key) × (key < first + width)) keys.now 0 (length keys.now) }
     requires few { length keys.now < 2 ^ 32 }
     ensures width { IfOk result (λ direct. vec_len direct ≡ width) }
-    ensures entries { IfOk result (λ direct. (k : ℕ) → k < width → entry_row (slice_index direct.items k) ≡ position (λ other. other == first + k) keys.now) }
+    ensures entries { IfOk result (λ direct. (k : ℕ) → k < width
+        → entry_row (slice_index direct.items k) ≡ position (λ other. other == first + k) keys.now) }
 {
     let mut direct = vec![in alloc; 0; width]?;
     for row in 0..keys.len() {
@@ -195,7 +205,9 @@ fn direct_of(alloc: Global, keys: &[u32], first: u32, width: usize) -> Result<Ve
 fn set_entry(direct: &mut Vec<u32>, at: usize, row: u32)
     requires within { at < vec_len direct.old }
     requires few { row < 4294967295 }
-    ensures { direct.new.items ≡ (if nat_eq (slice_index direct.old.items at) 0 then slice_set direct.old.items at (row + 1) else direct.old.items) }
+    ensures { direct.new.items
+        ≡ (if nat_eq (slice_index direct.old.items at) 0 then slice_set direct.old.items at (row + 1) else
+        direct.old.items) }
 {
     if direct[at] == 0 {
         direct[at] = row + 1;

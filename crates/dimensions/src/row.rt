@@ -1,6 +1,7 @@
 //! The rows of the dimensions as texts by column.
 ghost use Rattle.std.specs.Prelude.{◌≡◌, ◌<◌, length};
-ghost use Rattle.dimensions.specs.TextRows.{TextRow, text_in, row_of_customer, row_of_supplier, row_of_part, row_of_date};
+ghost use Rattle.dimensions.specs.TextRows.{TextRow, text_in, row_of_customer, row_of_supplier, row_of_part};
+ghost use Rattle.dimensions.specs.TextRows.{row_of_date};
 
 use cube_model::{CustomerRow, DateRow, PartRow, SupplierRow};
 

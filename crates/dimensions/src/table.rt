@@ -1,5 +1,6 @@
 //! A dimension's rows by codes.
-ghost use Rattle.std.specs.Prelude.{◌≡◌, ◌≢◌, ◌≤◌, ◌<◌, ◌^◌, ◌==◌, ◌+◌, ℕ, List, true, false, [], length, codes, vec_len, slice_index_or, IfOk, IfErr, IfSome, map};
+ghost use Rattle.std.specs.Prelude.{◌≡◌, ◌≢◌, ◌≤◌, ◌<◌, ◌^◌, ◌==◌, ◌+◌, ℕ, List, true, false, [], length, codes};
+ghost use Rattle.std.specs.Prelude.{vec_len, slice_index_or, IfOk, IfErr, IfSome, map};
 ghost use Rattle.std.specs.Bool.{OnTrue, OnFalse};
 ghost use Rattle.std.specs.List.{position_or_len};
 ghost use Rattle.std.specs.Str.{bytes_eq};
@@ -38,7 +39,8 @@ impl Drop for Table {
 
 impl Table {
     ghost use Rattle.dimensions.specs.Columns.{HasCode, code_at};
-    ghost use Rattle.dimensions.specs.Tables.{column_at, IsTable, IsSomeTable, Numbers, HasNoRoom, EntersAt, AddsRow, AddsRows, BuildsTable, HoldsRows, HoldsSomeRows};
+    ghost use Rattle.dimensions.specs.Tables.{column_at, IsTable, IsSomeTable, Numbers, HasNoRoom, EntersAt, AddsRow};
+    ghost use Rattle.dimensions.specs.Tables.{AddsRows, BuildsTable, HoldsRows, HoldsSomeRows};
     ghost use Rattle.dimensions.specs.Made.{MakesTable};
     ghost use Rattle.dimensions.specs.Coded.{HaveTexts};
     ghost use Rattle.dimensions.specs.declared.column.Column.{Column};
@@ -64,7 +66,8 @@ impl Table {
     ) -> Result<(), Fault>
         requires sound { HoldsSomeRows axis self.old }
         requires texts { (row : R) → length (R.shown row).texts ≡ length (lowers_of axis) }
-        ensures { (old : List TextRow) → HoldsRows axis old self.old → AddsRows axis old (map R.shown rows.now) self.new result }
+        ensures { (old : List TextRow) → HoldsRows axis old self.old
+            → AddsRows axis old (map R.shown rows.now) self.new result }
     {
         let before = self.len();
         if !has_room(axis, before, rows.len()) {
@@ -128,7 +131,8 @@ impl Table {
         requires sound { IsSomeTable axis self.old }
         requires few { length self.old.keys < most_dimension_rows }
         requires texts { length (R.shown row.now).texts ≡ length (lowers_of axis) }
-        ensures { (rows : List TextRow) → IsTable axis rows self.old → AddsRow axis rows (R.shown row.now) self.new result }
+        ensures { (rows : List TextRow) → IsTable axis rows self.old
+            → AddsRow axis rows (R.shown row.now) self.new result }
     {
         let place = self.keys.len();
         let number = (place + 1) as u32;
@@ -175,12 +179,18 @@ impl Table {
         requires few { vec_len self.old.columns ≤ 4 }
         requires texts { length (R.shown row.now).texts ≡ vec_len self.old.columns }
         requires limits { (i : ℕ) → i < vec_len self.old.columns → (column_at self.old i).texts.limit ≡ most_members }
-        requires lowers { (i : ℕ) → i < vec_len self.old.columns → IfSome (column_at self.old i).lower (λ column. column < 4) }
+        requires lowers { (i : ℕ) → i < vec_len self.old.columns
+            → IfSome (column_at self.old i).lower (λ column. column < 4) }
         requires numbers { Numbers self.old (R.shown row.now) codes.now }
         ensures keys { self.new.keys ≡ self.old.keys }
         ensures count { vec_len self.new.columns ≡ vec_len self.old.columns }
-        ensures fit { IfOk result (λ fits. OnTrue fits ((i : ℕ) → i < vec_len self.old.columns → EntersAt self.old (R.shown row.now) codes.now i true (column_at self.new i))) }
-        ensures broken { IfOk result (λ fits. OnFalse fits ((i : ℕ) × (i < vec_len self.old.columns) × ((new : Column) × EntersAt self.old (R.shown row.now) codes.now i false new))) }
+        ensures fit { IfOk result
+            (λ fits. OnTrue fits ((i : ℕ) → i < vec_len self.old.columns
+            → EntersAt self.old (R.shown row.now) codes.now i true (column_at self.new i))) }
+        ensures broken { IfOk result
+            (λ fits. OnFalse fits
+            ((i : ℕ) × (i < vec_len self.old.columns)
+            × ((new : Column) × EntersAt self.old (R.shown row.now) codes.now i false new))) }
         ensures memory { IfErr result (λ fault. fault ≡ Fault.Memory) }
     {
         for i in 0..self.columns.len() {
@@ -204,11 +214,13 @@ impl Table {
         requires text { column < length (R.shown row.now).texts }
         requires limit { (column_at self.old column).texts.limit ≡ most_members }
         requires lower { IfSome (column_at self.old column).lower (λ lower. lower < 4) }
-        requires code { HasCode (column_at self.old column).texts (text_in column (R.shown row.now)) (slice_index_or codes.now column 0) }
+        requires code { HasCode (column_at self.old column).texts (text_in column (R.shown row.now))
+            (slice_index_or codes.now column 0) }
         ensures keys { self.new.keys ≡ self.old.keys }
         ensures count { vec_len self.new.columns ≡ vec_len self.old.columns }
         ensures others { (other : ℕ) → other ≢ column → column_at self.new other ≡ column_at self.old other }
-        ensures ok { IfOk result (λ fits. EntersAt self.old (R.shown row.now) codes.now column fits (column_at self.new column)) }
+        ensures ok { IfOk result
+            (λ fits. EntersAt self.old (R.shown row.now) codes.now column fits (column_at self.new column)) }
         ensures memory { IfErr result (λ fault. fault ≡ Fault.Memory) }
     {
         let place = place_in(self.columns[column].lower(), self.keys.len(), codes);
@@ -251,7 +263,8 @@ impl Table {
         requires sound { (axis : Axis) × IsSomeTable axis self.now }
         requires column { column < vec_len self.now.columns }
         requires row { row < length self.now.keys }
-        ensures { (axis : Axis) (rows : List TextRow) → IsTable axis rows self.now → result ≡ code_at (column_of column rows) row }
+        ensures { (axis : Axis) (rows : List TextRow) → IsTable axis rows self.now
+            → result ≡ code_at (column_of column rows) row }
     {
         let place = match self.columns[column].lower() {
             None => row,
@@ -264,7 +277,8 @@ impl Table {
     pub fn ranks(&self, alloc: Global) -> Result<Vec<Ranks>, Fault>
         requires { (axis : Axis) × IsSomeTable axis self.now }
         ensures count { IfOk result (λ ranks. vec_len ranks ≡ vec_len self.now.columns) }
-        ensures ranks { IfOk result (λ ranks. (i : ℕ) → i < vec_len self.now.columns → slice_index_or ranks.items i [] ≡ (column_at self.now i).texts.texts) }
+        ensures ranks { IfOk result (λ ranks. (i : ℕ) → i < vec_len self.now.columns
+            → slice_index_or ranks.items i [] ≡ (column_at self.now i).texts.texts) }
         ensures memory { IfErr result (λ fault. fault ≡ Fault.Memory) }
     {
         let mut ranks = Vec::with_capacity(alloc, self.columns.len())?;
@@ -337,7 +351,8 @@ fn counted_after(before: u32, fault: Fault) -> Fault
 // Whether one of a row's texts is the one that means all members.
 fn names_all<R: TableRow>(row: &R, count: usize) -> bool
     requires { length (R.shown row.now).texts ≡ count }
-    ensures some { OnTrue result ((i : ℕ) × (i < count) × (bytes_eq (codes "ALL") (text_in i (R.shown row.now)) ≡ true)) }
+    ensures some { OnTrue result
+        ((i : ℕ) × (i < count) × (bytes_eq (codes "ALL") (text_in i (R.shown row.now)) ≡ true)) }
     ensures none { OnFalse result ((i : ℕ) → i < count → bytes_eq (codes "ALL") (text_in i (R.shown row.now)) ≡ false) }
 {
     for i in 0..count {

@@ -1,5 +1,6 @@
 -- The first run that is long enough, and what is left when its front is taken away.
-use Rattle.std.proofs.Common.{◌≡◌, ℕ, zero, suc, ◌+◌, ◌≤◌, ◌<◌, Bool, false, not, leb, Some, None, List, [], ◌∷◌, ◌++◌, length, get_or, take, drop, position, inl, inr, arith}
+use Rattle.std.proofs.Common.{◌≡◌, ℕ, zero, suc, ◌+◌, ◌≤◌, ◌<◌, Bool, false, not, leb, Some, None, List, [], ◌∷◌, ◌++◌}
+use Rattle.std.proofs.Common.{length, get_or, take, drop, position, inl, inr, arith}
 use Rattle.std.proofs.lemmas.Bool.{cases_lt}
 use Rattle.std.proofs.lemmas.Bool.Decides.{nat_tests}
 use Rattle.std.proofs.lemmas.List.Quantifiers.{position-Some}
@@ -17,31 +18,39 @@ AllHeld runs len first = (s : ℕ) → first ≤ s → s < first + len → SomeH
 
 -- a run is within the bounds
 pub run_within : (low high : ℕ) (runs : List Extent) (k : ℕ) (d : Extent) → AreRuns low high runs → k < length runs
-    → (low ≤ (get_or runs k d).first) × (0 < (get_or runs k d).len) × ((get_or runs k d).first + (get_or runs k d).len < high)
+    → (low ≤ (get_or runs k d).first) × (0 < (get_or runs k d).len)
+    × ((get_or runs k d).first + (get_or runs k d).len < high)
 run_within low high [] k d ok lt = absurd (omega arith)
 run_within low high (run ∷ others) zero d ok lt = (ok.0, ok.1, ok.2)
 run_within low high (run ∷ others) (suc k) d ok lt =
-    let later : (run.first + run.len + 1 ≤ (get_or others k d).first) × (0 < (get_or others k d).len) × ((get_or others k d).first + (get_or others k d).len < high)
+    let later : (run.first + run.len + 1 ≤ (get_or others k d).first) × (0 < (get_or others k d).len)
+    × ((get_or others k d).first + (get_or others k d).len < high)
     = run_within (run.first + run.len + 1) high others k d ok.3 (omega arith) in
     (omega arith, later.1, later.2)
 
 -- the sectors of a run are in the runs
-pub run_held : (runs : List Extent) (k : ℕ) (d : Extent) (s : ℕ) → k < length runs → Holds (get_or runs k d) s → SomeHolds runs s
+pub run_held : (runs : List Extent) (k : ℕ) (d : Extent) (s : ℕ) → k < length runs → Holds (get_or runs k d) s
+    → SomeHolds runs s
 run_held [] k d s lt held = absurd (omega arith)
 run_held (run ∷ others) zero d s lt held = inl held
 run_held (run ∷ others) (suc k) d s lt held = inr (run_held others k d s (omega arith) held)
 
 -- runs begin one after another
-pub rise : (low high : ℕ) (runs : List Extent) (i j : ℕ) (d : Extent) → AreRuns low high runs → i ≤ j → j < length runs → (get_or runs i d).first ≤ (get_or runs j d).first
+pub rise : (low high : ℕ) (runs : List Extent) (i j : ℕ) (d : Extent) → AreRuns low high runs → i ≤ j → j < length runs
+    → (get_or runs i d).first ≤ (get_or runs j d).first
 rise low high [] i j d ok le lt = absurd (omega arith)
 rise low high (run ∷ others) zero zero d ok le lt = omega arith
-rise low high (run ∷ others) zero (suc j) d ok le lt = let later = run_within (run.first + run.len + 1) high others j d ok.3 (omega arith) in omega arith
+rise low high (run ∷ others) zero (suc j) d ok le lt = let later =
+    run_within (run.first + run.len + 1) high others j d ok.3 (omega arith) in omega arith
 rise low high (run ∷ others) (suc i) zero d ok le lt = absurd (omega arith)
-rise low high (run ∷ others) (suc i) (suc j) d ok le lt = rise (run.first + run.len + 1) high others i j d ok.3 (omega arith) (omega arith)
+rise low high (run ∷ others) (suc i) (suc j) d ok le lt =
+    rise (run.first + run.len + 1) high others i j d ok.3 (omega arith) (omega arith)
 
 -- sectors in a row that are all in the runs are in one run
-pub in_one_run : (low high : ℕ) (runs : List Extent) (len first : ℕ) (d : Extent) → AreRuns low high runs → 0 < len → AllHeld runs len first
-    → (k : ℕ) × (k < length runs) × ((get_or runs k d).first ≤ first) × (first + len ≤ (get_or runs k d).first + (get_or runs k d).len)
+pub in_one_run : (low high : ℕ) (runs : List Extent) (len first : ℕ) (d : Extent) → AreRuns low high runs → 0 < len
+    → AllHeld runs len first
+    → (k : ℕ) × (k < length runs) × ((get_or runs k d).first ≤ first)
+    × (first + len ≤ (get_or runs k d).first + (get_or runs k d).len)
 in_one_run low high [] len first d ok some all = absurd (all first (omega arith) (omega arith))
 in_one_run low high (run ∷ others) len first d ok some all =
     elim (all first (omega arith) (omega arith)) [
@@ -57,7 +66,8 @@ in_one_run low high (run ∷ others) len first d ok some all =
       | inr fits ↦ fits
       | inl past ↦ elim (all (run.first + run.len) (omega arith) past) [
         | inl inside ↦ absurd (omega arith)
-        | inr later ↦ let far = bounds (run.first + run.len + 1) high others (run.first + run.len) ok.3 later in absurd (omega arith)
+        | inr later ↦ let far = bounds (run.first + run.len + 1) high others (run.first + run.len) ok.3 later in
+            absurd (omega arith)
       ]
     ]
 
@@ -65,7 +75,8 @@ in_one_run low high (run ∷ others) len first d ok some all =
     rest far s le lt = elim (all s le lt) [ inl here ↦ absurd (omega arith) | inr later ↦ later ]
 
 -- where no run is long enough, each is too short
-position_none : (p : Extent → Bool) (runs : List Extent) (k : ℕ) (d : Extent) → position p runs ≡ None → k < length runs → p (get_or runs k d) ≡ false
+position_none : (p : Extent → Bool) (runs : List Extent) (k : ℕ) (d : Extent) → position p runs ≡ None → k < length runs
+    → p (get_or runs k d) ≡ false
 position_none p runs k d none lt =
     elim (cases_lt (position_or_len p runs) (length runs)) [
       | inl found ↦ grind (arith, nat_tests)
@@ -105,40 +116,57 @@ abbrev pub cut_at : List Extent → ℕ → ℕ → ℕ → List Extent
 cut_at runs place from to = take place runs ++ (gap from to ++ drop (suc place) runs)
 
 -- they are runs
-pub AreRuns-cut_at : (low high len : ℕ) (runs : List Extent) (place : ℕ) (d : Extent) → AreRuns low high runs → place < length runs → len ≤ (get_or runs place d).len
-    → AreRuns low high (cut_at runs place ((get_or runs place d).first + len) ((get_or runs place d).first + (get_or runs place d).len))
+pub AreRuns-cut_at : (low high len : ℕ) (runs : List Extent) (place : ℕ) (d : Extent) → AreRuns low high runs
+    → place < length runs → len ≤ (get_or runs place d).len
+    → AreRuns low high
+    (cut_at runs place ((get_or runs place d).first + len)
+    ((get_or runs place d).first + (get_or runs place d).len))
 AreRuns-cut_at low high len [] place d ok lt le = absurd (omega arith)
 AreRuns-cut_at low high len (run ∷ others) zero d ok lt le =
     AreRuns-append low (run.first + run.len + 1) high (gap (run.first + len) (run.first + run.len)) others (omega arith)
-    (lower low (run.first + len) (run.first + run.len + 1) _ (omega arith) (AreRuns-gap (run.first + len) (run.first + run.len))) ok.3 (omega arith)
+    (lower low (run.first + len) (run.first + run.len + 1) _ (omega arith)
+    (AreRuns-gap (run.first + len) (run.first + run.len))) ok.3 (omega arith)
 AreRuns-cut_at low high len (run ∷ others) (suc place) d ok lt le =
     (ok.0, ok.1, ok.2, AreRuns-cut_at (run.first + run.len + 1) high len others place d ok.3 (omega arith) le)
 
 -- a sector in what is left was in the runs, and not in the front
-pub cut_held : (low high len : ℕ) (runs : List Extent) (place : ℕ) (d : Extent) (s : ℕ) → AreRuns low high runs → place < length runs → len ≤ (get_or runs place d).len
-    → SomeHolds (cut_at runs place ((get_or runs place d).first + len) ((get_or runs place d).first + (get_or runs place d).len)) s
+pub cut_held : (low high len : ℕ) (runs : List Extent) (place : ℕ) (d : Extent) (s : ℕ) → AreRuns low high runs
+    → place < length runs → len ≤ (get_or runs place d).len
+    → SomeHolds
+    (cut_at runs place ((get_or runs place d).first + len)
+    ((get_or runs place d).first + (get_or runs place d).len)) s
     → SomeHolds runs s × (¬ Holds (record { first = (get_or runs place d).first; len = len }) s)
 cut_held low high len [] place d s ok lt le held = absurd (omega arith)
 cut_held low high len (run ∷ others) zero d s ok lt le held =
     elim (in_either (gap (run.first + len) (run.first + run.len)) others s held) [
-      | inl front ↦ let inside = gap_holds (run.first + len) (run.first + run.len) s front in (inl (omega arith, omega arith), λ taken. omega arith)
-      | inr later ↦ let far = bounds (run.first + run.len + 1) high others s ok.3 later in (inr later, λ taken. omega arith)
+      | inl front ↦ let inside = gap_holds (run.first + len) (run.first + run.len) s front in
+          (inl (omega arith, omega arith), λ taken. omega arith)
+      | inr later ↦ let far = bounds (run.first + run.len + 1) high others s ok.3 later in
+          (inr later, λ taken. omega arith)
     ]
 cut_held low high len (run ∷ others) (suc place) d s ok lt le (inl here) =
-    let far = run_within (run.first + run.len + 1) high others place d ok.3 (omega arith) in (inl here, λ taken. omega arith)
+    let far = run_within (run.first + run.len + 1) high others place d ok.3 (omega arith) in
+    (inl here, λ taken. omega arith)
 cut_held low high len (run ∷ others) (suc place) d s ok lt le (inr later) =
-    let rest = cut_held (run.first + run.len + 1) high len others place d s ok.3 (omega arith) le later in (inr rest.0, rest.1)
+    let rest = cut_held (run.first + run.len + 1) high len others place d s ok.3 (omega arith) le later in
+    (inr rest.0, rest.1)
 
 -- a sector of the runs that is not in the front is in what is left
 pub held_cut : (len : ℕ) (runs : List Extent) (place : ℕ) (d : Extent) (s : ℕ) → place < length runs → SomeHolds runs s
     → (¬ Holds (record { first = (get_or runs place d).first; len = len }) s)
-    → SomeHolds (cut_at runs place ((get_or runs place d).first + len) ((get_or runs place d).first + (get_or runs place d).len)) s
+    → SomeHolds
+    (cut_at runs place ((get_or runs place d).first + len)
+    ((get_or runs place d).first + (get_or runs place d).len)) s
 held_cut len [] place d s lt held apart = absurd held
 held_cut len (run ∷ others) zero d s lt (inl here) apart =
     elim (cases_lt s (run.first + len)) [
       | inl inside ↦ absurd (apart (here.0, inside))
-      | inr behind ↦ in_front (gap (run.first + len) (run.first + run.len)) others s (holds_gap (run.first + len) (run.first + run.len) s behind here.1)
+      | inr after ↦
+          in_front (gap (run.first + len) (run.first + run.len)) others s
+          (holds_gap (run.first + len) (run.first + run.len) s after here.1)
     ]
-held_cut len (run ∷ others) zero d s lt (inr later) apart = in_back (gap (run.first + len) (run.first + run.len)) others s later
+held_cut len (run ∷ others) zero d s lt (inr later) apart =
+    in_back (gap (run.first + len) (run.first + run.len)) others s later
 held_cut len (run ∷ others) (suc place) d s lt (inl here) apart = inl here
-held_cut len (run ∷ others) (suc place) d s lt (inr later) apart = inr (held_cut len others place d s (omega arith) later apart)
+held_cut len (run ∷ others) (suc place) d s lt (inr later) apart =
+    inr (held_cut len others place d s (omega arith) later apart)

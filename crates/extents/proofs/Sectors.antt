@@ -27,15 +27,18 @@ lower low mid high [] le ok = tt
 lower low mid high (run ∷ others) le ok = (omega arith, ok.1, ok.2, ok.3)
 
 -- a sector of runs lies between their bounds
-pub bounds : (low high : ℕ) (runs : List Extent) (s : ℕ) → AreRuns low high runs → SomeHolds runs s → (low ≤ s) × (s + 1 < high)
+pub bounds : (low high : ℕ) (runs : List Extent) (s : ℕ) → AreRuns low high runs → SomeHolds runs s
+    → (low ≤ s) × (s + 1 < high)
 bounds low high [] s ok held = absurd held
 bounds low high (run ∷ others) s ok (inl here) = (omega arith, omega arith)
 bounds low high (run ∷ others) s ok (inr held) =
-    let later : (run.first + run.len + 1 ≤ s) × (s + 1 < high) = bounds (run.first + run.len + 1) high others s ok.3 held in
+    let later : (run.first + run.len + 1 ≤ s) × (s + 1 < high) =
+    bounds (run.first + run.len + 1) high others s ok.3 held in
     (omega arith, omega arith)
 
 -- runs that end where others begin
-pub AreRuns-append : (low mid high : ℕ) (xs ys : List Extent) → mid ≤ high → AreRuns low mid xs → AreRuns mid high ys → low ≤ mid → AreRuns low high (xs ++ ys)
+pub AreRuns-append : (low mid high : ℕ) (xs ys : List Extent) → mid ≤ high → AreRuns low mid xs → AreRuns mid high ys
+    → low ≤ mid → AreRuns low high (xs ++ ys)
 AreRuns-append low mid high [] ys le front back low_le = lower low mid high ys low_le back
 AreRuns-append low mid high (x ∷ xs) ys le front back low_le =
     (front.0, front.1, omega arith, AreRuns-append (x.first + x.len + 1) mid high xs ys le front.3 back (omega arith))

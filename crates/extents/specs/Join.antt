@@ -7,13 +7,13 @@ use Rattle.extents.specs.Runs.{FreeSectors, AreRuns}
 
 -- the runs, with the joined one in place of those that it was joined with
 abbrev pub joined_runs : List Extent → Join → List Extent
-joined_runs runs join = take join.place runs ++ join.joined ∷ drop join.behind runs
+joined_runs runs join = take join.place runs ++ join.joined ∷ drop join.after runs
 
 -- a join that is a run after those before its place, with at least so many sectors between it and those after it
 pub record IsJoin (margin : ℕ) (free : FreeSectors) (join : Join) : Type 0 where
   pub in_range : IsInRange free.count join.joined
-  pub order : join.place ≤ join.behind
-  pub few : join.behind ≤ join.place + 1 + margin
-  pub within : join.behind ≤ length free.runs
+  pub order : join.place ≤ join.after
+  pub few : join.after ≤ join.place + 1 + margin
+  pub within : join.after ≤ length free.runs
   pub front : AreRuns 2 join.joined.first (take join.place free.runs)
-  pub back : AreRuns (join.joined.first + join.joined.len + margin) (free.count + 1) (drop join.behind free.runs)
+  pub back : AreRuns (join.joined.first + join.joined.len + margin) (free.count + 1) (drop join.after free.runs)

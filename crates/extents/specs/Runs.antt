@@ -34,14 +34,16 @@ pub record GivesBack (old : FreeSectors) (extent : Extent) (new : FreeSectors) :
 
 -- the sectors from 2 up to the count that lie in none of the extents are those of the runs
 abbrev pub IsRest : ℕ → List Extent → List Extent → Type 0
-IsRest count used runs = (sector : ℕ) → SomeHolds runs sector ↔ ((2 ≤ sector) × (sector < count) × (¬ SomeHolds used sector))
+IsRest count used runs = (sector : ℕ) → SomeHolds runs sector
+    ↔ ((2 ≤ sector) × (sector < count) × (¬ SomeHolds used sector))
 
 -- the free sectors are those from 2 up to the count that lie in none of the extents
-pub record IsFreeBeside (count : ℕ) (used : List Extent) (free : FreeSectors) : Type 0 where
+pub record IsFreeOutside (count : ℕ) (used : List Extent) (free : FreeSectors) : Type 0 where
   pub of_device : free.count ≡ count
   pub sectors : IsRest count used free.runs
 
--- runs in ascending order, which begin at low or after it and end before high: none is empty, and between two lies a sector that is in none
+-- runs in ascending order, which begin at low or after it and end before high: none is empty, and between two lies a
+-- sector that is in none
 abbrev pub AreRuns : ℕ → ℕ → List Extent → Type 0
 AreRuns low high [] = Unit {0}
 AreRuns low high (run ∷ others) =

@@ -1,9 +1,10 @@
-ghost use Rattle.std.specs.Prelude.{◌≡◌, ℕ, ◌+◌, ◌^◌, ◌<◌, ◌↔◌, ◌⊎◌, ◌++◌, List, take, drop, vec_len, position, nat_le, IsOkUnless, IfOk, IfErr, OnOk, OnErr};
+ghost use Rattle.std.specs.Prelude.{◌≡◌, ℕ, ◌+◌, ◌^◌, ◌<◌, ◌↔◌, ◌⊎◌, ◌++◌, List, take, drop, vec_len, position, nat_le};
+ghost use Rattle.std.specs.Prelude.{IsOkUnless, IfOk, IfErr, OnOk, OnErr};
 ghost use Rattle.cube_model.specs.declared.fault.Fault.{Fault};
 ghost use Rattle.extents.specs.declared.extent.Extent.{Extent};
 ghost use Rattle.extents.specs.Extents.{Holds, SomeHolds, IsInRange, AreLaidOut};
 ghost use Rattle.extents.specs.Join.{IsJoin, joined_runs};
-ghost use Rattle.extents.specs.Runs.{IsFree, AreFreeFrom, IsFirstFit, TakesAway, GivesBack, IsFreeBeside, gap};
+ghost use Rattle.extents.specs.Runs.{IsFree, AreFreeFrom, IsFirstFit, TakesAway, GivesBack, IsFreeOutside, gap};
 
 use crate::extent::Extent;
 use crate::gaps::{gaps, sorted};
@@ -35,7 +36,7 @@ impl Free {
     ///
     /// `BadLayout` where two extents share a sector, or one is empty, holds sector 0 or 1 or ends past the device.
     pub fn from_used(alloc: Global, count: u32, used: &[Extent]) -> Result<Free, Fault>
-        ensures ok { IfOk result (IsFreeBeside count used.now) }
+        ensures ok { IfOk result (IsFreeOutside count used.now) }
         ensures laid_out { OnOk result (AreLaidOut count used.now) }
         ensures refused { IfErr result
             (λ fault. (fault ≡ Fault.Memory) ⊎ ((fault ≡ Fault.BadLayout) × (¬ AreLaidOut count used.now))) }
@@ -84,7 +85,7 @@ impl Free {
         ensures memory { IfErr result (λ fault. fault ≡ Fault.Memory) }
         ensures err { OnErr result (self.new ≡ self.old) }
     {
-        let join = self.join_behind(self.join_before(extent));
+        let join = self.join_after(self.join_before(extent));
         put(&mut self.runs, join)
     }
 
@@ -119,27 +120,27 @@ impl Free {
                         len: run.len + extent.len,
                     },
                     place,
-                    behind: place + 1,
+                    after: place + 1,
                 };
             }
         }
         Join {
             joined: extent,
             place,
-            behind: place,
+            after: place,
         }
     }
 
     // The same, joined with the run that begins where it ends.
-    fn join_behind(&self, join: Join) -> Join
+    fn join_after(&self, join: Join) -> Join
         requires before { IsJoin 0 self.now join }
         requires small { self.now.count < 2 ^ 32 }
         ensures join { IsJoin 1 self.now result }
         ensures sectors { (sector : ℕ)
             → SomeHolds (joined_runs self.now.runs result) sector ↔ SomeHolds (joined_runs self.now.runs join) sector }
     {
-        if join.behind < self.runs.len() {
-            let run = self.runs[join.behind];
+        if join.after < self.runs.len() {
+            let run = self.runs[join.after];
             if join.joined.end() == u64::from(run.first) {
                 return Join {
                     joined: Extent {
@@ -147,7 +148,7 @@ impl Free {
                         len: join.joined.len + run.len,
                     },
                     place: join.place,
-                    behind: join.behind + 1,
+                    after: join.after + 1,
                 };
             }
         }

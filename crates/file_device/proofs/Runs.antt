@@ -1,5 +1,6 @@
 -- Neighbouring sectors that were read at once change nothing, and are what reads give.
-use Rattle.std.proofs.Common.{Result, Ok, Err, MatchResult, OnOk, is_ok, ◌≡◌, ℕ, zero, suc, ◌+◌, ◌/◌, ◌<◌, List, [], ◌∷◌, length, take, get_or, refl, add-one, sym, ◌∙◌, ap, subst, inl, true≢false, arith}
+use Rattle.std.proofs.Common.{Result, Ok, Err, MatchResult, OnOk, is_ok, ◌≡◌, ℕ, zero, suc, ◌+◌, ◌/◌, ◌<◌, List, []}
+use Rattle.std.proofs.Common.{◌∷◌, length, take, get_or, refl, add-one, sym, ◌∙◌, ap, subst, inl, true≢false, arith}
 use Rattle.sector_device.specs.Device.{Image, Stays, HasRun}
 use Rattle.sector_device.specs.Moments.{stays_then}
 use Rattle.sector_device.proofs.CallerLemmas.{length-chunks, chunk_at}
@@ -11,11 +12,13 @@ use Rattle.file_device.proofs.SyncStep.{passes}
 
 -- one sector more in the record
 next_read : (first : ℕ) (sectors : List (List ℕ)) (k : ℕ) (events : List Event) → k < length sectors
-    → Read (first + k) (get_or sectors k []) ∷ with_reads first (take k sectors) events ≡ with_reads first (take (suc k) sectors) events
+    → Read (first + k) (get_or sectors k []) ∷ with_reads first (take k sectors) events
+    ≡ with_reads first (take (suc k) sectors) events
 next_read first [] k events lt = absurd (omega (arith, lt))
 next_read first (b ∷ others) zero events lt = ap (λ (n : ℕ). Read n b ∷ events) (omega arith)
 next_read first (b ∷ others) (suc k) events lt =
-    ap (λ (n : ℕ). Read n (get_or others k []) ∷ with_reads (suc first) (take k others) (Read first b ∷ events)) (omega arith)
+    ap (λ (n : ℕ). Read n (get_or others k []) ∷ with_reads (suc first) (take k others) (Read first b ∷ events))
+    (omega arith)
     ∙ next_read (suc first) others k (Read first b ∷ events) (omega (arith, lt))
 
 pub noted : (first : ℕ) (sectors : List (List ℕ)) (k : ℕ) (start so_far : List Event) → k < length sectors
@@ -32,48 +35,78 @@ module _ (start : Image) where
   honest-before first (b ∷ others) events honest = (honest-before (suc first) others (Read first b ∷ events) honest).1
 
   are_before : (first : ℕ) (sectors : List (List ℕ)) (events : List Event)
-      → IsHonest start (with_reads first sectors events) → (k : ℕ) → k < length sectors → get_or sectors k [] ≡ reads_after start events (first + k)
+      → IsHonest start (with_reads first sectors events) → (k : ℕ) → k < length sectors
+      → get_or sectors k [] ≡ reads_after start events (first + k)
   are_before first [] events honest k lt = absurd (omega (arith, lt))
   are_before first (b ∷ others) events honest zero lt =
       (honest-before (suc first) others (Read first b ∷ events) honest).0 ∙ ap (reads_after start events) (omega arith)
   are_before first (b ∷ others) events honest (suc k) lt =
-      are_before (suc first) others (Read first b ∷ events) honest k (omega (arith, lt)) ∙ ap (reads_after start events) (omega arith)
+      are_before (suc first) others (Read first b ∷ events) honest k (omega (arith, lt))
+      ∙ ap (reads_after start events) (omega arith)
 
   -- the file was honest before a run was read
   pub honest_if_run_read : {T E : Type 0} (r : Result T E) (first : ℕ) (sectors : List (List ℕ)) (old new : List Event)
-      → MatchResult r (λ _. new ≡ with_reads first sectors old) (λ _. new ≡ old) → IsHonest start new → IsHonest start old
-  honest_if_run_read (Ok x) first sectors old new is honest = honest-before first sectors old (subst (IsHonest start) is honest)
+      → MatchResult r (λ _. new ≡ with_reads first sectors old) (λ _. new ≡ old) → IsHonest start new
+      → IsHonest start old
+  honest_if_run_read (Ok x) first sectors old new is honest =
+      honest-before first sectors old (subst (IsHonest start) is honest)
   honest_if_run_read (Err e) first sectors old new is honest = subst (IsHonest start) is honest
 
   has_read : (first : ℕ) (bytes : List ℕ) (events : List Event)
       → IsHonest start (with_reads first (sectors_in bytes) events) → HasRun (reads_after start events) first bytes
   has_read first bytes events honest k lt =
       sym (chunk_at (length bytes / 512) k bytes lt)
-      ∙ are_before first (sectors_in bytes) events honest k (omega (arith, lt, length-chunks (length bytes / 512) bytes))
+      ∙ are_before first (sectors_in bytes) events honest k
+      (omega (arith, lt, length-chunks (length bytes / 512) bytes))
 
   -- a run that was read is what reads give
-  pub run_if_read : {T E T' E' : Type 0} (r : Result T E) (outcome : Result T' E') (first : ℕ) (bytes : List ℕ) (old new : List Event)
-      → is_ok r ≡ is_ok outcome → MatchResult outcome (λ _. new ≡ with_reads first (sectors_in bytes) old) (λ _. new ≡ old)
+  pub run_if_read : {T E T' E' : Type 0} (r : Result T E) (outcome : Result T' E') (first : ℕ) (bytes : List ℕ)
+      (old new : List Event)
+      → is_ok r ≡ is_ok outcome
+      → MatchResult outcome (λ _. new ≡ with_reads first (sectors_in bytes) old) (λ _. new ≡ old)
       → OnOk r (IsHonest start new → HasRun (reads_after start old) first bytes)
-  run_if_read (Ok x) (Ok y) first bytes old new same is = λ honest. has_read first bytes old (subst (IsHonest start) is honest)
+  run_if_read (Ok x) (Ok y) first bytes old new same is =
+      λ honest. has_read first bytes old (subst (IsHonest start) is honest)
   run_if_read (Ok x) (Err e) first bytes old new same is = absurd (true≢false same)
   run_if_read (Err e) outcome first bytes old new same is = tt
 
 module _ (size : ℕ) (start : Image) (at_first : ℕ → List ℕ → Type 0) where
   stays_read : (events : List Event) (i : ℕ) (bytes : List ℕ)
       → Stays (file_state size start at_first events) (file_state size start at_first (Read i bytes ∷ events))
-  stays_read events i bytes = record { reads = λ i. refl; no_more = λ i b may. may; no_fewer = λ i b may. may; time = passes size start at_first events (Read i bytes) }
+  stays_read events i bytes =
+      record {
+        reads = λ i. refl;
+        no_more = λ i b may. may;
+        no_fewer = λ i b may. may;
+        time = passes size start at_first events (Read i bytes);
+      }
 
-  stays_same : (events : List Event) → Stays (file_state size start at_first events) (file_state size start at_first events)
-  stays_same events = record { reads = λ i. refl; no_more = λ i b may. may; no_fewer = λ i b may. may; time = record { later = omega arith; nothing_else = λ t image le left. inl left; keeps = λ t image le left. left } }
+  stays_same : (events : List Event)
+      → Stays (file_state size start at_first events) (file_state size start at_first events)
+  stays_same events =
+      record {
+        reads = λ i. refl;
+        no_more = λ i b may. may;
+        no_fewer = λ i b may. may;
+        time = record {
+          later = omega arith;
+          nothing_else = λ t image le left. inl left;
+          keeps = λ t image le left. left;
+        };
+      }
 
   stays_reads : (first : ℕ) (sectors : List (List ℕ)) (events : List Event)
       → Stays (file_state size start at_first events) (file_state size start at_first (with_reads first sectors events))
   stays_reads first [] events = stays_same events
-  stays_reads first (b ∷ others) events = stays_then _ _ _ (stays_read events first b) (stays_reads (suc first) others (Read first b ∷ events))
+  stays_reads first (b ∷ others) events =
+      stays_then _ _ _ (stays_read events first b) (stays_reads (suc first) others (Read first b ∷ events))
 
   pub stays_if_run_read : {T E : Type 0} (r : Result T E) (first : ℕ) (sectors : List (List ℕ)) (old new : List Event)
       → MatchResult r (λ _. new ≡ with_reads first sectors old) (λ _. new ≡ old)
       → Stays (file_state size start at_first old) (file_state size start at_first new)
-  stays_if_run_read (Ok x) first sectors old new is = subst (λ (l : List Event). Stays (file_state size start at_first old) (file_state size start at_first l)) (sym is) (stays_reads first sectors old)
-  stays_if_run_read (Err e) first sectors old new is = subst (λ (l : List Event). Stays (file_state size start at_first old) (file_state size start at_first l)) (sym is) (stays_same old)
+  stays_if_run_read (Ok x) first sectors old new is =
+      subst (λ (l : List Event). Stays (file_state size start at_first old) (file_state size start at_first l)) (sym is)
+      (stays_reads first sectors old)
+  stays_if_run_read (Err e) first sectors old new is =
+      subst (λ (l : List Event). Stays (file_state size start at_first old) (file_state size start at_first l)) (sym is)
+      (stays_same old)

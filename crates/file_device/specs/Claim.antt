@@ -10,8 +10,8 @@ use Rattle.file_device.specs.declared.event.Event.TheVariants.{Locked, Measured,
 abbrev pub blank : List ℕ
 blank = replicate 512 0
 
--- the calls by which a file became a device of so many sectors, after earlier ones: it was empty and was given its length; or it had
--- its length, and its first two sectors were all zero, unless it may hold anything
+-- the calls by which a file became a device of so many sectors, after earlier ones: it was empty and was given its
+-- length; or it had its length, and its first two sectors were all zero, unless it may hold anything
 abbrev pub IsClaimedBy : Existing → ℕ → List Event → List Event → Type 0
 IsClaimedBy existing sectors earlier calls =
     (calls ≡ Synced true ∷ Lengthened (sectors * 512) true ∷ Measured 0 ∷ earlier)

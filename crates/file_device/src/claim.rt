@@ -24,15 +24,17 @@ pub enum Existing {
 impl<F: FileExt + OpenFile + Drop> Host<F> {
     /// Gives an empty file so many sectors of zeros, and makes its length durable, or takes a file of just that length.
     ///
-    /// `Length` for fewer than 64 sectors and for another length, `NotBlank` where it holds what it may not hold; before
-    /// either nothing of the file is changed. `System` where a call fails.
+    /// `Length` for fewer than 64 sectors and for another length, `NotBlank` where it holds what it may not hold;
+    /// before either nothing of the file is changed. `System` where a call fails.
     pub fn claim(&mut self, sectors: u32, existing: Existing) -> Result<(), OpenError>
         ensures ok { OnOk result (IsClaimedBy existing sectors (events_of self.old) (events_of self.new)) }
         ensures unchanged { IfErr result (λ e. (e ≡ OpenError.Length) ⊎ (e ≡ OpenError.NotBlank) →
             ChangeNothing (events_of self.old) → ChangeNothing (events_of self.new)) }
         ensures length { IfErr result (λ e. e ≡ OpenError.Length → MeasuredOther sectors (events_of self.new)) }
-        ensures not_blank { IfErr result (λ e. e ≡ OpenError.NotBlank → (existing ≡ Existing.Blank) × ReadOther (events_of self.new)) }
-        ensures err { IfErr result (λ e. (fault_of e ≡ Fault.Device) ⊎ ((e ≡ OpenError.Length) ⊎ (e ≡ OpenError.NotBlank))) }
+        ensures not_blank { IfErr result (λ e. e ≡ OpenError.NotBlank → (existing ≡ Existing.Blank)
+            × ReadOther (events_of self.new)) }
+        ensures err { IfErr result
+            (λ e. (fault_of e ≡ Fault.Device) ⊎ ((e ≡ OpenError.Length) ⊎ (e ≡ OpenError.NotBlank))) }
     {
         let length = match self.length() {
             Ok(length) => length,
@@ -52,7 +54,8 @@ impl<F: FileExt + OpenFile + Drop> Host<F> {
 
     // Gives the file its length, and makes it durable.
     fn lengthen_durably(&mut self, length: u64) -> Result<(), OpenError>
-        ensures ok { OnOk result (events_of self.new ≡ Event.Synced true ∷ (Event.Lengthened length true ∷ events_of self.old)) }
+        ensures ok { OnOk result
+            (events_of self.new ≡ Event.Synced true ∷ (Event.Lengthened length true ∷ events_of self.old)) }
         ensures err { IfErr result (λ e. fault_of e ≡ Fault.Device) }
     {
         if let Err(error) = self.lengthen(length) {
@@ -79,7 +82,8 @@ impl<F: FileExt + OpenFile + Drop> Host<F> {
     fn find_zeros(&mut self, i: u32) -> Result<(), OpenError>
         ensures ok { OnOk result (events_of self.new ≡ Event.Read i blank ∷ events_of self.old) }
         ensures unchanged { ChangeNothing (events_of self.old) → ChangeNothing (events_of self.new) }
-        ensures not_blank { IfErr result (λ e. e ≡ OpenError.NotBlank → (i ≡ 0) ⊎ (i ≡ 1) → ReadOther (events_of self.new)) }
+        ensures not_blank { IfErr result (λ e. e ≡ OpenError.NotBlank → (i ≡ 0) ⊎ (i ≡ 1)
+            → ReadOther (events_of self.new)) }
         ensures err { IfErr result (λ e. (fault_of e ≡ Fault.Device) ⊎ (e ≡ OpenError.NotBlank)) }
     {
         let mut sector = [0; 512];

@@ -1,6 +1,8 @@
 // A device over an open file.
-ghost use Rattle.std.specs.Prelude.{◌≡◌, ◌+◌, ◌/◌, ◌%◌, ◌<◌, ◌≤◌, ◌-◌, ◌^◌, length, true, false, min, is_ok, IsTrue, IsErr, OnOk, OnErr};
-ghost use Rattle.sector_device.specs.Device.{HasRun, IsInRun, IsSettled, Stays, Writes, WritesWithin, Syncs, CountsFailure};
+ghost use Rattle.std.specs.Prelude.{◌≡◌, ◌+◌, ◌/◌, ◌%◌, ◌<◌, ◌≤◌, ◌-◌, ◌^◌, length, true, false, min, is_ok, IsTrue};
+ghost use Rattle.std.specs.Prelude.{IsErr, OnOk, OnErr};
+ghost use Rattle.sector_device.specs.Device.{HasRun, IsInRun, IsSettled, Stays, Writes, WritesWithin, Syncs};
+ghost use Rattle.sector_device.specs.Device.{CountsFailure};
 
 use crate::{RawFile, Start};
 use sector_device::{DeviceError, Sectors};
@@ -86,7 +88,8 @@ fn refused(failures: &mut u64) -> DeviceError
 }
 
 impl<F: RawFile, S: Start> Sectors for FileDisk<F, S> {
-    ghost use Rattle.file_device.specs.FileDisk.{calls_of, failures_of, has_broken, is_read_only, state_of, KeepsWord, Breaks};
+    ghost use Rattle.file_device.specs.FileDisk.{calls_of, failures_of, has_broken, is_read_only, state_of, KeepsWord};
+    ghost use Rattle.file_device.specs.FileDisk.{Breaks};
     ghost use Rattle.file_device.specs.Laws.{read_may_stay, whole, counts_now, only_now};
 
     ghost state = { λ f. state_of F.RawFile S.Start f };
@@ -97,11 +100,14 @@ impl<F: RawFile, S: Start> Sectors for FileDisk<F, S> {
 
     ghost failed = { λ f. f.failures };
 
-    ghost read_may_stay = { λ f i word. read_may_stay S.Start.reads S.Start.may_hold S.Start.stays (calls_of F.RawFile S.Start f) i };
+    ghost read_may_stay = { λ f i word. read_may_stay S.Start.reads S.Start.may_hold S.Start.stays
+        (calls_of F.RawFile S.Start f) i };
 
-    ghost whole = { λ f i b word lt. whole S.Start.reads S.Start.may_hold S.Start.stays S.Start.whole (calls_of F.RawFile S.Start f) i b word };
+    ghost whole = { λ f i b word lt. whole S.Start.reads S.Start.may_hold S.Start.stays S.Start.whole
+        (calls_of F.RawFile S.Start f) i b word };
 
-    ghost counts_now = { λ f t image word le. counts_now S.Start.reads S.Start.may_hold (calls_of F.RawFile S.Start f) t image };
+    ghost counts_now = { λ f t image word le. counts_now S.Start.reads S.Start.may_hold (calls_of F.RawFile S.Start f) t
+        image };
 
     ghost only_now = { λ f image word. only_now S.Start.reads S.Start.may_hold (calls_of F.RawFile S.Start f) image };
 
@@ -118,8 +124,10 @@ impl<F: RawFile, S: Start> Sectors for FileDisk<F, S> {
         ensures size { (state_of F.RawFile S.Start self.new).size ≡ (state_of F.RawFile S.Start self.old).size }
         ensures failures { CountsFailure result (failures_of self.old) (failures_of self.new) }
         ensures word { KeepsWord F.RawFile S.Start self.new → KeepsWord F.RawFile S.Start self.old }
-        ensures bytes { OnOk result (KeepsWord F.RawFile S.Start self.new → to.new ≡ (state_of F.RawFile S.Start self.old).reads i) }
-        ensures stays { KeepsWord F.RawFile S.Start self.new → Stays (state_of F.RawFile S.Start self.old) (state_of F.RawFile S.Start self.new) }
+        ensures bytes { OnOk result (KeepsWord F.RawFile S.Start self.new
+            → to.new ≡ (state_of F.RawFile S.Start self.old).reads i) }
+        ensures stays { KeepsWord F.RawFile S.Start self.new
+            → Stays (state_of F.RawFile S.Start self.old) (state_of F.RawFile S.Start self.new) }
 
         ensures refuses { IsTrue (has_broken self.old) → IsErr result }
         ensures broken { has_broken self.new ≡ has_broken self.old }
@@ -137,12 +145,15 @@ impl<F: RawFile, S: Start> Sectors for FileDisk<F, S> {
         ensures size { (state_of F.RawFile S.Start self.new).size ≡ (state_of F.RawFile S.Start self.old).size }
         ensures failures { CountsFailure result (failures_of self.old) (failures_of self.new) }
         ensures word { KeepsWord F.RawFile S.Start self.new → KeepsWord F.RawFile S.Start self.old }
-        ensures written { OnOk result (KeepsWord F.RawFile S.Start self.new → (state_of F.RawFile S.Start self.new).reads i ≡ from.now) }
-        ensures writes { KeepsWord F.RawFile S.Start self.new → Writes i from.now (state_of F.RawFile S.Start self.old) (state_of F.RawFile S.Start self.new) }
+        ensures written { OnOk result (KeepsWord F.RawFile S.Start self.new
+            → (state_of F.RawFile S.Start self.new).reads i ≡ from.now) }
+        ensures writes { KeepsWord F.RawFile S.Start self.new
+            → Writes i from.now (state_of F.RawFile S.Start self.old) (state_of F.RawFile S.Start self.new) }
 
         ensures breaks { Breaks result self.old self.new }
         ensures read_only { is_read_only self.new ≡ is_read_only self.old }
-        ensures no_call { IsTrue (is_read_only self.old) → IsErr result × (calls_of F.RawFile S.Start self.new ≡ calls_of F.RawFile S.Start self.old) }
+        ensures no_call { IsTrue (is_read_only self.old)
+            → IsErr result × (calls_of F.RawFile S.Start self.new ≡ calls_of F.RawFile S.Start self.old) }
     {
         if self.is_broken || self.is_read_only {
             self.is_broken = true;
@@ -160,8 +171,10 @@ impl<F: RawFile, S: Start> Sectors for FileDisk<F, S> {
         ensures size { (state_of F.RawFile S.Start self.new).size ≡ (state_of F.RawFile S.Start self.old).size }
         ensures failures { CountsFailure result (failures_of self.old) (failures_of self.new) }
         ensures word { KeepsWord F.RawFile S.Start self.new → KeepsWord F.RawFile S.Start self.old }
-        ensures bytes { OnOk result (KeepsWord F.RawFile S.Start self.new → HasRun (state_of F.RawFile S.Start self.old).reads first to.new) }
-        ensures stays { KeepsWord F.RawFile S.Start self.new → Stays (state_of F.RawFile S.Start self.old) (state_of F.RawFile S.Start self.new) }
+        ensures bytes { OnOk result (KeepsWord F.RawFile S.Start self.new
+            → HasRun (state_of F.RawFile S.Start self.old).reads first to.new) }
+        ensures stays { KeepsWord F.RawFile S.Start self.new
+            → Stays (state_of F.RawFile S.Start self.old) (state_of F.RawFile S.Start self.new) }
 
         ensures refuses { IsTrue (has_broken self.old) → IsErr result }
         ensures broken { has_broken self.new ≡ has_broken self.old }
@@ -181,12 +194,16 @@ impl<F: RawFile, S: Start> Sectors for FileDisk<F, S> {
         ensures size { (state_of F.RawFile S.Start self.new).size ≡ (state_of F.RawFile S.Start self.old).size }
         ensures failures { CountsFailure result (failures_of self.old) (failures_of self.new) }
         ensures word { KeepsWord F.RawFile S.Start self.new → KeepsWord F.RawFile S.Start self.old }
-        ensures written { OnOk result (KeepsWord F.RawFile S.Start self.new → HasRun (state_of F.RawFile S.Start self.new).reads first from.now) }
-        ensures within { KeepsWord F.RawFile S.Start self.new → WritesWithin (IsInRun first (length from.now / 512)) (state_of F.RawFile S.Start self.old) (state_of F.RawFile S.Start self.new) }
+        ensures written { OnOk result (KeepsWord F.RawFile S.Start self.new
+            → HasRun (state_of F.RawFile S.Start self.new).reads first from.now) }
+        ensures within { KeepsWord F.RawFile S.Start self.new
+            → WritesWithin (IsInRun first (length from.now / 512)) (state_of F.RawFile S.Start self.old)
+            (state_of F.RawFile S.Start self.new) }
 
         ensures breaks { Breaks result self.old self.new }
         ensures read_only { is_read_only self.new ≡ is_read_only self.old }
-        ensures no_call { IsTrue (is_read_only self.old) → IsErr result × (calls_of F.RawFile S.Start self.new ≡ calls_of F.RawFile S.Start self.old) }
+        ensures no_call { IsTrue (is_read_only self.old)
+            → IsErr result × (calls_of F.RawFile S.Start self.new ≡ calls_of F.RawFile S.Start self.old) }
     {
         if self.is_read_only || self.is_broken {
             self.is_broken = true;
@@ -201,9 +218,12 @@ impl<F: RawFile, S: Start> Sectors for FileDisk<F, S> {
         ensures size { (state_of F.RawFile S.Start self.new).size ≡ (state_of F.RawFile S.Start self.old).size }
         ensures failures { CountsFailure result (failures_of self.old) (failures_of self.new) }
         ensures word { KeepsWord F.RawFile S.Start self.new → KeepsWord F.RawFile S.Start self.old }
-        ensures settled { OnOk result (KeepsWord F.RawFile S.Start self.new → IsSettled (state_of F.RawFile S.Start self.new)) }
-        ensures syncs { KeepsWord F.RawFile S.Start self.new → Syncs (state_of F.RawFile S.Start self.old) (state_of F.RawFile S.Start self.new) }
-        ensures unchanged { OnErr result (KeepsWord F.RawFile S.Start self.new → Stays (state_of F.RawFile S.Start self.old) (state_of F.RawFile S.Start self.new)) }
+        ensures settled { OnOk result (KeepsWord F.RawFile S.Start self.new
+            → IsSettled (state_of F.RawFile S.Start self.new)) }
+        ensures syncs { KeepsWord F.RawFile S.Start self.new
+            → Syncs (state_of F.RawFile S.Start self.old) (state_of F.RawFile S.Start self.new) }
+        ensures unchanged { OnErr result (KeepsWord F.RawFile S.Start self.new
+            → Stays (state_of F.RawFile S.Start self.old) (state_of F.RawFile S.Start self.new)) }
 
         ensures breaks { Breaks result self.old self.new }
         ensures read_only { is_read_only self.new ≡ is_read_only self.old }

@@ -47,7 +47,8 @@ impl<F: FileExt + OpenFile + Drop> Host<F> {
 
     /// How many bytes the file has. A call that fails is not recorded.
     pub fn length(&mut self) -> io::Result<u64>
-        ensures { MatchResult result (λ n. events_of self.new ≡ Event.Measured n ∷ events_of self.old) (λ _. events_of self.new ≡ events_of self.old) }
+        ensures { MatchResult result (λ n. events_of self.new ≡ Event.Measured n ∷ events_of self.old)
+            (λ _. events_of self.new ≡ events_of self.old) }
     {
         let length = self.file.metadata()?.len();
         self.calls = self.calls.then(&Event::Measured(length));

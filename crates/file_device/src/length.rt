@@ -13,7 +13,8 @@ pub(crate) const SECTOR: u64 = 512;
 /// How many sectors a file of so many bytes has as a device: a whole number of them, from 64 to 4,294,967,295.
 /// `DeviceSize` for each other length.
 pub fn sectors_of(length: u64) -> Result<u32, Fault>
-    ensures { MatchResult result (λ n. IsDeviceLength length n) (λ e. (e ≡ Fault.DeviceSize) × IsNoDeviceLength length) }
+    ensures { MatchResult result (λ n. IsDeviceLength length n)
+        (λ e. (e ≡ Fault.DeviceSize) × IsNoDeviceLength length) }
 {
     if length % SECTOR != 0 {
         return Err(Fault::DeviceSize);
@@ -27,7 +28,8 @@ pub fn sectors_of(length: u64) -> Result<u32, Fault>
 /// Whether a file of so many bytes has to be given its length to be a device of so many sectors. `DeviceSize`
 /// for fewer than 64 sectors, and for a file that is neither empty nor of just that length.
 pub fn is_to_be_made(length: u64, sectors: u32) -> Result<bool, Fault>
-    ensures { MatchResult result (λ b. IsToBeMade length sectors b) (λ e. (e ≡ Fault.DeviceSize) × IsNotToBeMade length sectors) }
+    ensures { MatchResult result (λ b. IsToBeMade length sectors b)
+        (λ e. (e ≡ Fault.DeviceSize) × IsNotToBeMade length sectors) }
 {
     if sectors < LEAST {
         return Err(Fault::DeviceSize);

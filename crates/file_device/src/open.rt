@@ -24,12 +24,12 @@ pub struct Made<D> {
 impl<F: FileExt + OpenFile + LockFile + Drop, S: Start> FileDisk<Host<F>, S> {
     ghost use Rattle.file_device.specs.FileDisk.{file_of, count_of, failures_of, has_broken, is_read_only};
 
-    /// Makes an absent or empty file one of so many sectors of zeros, or takes a file of just that length that holds what it
-    /// may. The file is locked against all other programs first, until the device is dropped.
+    /// Makes an absent or empty file one of so many sectors of zeros, or takes a file of just that length that holds
+    /// what it may. The file is locked against all other programs first, until the device is dropped.
     ///
-    /// `Length` for fewer than 64 sectors, before any file is made, and for another length; `NotBlank` where its first two
-    /// sectors are not all zero and it may hold nothing; `Locked` where another program holds a lock; `NotRegular`; and
-    /// `System` where a call fails. At a refusal a file that was made is removed again.
+    /// `Length` for fewer than 64 sectors, before any file is made, and for another length; `NotBlank` where its first
+    /// two sectors are not all zero and it may hold nothing; `Locked` where another program holds a lock; `NotRegular`;
+    /// and `System` where a call fails. At a refusal a file that was made is removed again.
     pub fn make<R: Files<File = F>>(
         rt: &R,
         path: &str,
@@ -37,11 +37,14 @@ impl<F: FileExt + OpenFile + LockFile + Drop, S: Start> FileDisk<Host<F>, S> {
         existing: Existing,
     ) -> Result<Made<FileDisk<Host<F>, S>>, OpenError>
         ensures count { IfOk result (λ made. (count_of made.disk ≡ sectors) × (64 ≤ sectors)) }
-        ensures made { IfOk result (λ made. IsClaimedBy existing sectors (Event.Locked LockKind.Exclusive ∷ []) (events_of (file_of made.disk))) }
+        ensures made { IfOk result
+            (λ made. IsClaimedBy existing sectors (Event.Locked LockKind.Exclusive ∷ [])
+            (events_of (file_of made.disk))) }
         ensures fresh { IfOk result (λ made. (failures_of made.disk ≡ 0) × (has_broken made.disk ≡ false)) }
         ensures writable { IfOk result (λ made. is_read_only made.disk ≡ false) }
         ensures few { sectors < 64 → result ≡ Err OpenError.Length }
-        ensures err { IfErr result (λ e. (fault_of e ≡ Fault.Device) ⊎ ((e ≡ OpenError.Length) ⊎ (e ≡ OpenError.NotBlank))) }
+        ensures err { IfErr result
+            (λ e. (fault_of e ≡ Fault.Device) ⊎ ((e ≡ OpenError.Length) ⊎ (e ≡ OpenError.NotBlank))) }
     {
         if is_to_be_made(0, sectors).is_err() {
             return Err(OpenError::Length);
@@ -65,10 +68,12 @@ impl<F: FileExt + OpenFile + LockFile + Drop, S: Start> FileDisk<Host<F>, S> {
     /// Takes a file of a whole number of sectors, at least 64, for reading and writing. It is locked against all other
     /// programs first, until the device is dropped.
     ///
-    /// `Length` for another length; `Locked` where another program holds a lock; `NotRegular`; `System` where a call fails.
+    /// `Length` for another length; `Locked` where another program holds a lock; `NotRegular`; `System` where a call
+    /// fails.
     pub fn open<R: Files<File = F>>(rt: &R, path: &str) -> Result<FileDisk<Host<F>, S>, OpenError>
         ensures count { IfOk result (λ d. 64 ≤ count_of d) }
-        ensures measured { IfOk result (λ d. events_of (file_of d) ≡ Event.Measured (count_of d * 512) ∷ Event.Locked LockKind.Exclusive ∷ []) }
+        ensures measured { IfOk result
+            (λ d. events_of (file_of d) ≡ Event.Measured (count_of d * 512) ∷ Event.Locked LockKind.Exclusive ∷ []) }
         ensures fresh { IfOk result (λ d. (failures_of d ≡ 0) × (has_broken d ≡ false)) }
         ensures writable { IfOk result (λ d. is_read_only d ≡ false) }
         ensures err { IfErr result (λ e. (fault_of e ≡ Fault.Device) ⊎ (e ≡ OpenError.Length)) }
@@ -90,7 +95,8 @@ impl<F: FileExt + OpenFile + LockFile + Drop, S: Start> FileDisk<Host<F>, S> {
         path: &str,
     ) -> Result<FileDisk<Host<F>, S>, OpenError>
         ensures count { IfOk result (λ d. 64 ≤ count_of d) }
-        ensures measured { IfOk result (λ d. events_of (file_of d) ≡ Event.Measured (count_of d * 512) ∷ Event.Locked LockKind.Shared ∷ []) }
+        ensures measured { IfOk result
+            (λ d. events_of (file_of d) ≡ Event.Measured (count_of d * 512) ∷ Event.Locked LockKind.Shared ∷ []) }
         ensures fresh { IfOk result (λ d. (failures_of d ≡ 0) × (has_broken d ≡ false)) }
         ensures read_only { IfOk result (λ d. is_read_only d ≡ true) }
         ensures err { IfErr result (λ e. (fault_of e ≡ Fault.Device) ⊎ (e ≡ OpenError.Length)) }

@@ -1,5 +1,6 @@
 -- Filters: how they are made, and a pass over places.
-use Rattle.std.proofs.Common.{◌≡◌, ◌∙◌, sym, ap, refl, subst, ℕ, zero, suc, ◌+◌, ◌-◌, ◌<◌, ◌≤◌, ◌⊎◌, inl, inr, Bool, true, false, cond, Option, Some, None, List, [], ◌∷◌, length, get_or, take, arith}
+use Rattle.std.proofs.Common.{◌≡◌, ◌∙◌, sym, ap, refl, subst, ℕ, zero, suc, ◌+◌, ◌-◌, ◌<◌, ◌≤◌, ◌⊎◌, inl, inr, Bool}
+use Rattle.std.proofs.Common.{true, false, cond, Option, Some, None, List, [], ◌∷◌, length, get_or, take, arith}
 use Rattle.std.specs.Prelude.{nat_lt, replicate, slice_get, slice_set, unwrap_or}
 use Rattle.std.specs.Int.{from_bool}
 use Rattle.std.specs.List.{filter, list_all}
@@ -41,7 +42,8 @@ nothing_given None e = refl
 nothing_given (Some one) e = absurd (cc e)
 
 -- one mark more
-pub marked : (marks : List Bool) (at k : ℕ) (mark : Bool) → slice_get (slice_set marks at mark) k ≡ Some false → ((k ≡ at) × (mark ≡ false)) ⊎ (slice_get marks k ≡ Some false)
+pub marked : (marks : List Bool) (at k : ℕ) (mark : Bool) → slice_get (slice_set marks at mark) k ≡ Some false
+    → ((k ≡ at) × (mark ≡ false)) ⊎ (slice_get marks k ≡ Some false)
 marked [] at k mark e = inr e
 marked (one ∷ marks) zero zero mark e = inl (refl, cc e)
 marked (one ∷ marks) zero (suc k) mark e = inr e
@@ -56,9 +58,11 @@ found None e = absurd (cc e)
 found (Some true) e = absurd (cc e)
 found (Some false) e = refl
 
-pub filter_shuts : (Shut : ℕ → Type 0) (made : Filter) → OnlyShuts Shut made.first made.passes.items → (key : ℕ) → passes made key ≡ false → Shut key
+pub filter_shuts : (Shut : ℕ → Type 0) (made : Filter) → OnlyShuts Shut made.first made.passes.items → (key : ℕ)
+    → passes made key ≡ false → Shut key
 filter_shuts Shut made only key =
-    (elim (nat_lt key made.first) as (λ b. nat_lt key made.first ≡ b → cond b true (unwrap_or (slice_get made.passes.items (key - made.first)) true) ≡ false → Shut key) [
+    (elim (nat_lt key made.first) as (λ b. nat_lt key made.first ≡ b
+    → cond b true (unwrap_or (slice_get made.passes.items (key - made.first)) true) ≡ false → Shut key) [
       | true ↦ λ is e. absurd (cc e)
       | false ↦ λ is e.
           let at : made.first + (key - made.first) ≡ key = grind (arith, nat_tests, is) in
@@ -66,14 +70,16 @@ filter_shuts Shut made only key =
     ]) refl
 
 -- ---- a pass over places
-pub read_there : {p : ℕ → Bool} {xs ys : List ℕ} {k i : ℕ} → FiltersInPlace p xs ys k i → (d : ℕ) → get_or ys i d ≡ get_or xs i d
+pub read_there : {p : ℕ → Bool} {xs ys : List ℕ} {k i : ℕ} → FiltersInPlace p xs ys k i → (d : ℕ)
+    → get_or ys i d ≡ get_or xs i d
 read_there {p} {xs} {ys} {k} {i} h d =
     let at : i + 0 ≡ i = omega arith in
     ap (λ (n : ℕ). get_or ys n d) (sym at) ∙ sym (get_or-drop i ys 0 d) ∙ ap (λ (l : List ℕ). get_or l 0 d) h.rest
     ∙ get_or-drop i xs 0 d ∙ ap (λ (n : ℕ). get_or xs n d) at
 
 -- written first, and counted only where it passes
-pub pass_more : {p : ℕ → Bool} {xs ys : List ℕ} {k i : ℕ} (x one : ℕ) (b : Bool) → FiltersInPlace p xs ys k i → i < length ys → x ≡ get_or ys i x → p x ≡ b → one ≡ from_bool b
+pub pass_more : {p : ℕ → Bool} {xs ys : List ℕ} {k i : ℕ} (x one : ℕ) (b : Bool) → FiltersInPlace p xs ys k i
+    → i < length ys → x ≡ get_or ys i x → p x ≡ b → one ≡ from_bool b
     → FiltersInPlace p xs (slice_set ys k x) (k + one) (i + 1)
 pass_more {p} {xs} {ys} {k} {i} x one true h lt is e o =
     let more : 1 ≡ one = omega (arith, o) in
@@ -122,22 +128,28 @@ module _ (dimensions : DimRows) (query : Query) (row : LineOrder) where
   fails_on : (axis : Axis) → given_at dimensions query axis (place_on dimensions row axis) ≡ None → on axis ≡ false
   fails_on axis none = given_none dimensions query axis (place_on dimensions row axis) none
 
-  pub left_out : (axis : Axis) → given_at dimensions query axis (place_on dimensions row axis) ≡ None → is_selected dimensions query.conditions row ≡ false
+  pub left_out : (axis : Axis) → given_at dimensions query axis (place_on dimensions row axis) ≡ None
+      → is_selected dimensions query.conditions row ≡ false
   left_out Customer none = selected_by_places dimensions row query.conditions
-      ∙ (λ i. all_five within (fails_on Customer none i) (on Supplier) (on Part) (on Date)) ∙ no_customer within (on Supplier) (on Part) (on Date)
+      ∙ (λ i. all_five within (fails_on Customer none i) (on Supplier) (on Part) (on Date))
+      ∙ no_customer within (on Supplier) (on Part) (on Date)
   left_out Supplier none = selected_by_places dimensions row query.conditions
-      ∙ (λ i. all_five within (on Customer) (fails_on Supplier none i) (on Part) (on Date)) ∙ no_supplier within (on Customer) (on Part) (on Date)
+      ∙ (λ i. all_five within (on Customer) (fails_on Supplier none i) (on Part) (on Date))
+      ∙ no_supplier within (on Customer) (on Part) (on Date)
   left_out Part none = selected_by_places dimensions row query.conditions
-      ∙ (λ i. all_five within (on Customer) (on Supplier) (fails_on Part none i) (on Date)) ∙ no_part within (on Customer) (on Supplier) (on Date)
+      ∙ (λ i. all_five within (on Customer) (on Supplier) (fails_on Part none i) (on Date))
+      ∙ no_part within (on Customer) (on Supplier) (on Date)
   left_out Date none = selected_by_places dimensions row query.conditions
-      ∙ (λ i. all_five within (on Customer) (on Supplier) (on Part) (fails_on Date none i)) ∙ no_date within (on Customer) (on Supplier) (on Part)
+      ∙ (λ i. all_five within (on Customer) (on Supplier) (on Part) (fails_on Date none i))
+      ∙ no_date within (on Customer) (on Supplier) (on Part)
 
 filter_true : (places : List ℕ) → places ≡ filter (λ place. true) places
 filter_true [] = refl
 filter_true (place ∷ places) = ap (λ (l : List ℕ). place ∷ l) (filter_true places)
 
 -- where all are kept
-pub keep_all : (dimensions : DimRows) (query : Query) (rows : List LineOrder) (places : List ℕ) (count : ℕ) → length places ≤ count
+pub keep_all : (dimensions : DimRows) (query : Query) (rows : List LineOrder) (places : List ℕ) (count : ℕ)
+    → length places ≤ count
     → KeepPlaces dimensions query.conditions rows places (take count places)
 keep_all dimensions query rows places count all = record {
   test = λ row. true;
@@ -146,7 +158,8 @@ keep_all dimensions query rows places count all = record {
 }
 
 -- where a filter keeps some
-pub keep_some : (dimensions : DimRows) (query : Query) (axis : Axis) (made : Filter) (rows : List LineOrder) (places some : List ℕ) → IsFilter dimensions query axis made
+pub keep_some : (dimensions : DimRows) (query : Query) (axis : Axis) (made : Filter) (rows : List LineOrder)
+    (places some : List ℕ) → IsFilter dimensions query axis made
     → some ≡ filter (λ place. passes made (key_on axis (row_at rows place))) places
     → KeepPlaces dimensions query.conditions rows places some
 keep_some dimensions query axis made rows places some is kept = record {

@@ -1,8 +1,10 @@
 -- The places of kinds: where codes that are in the order of their first use are first used.
-use Rattle.std.proofs.Common.{◌≡◌, ◌∙◌, sym, ap, refl, subst, ℕ, zero, suc, ◌+◌, ◌==◌, ◌<◌, ◌≤◌, nat_lt, Some, true, false, cond, inl, inr, List, [], ◌∷◌, ◌++◌, drop, length, get_or, arith}
+use Rattle.std.proofs.Common.{◌≡◌, ◌∙◌, sym, ap, refl, subst, ℕ, zero, suc, ◌+◌, ◌==◌, ◌<◌, ◌≤◌, nat_lt, Some, true}
+use Rattle.std.proofs.Common.{false, cond, inl, inr, List, [], ◌∷◌, ◌++◌, drop, length, get_or, arith}
 use Rattle.std.specs.List.{range_with_len}
 use Rattle.std.proofs.lemmas.Bool.{cases_lt, ltb-true}
-use Rattle.std.proofs.lemmas.List.{drop_more, get_or-map, get_or_append_left, get_or_push, length-map, length_push, map-id}
+use Rattle.std.proofs.lemmas.List.{drop_more, get_or-map, get_or_append_left, get_or_push, length-map, length_push}
+use Rattle.std.proofs.lemmas.List.{map-id}
 use Rattle.std.proofs.lemmas.List.FromFn.{get_or-range_with_len, length-range_with_len, map-range_with_len_more}
 use Rattle.std.proofs.lemmas.Bool.Decides.{nat_tests}
 use Rattle.cube_model.specs.declared.attr.Attr.{Attr}
@@ -28,9 +30,12 @@ use Rattle.group_plan.specs.Kinds.{HasEachCode, HasEachKind, kind_at}
 
 -- a code in order is one of those that were used, or the next
 step : (count next code : ℕ) (codes : List ℕ) → in_order count next (code ∷ codes) ≡ true
-    → ((code == next) ≡ false → (code < next) × (in_order count next codes ≡ true)) × (code ≡ next → in_order count (next + 1) codes ≡ true)
+    → ((code == next) ≡ false → (code < next) × (in_order count next codes ≡ true))
+    × (code ≡ next → in_order count (next + 1) codes ≡ true)
 step count next code codes order = (
-  λ apart. elim (nat_lt code next) as (λ b. nat_lt code next ≡ b → cond b (in_order count next codes) (cond (code == next) (in_order count (next + 1) codes) false) ≡ true
+  λ apart. elim (nat_lt code next) as
+      (λ b. nat_lt code next ≡ b
+      → cond b (in_order count next codes) (cond (code == next) (in_order count (next + 1) codes) false) ≡ true
       → (code < next) × (in_order count next codes ≡ true)) [
         | true ↦ λ e o. (ltb-true code next e, o)
         | false ↦ λ e o. absurd (cc (o, ap (λ b. cond b (in_order count (next + 1) codes) false) apart))
@@ -38,7 +43,8 @@ step count next code codes order = (
   λ same.
       let low : nat_lt code next ≡ false = grind (arith, nat_tests, same) in
       let here : (code == next) ≡ true = grind (arith, nat_tests, same) in
-      sym (ap (λ b. cond b (in_order count next codes) (cond (code == next) (in_order count (next + 1) codes) false)) low
+      sym (ap (λ b. cond b (in_order count next codes) (cond (code == next) (in_order count (next + 1) codes) false))
+      low
       ∙ ap (λ b. cond b (in_order count (next + 1) codes) false) here) ∙ order,
 )
 
@@ -61,54 +67,60 @@ module _ (count : ℕ) (codes : List ℕ) where
     all = λ other low. absurd (omega (arith, low));
   }
 
-  module _ (place : ℕ) (places : List ℕ) (first : AreFirst count codes place places) (there : place < length codes) where
-    order_here : in_order count (length places) (get_or codes place 0 ∷ drop (place + 1) codes) ≡ true
-    order_here = ap (in_order count (length places)) (sym (drop_more codes place 0 there)) ∙ first.order
+  module _ (place : ℕ) (places : List ℕ) (first : AreFirst count codes place places) (there : place < length codes)
+    where
+      order_here : in_order count (length places) (get_or codes place 0 ∷ drop (place + 1) codes) ≡ true
+      order_here = ap (in_order count (length places)) (sym (drop_more codes place 0 there)) ∙ first.order
 
-    -- a code that was used
-    pub seen_more : (get_or codes place 0 == length places) ≡ false → AreFirst count codes (place + 1) places
-    seen_more apart =
-        let here = (step count (length places) (get_or codes place 0) (drop (place + 1) codes) order_here).0 apart in
-        record {
-          order = here.1;
-          within = λ code low. omega (arith, first.within code low);
-          own = first.own;
-          all = λ other low. elim (cases_lt other place) [
-            | inl early ↦ first.all other early
-            | inr late ↦
-                let same : other ≡ place = omega (arith, low, late) in
-                subst (λ (n : ℕ). get_or codes n 0 < length places) (sym same) here.0
-          ];
-        }
+      -- a code that was used
+      pub seen_more : (get_or codes place 0 == length places) ≡ false → AreFirst count codes (place + 1) places
+      seen_more apart =
+          let here = (step count (length places) (get_or codes place 0) (drop (place + 1) codes) order_here).0 apart in
+          record {
+            order = here.1;
+            within = λ code low. omega (arith, first.within code low);
+            own = first.own;
+            all = λ other low. elim (cases_lt other place) [
+              | inl early ↦ first.all other early
+              | inr late ↦
+                  let same : other ≡ place = omega (arith, low, late) in
+                  subst (λ (n : ℕ). get_or codes n 0 < length places) (sym same) here.0
+            ];
+          }
 
-    -- the next code
-    pub first_more : get_or codes place 0 ≡ length places → AreFirst count codes (place + 1) (places ++ place ∷ [])
-    first_more same =
-        let longer = length_push places place in
-        let rest = (step count (length places) (get_or codes place 0) (drop (place + 1) codes) order_here).1 same in
-        record {
-          order = subst (λ (n : ℕ). in_order count n (drop (place + 1) codes) ≡ true) (sym longer) rest;
-          within = λ code low. elim (cases_lt code (length places)) [
-            | inl early ↦ (let is = get_or_append_left places (place ∷ []) 0 code early in omega (arith, first.within code early, is))
-            | inr late ↦ (let is = get_or_push places place 0 code (omega (arith, low, late, longer)) in omega (arith, is))
-          ];
-          own = λ code low. elim (cases_lt code (length places)) [
-            | inl early ↦ ap (λ (n : ℕ). get_or codes n 0) (get_or_append_left places (place ∷ []) 0 code early) ∙ first.own code early
-            | inr late ↦
-                (let last : length places ≡ code = omega (arith, low, late, longer) in
-                ap (λ (n : ℕ). get_or codes n 0) (get_or_push places place 0 code last) ∙ same ∙ last)
-          ];
-          all = λ other low. elim (cases_lt other place) [
-            | inl early ↦ (let small = first.all other early in omega (arith, small, longer))
-            | inr late ↦
-                (let last : other ≡ place = omega (arith, low, late) in
-                let is : get_or codes other 0 ≡ length places = ap (λ (n : ℕ). get_or codes n 0) last ∙ same in
-                omega (arith, is, longer))
-          ];
-        }
+      -- the next code
+      pub first_more : get_or codes place 0 ≡ length places → AreFirst count codes (place + 1) (places ++ place ∷ [])
+      first_more same =
+          let longer = length_push places place in
+          let rest = (step count (length places) (get_or codes place 0) (drop (place + 1) codes) order_here).1 same in
+          record {
+            order = subst (λ (n : ℕ). in_order count n (drop (place + 1) codes) ≡ true) (sym longer) rest;
+            within = λ code low. elim (cases_lt code (length places)) [
+              | inl early ↦
+                  (let is = get_or_append_left places (place ∷ []) 0 code early in
+                  omega (arith, first.within code early, is))
+              | inr late ↦
+                  (let is = get_or_push places place 0 code (omega (arith, low, late, longer)) in omega (arith, is))
+            ];
+            own = λ code low. elim (cases_lt code (length places)) [
+              | inl early ↦ ap (λ (n : ℕ). get_or codes n 0) (get_or_append_left places (place ∷ []) 0 code early)
+                  ∙ first.own code early
+              | inr late ↦
+                  (let last : length places ≡ code = omega (arith, low, late, longer) in
+                  ap (λ (n : ℕ). get_or codes n 0) (get_or_push places place 0 code last) ∙ same ∙ last)
+            ];
+            all = λ other low. elim (cases_lt other place) [
+              | inl early ↦ (let small = first.all other early in omega (arith, small, longer))
+              | inr late ↦
+                  (let last : other ≡ place = omega (arith, low, late) in
+                  let is : get_or codes other 0 ≡ length places = ap (λ (n : ℕ). get_or codes n 0) last ∙ same in
+                  omega (arith, is, longer))
+            ];
+          }
 
   -- all were used
-  pub all_first : AreCodes count codes → (place : ℕ) (places : List ℕ) → AreFirst count codes place places → place ≤ length codes → length places ≡ count
+  pub all_first : AreCodes count codes → (place : ℕ) (places : List ℕ) → AreFirst count codes place places
+      → place ≤ length codes → length places ≡ count
       → HasEachCode codes places
   all_first are place places first inside whole = record {
     within = λ code low. omega (arith, first.within code low, inside);
@@ -122,7 +134,8 @@ module _ (count : ℕ) (codes : List ℕ) where
       below (code ∷ list) all (suc other) low = below list all.1 other (omega (arith, low))
 
   -- all were looked at
-  pub last_first : (place : ℕ) (places : List ℕ) → AreFirst count codes place places → place ≡ length codes → HasEachCode codes places
+  pub last_first : (place : ℕ) (places : List ℕ) → AreFirst count codes place places → place ≡ length codes
+      → HasEachCode codes places
   last_first place places first whole = record {
     within = λ code low. omega (arith, first.within code low, whole);
     own = first.own;
@@ -144,40 +157,50 @@ some_column Part = omega arith
 some_column Date = omega arith
 
 module _ (dimensions : DimRows) where
-  codes_on : (attr : Attr) (codes : List ℕ) → attr_column attr ≡ Some 0 → codes ≡ codes_of (column_of 0 (rows_on dimensions (axis_of attr)))
+  codes_on : (attr : Attr) (codes : List ℕ) → attr_column attr ≡ Some 0
+      → codes ≡ codes_of (column_of 0 (rows_on dimensions (axis_of attr)))
       → (length codes ≡ row_count_of dimensions (axis_of attr))
-      × ((place : ℕ) → place < row_count_of dimensions (axis_of attr) → get_or codes place 0 ≡ code_at (texts_of dimensions attr) place)
+      × ((place : ℕ) → place < row_count_of dimensions (axis_of attr)
+      → get_or codes place 0 ≡ code_at (texts_of dimensions attr) place)
   codes_on attr codes e is =
-      let both = codes_at (texts_of dimensions attr) codes (is ∙ ap codes_of (sym (has_column dimensions attr 0 e).0)) in
+      let both = codes_at (texts_of dimensions attr) codes
+      (is ∙ ap codes_of (sym (has_column dimensions attr 0 e).0)) in
       let many = texts_count dimensions attr in
       (both.0 ∙ many, λ place low. both.1 place (omega (arith, low, many)))
 
   -- the codes of the lowest texts are the kinds
-  pub codes_are_kinds : (axis : Axis) (codes : List ℕ) → (axis ≡ Date → ⊥) → codes ≡ codes_of (texts_at_places axis 0 (rows_on dimensions axis))
-      → (length codes ≡ row_count_of dimensions axis) × ((place : ℕ) → place < row_count_of dimensions axis → get_or codes place 0 ≡ kind_at dimensions axis place)
+  pub codes_are_kinds : (axis : Axis) (codes : List ℕ) → (axis ≡ Date → ⊥)
+      → codes ≡ codes_of (texts_at_places axis 0 (rows_on dimensions axis))
+      → (length codes ≡ row_count_of dimensions axis)
+      × ((place : ℕ) → place < row_count_of dimensions axis → get_or codes place 0 ≡ kind_at dimensions axis place)
   codes_are_kinds Customer codes apart is = codes_on CustomerCity codes refl is
   codes_are_kinds Supplier codes apart is = codes_on SupplierCity codes refl is
   codes_are_kinds Part codes apart is = codes_on PartBrand1 codes refl is
   codes_are_kinds Date codes apart is = absurd (apart refl)
 
-  module _ (axis : Axis) (codes places : List ℕ) (apart : axis ≡ Date → ⊥) (is : codes ≡ codes_of (texts_at_places axis 0 (rows_on dimensions axis))) where
+  module _ (axis : Axis) (codes places : List ℕ) (apart : axis ≡ Date → ⊥)
+      (is : codes ≡ codes_of (texts_at_places axis 0 (rows_on dimensions axis))) where
     pub kinds_of_codes : HasEachCode codes places → HasEachKind dimensions axis places
-    kinds_of_codes stand =
+    kinds_of_codes hold =
         let kinds = codes_are_kinds axis codes apart is in
         record {
-          within = λ kind low. omega (arith, stand.within kind low, kinds.0);
-          own = λ kind low. sym (kinds.1 (get_or places kind 0) (omega (arith, stand.within kind low, kinds.0))) ∙ stand.own kind low;
-          all = λ place within. omega (arith, stand.all place (omega (arith, within, kinds.0)), kinds.1 place within);
+          within = λ kind low. omega (arith, hold.within kind low, kinds.0);
+          own = λ kind low. sym (kinds.1 (get_or places kind 0) (omega (arith, hold.within kind low, kinds.0)))
+              ∙ hold.own kind low;
+          all = λ place within. omega (arith, hold.all place (omega (arith, within, kinds.0)), kinds.1 place within);
         }
 
   -- each day is a kind of its own
-  pub days_are_kinds : (axis : Axis) (places : List ℕ) → axis ≡ Date → places ≡ range_with_len 0 (row_count_of dimensions axis) → HasEachKind dimensions axis places
+  pub days_are_kinds : (axis : Axis) (places : List ℕ) → axis ≡ Date
+      → places ≡ range_with_len 0 (row_count_of dimensions axis) → HasEachKind dimensions axis places
   days_are_kinds axis places day are =
       let count = row_count_of dimensions axis in
       let many : length places ≡ count = ap length are ∙ length-range_with_len 0 count in
-      let kind_is : (place : ℕ) → kind_at dimensions axis place ≡ place = λ place. ap (λ a. kind_at dimensions a place) day in
+      let kind_is : (place : ℕ) → kind_at dimensions axis place ≡ place =
+      λ place. ap (λ a. kind_at dimensions a place) day in
       let own : (kind : ℕ) → kind < length places → get_or places kind 0 ≡ kind =
-      λ kind low. (let at : 0 + kind ≡ kind = omega arith in ap (λ (l : List ℕ). get_or l kind 0) are ∙ get_or-range_with_len 0 count kind 0 (omega (arith, low, many)) ∙ at) in
+      λ kind low. (let at : 0 + kind ≡ kind = omega arith in ap (λ (l : List ℕ). get_or l kind 0) are
+      ∙ get_or-range_with_len 0 count kind 0 (omega (arith, low, many)) ∙ at) in
       record {
         within = λ kind low. omega (arith, own kind low, low, many);
         own = λ kind low. kind_is (get_or places kind 0) ∙ own kind low;
@@ -185,9 +208,11 @@ module _ (dimensions : DimRows) where
       }
 
 -- codes are in the order of their first use
-pub in_first_order : (texts : List (List ℕ)) (codes : List ℕ) (count : ℕ) → codes ≡ codes_of texts → count ≡ length (firsts texts) → AreCodes count codes
+pub in_first_order : (texts : List (List ℕ)) (codes : List ℕ) (count : ℕ) → codes ≡ codes_of texts
+    → count ≡ length (firsts texts) → AreCodes count codes
 in_first_order texts codes count is many =
-    subst (λ n. AreCodes n codes) (sym many) (subst (AreCodes (length (firsts texts))) (sym is) (column_has_codes texts).0)
+    subst (λ n. AreCodes n codes) (sym many)
+    (subst (AreCodes (length (firsts texts))) (sym is) (column_has_codes texts).0)
 
 -- one number more
 pub range_next : (count : ℕ) → range_with_len 0 (count + 1) ≡ range_with_len 0 count ++ count ∷ []

@@ -15,8 +15,11 @@ room_bound (a ∷ b ∷ c ∷ d ∷ e ∷ []) few = omega arith
 room_bound (a ∷ b ∷ c ∷ d ∷ e ∷ f ∷ columns) few = absurd (omega (arith, few))
 
 -- one digit more
-product_bound : (digit count : ℕ) (columns : List Attr) → digit ≤ 65536 → count ≤ room_of columns → digit * count ≤ 65536 * room_of columns
+product_bound : (digit count : ℕ) (columns : List Attr) → digit ≤ 65536 → count ≤ room_of columns
+    → digit * count ≤ 65536 * room_of columns
 product_bound digit count columns small within = mul-le digit count 65536 (room_of columns) small within
 
-pub product_fits : (digit count : ℕ) (columns : List Attr) → digit ≤ 65536 → count ≤ room_of columns → length columns ≤ 5 → digit * count < 2 ^ 97
-product_fits digit count columns small within few = omega (arith, product_bound digit count columns small within, room_bound columns few)
+pub product_fits : (digit count : ℕ) (columns : List Attr) → digit ≤ 65536 → count ≤ room_of columns
+    → length columns ≤ 5 → digit * count < 2 ^ 97
+product_fits digit count columns small within few =
+    omega (arith, product_bound digit count columns small within, room_bound columns few)

@@ -20,7 +20,8 @@ abbrev pub all_five : Bool → Bool → Bool → Bool → Bool → Bool
 all_five n c s p d = n && (c && (s && (p && d)))
 
 -- five tests of one thing and of others are five tests of each
-interchange : (n c s p d n' c' s' p' d' : Bool) → (all_five n c s p d && all_five n' c' s' p' d') ≡ all_five (n && n') (c && c') (s && s') (p && p') (d && d')
+interchange : (n c s p d n' c' s' p' d' : Bool)
+    → (all_five n c s p d && all_five n' c' s' p' d') ≡ all_five (n && n') (c && c') (s && s') (p && p') (d && d')
 interchange false c s p d n' c' s' p' d' = refl
 interchange true false s p d true c' s' p' d' = refl
 interchange true false s p d false c' s' p' d' = refl
@@ -39,7 +40,9 @@ interchange true true true true false false c' s' p' d' = refl
 interchange true true true true true n' c' s' p' d' = refl
 
 -- a test on one dimension among the tests on all of them
-among : (axis : Axis) (b : Bool) → b ≡ all_five true (cond (is_same axis Customer) b true) (cond (is_same axis Supplier) b true) (cond (is_same axis Part) b true) (cond (is_same axis Date) b true)
+among : (axis : Axis) (b : Bool)
+    → b ≡ all_five true (cond (is_same axis Customer) b true) (cond (is_same axis Supplier) b true)
+    (cond (is_same axis Part) b true) (cond (is_same axis Date) b true)
 among Customer true = refl
 among Customer false = refl
 among Supplier true = refl
@@ -79,8 +82,11 @@ module _ (dimensions : DimRows) (row : LineOrder) where
   on_axis Date Date text at test is = ap test is
 
   same_place : (attr : Attr) (axis : Axis) (test : List ℕ → Bool)
-      → cond (is_same (axis_of attr) axis) (test (attribute_of dimensions attr row)) true ≡ cond (is_same (axis_of attr) axis) (test (text_at dimensions attr (place_on axis))) true
-  same_place attr axis test = on_axis (axis_of attr) axis (attribute_of dimensions attr row) (λ other. text_at dimensions attr (place_on other)) test (attribute_at_place dimensions attr row)
+      → cond (is_same (axis_of attr) axis) (test (attribute_of dimensions attr row)) true
+      ≡ cond (is_same (axis_of attr) axis) (test (text_at dimensions attr (place_on axis))) true
+  same_place attr axis test =
+      on_axis (axis_of attr) axis (attribute_of dimensions attr row) (λ other. text_at dimensions attr (place_on other))
+      test (attribute_at_place dimensions attr row)
 
   by_text : (attr : Attr) (test : List ℕ → Bool) → test (attribute_of dimensions attr row) ≡ all_five true
       (cond (is_same (axis_of attr) Customer) (test (text_at dimensions attr (place_on Customer))) true)
@@ -88,11 +94,13 @@ module _ (dimensions : DimRows) (row : LineOrder) where
       (cond (is_same (axis_of attr) Part) (test (text_at dimensions attr (place_on Part))) true)
       (cond (is_same (axis_of attr) Date) (test (text_at dimensions attr (place_on Date))) true)
   by_text attr test = among (axis_of attr) (test (attribute_of dimensions attr row))
-      ∙ (λ i. all_five true (same_place attr Customer test i) (same_place attr Supplier test i) (same_place attr Part test i) (same_place attr Date test i))
+      ∙ (λ i. all_five true (same_place attr Customer test i) (same_place attr Supplier test i)
+      (same_place attr Part test i) (same_place attr Date test i))
 
   -- one condition
   one : (condition : Cond) → holds_of dimensions condition row ≡ all_five (holds_in row condition)
-      (holds_at dimensions Customer (place_on Customer) condition) (holds_at dimensions Supplier (place_on Supplier) condition)
+      (holds_at dimensions Customer (place_on Customer) condition)
+      (holds_at dimensions Supplier (place_on Supplier) condition)
       (holds_at dimensions Part (place_on Part) condition) (holds_at dimensions Date (place_on Date) condition)
   one (OneOf attr texts) = by_text attr (λ text. list_any (λ other. bytes_eq other text) texts)
   one (Between attr low high) = by_text attr (λ text. text_le low text && text_le text high)
@@ -105,9 +113,12 @@ module _ (dimensions : DimRows) (row : LineOrder) where
 
   -- a fact row is selected exactly if its numbers and its places are
   pub selected_by_places : (conditions : List Cond) → is_selected dimensions conditions row
-      ≡ all_five (list_all (holds_in row) conditions) (passes_at conditions Customer) (passes_at conditions Supplier) (passes_at conditions Part) (passes_at conditions Date)
+      ≡ all_five (list_all (holds_in row) conditions) (passes_at conditions Customer) (passes_at conditions Supplier)
+      (passes_at conditions Part) (passes_at conditions Date)
   selected_by_places [] = refl
   selected_by_places (condition ∷ conditions) = (λ i. one condition i && selected_by_places conditions i)
-      ∙ interchange (holds_in row condition) (holds_at dimensions Customer (place_on Customer) condition) (holds_at dimensions Supplier (place_on Supplier) condition)
+      ∙ interchange (holds_in row condition) (holds_at dimensions Customer (place_on Customer) condition)
+      (holds_at dimensions Supplier (place_on Supplier) condition)
       (holds_at dimensions Part (place_on Part) condition) (holds_at dimensions Date (place_on Date) condition)
-      (list_all (holds_in row) conditions) (passes_at conditions Customer) (passes_at conditions Supplier) (passes_at conditions Part) (passes_at conditions Date)
+      (list_all (holds_in row) conditions) (passes_at conditions Customer) (passes_at conditions Supplier)
+      (passes_at conditions Part) (passes_at conditions Date)

@@ -3,15 +3,15 @@ use Rattle.std.specs.Prelude.{◌≡◌, List, ◌++◌}
 use Rattle.cube_model.specs.declared.rows.DimRows.{DimRows}
 
 -- rows, with others after them
-abbrev pub HasBehind : {Row : Type 0} → List Row → List Row → Type 0
-HasBehind {Row} rows longer = (more : List Row) × (longer ≡ rows ++ more)
+abbrev pub HasAfter : {Row : Type 0} → List Row → List Row → Type 0
+HasAfter {Row} rows longer = (more : List Row) × (longer ≡ rows ++ more)
 
 -- dimensions with rows added after those of their beginning
 pub record Extend (beginning dimensions : DimRows) : Type 0 where
-  pub customers : HasBehind beginning.customers dimensions.customers
-  pub suppliers : HasBehind beginning.suppliers dimensions.suppliers
-  pub parts : HasBehind beginning.parts dimensions.parts
-  pub dates : HasBehind beginning.dates dimensions.dates
+  pub customers : HasAfter beginning.customers dimensions.customers
+  pub suppliers : HasAfter beginning.suppliers dimensions.suppliers
+  pub parts : HasAfter beginning.parts dimensions.parts
+  pub dates : HasAfter beginning.dates dimensions.dates
 
 -- The dimensions that a plan is handed are those of its beginning: they have the same rows.
 abbrev pub AreThoseOf : DimRows → DimRows → Type 0

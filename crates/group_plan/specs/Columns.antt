@@ -1,5 +1,6 @@
 -- The columns of a query as a plan keeps them: where the digits of each are in the numbers of groups. Our own.
-use Rattle.std.specs.Prelude.{◌≡◌, ℕ, ◌+◌, ◌-◌, ◌*◌, ◌/◌, ◌%◌, ◌<◌, Bool, true, false, List, length, drop, slice_index_or}
+use Rattle.std.specs.Prelude.{◌≡◌, ℕ, ◌+◌, ◌-◌, ◌*◌, ◌/◌, ◌%◌, ◌<◌, Bool, true, false, List, length, drop}
+use Rattle.std.specs.Prelude.{slice_index_or}
 use Rattle.cube_model.specs.declared.answer.Member.{Member}
 use Rattle.cube_model.specs.declared.answer.Member.TheVariants.{All, Text}
 use Rattle.cube_model.specs.declared.attr.Attr.{Attr}

@@ -12,7 +12,8 @@ abbrev pub ArePlaces : List LineOrder → List ℕ → Type 0
 ArePlaces rows places = All (λ place. place < length rows) places
 
 -- some of the places of fact rows, in their order: by a test of rows that each selected row passes
-pub record KeepPlaces (dimensions : DimRows) (conditions : List Cond) (rows : List LineOrder) (all some : List ℕ) : Type 0 where
+pub record KeepPlaces (dimensions : DimRows) (conditions : List Cond) (rows : List LineOrder) (all some : List ℕ) : Type
+    0 where
   pub test : LineOrder → Bool
   pub fails : (row : LineOrder) → test row ≡ false → is_selected dimensions conditions row ≡ false
   pub kept : some ≡ filter (λ place. test (row_at rows place)) all

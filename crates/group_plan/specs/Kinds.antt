@@ -1,6 +1,6 @@
--- The rows of a dimension by kinds: rows of one kind have the same attributes, so what a query does at one of them it does
--- at all. A customer's and a supplier's kind is the code of its city, a part's that of its brand; each day is a kind of its
--- own. Our own.
+-- The rows of a dimension by kinds: rows of one kind have the same attributes, so what a query does at one of them it
+-- does at all. A customer's and a supplier's kind is the code of its city, a part's that of its brand; each day is a
+-- kind of its own. Our own.
 use Rattle.std.specs.Prelude.{◌≡◌, ℕ, ◌<◌, List, length, slice_index_or}
 use Rattle.cube_model.specs.declared.attr.Attr.TheVariants.{CustomerCity, SupplierCity, PartBrand1}
 use Rattle.cube_model.specs.declared.attr.Axis.{Axis}

@@ -1,4 +1,5 @@
--- Rows that have the members of an attribute: a member's rank changes as rows are added after them, a row's place does not. Our own.
+-- Rows that have the members of an attribute: a member's rank changes as rows are added after them, a row's place does
+-- not. Our own.
 use Rattle.std.specs.Prelude.{◌≡◌, ℕ, ◌<◌, List, [], length, slice_index_or}
 use Rattle.cube_model.specs.declared.attr.Attr.{Attr}
 use Rattle.cube_model.specs.declared.rows.DimRows.{DimRows}

@@ -1,6 +1,7 @@
 -- The groups of a query by numbers. The ranks of a group's members are the digits of its number, the first column's the
 -- highest. ALL is the digit after those of a column's members, so that keys rise with their numbers. Our own.
-use Rattle.std.specs.Prelude.{◌≡◌, ℕ, ◌+◌, ◌*◌, ◌/◌, ◌%◌, ◌<◌, nat_lt, true, false, cond, Option, Some, None, List, [], ◌∷◌, map, length, slice_index_or}
+use Rattle.std.specs.Prelude.{◌≡◌, ℕ, ◌+◌, ◌*◌, ◌/◌, ◌%◌, ◌<◌, nat_lt, true, false, cond, Option, Some, None, List, []}
+use Rattle.std.specs.Prelude.{◌∷◌, map, length, slice_index_or}
 use Rattle.std.specs.declared.cmp.Ordering.TheVariants.{Less}
 use Rattle.cube_model.specs.declared.answer.Member.{Member}
 use Rattle.cube_model.specs.declared.answer.Member.TheVariants.{All, Text}
@@ -26,7 +27,8 @@ group_count dimensions (column ∷ columns) = digit_count dimensions column * gr
 -- what a digit of a column means
 abbrev pub member_at : DimRows → Attr → ℕ → Member
 member_at dimensions column digit =
-    cond (nat_lt digit (length (attr_members dimensions column))) (Text (slice_index_or (attr_members dimensions column) digit [])) All
+    cond (nat_lt digit (length (attr_members dimensions column)))
+    (Text (slice_index_or (attr_members dimensions column) digit [])) All
 
 -- the key of the group with a number
 abbrev pub key_at : DimRows → List Attr → ℕ → List Member

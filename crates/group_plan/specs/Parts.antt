@@ -1,6 +1,7 @@
 -- What the row at a place of a dimension says of a query: whether its conditions hold there, and what it adds to the
 -- number of a group. Our own.
-use Rattle.std.specs.Prelude.{◌≡◌, ℕ, ◌+◌, ◌*◌, ◌&&◌, ◌||◌, nat_le, Bool, true, false, if◌then◌else◌, Option, Some, None, List, [], ◌∷◌}
+use Rattle.std.specs.Prelude.{◌≡◌, ℕ, ◌+◌, ◌*◌, ◌&&◌, ◌||◌, nat_le, Bool, true, false, if◌then◌else◌, Option, Some}
+use Rattle.std.specs.Prelude.{None, List, [], ◌∷◌}
 use Rattle.std.specs.List.{list_any, list_all, position_or_len, sum_by}
 use Rattle.std.specs.Str.{bytes_eq}
 use Rattle.cube_model.specs.declared.attr.Attr.{Attr}
@@ -30,7 +31,8 @@ abbrev pub holds_at : DimRows → Axis → ℕ → Cond → Bool
 holds_at dimensions axis place (OneOf attr texts) =
     if is_same (axis_of attr) axis then list_any (λ text. bytes_eq text (text_at dimensions attr place)) texts else true
 holds_at dimensions axis place (Between attr low high) =
-    if is_same (axis_of attr) axis then text_le low (text_at dimensions attr place) && text_le (text_at dimensions attr place) high else true
+    if is_same (axis_of attr) axis then text_le low (text_at dimensions attr place) && text_le
+    (text_at dimensions attr place) high else true
 holds_at dimensions axis place (Quantity low high) = true
 holds_at dimensions axis place (Discount low high) = true
 
@@ -43,7 +45,8 @@ holds_in row (Discount low high) = nat_le low row.discount && nat_le row.discoun
 
 -- the rank of the text at a place among the members of its attribute
 abbrev pub rank_at : DimRows → Attr → ℕ → ℕ
-rank_at dimensions attr place = position_or_len (λ text. bytes_eq text (text_at dimensions attr place)) (attr_members dimensions attr)
+rank_at dimensions attr place =
+    position_or_len (λ text. bytes_eq text (text_at dimensions attr place)) (attr_members dimensions attr)
 
 -- what a place adds to the number of a group: at each column of its dimension the rank there, at that column's digit
 abbrev pub part_at : DimRows → Axis → ℕ → List Attr → ℕ
@@ -67,7 +70,8 @@ part_by dimensions place digits = sum_by (λ digit. rank_at dimensions digit.att
 -- what a place gives: nothing where a condition does not hold
 abbrev pub given_at : DimRows → Query → Axis → ℕ → Option ℕ
 given_at dimensions query axis place =
-    if list_all (holds_at dimensions axis place) query.conditions then Some (part_at dimensions axis place query.columns) else None
+    if list_all (holds_at dimensions axis place) query.conditions then Some
+    (part_at dimensions axis place query.columns) else None
 
 -- what the dimension row with the key of a fact row gives
 abbrev pub given_on : DimRows → Query → LineOrder → Axis → Option ℕ
@@ -82,7 +86,8 @@ is_on axis (Discount low high) = false
 
 -- a column or a condition of a query is on a dimension
 abbrev pub is_used : Query → Axis → Bool
-is_used query axis = list_any (λ column. is_same (axis_of column) axis) query.columns || list_any (is_on axis) query.conditions
+is_used query axis = list_any (λ column. is_same (axis_of column) axis) query.columns || list_any (is_on axis)
+    query.conditions
 
 -- the keys of a fact row are known in the dimensions that a query uses
 abbrev pub IsKnownFor : DimRows → Query → LineOrder → Type 0

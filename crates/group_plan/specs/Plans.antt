@@ -1,5 +1,6 @@
 -- What a plan keeps. Our own.
-use Rattle.std.specs.Prelude.{◌≡◌, ℕ, ◌<◌, ◌≤◌, ◌^◌, ◌&&◌, nat_le, Bool, false, min, max, Option, Some, None, List, length, slice_get, unwrap_or}
+use Rattle.std.specs.Prelude.{◌≡◌, ℕ, ◌<◌, ◌≤◌, ◌^◌, ◌&&◌, nat_le, Bool, false, min, max, Option, Some, None, List}
+use Rattle.std.specs.Prelude.{length, slice_get, unwrap_or}
 use Rattle.std.specs.List.{list_all}
 use Rattle.cube_model.specs.declared.attr.Axis.{Axis}
 use Rattle.cube_model.specs.declared.attr.Axis.TheVariants.{Customer, Supplier, Part, Date}
@@ -16,7 +17,7 @@ use Rattle.group_plan.specs.Kinds.{kind_at}
 use Rattle.group_plan.specs.Numbers.{group_count, KeysRise}
 use Rattle.group_plan.specs.Parts.{given_at, holds_in, is_used}
 use Rattle.group_plan.specs.declared.bounds.Bounds.{Bounds}
-use Rattle.group_plan.specs.declared.plan.Plan.{Plan}
+use Rattle.group_plan.specs.declared.plan.GroupPlan.{GroupPlan}
 use Rattle.group_plan.specs.declared.side.Side.{Side}
 use Rattle.group_plan.specs.declared.side.Side.TheVariants.{Unused, Narrow, Wide}
 use Rattle.group_plan.specs.declared.sides.Sides.{Sides}
@@ -78,19 +79,19 @@ pub record AreSides (dimensions : DimRows) (query : Query) (sides : Sides) : Typ
   pub used : (axis : Axis) → is_used query axis ≡ false → side_in sides axis ≡ Unused
 
 -- what a plan keeps of a dimension
-abbrev pub side_of : Plan → Axis → Side
+abbrev pub side_of : GroupPlan → Axis → Side
 side_of plan axis = side_in plan.sides axis
 
 -- the query of a plan
-abbrev pub query_of : Plan → Query
+abbrev pub query_of : GroupPlan → Query
 query_of plan = plan.query
 
 -- how many groups a plan numbers
-abbrev pub count_of : Plan → ℕ
+abbrev pub count_of : GroupPlan → ℕ
 count_of plan = plan.count
 
 -- A plan made over dimensions: its tables say what its query does at each of their rows, and keys rise with numbers.
-pub record IsPlanOf (dimensions : DimRows) (plan : Plan) : Type 0 where
+pub record IsPlanOf (dimensions : DimRows) (plan : GroupPlan) : Type 0 where
   pub few : length plan.query.columns ≤ 6
   pub within : AreBounds plan.query.conditions plan.bounds
   pub sides : AreSides dimensions plan.query plan.sides
@@ -101,7 +102,7 @@ pub record IsPlanOf (dimensions : DimRows) (plan : Plan) : Type 0 where
   pub fits : plan.count < 2 ^ 128
 
 -- A plan with the dimensions of its beginning. Who hands dimensions to a plan hands it these.
-pub record IsPlanOver (dimensions : DimRows) (plan : Plan) : Type 0 where
+pub record IsPlanOver (dimensions : DimRows) (plan : GroupPlan) : Type 0 where
   pub beginning : DimRows
   pub made : IsPlanOf beginning plan
   pub those : AreThoseOf beginning dimensions

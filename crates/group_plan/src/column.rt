@@ -87,8 +87,10 @@ impl Column {
     /// What a digit means: the text of a row that has the member, and ALL after the last member. Rows that were added
     /// after those that the column was made of do not change it.
     pub fn member(&self, alloc: Global, dims: &Dims, digit: u128) -> Result<Member, AllocError>
-        requires { (beginning : DimRows) × (HaveMembers beginning self.now.attr self.now.places.items × Extend beginning dims.now) }
-        ensures { IfOk result (λ member. (beginning : DimRows) → HaveMembers beginning self.now.attr self.now.places.items
+        requires { (beginning : DimRows)
+            × (HaveMembers beginning self.now.attr self.now.places.items × Extend beginning dims.now) }
+        ensures { IfOk result (λ member. (beginning : DimRows)
+            → HaveMembers beginning self.now.attr self.now.places.items
             → Extend beginning dims.now → member ≡ member_at beginning self.now.attr digit) }
     {
         match self.text(dims, digit) {
@@ -99,8 +101,10 @@ impl Column {
 
     /// The text of the member that a digit represents, where it is: none for ALL.
     pub fn text<'a>(&self, dims: &'a Dims, digit: u128) -> Option<&'a [u8]>
-        requires { (beginning : DimRows) × (HaveMembers beginning self.now.attr self.now.places.items × Extend beginning dims.now) }
-        ensures text { IfSome result (λ text. (beginning : DimRows) → HaveMembers beginning self.now.attr self.now.places.items
+        requires { (beginning : DimRows)
+            × (HaveMembers beginning self.now.attr self.now.places.items × Extend beginning dims.now) }
+        ensures text { IfSome result (λ text. (beginning : DimRows)
+            → HaveMembers beginning self.now.attr self.now.places.items
             → Extend beginning dims.now → member_at beginning self.now.attr digit ≡ Text text.now) }
         ensures all { IfNone result ((beginning : DimRows) → HaveMembers beginning self.now.attr self.now.places.items
             → Extend beginning dims.now → member_at beginning self.now.attr digit ≡ All) }

@@ -73,7 +73,8 @@ impl Filter {
         }
     }
 
-    /// Moves those places of fact rows to the front whose keys are let pass, in their order, and says how many they are.
+    /// Moves those places of fact rows to the front whose keys are let pass, in their order, and says how many they
+    /// are.
     pub fn keep<F: FactRows>(&self, rows: &F, axis: Axis, places: &mut [u32]) -> usize
         requires { ArePlaces (F.rows rows.now) places.old }
         ensures kept { take result places.new

@@ -42,7 +42,8 @@ impl<'a> Kinds<'a> {
     }
 }
 
-/// For each kind of the rows of a dimension, by the kinds, the place of a row of it. It can only fail when out of memory.
+/// For each kind of the rows of a dimension, by the kinds, the place of a row of it. It can only fail when out of
+/// memory.
 pub fn places_of_kinds(alloc: Global, dims: &Dims, axis: Axis) -> Result<Vec<usize>, AllocError>
     ensures { IfOk result (λ places. HasEachKind dims.now axis places.items) }
 {

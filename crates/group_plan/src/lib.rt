@@ -17,7 +17,7 @@ mod side;
 mod sides;
 
 pub use bounds::Bounds;
-pub use over::PlanOver;
-pub use plan::Plan;
+pub use over::GroupPlanOver;
+pub use plan::GroupPlan;
 pub use rows::{FactRows, ModeRows, RowSlice};
 pub use side::UnknownKey;

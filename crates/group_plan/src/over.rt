@@ -1,5 +1,6 @@
 //! A plan with its dimensions.
-ghost use Rattle.std.specs.Prelude.{◌≡◌, ◌+◌, ◌^◌, ◌<◌, ◌≤◌, true, length, take, slice_index_or, slice_set, IfNone, IfOk, IfSome, OnOk, OnErr};
+ghost use Rattle.std.specs.Prelude.{◌≡◌, ◌+◌, ◌^◌, ◌<◌, ◌≤◌, true, length, take, slice_index_or, slice_set, IfNone};
+ghost use Rattle.std.specs.Prelude.{IfOk, IfSome, OnOk, OnErr};
 ghost use Rattle.std.specs.List.{list_all};
 ghost use Rattle.cube_model.specs.declared.answer.Member.TheVariants.{All, Text};
 ghost use Rattle.cube_model.specs.declared.attr.Axis.TheVariants.{Customer, Supplier, Part, Date};
@@ -14,7 +15,7 @@ ghost use Rattle.group_plan.specs.Rows.{row_at};
 
 use crate::bounds::Bounds;
 use crate::kinds::Kinds;
-use crate::plan::Plan;
+use crate::plan::GroupPlan;
 use crate::rows::FactRows;
 use crate::side::UnknownKey;
 use cube_model::{Axis, Items, Member};
@@ -26,12 +27,12 @@ use std::marker::Model;
 ///
 /// Contracts see the query and the dimensions.
 #[derive(Drop)]
-pub struct PlanOver<'a> {
+pub struct GroupPlanOver<'a> {
     dims: &'a Dims,
-    plan: &'a Plan,
+    plan: &'a GroupPlan,
 }
 
-impl<'a> Model for PlanOver<'a> {
+impl<'a> Model for GroupPlanOver<'a> {
     ghost use Rattle.group_plan.specs.Numbers.{Asked};
     ghost use Rattle.group_plan.specs.Plans.{IsPlanOf, query_of};
 
@@ -42,13 +43,13 @@ impl<'a> Model for PlanOver<'a> {
     ghost invariant = { λ over. IsPlanOf over.dims.now over.plan.now };
 }
 
-impl<'a> PlanOver<'a> {
+impl<'a> GroupPlanOver<'a> {
     // A plan with its dimensions.
-    pub(crate) fn of(dims: &'a Dims, plan: &'a Plan) -> PlanOver<'a>
+    pub(crate) fn of(dims: &'a Dims, plan: &'a GroupPlan) -> GroupPlanOver<'a>
         requires { IsPlanOf dims.now plan.now }
         ensures { result ≡ record { dimensions = dims.now; query = query_of plan.now } }
     {
-        PlanOver { dims, plan }
+        GroupPlanOver { dims, plan }
     }
 
     /// The number of the group of the fact row at a place, if the row is selected. It refuses a row with a key that no
@@ -57,7 +58,8 @@ impl<'a> PlanOver<'a> {
     pub fn number<F: FactRows>(&self, rows: &F, place: usize) -> Result<Option<u128>, UnknownKey>
         requires { place < length (F.rows rows.now) }
         ensures ok { IfOk result (IsNumber self.now.dimensions self.now.query (row_at (F.rows rows.now) place)) }
-        ensures unknown { OnErr result (IsKnownFor self.now.dimensions self.now.query (row_at (F.rows rows.now) place) → ⊥) }
+        ensures unknown { OnErr result (IsKnownFor self.now.dimensions self.now.query (row_at (F.rows rows.now) place)
+            → ⊥) }
     {
         let quantity = rows.quantity(place);
         let discount = rows.discount(place);
@@ -73,7 +75,8 @@ impl<'a> PlanOver<'a> {
         requires within { list_all (holds_in (row_at (F.rows rows.now) place)) self.now.query.conditions ≡ true }
         requires fits { group_count self.now.dimensions self.now.query.columns < 2 ^ 128 }
         ensures ok { IfOk result (IsNumber self.now.dimensions self.now.query (row_at (F.rows rows.now) place)) }
-        ensures unknown { OnErr result (IsKnownFor self.now.dimensions self.now.query (row_at (F.rows rows.now) place) → ⊥) }
+        ensures unknown { OnErr result (IsKnownFor self.now.dimensions self.now.query (row_at (F.rows rows.now) place)
+            → ⊥) }
     {
         let customer = match self.given(rows, place, Axis::Customer) {
             Ok(Some(customer)) => customer,
@@ -101,15 +104,16 @@ impl<'a> PlanOver<'a> {
     /// What the dimension row with a key gives to the number of a group: nothing where it fails a condition.
     pub fn part(&self, axis: Axis, key: u32) -> Option<u128>
         requires { row_index_of self.now.dimensions axis key < row_count_of self.now.dimensions axis }
-        ensures { result ≡ given_at self.now.dimensions self.now.query axis (row_index_of self.now.dimensions axis key) }
+        ensures { result ≡ given_at self.now.dimensions self.now.query axis
+            (row_index_of self.now.dimensions axis key) }
     {
         let place = self.dims.row_index(axis, key);
         let kind = Kinds::of(self.dims, axis).at(place);
         self.plan.side(axis).at(kind)
     }
 
-    /// The number of the group of a fact row, if the row is selected, by what the dimension rows with its keys give. It looks
-    /// at no number of the row: they have to be such as the query asks for.
+    /// The number of the group of a fact row, if the row is selected, by what the dimension rows with its keys give. It
+    /// looks at no number of the row: they have to be such as the query asks for.
     #[inline]
     pub fn number_by(
         &self,
@@ -118,7 +122,8 @@ impl<'a> PlanOver<'a> {
         part: Option<u128>,
         date: Option<u128>,
     ) -> Option<u128>
-        ensures { (row : LineOrder) → IsKnown self.now.dimensions row → list_all (holds_in row) self.now.query.conditions ≡ true
+        ensures { (row : LineOrder) → IsKnown self.now.dimensions row
+            → list_all (holds_in row) self.now.query.conditions ≡ true
             → given_on self.now.dimensions self.now.query row Customer ≡ customer
             → given_on self.now.dimensions self.now.query row Supplier ≡ supplier
             → given_on self.now.dimensions self.now.query row Part ≡ part
@@ -166,8 +171,8 @@ impl<'a> PlanOver<'a> {
         filter.keep(rows, axis, places)
     }
 
-    // What the dimension row with the key of a fact row gives to the number of its group. A dimension that the query does
-    // not use is not looked at.
+    // What the dimension row with the key of a fact row gives to the number of its group. A dimension that the query
+    // does not use is not looked at.
     fn given<F: FactRows>(
         &self,
         rows: &F,
@@ -175,7 +180,8 @@ impl<'a> PlanOver<'a> {
         axis: Axis,
     ) -> Result<Option<u128>, UnknownKey>
         requires { place < length (F.rows rows.now) }
-        ensures ok { IfOk result (λ part. part ≡ given_on self.now.dimensions self.now.query (row_at (F.rows rows.now) place) axis) }
+        ensures ok { IfOk result
+            (λ part. part ≡ given_on self.now.dimensions self.now.query (row_at (F.rows rows.now) place) axis) }
         ensures known { OnOk result (is_used self.now.query axis ≡ true
             → IsKnownOn self.now.dimensions (row_at (F.rows rows.now) place) axis) }
         ensures unknown { OnErr result ((is_used self.now.query axis ≡ true
@@ -193,9 +199,11 @@ impl<'a> PlanOver<'a> {
     pub fn text(&self, column: usize, number: u128) -> Option<&'a [u8]>
         requires column { column < length self.now.query.columns }
         requires below { number < group_count self.now.dimensions self.now.query.columns }
-        ensures text { IfSome result (λ text. slice_index_or (key_at self.now.dimensions self.now.query.columns number) column All
+        ensures text { IfSome result
+            (λ text. slice_index_or (key_at self.now.dimensions self.now.query.columns number) column All
             ≡ Text text.now) }
-        ensures all { IfNone result (slice_index_or (key_at self.now.dimensions self.now.query.columns number) column All ≡ All) }
+        ensures all { IfNone result
+            (slice_index_or (key_at self.now.dimensions self.now.query.columns number) column All ≡ All) }
     {
         let kept = &self.plan.columns[column];
         kept.text(self.dims, kept.digit(number))
@@ -229,7 +237,8 @@ impl<'a> PlanOver<'a> {
     /// Whether the group with a number has ALL in a column. After the last column it has.
     pub fn is_all(&self, column: usize, number: u128) -> bool
         requires { number < group_count self.now.dimensions self.now.query.columns }
-        ensures { result ≡ is_all (slice_index_or (key_at self.now.dimensions self.now.query.columns number) column All) }
+        ensures { result
+            ≡ is_all (slice_index_or (key_at self.now.dimensions self.now.query.columns number) column All) }
     {
         column >= self.plan.columns.len() || self.plan.columns[column].is_all(number)
     }

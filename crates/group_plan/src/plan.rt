@@ -11,18 +11,18 @@ use crate::column::Column;
 use crate::copies::copied_query;
 use crate::digits::group_count;
 use crate::filters::Filters;
-use crate::over::PlanOver;
+use crate::over::GroupPlanOver;
 use crate::side::Side;
 use crate::sides::Sides;
 use cube_model::{Axis, Query};
 use dimensions::Dims;
 use std::alloc::{AllocError, Global};
 
-/// A query made ready for some dimensions: its conditions, and what a row adds to the number of a group, are decided once
-/// for all rows with the same attributes. Dimensions that it does not use are not looked at.
+/// A query made ready for some dimensions: its conditions, and what a row adds to the number of a group, are decided
+/// once for all rows with the same attributes. Dimensions that it does not use are not looked at.
 ///
 /// A plan keeps its own copy of the query and its own tables, by kinds of rows and by keys, and borrows nothing.
-pub struct Plan {
+pub struct GroupPlan {
     pub(crate) query: Query,
     pub(crate) bounds: Bounds,
     pub(crate) columns: Vec<Column>,
@@ -32,9 +32,9 @@ pub struct Plan {
 }
 
 // Written out, so that a proof has one call to follow where a plan is let go.
-impl Drop for Plan {
+impl Drop for GroupPlan {
     fn drop(self) {
-        let Plan {
+        let GroupPlan {
             query: _,
             bounds: _,
             columns: _,
@@ -45,9 +45,9 @@ impl Drop for Plan {
     }
 }
 
-impl Plan {
+impl GroupPlan {
     /// Makes a proper query ready. It can only fail when out of memory.
-    pub fn new(alloc: Global, dims: &Dims, query: &Query) -> Result<Plan, AllocError>
+    pub fn new(alloc: Global, dims: &Dims, query: &Query) -> Result<GroupPlan, AllocError>
         requires { IsProper query.now }
         ensures over { IfOk result (IsPlanOver dims.now) }
         ensures query { IfOk result (λ plan. query_of plan ≡ query.now) }
@@ -55,7 +55,7 @@ impl Plan {
         let count = group_count(dims, query.columns.as_slice());
         let (sides, filters) = sides_and_filters(alloc, dims, query, count)?;
         let (copy, columns) = copy_and_columns(alloc, dims, query)?;
-        Ok(Plan {
+        Ok(GroupPlan {
             query: copy,
             bounds: Bounds::of(query.conditions.as_slice()),
             columns,
@@ -87,11 +87,11 @@ impl Plan {
     }
 
     /// The plan with the dimensions that it was made over.
-    pub fn over<'a>(&'a self, dims: &'a Dims) -> PlanOver<'a>
+    pub fn over<'a>(&'a self, dims: &'a Dims) -> GroupPlanOver<'a>
         requires { IsPlanOver dims.now self.now }
         ensures { result ≡ record { dimensions = dims.now; query = query_of self.now } }
     {
-        PlanOver::of(dims, self)
+        GroupPlanOver::of(dims, self)
     }
 }
 
@@ -120,7 +120,8 @@ fn copy_and_columns(
 ) -> Result<(Query, Vec<Column>), AllocError>
     requires few { length query.now.columns ≤ 6 }
     ensures copy { IfOk result (λ both. both.0 ≡ query.now) }
-    ensures columns { IfOk result (λ both. AreColumns dims.now query.now.columns (length query.now.columns) both.1.items) }
+    ensures columns { IfOk result
+        (λ both. AreColumns dims.now query.now.columns (length query.now.columns) both.1.items) }
 {
     let copy = copied_query(alloc, query)?;
     let columns = Column::all(alloc, dims, query.columns.as_slice())?;

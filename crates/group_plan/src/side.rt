@@ -1,5 +1,6 @@
 //! What the rows of one dimension give to the number of a group.
-ghost use Rattle.std.specs.Prelude.{◌≡◌, ◌↔◌, ℕ, ◌<◌, ◌≤◌, ◌^◌, false, length, map, slice_index_or, IfOk, IfSome, IsTrue, OnOk, OnErr};
+ghost use Rattle.std.specs.Prelude.{◌≡◌, ◌↔◌, ℕ, ◌<◌, ◌≤◌, ◌^◌, false, length, map, slice_index_or, IfOk, IfSome};
+ghost use Rattle.std.specs.Prelude.{IsTrue, OnOk, OnErr};
 ghost use Rattle.std.specs.List.{list_any};
 ghost use Rattle.cube_model.specs.Attributes.{axis_of};
 ghost use Rattle.cube_model.specs.Places.{row_index_of, row_count_of};
@@ -65,7 +66,8 @@ impl Side {
 
     /// What the row with a key gives. It refuses a key that no row of the dimension has.
     pub fn given(&self, dims: &Dims, axis: Axis, key: u32) -> Result<Option<u128>, UnknownKey>
-        ensures ok { IfOk result (λ part. part ≡ gives self.now (kind_at dims.now axis (row_index_of dims.now axis key))) }
+        ensures ok { IfOk result
+            (λ part. part ≡ gives self.now (kind_at dims.now axis (row_index_of dims.now axis key))) }
         ensures known { OnOk result (row_index_of dims.now axis key < row_count_of dims.now axis) }
         ensures unknown { OnErr result (row_count_of dims.now axis ≤ row_index_of dims.now axis key) }
     {

@@ -1,5 +1,6 @@
 // A device over the bytes of an image. Nothing changes it, so each of its moments is as the first.
-ghost use Rattle.std.specs.Prelude.{◌≡◌, ◌*◌, ◌/◌, ◌%◌, ◌^◌, ◌<◌, ℕ, [], length, take, drop, IsOk, IsErr, IsSome, IfSome, OnOk, OnErr};
+ghost use Rattle.std.specs.Prelude.{◌≡◌, ◌*◌, ◌/◌, ◌%◌, ◌^◌, ◌<◌, ℕ, [], length, take, drop, IsOk, IsErr, IsSome};
+ghost use Rattle.std.specs.Prelude.{IfSome, OnOk, OnErr};
 ghost use Rattle.sector_device.specs.Device.{CountsFailure, IsSettled, Stays, Syncs, Writes};
 ghost use Rattle.sector_device.specs.Memory.{AreWhole};
 
@@ -24,7 +25,8 @@ impl<'a> ImageDisk<'a> {
     pub fn over(image: &'a [u8]) -> Option<ImageDisk<'a>>
         ensures sectors { IfSome result (λ d. sectors_of d ≡ sectors_in image.now) }
         ensures size { IfSome result (λ d. (state_of d).size * 512 ≡ length image.now) }
-        ensures reads { IfSome result (λ d. (i : ℕ) → i < (state_of d).size → (state_of d).reads i ≡ take 512 (drop (i * 512) image.now)) }
+        ensures reads { IfSome result (λ d. (i : ℕ) → i < (state_of d).size
+            → (state_of d).reads i ≡ take 512 (drop (i * 512) image.now)) }
         ensures settled { IfSome result (λ d. IsSettled (state_of d)) }
         ensures fresh { IfSome result (λ d. failures_of d ≡ 0) }
         ensures some { length image.now % 512 ≡ 0 → length image.now / 512 < 2 ^ 32 → IsSome result }

@@ -21,22 +21,31 @@ use Rattle.warehouse_objects.specs.Warehouse.{fresh}
 use Rattle.warehouse_root.specs.declared.layout.Layout.TheVariants.{First}
 use Rattle.warehouse_root.specs.Root.{first_root, root_of}
 
-module _ (law : PrefixIsLeft) (image : List ℕ) (before after calls : List Call) (none : before ≡ []) (are : calls ≡ after) where
+module _ (law : PrefixIsLeft) (image : List ℕ) (before after calls : List Call) (none : before ≡ [])
+    (are : calls ≡ after) where
   pub creates : (rows : DimRows) → AllShow (device_after image after) (λ c. Represents c (fresh rows))
-      → (Each (device_after image before) IsBlank → LeavesOnly (state_after image before) (state_after image after) (ShowsSomeOrNone (λ c. Represents c (fresh rows)) (length (sectors_in image))))
+      → (Each (device_after image before) IsBlank
+      → LeavesOnly (state_after image before) (state_after image after)
+      (ShowsSomeOrNone (λ c. Represents c (fresh rows)) (length (sectors_in image))))
       → Creates image rows calls
   creates rows represents leaves = record {
-    represents = subst (λ (l : List Call). AllShow (device_after image l) (λ c. Represents c (fresh rows))) (sym are) represents;
-    leaves = λ blank. subst (λ (l : List Call). LeavesAtEach image l (ShowsSomeOrNone (λ c. Represents c (fresh rows)))) (sym are)
-        (at_each law image before after (ShowsSomeOrNone (λ c. Represents c (fresh rows))) none (leaves (at_first image before IsBlank none blank)));
+    represents = subst (λ (l : List Call). AllShow (device_after image l) (λ c. Represents c (fresh rows))) (sym are)
+        represents;
+    leaves = λ blank. subst (λ (l : List Call). LeavesAtEach image l (ShowsSomeOrNone (λ c. Represents c (fresh rows))))
+        (sym are)
+        (at_each law image before after (ShowsSomeOrNone (λ c. Represents c (fresh rows))) none
+        (leaves (at_first image before IsBlank none blank)));
   }
 
-  pub loads : (facts : Facts) (first size : ℕ) (text : List ℕ) (all : LoadsAll facts first size text) → AllShow (device_after image after) (λ c. Represents c (loaded_all all))
-      → LeavesOnly (state_after image before) (state_after image after) (ShowsSome (HoldsSome all.w first size text) (length (sectors_in image)))
+  pub loads : (facts : Facts) (first size : ℕ) (text : List ℕ) (all : LoadsAll facts first size text)
+      → AllShow (device_after image after) (λ c. Represents c (loaded_all all))
+      → LeavesOnly (state_after image before) (state_after image after)
+      (ShowsSome (HoldsSome all.w first size text) (length (sectors_in image)))
       → Loads image facts first size text calls
   loads facts first size text all represents leaves = record {
     all = all;
-    represents = subst (λ (l : List Call). AllShow (device_after image l) (λ c. Represents c (loaded_all all))) (sym are) represents;
+    represents = subst (λ (l : List Call). AllShow (device_after image l) (λ c. Represents c (loaded_all all)))
+        (sym are) represents;
     leaves = subst (λ (l : List Call). LeavesAtEach image l (ShowsSome (HoldsSome all.w first size text))) (sym are)
         (at_each law image before after (ShowsSome (HoldsSome all.w first size text)) none leaves);
   }
@@ -44,8 +53,10 @@ module _ (law : PrefixIsLeft) (image : List ℕ) (before after calls : List Call
 -- a creation is refused
 pub not_created : (image : List ℕ) (rows : DimRows) (before : List Call) (fault : Fault) → before ≡ []
     → (fault ≡ AlreadyFormatted) ⊎ ((fault ≡ DeviceSize) ⊎ ((fault ≡ Device) ⊎ ((fault ≡ Full) ⊎ (fault ≡ Memory))))
-    → (Each (device_after image before) IsBlank → fault ≢ AlreadyFormatted) → (fault ≡ DeviceSize → length (sectors_in image) < 64)
-    → (fault ≡ Full → LacksRoom (empty_room (length (sectors_in image))) (dimension_puts rows) [] (root_of (first_root First)))
+    → (Each (device_after image before) IsBlank → fault ≢ AlreadyFormatted)
+    → (fault ≡ DeviceSize → length (sectors_in image) < 64)
+    → (fault ≡ Full
+    → LacksRoom (empty_room (length (sectors_in image))) (dimension_puts rows) [] (root_of (first_root First)))
     → CreateRefuses image rows (named fault)
 not_created image rows before fault none causes already few full = ⊎_elim
     (λ there. inr (inr (inl (ap named there, λ blank. already (at_first image before IsBlank none blank) there))))

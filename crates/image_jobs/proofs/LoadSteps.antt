@@ -1,5 +1,6 @@
 -- What a load on a device does, by the contracts of an opening and of a load.
-use Rattle.std.proofs.Common.{◌≡◌, ◌⊎◌, ⊎_elim, inl, inr, ℕ, ◌+◌, List, [], length, slice_get, Bool, Option, Some, None, Ok, Err, refl, sym, ap, subst, ◌∙◌}
+use Rattle.std.proofs.Common.{◌≡◌, ◌⊎◌, ⊎_elim, inl, inr, ℕ, ◌+◌, List, [], length, slice_get, Bool, Option, Some, None}
+use Rattle.std.proofs.Common.{Ok, Err, refl, sym, ap, subst, ◌∙◌}
 use Rattle.std.proofs.lemmas.List.{length-map}
 use Rattle.std.proofs.lemmas.Option.{none-some, slice_get-map}
 use Rattle.std.specs.Option.{option_map}
@@ -26,7 +27,8 @@ use Rattle.image_jobs.specs.Loading.{BatchRefuses, HoldsSome, LoadRefuses, Loads
 use Rattle.image_jobs.proofs.Found.{same_facts}
 use Rattle.image_jobs.proofs.Named.{or_memory}
 
-module _ {D : Type 0} (g : Ghosts D) (facts : Facts) (w : Warehouse) (first size : ℕ) (text : List ℕ) (device : D) (opened done : Session D g)
+module _ {D : Type 0} (g : Ghosts D) (facts : Facts) (w : Warehouse) (first size : ℕ) (text : List ℕ) (device : D)
+    (opened done : Session D g)
     (found : MayBeFound facts None w) (before after : Option (List ℕ)) where
   -- until it is open there are no batches of the text
   none_yet : (c : Content) → MayRepresentSince (disk g device) facts None c → HoldsSome w first size text c
@@ -47,22 +49,31 @@ module _ {D : Type 0} (g : Ghosts D) (facts : Facts) (w : Warehouse) (first size
     represents = (jobs.with_batches w first may.some, inl refl, may.represents);
   }
 
-  leaves : Leaves (disk g device) (disk_of g opened) (MayRepresentSince (disk g device) facts None) → Leaves (disk_of g opened) (disk_of g done) (jobs.MayHold w first size (Some text) 0)
+  leaves : Leaves (disk g device) (disk_of g opened) (MayRepresentSince (disk g device) facts None)
+      → Leaves (disk_of g opened) (disk_of g done) (jobs.MayHold w first size (Some text) 0)
       → Leaves (disk g device) (disk_of g done) (HoldsSome w first size text)
   leaves opening load = leaves_then (HoldsSome w first size text) (disk g device) (disk_of g opened) (disk_of g done)
       (leaves_weaker _ (HoldsSome w first size text) (disk g device) (disk_of g opened) (λ k. none_yet) opening)
       (leaves_weaker _ (HoldsSome w first size text) (disk_of g opened) (disk_of g done) (λ k. then_some) load)
 
   -- the batches are those of their numbers then
-  held : {yes : Bool} → LoadHoldsItsBatches Bool g → (load : jobs.Loads {A = Bool} g w first size (Some text) opened done before after (Ok yes)) → (place : ℕ) (rows : List LineOrder)
-      → slice_get (jobs.batches_of load.trace) place ≡ Some rows → numbered (jobs.with_batches w first (jobs.batches_of load.trace)).batches (first + place) ≡ Some rows
+  held : {yes : Bool} → LoadHoldsItsBatches Bool g
+      → (load : jobs.Loads {A = Bool} g w first size (Some text) opened done before after (Ok yes))
+      → (place : ℕ) (rows : List LineOrder)
+      → slice_get (jobs.batches_of load.trace) place ≡ Some rows
+      → numbered (jobs.with_batches w first (jobs.batches_of load.trace)).batches (first + place) ≡ Some rows
   held {yes} law load place rows is = one_of (slice_get load.trace place) refl
     where
-      one_of : (o : Option (jobs.Done g)) → slice_get load.trace place ≡ o → numbered (jobs.with_batches w first (jobs.batches_of load.trace)).batches (first + place) ≡ Some rows
-      one_of None none = absurd (none-some rows (sym (slice_get-map (λ (one : jobs.Done g). one.rows) load.trace place ∙ ap (option_map (λ (one : jobs.Done g). one.rows)) none) ∙ is))
+      one_of : (o : Option (jobs.Done g)) → slice_get load.trace place ≡ o
+          → numbered (jobs.with_batches w first (jobs.batches_of load.trace)).batches (first + place) ≡ Some rows
+      one_of None none =
+          absurd (none-some rows
+          (sym (slice_get-map (λ (one : jobs.Done g). one.rows) load.trace place
+          ∙ ap (option_map (λ (one : jobs.Done g). one.rows)) none) ∙ is))
       one_of (Some one) some =
           law w first size (Some text) opened done before after (Ok yes) load place one some
-          ∙ sym (slice_get-map (λ (one : jobs.Done g). one.rows) load.trace place ∙ ap (option_map (λ (one : jobs.Done g). one.rows)) some) ∙ is
+          ∙ sym (slice_get-map (λ (one : jobs.Done g). one.rows) load.trace place
+          ∙ ap (option_map (λ (one : jobs.Done g). one.rows)) some) ∙ is
 
   pub loads_on : {yes : Bool} → LoadHoldsItsBatches Bool g
       → Leaves (disk g device) (disk_of g opened) (MayRepresentSince (disk g device) facts None)
@@ -70,13 +81,17 @@ module _ {D : Type 0} (g : Ghosts D) (facts : Facts) (w : Warehouse) (first size
       → LoadsOn g facts first size text device (device_of done)
   loads_on {yes} law opening load =
       let same : jobs.session_after opened load.trace ≡ done = sym load.ends.same in
-      let at : IsAt g done (jobs.with_batches w first (jobs.batches_of load.trace)) = subst (λ (s : Session D g). IsAt g s (jobs.with_batches w first (jobs.batches_of load.trace))) same load.at in record {
+      let at : IsAt g done (jobs.with_batches w first (jobs.batches_of load.trace)) =
+      subst (λ (s : Session D g). IsAt g s (jobs.with_batches w first (jobs.batches_of load.trace))) same load.at in
+      record {
         all = record {
           w = w;
           of = same_facts facts w found;
           batches = jobs.batches_of load.trace;
           next = load.next;
-          cut = subst (λ (l : List (List (List ℕ))). AreCutFrom (Some text) size (jobs.batches_of load.trace) load.next l) load.ends.none load.cut;
+          cut = subst
+              (λ (l : List (List (List ℕ))). AreCutFrom (Some text) size (jobs.batches_of load.trace) load.next l)
+              load.ends.none load.cut;
           holds = held law load;
         };
         represents = at.all;
@@ -84,36 +99,59 @@ module _ {D : Type 0} (g : Ghosts D) (facts : Facts) (w : Warehouse) (first size
       }
 
   -- why the store refuses the commit of a batch
-  batch_refuses : (session : Session D g) (v : Warehouse) (number : ℕ) (rows : List LineOrder) (fault : Fault) → jobs.BatchRefuses g session v number rows fault
+  batch_refuses : (session : Session D g) (v : Warehouse) (number : ℕ) (rows : List LineOrder) (fault : Fault)
+      → jobs.BatchRefuses g session v number rows fault
       → (fault ≡ Memory) ⊎ BatchRefuses v number rows fault
   batch_refuses session v number rows fault why = ⊎_elim (λ other. inr (inl other))
       (λ unknown. ⊎_elim (λ memory. inl memory.0)
       (λ more. ⊎_elim (λ refused. inr (inr (more.0, inl refused)))
-      (λ full. ⊎_elim (λ memory. inl memory) (λ room. inr (inr (more.0, inr (full.0, ⊎_elim (λ worn. inr worn.0) (λ none. inl none.0) room)))) full.1)
+      (λ full. ⊎_elim (λ memory. inl memory)
+      (λ room. inr (inr (more.0, inr (full.0, ⊎_elim (λ worn. inr worn.0) (λ none. inl none.0) room)))) full.1)
       more.1)
       unknown)
       why
 
   -- the parts of the text that were not read
-  stops : (load_batches : List (List LineOrder)) (next : ℕ) (left : List (List (List ℕ))) (fault : Fault) → AreCutFrom (Some text) size load_batches next left
-      → (IsNextFault next left fault ⊎ ((rows : List LineOrder) × IsNextBatch next left rows × BatchRefuses (jobs.with_batches w first load_batches) (first + length load_batches) rows fault))
+  stops : (load_batches : List (List LineOrder)) (next : ℕ) (left : List (List (List ℕ))) (fault : Fault)
+      → AreCutFrom (Some text) size load_batches next left
+      → (IsNextFault next left fault
+      ⊎ ((rows : List LineOrder) × IsNextBatch next left rows
+      × BatchRefuses (jobs.with_batches w first load_batches) (first + length load_batches) rows fault))
       → LoadRefuses facts first size text (named fault)
   stops load_batches next left fault cut why = ⊎_elim (λ memory. inl memory) (λ stop. inr (inr (inr stop)))
-      (or_memory (StopsAt facts first size text) fault (record { w = w; of = same_facts facts w found; batches = load_batches; next = next; left = left; cut = cut; why = why }))
+      (or_memory (StopsAt facts first size text) fault
+      (record {
+        w = w;
+        of = same_facts facts w found;
+        batches = load_batches;
+        next = next;
+        left = left;
+        cut = cut;
+        why = why;
+      }))
 
-  pub refuses : {fault : Fault} → jobs.Loads {A = Bool} g w first size (Some text) opened done before after (Err fault) → LoadRefuses facts first size text (named fault)
+  pub refuses : {fault : Fault} → jobs.Loads {A = Bool} g w first size (Some text) opened done before after (Err fault)
+      → LoadRefuses facts first size text (named fault)
   refuses {fault} load =
       let batches : List (List LineOrder) = jobs.batches_of load.trace in
       let many : length load.trace ≡ length batches = sym (length-map load.trace (λ (one : jobs.Done g). one.rows)) in
       ⊎_elim
-      (λ unread. ⊎_elim (λ memory. inl (ap named memory)) (λ other. ⊎_elim (λ input. inr (inl (ap named input))) (λ bad. stops batches load.next load.left fault load.cut (inl bad)) other) unread.cause)
+      (λ unread. ⊎_elim (λ memory. inl (ap named memory))
+      (λ other. ⊎_elim (λ input. inr (inl (ap named input)))
+      (λ bad. stops batches load.next load.left fault load.cut (inl bad)) other) unread.cause)
       (λ later. ⊎_elim
       (λ in_batch. ⊎_elim
       (λ refused. ⊎_elim (λ failed. inl (ap named failed.0))
       (λ why. ⊎_elim (λ memory. inl (ap named memory))
       (λ batch. stops batches load.next load.left fault load.cut
-      (inr (in_batch.rows, in_batch.read, subst (λ (n : ℕ). BatchRefuses (jobs.with_batches w first batches) (first + n) in_batch.rows fault) many batch)))
-      (batch_refuses (jobs.session_after opened load.trace) (jobs.with_batches w first batches) (first + length load.trace) in_batch.rows fault why.0))
+      (inr (
+        in_batch.rows,
+        in_batch.read,
+        subst (λ (n : ℕ). BatchRefuses (jobs.with_batches w first batches) (first + n) in_batch.rows fault) many
+            batch,
+      )))
+      (batch_refuses (jobs.session_after opened load.trace) (jobs.with_batches w first batches)
+      (first + length load.trace) in_batch.rows fault why.0))
       refused.0.cause)
       (λ output. inr (inr (inl (ap named output.0))))
       in_batch.ends)
@@ -122,5 +160,7 @@ module _ {D : Type 0} (g : Ghosts D) (facts : Facts) (w : Warehouse) (first size
       load.ends
 
 -- an opening is refused
-pub not_opened : (facts : Facts) (first size : ℕ) (text : List ℕ) (fault : Fault) → (fault ≡ Memory) ⊎ (fault ≡ Device) → LoadRefuses facts first size text (named fault)
-not_opened facts first size text fault why = ⊎_elim (λ memory. inl (ap named memory)) (λ device. inl (ap named device)) why
+pub not_opened : (facts : Facts) (first size : ℕ) (text : List ℕ) (fault : Fault) → (fault ≡ Memory) ⊎ (fault ≡ Device)
+    → LoadRefuses facts first size text (named fault)
+not_opened facts first size text fault why =
+    ⊎_elim (λ memory. inl (ap named memory)) (λ device. inl (ap named device)) why

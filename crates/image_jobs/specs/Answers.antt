@@ -17,11 +17,13 @@ pub record Answers (facts : Facts) (as_of : Option ℕ) (asked : Asked) (text : 
   pub is_asked : IsAsked w (asked_for w as_of) asked.query
   pub text_is : text ≡ answered_by (formatted asked) w (asked_for w as_of) asked.query
 
--- There is no memory, also for the text (Output), the device failed, or the query is refused over a warehouse of these facts.
+-- There is no memory, also for the text (Output), the device failed, or the query is refused over a warehouse of these
+-- facts.
 abbrev pub AnswerRefuses : Facts → Option ℕ → Asked → Fault → Type 0
 AnswerRefuses facts as_of asked fault =
     ((fault ≡ Memory) ⊎ (fault ≡ Output))
-    ⊎ ((fault ≡ Device) ⊎ ((w : Warehouse) × (facts_in w ≡ facts) × QueryRefuses w (asked_for w as_of) asked.query fault))
+    ⊎ ((fault ≡ Device)
+    ⊎ ((w : Warehouse) × (facts_in w ≡ facts) × QueryRefuses w (asked_for w as_of) asked.query fault))
 
 -- the bytes are no whole sectors, or too many
 abbrev pub IsNoDevice : List ℕ → Fault → Type 0

@@ -30,21 +30,24 @@ RefusesTables customer supplier part date fault =
 pub record Creates (image : List ℕ) (rows : DimRows) (calls : List Call) : Type 0 where
   pub represents : AllShow (device_after image calls) (λ c. Represents c (fresh rows))
   -- where the bytes have no valid superblock, a crash after any of the calls leaves none, or this warehouse
-  pub leaves : Each (device_over image) IsBlank → LeavesAtEach image calls (ShowsSomeOrNone (λ c. Represents c (fresh rows)))
+  pub leaves : Each (device_over image) IsBlank
+      → LeavesAtEach image calls (ShowsSomeOrNone (λ c. Represents c (fresh rows)))
 
--- no warehouse of these dimensions can be made of the bytes: there is no memory; they are no whole sectors, or too few or too many;
--- some image of them has a valid superblock; or the dimensions do not fit
+-- no warehouse of these dimensions can be made of the bytes: there is no memory; they are no whole sectors, or too few
+-- or too many; some image of them has a valid superblock; or the dimensions do not fit
 abbrev pub CreateRefuses : List ℕ → DimRows → Fault → Type 0
 CreateRefuses image rows fault =
     (fault ≡ Memory)
     ⊎ (((fault ≡ DeviceSize) × ((AreSectors image → ⊥) ⊎ (length (sectors_in image) < 64)))
     ⊎ (((fault ≡ AlreadyFormatted) × (Each (device_over image) IsBlank → ⊥))
-    ⊎ ((fault ≡ Full) × LacksRoom (empty_room (length (sectors_in image))) (dimension_puts rows) [] (root_of (first_root First)))))
+    ⊎ ((fault ≡ Full) × LacksRoom (empty_room (length (sectors_in image))) (dimension_puts rows) []
+    (root_of (first_root First)))))
 
 -- the journal that makes the warehouse of four tables
 abbrev pub IsCreateJournal : List ℕ → (customer supplier part date : List ℕ) → List ℕ → Type 0
 IsCreateJournal image customer supplier part date journal =
-    (rows : DimRows) × (rows_of_tables customer supplier part date ≡ Ok rows) × IsJournal image (Creates image rows) journal
+    (rows : DimRows) × (rows_of_tables customer supplier part date ≡ Ok rows)
+    × IsJournal image (Creates image rows) journal
 
 -- why there is none
 abbrev pub RefusesCreate : List ℕ → (customer supplier part date : List ℕ) → Fault → Type 0

@@ -18,15 +18,16 @@ use Rattle.warehouse.specs.Found.{MayRepresent}
 use Rattle.warehouse_jobs.specs.Cutting.{AreCutFrom, IsNextBatch, IsNextFault}
 use Rattle.warehouse_jobs.specs.Loading.{with_batches}
 
--- What is loaded into a warehouse of these facts: all batches of a text, so many lines a batch, the first of them with a number. Those
--- that are there already have exactly these rows
+-- What is loaded into a warehouse of these facts: all batches of a text, so many lines a batch, the first of them with
+-- a number. Those that are there already have exactly these rows
 pub record LoadsAll (facts : Facts) (first size : ℕ) (text : List ℕ) : Type 0 where
   pub w : Warehouse
   pub of : facts_in w ≡ facts
   pub batches : List (List LineOrder)
   pub next : ℕ
   pub cut : AreCutFrom (Some text) size batches next []
-  pub holds : (place : ℕ) (rows : List LineOrder) → slice_get batches place ≡ Some rows → numbered (with_batches w first batches).batches (first + place) ≡ Some rows
+  pub holds : (place : ℕ) (rows : List LineOrder) → slice_get batches place ≡ Some rows
+      → numbered (with_batches w first batches).batches (first + place) ≡ Some rows
 
 -- the warehouse then
 abbrev pub loaded_all : {facts : Facts} {first size : ℕ} {text : List ℕ} → LoadsAll facts first size text → Warehouse
@@ -41,10 +42,11 @@ pub record HoldsSome (w : Warehouse) (first size : ℕ) (text : List ℕ) (c : C
   pub represents : MayRepresent (facts_in (with_batches w first some)) None c
 
 -- a text was loaded into the warehouse on a device
-pub record LoadsOn {D : Type 0} (g : Ghosts D) (facts : Facts) (first size : ℕ) (text : List ℕ) (old new : D) : Type 0 where
-  pub all : LoadsAll facts first size text
-  pub represents : AllShow (disk g new) (λ c. Represents c (loaded_all all))
-  pub leaves : Leaves (disk g old) (disk g new) (HoldsSome all.w first size text)
+pub record LoadsOn {D : Type 0} (g : Ghosts D) (facts : Facts) (first size : ℕ) (text : List ℕ) (old new : D) : Type 0
+  where
+    pub all : LoadsAll facts first size text
+    pub represents : AllShow (disk g new) (λ c. Represents c (loaded_all all))
+    pub leaves : Leaves (disk g old) (disk g new) (HoldsSome all.w first size text)
 
 -- the calls load a text into the warehouse that the bytes hold
 pub record Loads (image : List ℕ) (facts : Facts) (first size : ℕ) (text : List ℕ) (calls : List Call) : Type 0 where
@@ -53,11 +55,13 @@ pub record Loads (image : List ℕ) (facts : Facts) (first size : ℕ) (text : L
   -- a crash after any of the calls leaves the warehouse with the first batches of the text
   pub leaves : LeavesAtEach image calls (ShowsSome (HoldsSome all.w first size text))
 
--- a batch is refused: the one of its number is another; or there is none of its number, and it is not admissible, or does not fit
+-- a batch is refused: the one of its number is another; or there is none of its number, and it is not admissible, or
+-- does not fit
 abbrev pub BatchRefuses : Warehouse → ℕ → List LineOrder → Fault → Type 0
 BatchRefuses w number rows fault =
     ((fault ≡ Repeated) × (number ≤ length w.batches) × (numbered w.batches number ≢ Some rows))
-    ⊎ ((length w.batches < number) × ((refusal_of w number rows ≡ Some fault) ⊎ (Admits w number rows × ((fault ≡ Full) ⊎ (fault ≡ Worn)))))
+    ⊎ ((length w.batches < number)
+    × ((refusal_of w number rows ≡ Some fault) ⊎ (Admits w number rows × ((fault ≡ Full) ⊎ (fault ≡ Worn)))))
 
 -- after the first batches of a text the next one cannot be read, or is refused
 pub record StopsAt (facts : Facts) (first size : ℕ) (text : List ℕ) (fault : Fault) : Type 0 where
@@ -68,17 +72,21 @@ pub record StopsAt (facts : Facts) (first size : ℕ) (text : List ℕ) (fault :
   pub left : List (List (List ℕ))
   pub cut : AreCutFrom (Some text) size batches next left
   pub why : IsNextFault next left fault
-      ⊎ ((rows : List LineOrder) × IsNextBatch next left rows × BatchRefuses (with_batches w first batches) (first + length batches) rows fault)
+      ⊎ ((rows : List LineOrder) × IsNextBatch next left rows
+      × BatchRefuses (with_batches w first batches) (first + length batches) rows fault)
 
--- There is no memory, or none for the lines of the batches (Output), or a reader failed; or the load stops at a line or a batch.
+-- There is no memory, or none for the lines of the batches (Output), or a reader failed; or the load stops at a line or
+-- a batch.
 abbrev pub LoadRefuses : Facts → (first size : ℕ) → List ℕ → Fault → Type 0
 LoadRefuses facts first size text fault =
     (fault ≡ Memory) ⊎ ((fault ≡ Input) ⊎ ((fault ≡ Output) ⊎ StopsAt facts first size text fault))
 
 -- the journal of a load, whatever warehouse the bytes of the file hold
 abbrev pub IsLoadJournal : List ℕ → (first size : ℕ) → List ℕ → List ℕ → Type 0
-IsLoadJournal image first size text = IsJournal image (λ calls. (facts : Facts) → Holds image facts → Loads image facts first size text calls)
+IsLoadJournal image first size text =
+    IsJournal image (λ calls. (facts : Facts) → Holds image facts → Loads image facts first size text calls)
 
 -- why there is none
 abbrev pub RefusesLoad : List ℕ → (first size : ℕ) → List ℕ → Fault → Type 0
-RefusesLoad image first size text fault = (facts : Facts) → Holds image facts → IsNoDevice image fault ⊎ LoadRefuses facts first size text fault
+RefusesLoad image first size text fault = (facts : Facts) → Holds image facts → IsNoDevice image fault
+    ⊎ LoadRefuses facts first size text fault

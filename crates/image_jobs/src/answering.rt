@@ -26,8 +26,10 @@ pub fn answer(
     as_of: Option<u32>,
     asked: &Asked,
 ) -> Result<Vec<u8>, Fault>
-    ensures answers { IfOk result (λ text. (facts : Facts) → Holds image.now facts → Answers facts as_of asked.now text.items) }
-    ensures refused { IfErr result (λ fault. (facts : Facts) → Holds image.now facts → IsNoDevice image.now fault ⊎ AnswerRefuses facts as_of asked.now fault) }
+    ensures answers { IfOk result (λ text. (facts : Facts) → Holds image.now facts
+        → Answers facts as_of asked.now text.items) }
+    ensures refused { IfErr result (λ fault. (facts : Facts) → Holds image.now facts → IsNoDevice image.now fault
+        ⊎ AnswerRefuses facts as_of asked.now fault) }
 {
     let Some(disk) = ImageDisk::over(image) else {
         return Err(Fault::DeviceSize);
@@ -42,9 +44,11 @@ fn answer_on<D: Sectors + Drop>(
     as_of: Option<u32>,
     asked: &Asked,
 ) -> Result<Vec<u8>, Fault>
-    ensures answers { IfOk result (λ text. ((d : D) → D.keeps_word d) → (facts : Facts) → AllShow (disk D.Sectors device) (MayRepresent facts None)
+    ensures answers { IfOk result (λ text. ((d : D) → D.keeps_word d) → (facts : Facts)
+        → AllShow (disk D.Sectors device) (MayRepresent facts None)
         → Answers facts as_of asked.now text.items) }
-    ensures refused { IfErr result (λ fault. ((d : D) → D.keeps_word d) → (facts : Facts) → AllShow (disk D.Sectors device) (MayRepresent facts None)
+    ensures refused { IfErr result (λ fault. ((d : D) → D.keeps_word d) → (facts : Facts)
+        → AllShow (disk D.Sectors device) (MayRepresent facts None)
         → AnswerRefuses facts as_of asked.now fault) }
 {
     let mut session = match open_as_is(alloc, device) {

@@ -12,12 +12,12 @@ use ssb_eval::read_dimensions;
 use std::alloc::Global;
 use std::marker::Brand;
 
-/// The journal that makes a warehouse without batches of the bytes of a file without one, such as a new file of zeros: the
-/// calls that the file is to be given, in order. Its dimensions are the rows of four tables.
+/// The journal that makes a warehouse without batches of the bytes of a file without one, such as a new file of zeros:
+/// the calls that the file is to be given, in order. Its dimensions are the rows of four tables.
 ///
-/// `DeviceSize` where the bytes are no whole number of sectors, fewer than 64 sectors, or 2^32 or more; `AlreadyFormatted`
-/// where they have a valid superblock; `Full` where the dimensions do not fit; the refusals of the tables; and `Memory`,
-/// also where there is none for the journal.
+/// `DeviceSize` where the bytes are no whole number of sectors, fewer than 64 sectors, or 2^32 or more;
+/// `AlreadyFormatted` where they have a valid superblock; `Full` where the dimensions do not fit; the refusals of the
+/// tables; and `Memory`, also where there is none for the journal.
 pub fn create(
     alloc: Global,
     image: &[u8],
@@ -26,7 +26,8 @@ pub fn create(
     part: &[u8],
     date: &[u8],
 ) -> Result<Vec<u8>, Fault>
-    ensures creates { IfOk result (λ journal. IsCreateJournal image.now customer.now supplier.now part.now date.now journal.items) }
+    ensures creates { IfOk result
+        (λ journal. IsCreateJournal image.now customer.now supplier.now part.now date.now journal.items) }
     ensures refused { IfErr result (RefusesCreate image.now customer.now supplier.now part.now date.now) }
 {
     let dims = read_dimensions(alloc, customer, supplier, part, date)?;

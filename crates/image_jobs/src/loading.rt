@@ -18,13 +18,13 @@ use warehouse::open;
 use warehouse_jobs::laws::load_holds_its_batches;
 use warehouse_jobs::{BatchNumber, BatchRows, Job, perform};
 
-/// The journal that loads fact rows into the warehouse that the bytes of a file hold: the calls that the file is to be given,
-/// in order. The batches have so many rows, the last one maybe fewer, and the first of them has a number. One that is there
-/// already is passed over where it has exactly these rows. An upkeep that was cut off is finished first.
+/// The journal that loads fact rows into the warehouse that the bytes of a file hold: the calls that the file is to be
+/// given, in order. The batches have so many rows, the last one maybe fewer, and the first of them has a number. One
+/// that is there already is passed over where it has exactly these rows. An upkeep that was cut off is finished first.
 ///
-/// `DeviceSize` where the bytes are no whole number of sectors; the causes of an opening where they hold no warehouse; the
-/// refusal of the first line or batch that has one; and `Memory`, also where there is none for the journal. The journal is
-/// that of all batches, or there is none.
+/// `DeviceSize` where the bytes are no whole number of sectors; the causes of an opening where they hold no warehouse;
+/// the refusal of the first line or batch that has one; and `Memory`, also where there is none for the journal. The
+/// journal is that of all batches, or there is none.
 pub fn load(
     alloc: Global,
     image: &[u8],
@@ -48,7 +48,9 @@ fn load_over<O: Origin>(
     lineorder: &[u8],
 ) -> Result<Vec<Call>, Fault>
     requires origin { image.now ≡ O.image }
-    ensures loads { IfOk result (λ calls. AreFor O.image (λ done. (facts : Facts) → Holds O.image facts → Loads O.image facts first rows lineorder.now done) calls.items) }
+    ensures loads { IfOk result
+        (λ calls. AreFor O.image (λ done. (facts : Facts) → Holds O.image facts
+        → Loads O.image facts first rows lineorder.now done) calls.items) }
     ensures refused { IfErr result (RefusesLoad O.image first rows lineorder.now) }
 {
     prefix_is_left();
@@ -69,9 +71,11 @@ fn load_on<D: Sectors + Drop>(
     rows: BatchRows,
     lineorder: &[u8],
 ) -> Result<D, Fault>
-    ensures loads { IfOk result (λ new. ((d : D) → D.keeps_word d) → (facts : Facts) → AllShow (disk D.Sectors device) (MayRepresent facts None)
+    ensures loads { IfOk result (λ new. ((d : D) → D.keeps_word d) → (facts : Facts)
+        → AllShow (disk D.Sectors device) (MayRepresent facts None)
         → LoadsOn D.Sectors facts first rows lineorder.now device new) }
-    ensures refused { IfErr result (λ fault. ((d : D) → D.keeps_word d) → (facts : Facts) → AllShow (disk D.Sectors device) (MayRepresent facts None)
+    ensures refused { IfErr result (λ fault. ((d : D) → D.keeps_word d) → (facts : Facts)
+        → AllShow (disk D.Sectors device) (MayRepresent facts None)
         → LoadRefuses facts first rows lineorder.now fault) }
 {
     load_holds_its_batches::<D, bool>();

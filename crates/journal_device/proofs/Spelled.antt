@@ -1,5 +1,6 @@
 -- A journal spells one list of calls.
-use Rattle.std.proofs.Common.{◌≡◌, ℕ, ◌+◌, ◌^◌, ◌-◌, ◌<◌, List, [], ◌∷◌, ◌++◌, length, take, drop, refl, sym, ◌∙◌, ap, append_assoc, arith, length-append}
+use Rattle.std.proofs.Common.{◌≡◌, ℕ, ◌+◌, ◌^◌, ◌-◌, ◌<◌, List, [], ◌∷◌, ◌++◌, length, take, drop, refl, sym, ◌∙◌, ap}
+use Rattle.std.proofs.Common.{append_assoc, arith, length-append}
 use Rattle.std.proofs.Math.Seq.{drop-append-add}
 use Rattle.std.proofs.lemmas.List.{take_at}
 use Rattle.std.proofs.lemmas.List.Elements.{All-head, All-tail}
@@ -11,8 +12,16 @@ use Rattle.journal_device.specs.declared.call.Call.{Call}
 use Rattle.journal_device.specs.declared.call.Call.TheVariants.{Write, Sync}
 
 never_empty : (call : Call) (rest : List ℕ) → [] ≡ spelled_call call ++ rest → ⊥
-never_empty (Write i bytes) rest is = omega (arith, ap length is, length-append (spelling 4 i ++ bytes) rest, length-append (spelling 4 i) bytes, length-spelling 4 i)
-never_empty Sync rest is = omega (arith, ap length is, length-append (spelling 4 (2 ^ 32 - 1)) rest, length-spelling 4 (2 ^ 32 - 1))
+never_empty (Write i bytes) rest is =
+    omega (
+      arith,
+      ap length is,
+      length-append (spelling 4 i ++ bytes) rest,
+      length-append (spelling 4 i) bytes,
+      length-spelling 4 i,
+    )
+never_empty Sync rest is =
+    omega (arith, ap length is, length-append (spelling 4 (2 ^ 32 - 1)) rest, length-spelling 4 (2 ^ 32 - 1))
 
 -- bytes of one length before others
 same_parts : (b e xs ys : List ℕ) → length b ≡ 512 → length e ≡ 512 → b ++ xs ≡ e ++ ys → (b ≡ e) × (xs ≡ ys)
@@ -20,19 +29,28 @@ same_parts b e xs ys many as_many is =
     let front : (z zs : List ℕ) → length z ≡ 512 → take 512 (z ++ zs) ≡ z = λ z zs long. take_at z zs 512 long in
     let back : (z zs : List ℕ) → length z ≡ 512 → drop 512 (z ++ zs) ≡ zs = λ z zs long.
     let many : 512 ≡ length z + 0 = omega (arith, long) in
-    ap (λ (n : ℕ). drop n (z ++ zs)) many ∙ drop-append-add z zs 0 in
-    (sym (front b xs many) ∙ ap (take 512) is ∙ front e ys as_many, sym (back b xs many) ∙ ap (drop 512) is ∙ back e ys as_many)
+    ap (λ (n : ℕ). drop n (z ++ zs)) many ∙ drop-append-add z zs 0 in (
+      sym (front b xs many) ∙ ap (take 512) is ∙ front e ys as_many,
+      sym (back b xs many) ∙ ap (drop 512) is
+          ∙ back e ys as_many,
+    )
 
-one_call : (size : ℕ) (c d : Call) (xs ys : List ℕ) → size < 2 ^ 32 → IsWithin size c → IsWithin size d → spelled_call c ++ xs ≡ spelled_call d ++ ys → (c ≡ d) × (xs ≡ ys)
+one_call : (size : ℕ) (c d : Call) (xs ys : List ℕ) → size < 2 ^ 32 → IsWithin size c → IsWithin size d
+    → spelled_call c ++ xs ≡ spelled_call d ++ ys → (c ≡ d) × (xs ≡ ys)
 one_call size (Write i b) (Write j e) xs ys few c_in d_in is =
-    let first = spelling-one 4 i j (b ++ xs) (e ++ ys) (omega (arith, few, (c_in i b refl).0)) (omega (arith, few, (d_in j e refl).0)) (sym (append_assoc (spelling 4 i) b xs) ∙ is ∙ append_assoc (spelling 4 j) e ys) in
+    let first =
+    spelling-one 4 i j (b ++ xs) (e ++ ys) (omega (arith, few, (c_in i b refl).0))
+    (omega (arith, few, (d_in j e refl).0)) (sym (append_assoc (spelling 4 i) b xs) ∙ is
+    ∙ append_assoc (spelling 4 j) e ys) in
     let parts = same_parts b e xs ys (c_in i b refl).1 (d_in j e refl).1 first.1 in
     (ap (λ (k : ℕ). Write k b) first.0 ∙ ap (λ (l : List ℕ). Write j l) parts.0, parts.1)
 one_call size (Write i b) Sync xs ys few c_in d_in is =
-    let first = spelling-one 4 i (2 ^ 32 - 1) (b ++ xs) ys (omega (arith, few, (c_in i b refl).0)) (omega arith) (sym (append_assoc (spelling 4 i) b xs) ∙ is) in
+    let first = spelling-one 4 i (2 ^ 32 - 1) (b ++ xs) ys (omega (arith, few, (c_in i b refl).0)) (omega arith)
+    (sym (append_assoc (spelling 4 i) b xs) ∙ is) in
     absurd (omega (arith, few, (c_in i b refl).0, first.0))
 one_call size Sync (Write j e) xs ys few c_in d_in is =
-    let first = spelling-one 4 (2 ^ 32 - 1) j xs (e ++ ys) (omega arith) (omega (arith, few, (d_in j e refl).0)) (is ∙ append_assoc (spelling 4 j) e ys) in
+    let first = spelling-one 4 (2 ^ 32 - 1) j xs (e ++ ys) (omega arith) (omega (arith, few, (d_in j e refl).0))
+    (is ∙ append_assoc (spelling 4 j) e ys) in
     absurd (omega (arith, few, (d_in j e refl).0, first.0))
 one_call size Sync Sync xs ys few c_in d_in is =
     (refl, (spelling-one 4 (2 ^ 32 - 1) (2 ^ 32 - 1) xs ys (omega arith) (omega arith) is).1)
@@ -42,6 +60,9 @@ spells_one_list size [] [] few one_in other_in is = refl
 spells_one_list size [] (d ∷ ds) few one_in other_in is = absurd (never_empty d (journal_of ds) is)
 spells_one_list size (c ∷ cs) [] few one_in other_in is = absurd (never_empty c (journal_of cs) (sym is))
 spells_one_list size (c ∷ cs) (d ∷ ds) few one_in other_in is =
-    let both = one_call size c d (journal_of cs) (journal_of ds) few (All-head (IsWithin size) c cs one_in) (All-head (IsWithin size) d ds other_in) is in
-    let others : cs ≡ ds = spells_one_list size cs ds few (All-tail (IsWithin size) c cs one_in) (All-tail (IsWithin size) d ds other_in) both.1 in
+    let both = one_call size c d (journal_of cs) (journal_of ds) few (All-head (IsWithin size) c cs one_in)
+    (All-head (IsWithin size) d ds other_in) is in
+    let others : cs ≡ ds =
+    spells_one_list size cs ds few (All-tail (IsWithin size) c cs one_in) (All-tail (IsWithin size) d ds other_in)
+    both.1 in
     ap (λ (x : Call). x ∷ cs) both.0 ∙ ap (λ (l : List Call). d ∷ l) others

@@ -7,7 +7,8 @@ use Rattle.file_device.specs.declared.event.Event.TheVariants.{Written, Synced}
 use Rattle.journal_device.specs.declared.call.Call.{Call}
 use Rattle.journal_device.specs.declared.call.Call.TheVariants.{Write, Sync}
 
--- a call in a journal: the number of the sector in four bytes and what it is given, or the greatest number of four bytes alone
+-- a call in a journal: the number of the sector in four bytes and what it is given, or the greatest number of four
+-- bytes alone
 abbrev pub spelled_call : Call → List ℕ
 spelled_call (Write i bytes) = spelling 4 i ++ bytes
 spelled_call Sync = spelling 4 (2 ^ 32 - 1)

@@ -1,5 +1,6 @@
 // A device over the bytes of a file, whose changes are kept in memory and recorded.
-ghost use Rattle.std.specs.Prelude.{◌≡◌, ◌≢◌, ◌++◌, ◌∷◌, ◌%◌, ◌/◌, ◌^◌, ◌<◌, ℕ, [], IsOk, IsSome, IfSome, OnOk, OnErr, length, is_ok, nat_eq, if◌then◌else◌, Some, refl, All};
+ghost use Rattle.std.specs.Prelude.{◌≡◌, ◌≢◌, ◌++◌, ◌∷◌, ◌%◌, ◌/◌, ◌^◌, ◌<◌, ℕ, [], IsOk, IsSome, IfSome, OnOk, OnErr};
+ghost use Rattle.std.specs.Prelude.{length, is_ok, nat_eq, if◌then◌else◌, Some, refl, All};
 ghost use Rattle.sector_device.specs.Device.{CountsFailure, IsSettled, Stays, Syncs, Writes};
 ghost use Rattle.sector_device.specs.Memory.{content};
 ghost use Rattle.image_device.specs.ImageDisk.{sectors_in, sectors_of};
@@ -19,8 +20,8 @@ use std::marker::PhantomData;
 
 /// A device over the bytes of a file, which it borrows. It keeps its word always, and fails only when out of memory.
 ///
-/// What is written is kept in memory, 520 bytes for each write and as many for each sector that is written. The bytes that it
-/// borrows stay as they are: whoever has the file is to make the same calls on it, in order.
+/// What is written is kept in memory, 520 bytes for each write and as many for each sector that is written. The bytes
+/// that it borrows stay as they are: whoever has the file is to make the same calls on it, in order.
 #[derive(Drop)]
 pub struct JournalDisk<'a, O: Origin> {
     under: ImageDisk<'a>,
@@ -72,7 +73,8 @@ fn record_write(
     bytes: &[u8; 512],
 ) -> Result<(), AllocError>
     ensures ok { OnOk result (calls.new.items ≡ calls.old.items ++ Call.Write i bytes.now ∷ []) }
-    ensures kept { OnOk result ((k : ℕ) → last_at latest.new.entries k ≡ if nat_eq i k then Some bytes.now else last_at latest.old.entries k) }
+    ensures kept { OnOk result
+        ((k : ℕ) → last_at latest.new.entries k ≡ if nat_eq i k then Some bytes.now else last_at latest.old.entries k) }
     ensures err { OnErr result ((calls.new.items ≡ calls.old.items) × (latest.new.entries ≡ latest.old.entries)) }
 {
     if calls.push(Call::Write(i, *bytes)).is_err() {
@@ -121,13 +123,16 @@ impl<'a, O: Origin> Sectors for JournalDisk<'a, O> {
 
     ghost failed = { λ d. d.failures };
 
-    ghost read_may_stay = { λ d i word. read_may_stay (content (sectors_in O.image)) (λ i b. b ≡ content (sectors_in O.image) i) (λ i. refl) (record_of (calls_of d)) i };
+    ghost read_may_stay = { λ d i word. read_may_stay (content (sectors_in O.image))
+        (λ i b. b ≡ content (sectors_in O.image) i) (λ i. refl) (record_of (calls_of d)) i };
 
     ghost whole = { λ d i b word lt may. d.whole i b lt may };
 
-    ghost counts_now = { λ d t image word le now. counts_now (content (sectors_in O.image)) (λ i b. b ≡ content (sectors_in O.image) i) (record_of (calls_of d)) t image now };
+    ghost counts_now = { λ d t image word le now. counts_now (content (sectors_in O.image))
+        (λ i b. b ≡ content (sectors_in O.image) i) (record_of (calls_of d)) t image now };
 
-    ghost only_now = { λ d image word left. only_now (content (sectors_in O.image)) (λ i b. b ≡ content (sectors_in O.image) i) (record_of (calls_of d)) image left };
+    ghost only_now = { λ d image word left. only_now (content (sectors_in O.image))
+        (λ i b. b ≡ content (sectors_in O.image) i) (record_of (calls_of d)) image left };
 
     fn count(&self) -> u32 {
         self.under.count()

@@ -10,8 +10,8 @@ use wire::{push_bytes, push_u32};
 // No sector has this number: it says that what was written is made durable.
 const SYNC: u32 = u32::MAX;
 
-/// The journal of some calls, in order: for a write the number of its sector in four bytes, the lowest first, and then the
-/// 512 bytes; and for a sync the number 0xFFFFFFFF. `Memory` when out of memory.
+/// The journal of some calls, in order: for a write the number of its sector in four bytes, the lowest first, and then
+/// the 512 bytes; and for a sync the number 0xFFFFFFFF. `Memory` when out of memory.
 pub fn journal_of(alloc: Global, calls: &[Call]) -> Result<Vec<u8>, Fault>
     ensures ok { IfOk result (λ journal. journal.items ≡ journal_of calls.now) }
     ensures err { IfErr result (λ fault. fault ≡ Fault.Memory) }

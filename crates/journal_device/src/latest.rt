@@ -25,7 +25,8 @@ pub(crate) fn copy_last(latest: &Latest, i: u32, to: &mut [u8; 512]) -> bool
 
 /// Keeps the bytes of a sector in the place of earlier ones.
 pub(crate) fn keep_last(latest: &mut Latest, i: u32, bytes: &[u8; 512]) -> Result<(), AllocError>
-    ensures ok { OnOk result ((k : ℕ) → last_at latest.new.entries k ≡ if nat_eq i k then Some bytes.now else last_at latest.old.entries k) }
+    ensures ok { OnOk result
+        ((k : ℕ) → last_at latest.new.entries k ≡ if nat_eq i k then Some bytes.now else last_at latest.old.entries k) }
     ensures err { OnErr result (latest.new.entries ≡ latest.old.entries) }
 {
     match latest.insert(i, *bytes) {

@@ -1,5 +1,5 @@
-//! A device over the bytes of a file that somebody else has read and is to write. What is written to it is kept in memory,
-//! and recorded as a journal of calls that the file is to be given.
+//! A device over the bytes of a file that somebody else has read and is to write. What is written to it is kept in
+//! memory, and recorded as a journal of calls that the file is to be given.
 #![tactic(auto)]
 
 mod call;

@@ -1,5 +1,6 @@
 -- In valid dimension rows the member of a level tells the attributes that the table gives to the level.
-use Rattle.std.proofs.Common.{◌≡◌, ℕ, ◌≤◌, ◌<◌, ◌^◌, ◌==◌, Bool, true, false, cond, List, [], ◌∷◌, Option, Some, None, refl, sym, ap, subst, ◌∙◌, arith}
+use Rattle.std.proofs.Common.{◌≡◌, ℕ, ◌≤◌, ◌<◌, ◌^◌, ◌==◌, Bool, true, false, cond, List, [], ◌∷◌, Option, Some, None}
+use Rattle.std.proofs.Common.{refl, sym, ap, subst, ◌∙◌, arith}
 use Rattle.std.specs.Prelude.{find}
 use Rattle.std.specs.List.{AllByRecursion}
 use Rattle.std.specs.Option.{option_and_then}
@@ -8,7 +9,10 @@ use Rattle.std.proofs.lemmas.Fmt.{decimal_injective}
 use Rattle.std.proofs.lemmas.Bool.{eqb-true}
 use Rattle.std.proofs.lemmas.Option.{option_and_then_some, same_Some, none-some}
 use Rattle.cube_model.specs.declared.attr.Attr.{Attr}
-use Rattle.cube_model.specs.declared.attr.Attr.TheVariants.{CustomerCity, CustomerNation, CustomerRegion, SupplierCity, SupplierNation, SupplierRegion, PartBrand1, PartCategory, PartMfgr, DateKey, DateYearmonthnum, DateYear, DateYearmonth, DateWeeknuminyear}
+use Rattle.cube_model.specs.declared.attr.Attr.TheVariants.{CustomerCity, CustomerNation, CustomerRegion, SupplierCity}
+use Rattle.cube_model.specs.declared.attr.Attr.TheVariants.{SupplierNation, SupplierRegion, PartBrand1, PartCategory}
+use Rattle.cube_model.specs.declared.attr.Attr.TheVariants.{PartMfgr, DateKey, DateYearmonthnum, DateYear}
+use Rattle.cube_model.specs.declared.attr.Attr.TheVariants.{DateYearmonth, DateWeeknuminyear}
 use Rattle.cube_model.specs.declared.attr.Axis.TheVariants.{Date}
 use Rattle.cube_model.specs.declared.rows.CustomerRow.{CustomerRow}
 use Rattle.cube_model.specs.declared.rows.SupplierRow.{SupplierRow}
@@ -24,7 +28,8 @@ use Rattle.lattice.specs.Levels.{height}
 
 module _ {Row : Type 0} where
   -- what holds of each row holds of one that is found
-  found_all : (P : Row → Type 0) (rows : List Row) (p : Row → Bool) (a : Row) → AllByRecursion P rows → find p rows ≡ Some a → P a
+  found_all : (P : Row → Type 0) (rows : List Row) (p : Row → Bool) (a : Row) → AllByRecursion P rows
+      → find p rows ≡ Some a → P a
   found_all P [] p a all is = absurd (none-some a is)
   found_all P (row ∷ rows) p a all is = go (p row) refl (found_all P rows p a all.1)
     where
@@ -37,7 +42,8 @@ module _ {Row : Type 0} where
       → EachPair (λ row other. f row ≡ f other → g row ≡ g other) rows
       → find p rows ≡ Some a → find q rows ≡ Some b → f a ≡ f b → g a ≡ g b
   link_found f g [] p q a b pairs at_p at_q same = absurd (none-some a at_p)
-  link_found f g (row ∷ rows) p q a b pairs at_p at_q same = go (p row) (q row) refl refl (link_found f g rows p q a b pairs.1)
+  link_found f g (row ∷ rows) p q a b pairs at_p at_q same =
+      go (p row) (q row) refl refl (link_found f g rows p q a b pairs.1)
     where
       go : (m n : Bool) → p row ≡ m → q row ≡ n
           → (find p rows ≡ Some a → find q rows ≡ Some b → f a ≡ f b → g a ≡ g b) → g a ≡ g b
@@ -47,12 +53,14 @@ module _ {Row : Type 0} where
           ap g (sym first ∙ second)
       go true false e1 e2 later =
           let first : row ≡ a = same_Some row a (sym (ap (λ b. cond b (Some row) (find p rows)) e1) ∙ at_p) in
-          let behind : find q rows ≡ Some b = sym (ap (λ b. cond b (Some row) (find q rows)) e2) ∙ at_q in
-          sym (ap g first) ∙ found_all (λ other. f row ≡ f other → g row ≡ g other) rows q b pairs.0 behind (ap f first ∙ same)
+          let after : find q rows ≡ Some b = sym (ap (λ b. cond b (Some row) (find q rows)) e2) ∙ at_q in
+          sym (ap g first) ∙ found_all (λ other. f row ≡ f other → g row ≡ g other) rows q b pairs.0 after
+          (ap f first ∙ same)
       go false true e1 e2 later =
-          let behind : find p rows ≡ Some a = sym (ap (λ b. cond b (Some row) (find p rows)) e1) ∙ at_p in
+          let after : find p rows ≡ Some a = sym (ap (λ b. cond b (Some row) (find p rows)) e1) ∙ at_p in
           let second : row ≡ b = same_Some row b (sym (ap (λ b. cond b (Some row) (find q rows)) e2) ∙ at_q) in
-          sym (found_all (λ other. f row ≡ f other → g row ≡ g other) rows p a pairs.0 behind (ap f second ∙ sym same)) ∙ ap g second
+          sym (found_all (λ other. f row ≡ f other → g row ≡ g other) rows p a pairs.0 after (ap f second ∙ sym same))
+          ∙ ap g second
       go false false e1 e2 later =
           later (sym (ap (λ b. cond b (Some row) (find p rows)) e1) ∙ at_p)
           (sym (ap (λ b. cond b (Some row) (find q rows)) e2) ∙ at_q) same
@@ -75,7 +83,8 @@ module _ {Row : Type 0} where
     where
       go : (b : Bool) → (key row == n) ≡ b → (find (λ row. key row == n) rows ≡ Some a → key a ≡ n) → key a ≡ n
       go true e later =
-          let here : row ≡ a = same_Some row a (sym (ap (λ b. cond b (Some row) (find (λ row. key row == n) rows)) e) ∙ is) in
+          let here : row ≡ a =
+          same_Some row a (sym (ap (λ b. cond b (Some row) (find (λ row. key row == n) rows)) e) ∙ is) in
           ap key (sym here) ∙ eqb-true (key row) n e
       go false e later = later (sym (ap (λ b. cond b (Some row) (find (λ row. key row == n) rows)) e) ∙ is)
 
@@ -84,66 +93,111 @@ same_day : (dimensions : DimRows) (key other : ℕ) (member : List ℕ) → key 
     → attribute_at dimensions Date key DateKey ≡ Some member → attribute_at dimensions Date other DateKey ≡ Some member
     → key ≡ other
 same_day dimensions key other member small other_small at_key at_other =
-    option_and_then_some (λ (row : DateRow). Some (decimal row.key)) (date_of dimensions key) member at_key (λ a found_a is_a.
-    option_and_then_some (λ (row : DateRow). Some (decimal row.key)) (date_of dimensions other) member at_other (λ b found_b is_b.
+    option_and_then_some (λ (row : DateRow). Some (decimal row.key)) (date_of dimensions key) member at_key
+    (λ a found_a is_a.
+    option_and_then_some (λ (row : DateRow). Some (decimal row.key)) (date_of dimensions other) member at_other
+    (λ b found_b is_b.
     let key_a : a.key ≡ key = found_key (λ row. row.key) dimensions.dates key a found_a in
     let key_b : b.key ≡ other = found_key (λ row. row.key) dimensions.dates other b found_b in
     let texts : decimal key ≡ decimal other =
-    ap decimal (sym key_a) ∙ same_Some (decimal a.key) member is_a ∙ sym (same_Some (decimal b.key) member is_b) ∙ ap decimal key_b in
+    ap decimal (sym key_a) ∙ same_Some (decimal a.key) member is_a ∙ sym (same_Some (decimal b.key) member is_b)
+    ∙ ap decimal key_b in
     decimal_injective key other small other_small texts))
 
-module _ (dimensions : DimRows) (keep : KeepAllRules dimensions) (key other : ℕ) (small : key < 2 ^ 64) (other_small : other < 2 ^ 64) (member : List ℕ) where
+module _ (dimensions : DimRows) (keep : KeepAllRules dimensions) (key other : ℕ) (small : key < 2 ^ 64)
+    (other_small : other < 2 ^ 64) (member : List ℕ) where
   -- the member of a level tells an attribute
   pub tells : (attr : Attr) (level : Level) → height level ≤ height (highest_level attr)
-      → member_at dimensions (axis_of attr) level key ≡ Some member → member_at dimensions (axis_of attr) level other ≡ Some member
+      → member_at dimensions (axis_of attr) level key ≡ Some member
+      → member_at dimensions (axis_of attr) level other ≡ Some member
       → attribute_at dimensions (axis_of attr) key attr ≡ attribute_at dimensions (axis_of attr) other attr
   tells CustomerCity Lowest low at_key at_other = at_key ∙ sym at_other
   tells CustomerNation Lowest low at_key at_other =
-      linked (λ (row : CustomerRow). row.city) (λ row. row.nation) (customer_of dimensions key) (customer_of dimensions other) member
-      (λ a b at_a at_b same. link_found (λ row. row.city) (λ row. row.nation) dimensions.customers (λ row. row.key == key) (λ row. row.key == other) a b keep.customers.one_upper.0 at_a at_b same) at_key at_other
+      linked (λ (row : CustomerRow). row.city) (λ row. row.nation) (customer_of dimensions key)
+      (customer_of dimensions other) member
+      (λ a b at_a at_b same. link_found (λ row. row.city) (λ row. row.nation) dimensions.customers
+      (λ row. row.key == key) (λ row. row.key == other) a b keep.customers.one_upper.0 at_a at_b same) at_key
+      at_other
   tells CustomerNation Middle low at_key at_other = at_key ∙ sym at_other
   tells CustomerRegion Lowest low at_key at_other =
-      linked (λ (row : CustomerRow). row.city) (λ row. row.region) (customer_of dimensions key) (customer_of dimensions other) member
-      (λ a b at_a at_b same. link_found (λ row. row.nation) (λ row. row.region) dimensions.customers (λ row. row.key == key) (λ row. row.key == other) a b keep.customers.one_upper.1.0 at_a at_b (link_found (λ row. row.city) (λ row. row.nation) dimensions.customers (λ row. row.key == key) (λ row. row.key == other) a b keep.customers.one_upper.0 at_a at_b same)) at_key at_other
+      linked (λ (row : CustomerRow). row.city) (λ row. row.region) (customer_of dimensions key)
+      (customer_of dimensions other) member
+      (λ a b at_a at_b same. link_found (λ row. row.nation) (λ row. row.region) dimensions.customers
+      (λ row. row.key == key) (λ row. row.key == other) a b keep.customers.one_upper.1.0 at_a at_b
+      (link_found (λ row. row.city) (λ row. row.nation) dimensions.customers (λ row. row.key == key)
+      (λ row. row.key == other) a b keep.customers.one_upper.0 at_a at_b same)) at_key at_other
   tells CustomerRegion Middle low at_key at_other =
-      linked (λ (row : CustomerRow). row.nation) (λ row. row.region) (customer_of dimensions key) (customer_of dimensions other) member
-      (λ a b at_a at_b same. link_found (λ row. row.nation) (λ row. row.region) dimensions.customers (λ row. row.key == key) (λ row. row.key == other) a b keep.customers.one_upper.1.0 at_a at_b same) at_key at_other
+      linked (λ (row : CustomerRow). row.nation) (λ row. row.region) (customer_of dimensions key)
+      (customer_of dimensions other) member
+      (λ a b at_a at_b same. link_found (λ row. row.nation) (λ row. row.region) dimensions.customers
+      (λ row. row.key == key) (λ row. row.key == other) a b keep.customers.one_upper.1.0 at_a at_b same) at_key
+      at_other
   tells CustomerRegion Highest low at_key at_other = at_key ∙ sym at_other
   tells SupplierCity Lowest low at_key at_other = at_key ∙ sym at_other
   tells SupplierNation Lowest low at_key at_other =
-      linked (λ (row : SupplierRow). row.city) (λ row. row.nation) (supplier_of dimensions key) (supplier_of dimensions other) member
-      (λ a b at_a at_b same. link_found (λ row. row.city) (λ row. row.nation) dimensions.suppliers (λ row. row.key == key) (λ row. row.key == other) a b keep.suppliers.one_upper.0 at_a at_b same) at_key at_other
+      linked (λ (row : SupplierRow). row.city) (λ row. row.nation) (supplier_of dimensions key)
+      (supplier_of dimensions other) member
+      (λ a b at_a at_b same. link_found (λ row. row.city) (λ row. row.nation) dimensions.suppliers
+      (λ row. row.key == key) (λ row. row.key == other) a b keep.suppliers.one_upper.0 at_a at_b same) at_key
+      at_other
   tells SupplierNation Middle low at_key at_other = at_key ∙ sym at_other
   tells SupplierRegion Lowest low at_key at_other =
-      linked (λ (row : SupplierRow). row.city) (λ row. row.region) (supplier_of dimensions key) (supplier_of dimensions other) member
-      (λ a b at_a at_b same. link_found (λ row. row.nation) (λ row. row.region) dimensions.suppliers (λ row. row.key == key) (λ row. row.key == other) a b keep.suppliers.one_upper.1.0 at_a at_b (link_found (λ row. row.city) (λ row. row.nation) dimensions.suppliers (λ row. row.key == key) (λ row. row.key == other) a b keep.suppliers.one_upper.0 at_a at_b same)) at_key at_other
+      linked (λ (row : SupplierRow). row.city) (λ row. row.region) (supplier_of dimensions key)
+      (supplier_of dimensions other) member
+      (λ a b at_a at_b same. link_found (λ row. row.nation) (λ row. row.region) dimensions.suppliers
+      (λ row. row.key == key) (λ row. row.key == other) a b keep.suppliers.one_upper.1.0 at_a at_b
+      (link_found (λ row. row.city) (λ row. row.nation) dimensions.suppliers (λ row. row.key == key)
+      (λ row. row.key == other) a b keep.suppliers.one_upper.0 at_a at_b same)) at_key at_other
   tells SupplierRegion Middle low at_key at_other =
-      linked (λ (row : SupplierRow). row.nation) (λ row. row.region) (supplier_of dimensions key) (supplier_of dimensions other) member
-      (λ a b at_a at_b same. link_found (λ row. row.nation) (λ row. row.region) dimensions.suppliers (λ row. row.key == key) (λ row. row.key == other) a b keep.suppliers.one_upper.1.0 at_a at_b same) at_key at_other
+      linked (λ (row : SupplierRow). row.nation) (λ row. row.region) (supplier_of dimensions key)
+      (supplier_of dimensions other) member
+      (λ a b at_a at_b same. link_found (λ row. row.nation) (λ row. row.region) dimensions.suppliers
+      (λ row. row.key == key) (λ row. row.key == other) a b keep.suppliers.one_upper.1.0 at_a at_b same) at_key
+      at_other
   tells SupplierRegion Highest low at_key at_other = at_key ∙ sym at_other
   tells PartBrand1 Lowest low at_key at_other = at_key ∙ sym at_other
   tells PartCategory Lowest low at_key at_other =
-      linked (λ (row : PartRow). row.brand1) (λ row. row.category) (part_of dimensions key) (part_of dimensions other) member
-      (λ a b at_a at_b same. link_found (λ row. row.brand1) (λ row. row.category) dimensions.parts (λ row. row.key == key) (λ row. row.key == other) a b keep.parts.one_upper.0 at_a at_b same) at_key at_other
+      linked (λ (row : PartRow). row.brand1) (λ row. row.category) (part_of dimensions key) (part_of dimensions other)
+      member
+      (λ a b at_a at_b same. link_found (λ row. row.brand1) (λ row. row.category) dimensions.parts
+      (λ row. row.key == key) (λ row. row.key == other) a b keep.parts.one_upper.0 at_a at_b same) at_key at_other
   tells PartCategory Middle low at_key at_other = at_key ∙ sym at_other
   tells PartMfgr Lowest low at_key at_other =
-      linked (λ (row : PartRow). row.brand1) (λ row. row.mfgr) (part_of dimensions key) (part_of dimensions other) member
-      (λ a b at_a at_b same. link_found (λ row. row.category) (λ row. row.mfgr) dimensions.parts (λ row. row.key == key) (λ row. row.key == other) a b keep.parts.one_upper.1.0 at_a at_b (link_found (λ row. row.brand1) (λ row. row.category) dimensions.parts (λ row. row.key == key) (λ row. row.key == other) a b keep.parts.one_upper.0 at_a at_b same)) at_key at_other
+      linked (λ (row : PartRow). row.brand1) (λ row. row.mfgr) (part_of dimensions key) (part_of dimensions other)
+      member
+      (λ a b at_a at_b same. link_found (λ row. row.category) (λ row. row.mfgr) dimensions.parts (λ row. row.key == key)
+      (λ row. row.key == other) a b keep.parts.one_upper.1.0 at_a at_b
+      (link_found (λ row. row.brand1) (λ row. row.category) dimensions.parts (λ row. row.key == key)
+      (λ row. row.key == other) a b keep.parts.one_upper.0 at_a at_b same)) at_key at_other
   tells PartMfgr Middle low at_key at_other =
-      linked (λ (row : PartRow). row.category) (λ row. row.mfgr) (part_of dimensions key) (part_of dimensions other) member
-      (λ a b at_a at_b same. link_found (λ row. row.category) (λ row. row.mfgr) dimensions.parts (λ row. row.key == key) (λ row. row.key == other) a b keep.parts.one_upper.1.0 at_a at_b same) at_key at_other
+      linked (λ (row : PartRow). row.category) (λ row. row.mfgr) (part_of dimensions key) (part_of dimensions other)
+      member
+      (λ a b at_a at_b same. link_found (λ row. row.category) (λ row. row.mfgr) dimensions.parts (λ row. row.key == key)
+      (λ row. row.key == other) a b keep.parts.one_upper.1.0 at_a at_b same) at_key at_other
   tells PartMfgr Highest low at_key at_other = at_key ∙ sym at_other
   tells DateKey Lowest low at_key at_other = at_key ∙ sym at_other
-  tells DateWeeknuminyear Lowest low at_key at_other = ap (λ n. attribute_at dimensions Date n DateWeeknuminyear) (same_day dimensions key other member small other_small at_key at_other)
-  tells DateYearmonthnum Lowest low at_key at_other = ap (λ n. attribute_at dimensions Date n DateYearmonthnum) (same_day dimensions key other member small other_small at_key at_other)
+  tells DateWeeknuminyear Lowest low at_key at_other =
+      ap (λ n. attribute_at dimensions Date n DateWeeknuminyear)
+      (same_day dimensions key other member small other_small at_key at_other)
+  tells DateYearmonthnum Lowest low at_key at_other =
+      ap (λ n. attribute_at dimensions Date n DateYearmonthnum)
+      (same_day dimensions key other member small other_small at_key at_other)
   tells DateYearmonthnum Middle low at_key at_other = at_key ∙ sym at_other
-  tells DateYearmonth Lowest low at_key at_other = ap (λ n. attribute_at dimensions Date n DateYearmonth) (same_day dimensions key other member small other_small at_key at_other)
+  tells DateYearmonth Lowest low at_key at_other =
+      ap (λ n. attribute_at dimensions Date n DateYearmonth)
+      (same_day dimensions key other member small other_small at_key at_other)
   tells DateYearmonth Middle low at_key at_other =
-      linked (λ (row : DateRow). row.yearmonthnum) (λ row. row.yearmonth) (date_of dimensions key) (date_of dimensions other) member
-      (λ a b at_a at_b same. link_found (λ row. row.yearmonthnum) (λ row. row.yearmonth) dimensions.dates (λ row. row.key == key) (λ row. row.key == other) a b keep.dates.one_upper.1.0 at_a at_b same) at_key at_other
-  tells DateYear Lowest low at_key at_other = ap (λ n. attribute_at dimensions Date n DateYear) (same_day dimensions key other member small other_small at_key at_other)
+      linked (λ (row : DateRow). row.yearmonthnum) (λ row. row.yearmonth) (date_of dimensions key)
+      (date_of dimensions other) member
+      (λ a b at_a at_b same. link_found (λ row. row.yearmonthnum) (λ row. row.yearmonth) dimensions.dates
+      (λ row. row.key == key) (λ row. row.key == other) a b keep.dates.one_upper.1.0 at_a at_b same) at_key at_other
+  tells DateYear Lowest low at_key at_other =
+      ap (λ n. attribute_at dimensions Date n DateYear)
+      (same_day dimensions key other member small other_small at_key at_other)
   tells DateYear Middle low at_key at_other =
-      linked (λ (row : DateRow). row.yearmonthnum) (λ row. row.year) (date_of dimensions key) (date_of dimensions other) member
-      (λ a b at_a at_b same. link_found (λ row. row.yearmonthnum) (λ row. row.year) dimensions.dates (λ row. row.key == key) (λ row. row.key == other) a b keep.dates.one_upper.0 at_a at_b same) at_key at_other
+      linked (λ (row : DateRow). row.yearmonthnum) (λ row. row.year) (date_of dimensions key) (date_of dimensions other)
+      member
+      (λ a b at_a at_b same. link_found (λ row. row.yearmonthnum) (λ row. row.year) dimensions.dates
+      (λ row. row.key == key) (λ row. row.key == other) a b keep.dates.one_upper.0 at_a at_b same) at_key at_other
   tells DateYear Highest low at_key at_other = at_key ∙ sym at_other
   tells _ _ low at_key at_other = absurd (omega (arith, low))

@@ -30,27 +30,37 @@ answers_coarsest other =
     }
 
 -- where a view cannot say where the first condition holds, or the others, it cannot for all
-pub none_first : (first : Cond) (others conditions : List Cond) → conditions ≡ first ∷ others → ((other : View) → Decides other first → ⊥)
+pub none_first : (first : Cond) (others conditions : List Cond) → conditions ≡ first ∷ others
+    → ((other : View) → Decides other first → ⊥)
     → (other : View) → AllByRecursion (Decides other) conditions → ⊥
-none_first first others conditions whole none other all = none other (subst (AllByRecursion (Decides other)) whole all).0
+none_first first others conditions whole none other all =
+    none other (subst (AllByRecursion (Decides other)) whole all).0
 
 pub none_others : (first : Cond) (others conditions : List Cond) (found : Option View) → conditions ≡ first ∷ others
-    → IfNone found ((other : View) → AllByRecursion (Decides other) others → ⊥) → IfNone found ((other : View) → AllByRecursion (Decides other) conditions → ⊥)
+    → IfNone found ((other : View) → AllByRecursion (Decides other) others → ⊥)
+    → IfNone found ((other : View) → AllByRecursion (Decides other) conditions → ⊥)
 none_others first others conditions (Some view) whole none = none
-none_others first others conditions None whole none = λ other all. none other (subst (AllByRecursion (Decides other)) whole all).1
+none_others first others conditions None whole none =
+    λ other all. none other (subst (AllByRecursion (Decides other)) whole all).1
 
-module _ (query : Query) (view : View) (by_columns : (other : View) → Answers other view ↔ (Answers other coarsest × AllByRecursion (Determines other) query.columns)) where
-  pub needed_some : (found : Option View) → IfSome found (λ one. (other : View) → Answers other one ↔ (Answers other view × AllByRecursion (Decides other) query.conditions))
+module _ (query : Query) (view : View) (by_columns : (other : View) → Answers other view
+    ↔ (Answers other coarsest × AllByRecursion (Determines other) query.columns)) where
+  pub needed_some : (found : Option View)
+      → IfSome found (λ one. (other : View) → Answers other one
+      ↔ (Answers other view × AllByRecursion (Decides other) query.conditions))
       → IfSome found (IsNeededBy query)
   needed_some None some = some
   needed_some (Some one) some = λ other. (
-    λ (serves : Serves other query). (some other).1 ((by_columns other).1 (answers_coarsest other, serves.columns), serves.conditions),
+    λ (serves : Serves other query). (some other).1
+        ((by_columns other).1 (answers_coarsest other, serves.columns), serves.conditions),
     λ (answers : Answers other one). record {
       columns = ((by_columns other).0 ((some other).0 answers).0).1;
       conditions = ((some other).0 answers).1;
     },
   )
 
-  pub needed_none : (found : Option View) → IfNone found ((other : View) → AllByRecursion (Decides other) query.conditions → ⊥) → IfNone found (HasNoView query)
+  pub needed_none : (found : Option View)
+      → IfNone found ((other : View) → AllByRecursion (Decides other) query.conditions → ⊥)
+      → IfNone found (HasNoView query)
   needed_none (Some one) none = none
   needed_none None none = λ other serves. none other serves.conditions

@@ -1,5 +1,6 @@
 -- Where a view is in the lattice.
-use Rattle.std.proofs.Common.{◌≡◌, ℕ, zero, suc, ◌+◌, ◌*◌, ◌<◌, Bool, true, false, List, [], ◌∷◌, ◌++◌, length, map, refl, sym, ap, ◌∙◌, arith}
+use Rattle.std.proofs.Common.{◌≡◌, ℕ, zero, suc, ◌+◌, ◌*◌, ◌<◌, Bool, true, false, List, [], ◌∷◌, ◌++◌, length, map}
+use Rattle.std.proofs.Common.{refl, sym, ap, ◌∙◌, arith}
 use Rattle.std.specs.Prelude.{Some, slice_get}
 use Rattle.std.specs.List.{flat_map}
 use Rattle.std.proofs.lemmas.Option.{same_Some, slice_get_within}
@@ -22,7 +23,8 @@ module _ {X : Type 0} where
   in_second (x ∷ xs) ys (suc i) k e = in_second xs ys i k (omega arith)
 
   -- a place in the lists of the four levels, one after the other and each of one length
-  pub in_level : (f : Level → List X) (n : ℕ) → ((level : Level) → length (f level) ≡ n) → (level : Level) (j : ℕ) → j < n
+  pub in_level : (f : Level → List X) (n : ℕ) → ((level : Level) → length (f level) ≡ n) → (level : Level) (j : ℕ)
+      → j < n
       → slice_get (flat_map f levels) (n * height level + j) ≡ slice_get (f level) j
   in_level f n long Lowest j below =
       ap (slice_get (flat_map f levels)) (omega arith) ∙ in_first (f Lowest) _ j (omega (arith, long Lowest))
@@ -53,15 +55,24 @@ place_among m c s p d =
     let below_s : height s < 4 = height_below s in
     let below_p : height p < 4 = height_below p in
     let below_d : height d < 4 = height_below d in
-    in_level (λ customer. flat_map (λ supplier. flat_map (λ part. map (λ date. record { customer = customer; supplier = supplier; part = part; date = date; ship_mode = m }) levels) levels) levels)
+    in_level (λ customer. flat_map
+    (λ supplier. flat_map
+    (λ part. map
+    (λ date. record { customer = customer; supplier = supplier; part = part; date = date; ship_mode = m }) levels)
+    levels) levels)
     64 (λ _. refl) c (16 * height s + (4 * height p + height d)) (omega arith)
-    ∙ in_level (λ supplier. flat_map (λ part. map (λ date. record { customer = c; supplier = supplier; part = part; date = date; ship_mode = m }) levels) levels)
+    ∙ in_level (λ supplier. flat_map
+    (λ part. map (λ date. record { customer = c; supplier = supplier; part = part; date = date; ship_mode = m })
+    levels) levels)
     16 (λ _. refl) s (4 * height p + height d) (omega arith)
-    ∙ in_level (λ part. map (λ date. record { customer = c; supplier = s; part = part; date = date; ship_mode = m }) levels)
+    ∙ in_level (λ part. map (λ date. record { customer = c; supplier = s; part = part; date = date; ship_mode = m })
+    levels)
     4 (λ _. refl) p (height d) (omega arith)
     ∙ among_dates d
   where
-    among_dates : (date : Level) → slice_get {X = View} (map (λ date. record { customer = c; supplier = s; part = p; date = date; ship_mode = m }) levels) (height date)
+    among_dates : (date : Level)
+        → slice_get {X = View}
+        (map (λ date. record { customer = c; supplier = s; part = p; date = date; ship_mode = m }) levels) (height date)
         ≡ Some (record { customer = c; supplier = s; part = p; date = date; ship_mode = m })
     among_dates Lowest = refl
     among_dates Middle = refl
@@ -94,12 +105,14 @@ pub place_of : (view : View) → slice_get (lattice true) (index_of view) ≡ So
 place_of view = place_by view.ship_mode view.customer view.supplier view.part view.date
 
 pub one_view : (view other : View) → index_of view ≡ index_of other → view ≡ other
-one_view view other same = same_Some view other (sym (place_of view) ∙ ap (slice_get (lattice true)) same ∙ place_of other)
+one_view view other same =
+    same_Some view other (sym (place_of view) ∙ ap (slice_get (lattice true)) same ∙ place_of other)
 
 pub index_below : (view : View) → index_of view < length (lattice true)
 index_below view = slice_get_within (lattice true) (index_of view) view (place_of view)
 
 -- the first lattice is the front of the second
-pub in_lattice : (modes : Bool) (i : ℕ) → i < length (lattice modes) → slice_get (lattice true) i ≡ slice_get (lattice modes) i
+pub in_lattice : (modes : Bool) (i : ℕ) → i < length (lattice modes)
+    → slice_get (lattice true) i ≡ slice_get (lattice modes) i
 in_lattice true i h = refl
 in_lattice false i h = in_first (views_with false) (views_with true) i h

@@ -18,5 +18,6 @@ cut_inside rows (suc a) x = elim (cases_lt rows x) [
 pub cut_all : (rows a b c d e : ℕ)
     → min rows (a * min rows (b * min rows (c * min rows (d * e)))) ≡ min rows (a * (b * (c * (d * e))))
 cut_all rows a b c d e =
-    ap (λ x. min rows (a * x)) (ap (λ x. min rows (b * x)) (cut_inside rows c (d * e)) ∙ cut_inside rows b (c * (d * e)))
+    ap (λ x. min rows (a * x)) (ap (λ x. min rows (b * x)) (cut_inside rows c (d * e))
+    ∙ cut_inside rows b (c * (d * e)))
     ∙ cut_inside rows a (b * (c * (d * e)))

@@ -1,11 +1,14 @@
--- Which attributes a view tells, and so which queries its cells can answer. The hierarchy is the benchmark's: a city has
--- one nation, a nation one region, a brand one category, a category one manufacturer, a day one month and one week of
--- the year, a month one year and one text of month and year. A month has no one week, and a year tells neither.
+-- Which attributes a view tells, and so which queries its cells can answer. The hierarchy is the benchmark's: a city
+-- has one nation, a nation one region, a brand one category, a category one manufacturer, a day one month and one week
+-- of the year, a month one year and one text of month and year. A month has no one week, and a year tells neither.
 use Rattle.std.specs.Prelude.{◌≤◌, ℕ, Option, List}
 use Rattle.std.specs.List.{AllByRecursion}
 use Rattle.std.specs.Option.{option_and_then}
 use Rattle.cube_model.specs.declared.attr.Attr.{Attr}
-use Rattle.cube_model.specs.declared.attr.Attr.TheVariants.{CustomerCity, CustomerNation, CustomerRegion, SupplierCity, SupplierNation, SupplierRegion, PartBrand1, PartCategory, PartMfgr, DateKey, DateYearmonthnum, DateYear, DateYearmonth, DateWeeknuminyear}
+use Rattle.cube_model.specs.declared.attr.Attr.TheVariants.{CustomerCity, CustomerNation, CustomerRegion, SupplierCity}
+use Rattle.cube_model.specs.declared.attr.Attr.TheVariants.{SupplierNation, SupplierRegion, PartBrand1, PartCategory}
+use Rattle.cube_model.specs.declared.attr.Attr.TheVariants.{PartMfgr, DateKey, DateYearmonthnum, DateYear}
+use Rattle.cube_model.specs.declared.attr.Attr.TheVariants.{DateYearmonth, DateWeeknuminyear}
 use Rattle.cube_model.specs.declared.attr.Axis.{Axis}
 use Rattle.cube_model.specs.declared.query.Cond.{Cond}
 use Rattle.cube_model.specs.declared.query.Cond.TheVariants.{OneOf, Between, Quantity, Discount}

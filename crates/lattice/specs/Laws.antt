@@ -16,7 +16,7 @@ pub record AnsweringIsAPartialOrder : Type 0 where
   pub itself : (view : View) → Answers view view
   pub through : (view between other : View) → Answers view between → Answers between other → Answers view other
   pub both_ways : (view other : View) → Answers view other → Answers other view → view ≡ other
-  pub told : (view other : View) → IsTrue (answers view other) ↔ Answers view other
+  pub decided : (view other : View) → IsTrue (answers view other) ↔ Answers view other
 
 -- a view's number is its place in the lattice, and no two views have one number
 pub record IndexesNameViews : Type 0 where

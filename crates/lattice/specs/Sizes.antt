@@ -1,5 +1,5 @@
--- How many cells a view can have (Harinarayan, Rajaraman and Ullman 1996): no more than there are fact rows, and no more
--- than there are choices of a member of each of its levels.
+-- How many cells a view can have (Harinarayan, Rajaraman and Ullman 1996): no more than there are fact rows, and no
+-- more than there are choices of a member of each of its levels.
 use Rattle.std.specs.Prelude.{ℕ, ◌*◌, min, Bool, true, false, List, Option, Some, None}
 use Rattle.std.specs.Option.{is_some}
 use Rattle.lattice.specs.declared.counts.Counts.{Counts}
@@ -26,7 +26,8 @@ modes_of None grouped = 1
 abbrev pub choices_of : Counts → View → ℕ
 choices_of counts view =
     members_at counts.customer view.customer * (members_at counts.supplier view.supplier
-    * (members_at counts.part view.part * (members_at counts.date view.date * modes_of counts.ship_modes view.ship_mode)))
+    * (members_at counts.part view.part *
+    (members_at counts.date view.date * modes_of counts.ship_modes view.ship_mode)))
 
 -- the most cells of a view
 abbrev pub size_of : ℕ → Counts → View → ℕ

@@ -21,10 +21,12 @@ mode_number false = 0
 mode_number true = 256
 
 abbrev pub index_of : View → ℕ
-index_of view = mode_number view.ship_mode + (64 * height view.customer + (16 * height view.supplier + (4 * height view.part + height view.date)))
+index_of view =
+    mode_number view.ship_mode
+    + (64 * height view.customer + (16 * height view.supplier + (4 * height view.part + height view.date)))
 
--- A view answers another, that is, the cells of the one tell those of the other: it groups each axis as finely or finer,
--- and by ship mode where the other does.
+-- A view answers another, that is, the cells of the one tell those of the other: it groups each axis as finely or
+-- finer, and by ship mode where the other does.
 pub record Answers (view other : View) : Type 0 where
   pub customer : height view.customer ≤ height other.customer
   pub supplier : height view.supplier ≤ height other.supplier

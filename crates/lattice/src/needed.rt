@@ -58,7 +58,8 @@ fn with_attribute(view: View, attr: Attr) -> View
 
 // The coarsest view that answers a view and determines some attributes.
 fn with_columns(view: View, columns: &[Attr]) -> View
-    ensures { (other : View) → Answers other result ↔ (Answers other view × AllByRecursion (Determines other) columns.now) }
+    ensures { (other : View) → Answers other result
+        ↔ (Answers other view × AllByRecursion (Determines other) columns.now) }
 {
     match columns {
         [] => view,
@@ -68,7 +69,8 @@ fn with_columns(view: View, columns: &[Attr]) -> View
 
 // The coarsest view that answers a view and can say where a condition holds. None can for quantity and discount.
 fn with_condition(view: View, condition: &Cond) -> Option<View>
-    ensures some { IfSome result (λ found. (other : View) → Answers other found ↔ (Answers other view × Decides other condition.now)) }
+    ensures some { IfSome result (λ found. (other : View) → Answers other found
+        ↔ (Answers other view × Decides other condition.now)) }
     ensures none { IfNone result ((other : View) → Decides other condition.now → ⊥) }
 {
     match condition {
@@ -81,7 +83,8 @@ fn with_condition(view: View, condition: &Cond) -> Option<View>
 
 // The coarsest view that answers a view and can say where some conditions hold.
 fn with_conditions(view: View, conditions: &[Cond]) -> Option<View>
-    ensures some { IfSome result (λ found. (other : View) → Answers other found ↔ (Answers other view × AllByRecursion (Decides other) conditions.now)) }
+    ensures some { IfSome result (λ found. (other : View) → Answers other found
+        ↔ (Answers other view × AllByRecursion (Decides other) conditions.now)) }
     ensures none { IfNone result ((other : View) → AllByRecursion (Decides other) conditions.now → ⊥) }
 {
     match conditions {
@@ -94,8 +97,8 @@ fn with_conditions(view: View, conditions: &[Cond]) -> Option<View>
 }
 
 impl View {
-    /// The coarsest view that serves a query, if any view does: the views that serve the query are those that answer this
-    /// one. None serves a query with a condition on quantity or discount.
+    /// The coarsest view that serves a query, if any view does: the views that serve the query are those that answer
+    /// this one. None serves a query with a condition on quantity or discount.
     pub fn needed_by(query: &Query) -> Option<View>
         ensures needed { IfSome result (IsNeededBy query.now) }
         ensures none { IfNone result (HasNoView query.now) }

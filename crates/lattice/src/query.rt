@@ -66,8 +66,8 @@ impl View {
         }
     }
 
-    /// Whether the cells of the view have what a query asks for: its levels determine every attribute of the columns and
-    /// of the conditions, and no condition is on quantity or discount.
+    /// Whether the cells of the view have what a query asks for: its levels determine every attribute of the columns
+    /// and of the conditions, and no condition is on quantity or discount.
     pub fn serves(self, query: &Query) -> bool
         ensures { IsTrue result ↔ Serves self query.now }
     {

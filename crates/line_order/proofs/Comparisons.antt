@@ -20,7 +20,8 @@ sort_key_cmp_total (Column column) = on_total (λ line. member_at line column) m
 sort_key_cmp_total (Aggregate aggregate) = on_total (λ line. aggregate_at line aggregate) fraction_cmp_total
 sort_key_cmp_total (Average sum count) = on_total (λ line. average_at line sum count) fraction_cmp_total
 
-directed_total : {X : Type 0} (R : X → X → Ordering) → IsTotalOrder R → (descending : Bool) → IsTotalOrder (λ x y. directed descending (R x y))
+directed_total : {X : Type 0} (R : X → X → Ordering) → IsTotalOrder R → (descending : Bool)
+    → IsTotalOrder (λ x y. directed descending (R x y))
 directed_total R o false = o
 directed_total R o true = subst IsTotalOrder (λ i x y. o.antisymm y x i) (back_total o)
 

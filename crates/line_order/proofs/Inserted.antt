@@ -1,5 +1,6 @@
 -- Lists whose items differ, in order.
-use Rattle.std.proofs.Common.{◌≡◌, ◌∙◌, sym, ap, refl, ℕ, zero, suc, ◌+◌, ◌<◌, ◌≤◌, false, List, [], ◌∷◌, length, get_or, arith}
+use Rattle.std.proofs.Common.{◌≡◌, ◌∙◌, sym, ap, refl, ℕ, zero, suc, ◌+◌, ◌<◌, ◌≤◌, false, List, [], ◌∷◌, length}
+use Rattle.std.proofs.Common.{get_or, arith}
 use Rattle.std.specs.List.{All, AllByRecursion, IsDistinct, range_with_len}
 use Rattle.std.specs.List.Sorted.{IsPermutation, IsSortedBy}
 use Rattle.std.specs.declared.cmp.Ordering.{Ordering}
@@ -7,9 +8,11 @@ use Rattle.std.specs.declared.cmp.Ordering.TheVariants.{Less, Equal, Greater}
 use Rattle.std.specs.Ordering.{eq_by_cmp, is_eq, is_lt, ordering_reverse}
 use Rattle.std.specs.Cmp.{IsTotalOrder, eq_by_cmp_equiv}
 use Rattle.std.specs.FinMap.{IsAntisymmetric}
-use Rattle.std.proofs.lemmas.List.Sorted.{All-permutation, IsPermutation-cons, IsPermutation-middle, IsPermutation-refl, IsPermutation-trans, list_any-IsPermutation, ranks_by, sorted_far}
+use Rattle.std.proofs.lemmas.List.Sorted.{All-permutation, IsPermutation-cons, IsPermutation-middle, IsPermutation-refl}
+use Rattle.std.proofs.lemmas.List.Sorted.{IsPermutation-trans, list_any-IsPermutation, ranks_by, sorted_far}
 use Rattle.std.proofs.lemmas.Map.Keys.{IsDistinct-IsPermutation}
-use Rattle.cube_model.specs.Ascending.{ascending, by_order, insert_once, IsAscending, IsAscending-ascending, list_any-ascending}
+use Rattle.cube_model.specs.Ascending.{ascending, by_order, insert_once, IsAscending, IsAscending-ascending}
+use Rattle.cube_model.specs.Ascending.{list_any-ascending}
 use Rattle.cube_model.proofs.Entries.{IsAscending-unique}
 
 pub at_each : {X : Type 0} (P : X → Type 0) (xs : List X) → AllByRecursion P xs → All P xs
@@ -29,7 +32,8 @@ module _ {K : Type 0} (R : K → K → Ordering) (o : IsTotalOrder R) where
   lower Greater s turned last apart = absurd (cc (ap is_lt turned, last))
 
   lowest : (key : K) (keys : List K) → AllByRecursion (λ other. eq_by_cmp R key other ≡ false) keys
-      → ((j : ℕ) (d : K) → j < length keys → is_lt (R (get_or keys j d) key) ≡ false) → AllByRecursion (λ other. R key other ≡ Less) keys
+      → ((j : ℕ) (d : K) → j < length keys → is_lt (R (get_or keys j d) key) ≡ false)
+      → AllByRecursion (λ other. R key other ≡ Less) keys
   lowest key [] apart last = tt
   lowest key (other ∷ keys) apart last = (
     lower (R key other) (R other key) (o.antisymm other key) (last 0 other (omega arith)) apart.0,
@@ -37,7 +41,8 @@ module _ {K : Type 0} (R : K → K → Ordering) (o : IsTotalOrder R) where
   )
 
   rising : (keys : List K) → IsDistinct (eq_by_cmp R) keys
-      → ((i j : ℕ) (d : K) → i ≤ j → j < length keys → is_lt (R (get_or keys j d) (get_or keys i d)) ≡ false) → IsAscending R keys
+      → ((i j : ℕ) (d : K) → i ≤ j → j < length keys → is_lt (R (get_or keys j d) (get_or keys i d)) ≡ false)
+      → IsAscending R keys
   unfolding IsDistinct
   rising [] apart sorted = tt
   rising (key ∷ keys) apart sorted = (
@@ -46,29 +51,37 @@ module _ {K : Type 0} (R : K → K → Ordering) (o : IsTotalOrder R) where
   )
 
   -- a sorted list of what differs is in order
-  pub IsAscending-sorted : (xs ys : List K) → IsDistinct (eq_by_cmp R) xs → IsPermutation xs ys → IsSortedBy (λ x y. is_lt (R x y)) ys → IsAscending R ys
+  pub IsAscending-sorted : (xs ys : List K) → IsDistinct (eq_by_cmp R) xs → IsPermutation xs ys
+      → IsSortedBy (λ x y. is_lt (R x y)) ys → IsAscending R ys
   IsAscending-sorted xs ys apart moved sorted =
       rising ys (IsDistinct-IsPermutation (eq_by_cmp R) (eq_by_cmp_equiv o).symm xs ys moved apart)
       (sorted_far (λ x y. is_lt (R x y)) (ranks_by o (λ x. x)) ys sorted)
 
   -- so it is the one that has each in its place
-  pub ascending-sorted : IsAntisymmetric R → (xs ys : List K) → IsDistinct (eq_by_cmp R) xs → IsPermutation xs ys → IsSortedBy (λ x y. is_lt (R x y)) ys
+  pub ascending-sorted : IsAntisymmetric R → (xs ys : List K) → IsDistinct (eq_by_cmp R) xs → IsPermutation xs ys
+      → IsSortedBy (λ x y. is_lt (R x y)) ys
       → ys ≡ ascending R xs
   ascending-sorted same xs ys apart moved sorted =
-      IsAscending-unique R o same ys (ascending R xs) (IsAscending-sorted xs ys apart moved sorted) (IsAscending-ascending R o same xs)
+      IsAscending-unique R o same ys (ascending R xs) (IsAscending-sorted xs ys apart moved sorted)
+      (IsAscending-ascending R o same xs)
       (λ q. sym (list_any-IsPermutation (eq_by_cmp R q) xs ys moved) ∙ sym (list_any-ascending R o same q xs))
 
   exchange : (x y : K) (xs : List K) → IsPermutation (x ∷ y ∷ xs) (y ∷ x ∷ xs)
   exchange x y xs = IsPermutation-middle (x ∷ []) y xs
 
-  inserted : (key : K) (keys : List K) → AllByRecursion (λ other. eq_by_cmp R key other ≡ false) keys → IsPermutation (key ∷ keys) (insert_once R key keys)
+  inserted : (key : K) (keys : List K) → AllByRecursion (λ other. eq_by_cmp R key other ≡ false) keys
+      → IsPermutation (key ∷ keys) (insert_once R key keys)
   inserted key [] apart = IsPermutation-refl (key ∷ [])
   inserted key (other ∷ keys) apart =
-      elim (R key other) as (λ r. is_eq r ≡ false → IsPermutation (key ∷ other ∷ keys) (by_order r (key ∷ other ∷ keys) (other ∷ keys) (other ∷ insert_once R key keys))) [
+      elim (R key other) as
+      (λ r. is_eq r ≡ false
+      → IsPermutation (key ∷ other ∷ keys)
+      (by_order r (key ∷ other ∷ keys) (other ∷ keys) (other ∷ insert_once R key keys))) [
         | Less ↦ λ e. IsPermutation-refl (key ∷ other ∷ keys)
         | Equal ↦ λ e. absurd cc
         | Greater ↦ λ e.
-            IsPermutation-trans (key ∷ other ∷ keys) (other ∷ key ∷ keys) (other ∷ insert_once R key keys) (exchange key other keys)
+            IsPermutation-trans (key ∷ other ∷ keys) (other ∷ key ∷ keys) (other ∷ insert_once R key keys)
+            (exchange key other keys)
             (IsPermutation-cons other (key ∷ keys) (insert_once R key keys) (inserted key keys apart.1))
       ] apart.0
 
@@ -79,8 +92,11 @@ module _ {K : Type 0} (R : K → K → Ordering) (o : IsTotalOrder R) where
   IsPermutation-ascending (key ∷ keys) apart =
       let rest : IsPermutation keys (ascending R keys) = IsPermutation-ascending keys apart.1 in
       let differ : K → Type 0 = λ other. eq_by_cmp R key other ≡ false in
-      IsPermutation-trans (key ∷ keys) (key ∷ ascending R keys) (insert_once R key (ascending R keys)) (IsPermutation-cons key keys (ascending R keys) rest)
-      (inserted key (ascending R keys) (from_each differ (ascending R keys) (All-permutation differ keys (ascending R keys) rest (at_each differ keys apart.0))))
+      IsPermutation-trans (key ∷ keys) (key ∷ ascending R keys) (insert_once R key (ascending R keys))
+      (IsPermutation-cons key keys (ascending R keys) rest)
+      (inserted key (ascending R keys)
+      (from_each differ (ascending R keys)
+      (All-permutation differ keys (ascending R keys) rest (at_each differ keys apart.0))))
 
 -- numbers one after the other differ where only equal ones tie
 module _ (R : ℕ → ℕ → Ordering) (same : IsAntisymmetric R) where

@@ -10,7 +10,8 @@ nat_cmp_suc m n = grind (arith, nat_tests)
 
 module _ {X : Type 0} (R : X → X → Ordering) where
   -- at the end of the shorter one the lengths decide
-  pub at_end : (xs ys : List X) (place : ℕ) → place ≡ min (length xs) (length ys) → slice_cmp R (drop place xs) (drop place ys) ≡ nat_cmp (length xs) (length ys)
+  pub at_end : (xs ys : List X) (place : ℕ) → place ≡ min (length xs) (length ys)
+      → slice_cmp R (drop place xs) (drop place ys) ≡ nat_cmp (length xs) (length ys)
   at_end [] [] zero e = refl
   at_end [] (y ∷ ys) zero e = grind (arith, nat_tests)
   at_end (x ∷ xs) [] zero e = grind (arith, nat_tests)

@@ -1,5 +1,6 @@
 -- Fractions are in a total order by size.
-use Rattle.std.proofs.Common.{◌≡◌, ◌∙◌, sym, ap, refl, ℕ, zero, suc, ◌*◌, ◌<◌, max, ℤ, pos, negsuc, ◌*ℤ◌, ◌<ℤ◌, neg_ℤ, Bool, true, false, T, ltb, lt-ltb, ltb-true, subst, arith}
+use Rattle.std.proofs.Common.{◌≡◌, ◌∙◌, sym, ap, refl, ℕ, zero, suc, ◌*◌, ◌<◌, max, ℤ, pos, negsuc, ◌*ℤ◌, ◌<ℤ◌, neg_ℤ}
+use Rattle.std.proofs.Common.{Bool, true, false, T, ltb, lt-ltb, ltb-true, subst, arith}
 use Rattle.std.specs.Int.Signed.{lt_z_yes}
 use Rattle.std.proofs.Math.Nat.{mul-lt-mul_of_pos_right}
 use Rattle.std.specs.declared.cmp.Ordering.{Ordering}
@@ -34,11 +35,14 @@ suc_product a k above = grind arith
 
 -- a factor above 0 keeps the order
 scaled_below : (x y : ℤ) (k : ℕ) → 0 < k → x <ℤ y → (x *ℤ pos k) <ℤ (y *ℤ pos k)
-scaled_below (pos a) (pos b) k above below = lt_z_yes {a = pos (a * k)} {b = pos (b * k)} (passed (a * k) (b * k) (mul-lt-mul_of_pos_right (below_from a b below.lt) above))
+scaled_below (pos a) (pos b) k above below =
+    lt_z_yes {a = pos (a * k)} {b = pos (b * k)}
+    (passed (a * k) (b * k) (mul-lt-mul_of_pos_right (below_from a b below.lt) above))
 scaled_below (pos a) (negsuc b) k above below = absurd below.lt
 scaled_below (negsuc a) (pos b) k above below = neg_below (suc a * k) (b * k) (suc_product a k above)
 scaled_below (negsuc a) (negsuc b) k above below =
-    let lower : b < a = below_from b a below.lt in let less : suc b < suc a = omega (arith, lower) in neg_falls (suc a * k) (suc b * k) (mul-lt-mul_of_pos_right less above)
+    let lower : b < a = below_from b a below.lt in let less : suc b < suc a = omega (arith, lower) in
+    neg_falls (suc a * k) (suc b * k) (mul-lt-mul_of_pos_right less above)
 
 scaled : (x y : ℤ) (k : ℕ) → 0 < k → int_cmp (x *ℤ pos k) (y *ℤ pos k) ≡ int_cmp x y
 scaled x y k above = sym (int_cmp_is (x *ℤ pos k) (y *ℤ pos k) (int_cmp x y) (moved (int_cmp x y) (int_ranks x y)))
@@ -113,7 +117,8 @@ module _ (x y z : Fraction) where
 
 pub fraction_cmp_total : IsTotalOrder fraction_cmp
 fraction_cmp_total = record {
-  antisymm = λ x y. int_cmp_total.antisymm (x.numerator *ℤ pos (max y.denominator 1)) (y.numerator *ℤ pos (max x.denominator 1));
+  antisymm = λ x y. int_cmp_total.antisymm (x.numerator *ℤ pos (max y.denominator 1))
+      (y.numerator *ℤ pos (max x.denominator 1));
   trans = chained;
   congr = alike;
 }

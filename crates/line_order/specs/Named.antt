@@ -30,4 +30,5 @@ key_among None None = None
 -- the first column of a name, or else the first aggregate
 abbrev pub sort_key_named : Query → List ℕ → Option SortKey
 sort_key_named query name =
-    key_among (position (λ attr. bytes_eq name (attr_name attr)) query.columns) (position (is_named name) query.aggregates)
+    key_among (position (λ attr. bytes_eq name (attr_name attr)) query.columns)
+    (position (is_named name) query.aggregates)

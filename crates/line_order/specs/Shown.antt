@@ -8,4 +8,5 @@ use Rattle.line_order.specs.Arranging.{lines_at}
 
 -- the first of the lines at the places
 abbrev pub shown : {L : Type 0} (g : Ghosts L) → Arranged L g → List Line
-shown g arranged = take arranged.count (lines_at (option_map (λ places. places.items) arranged.places) (g.lines arranged.lines.now))
+shown g arranged =
+    take arranged.count (lines_at (option_map (λ places. places.items) arranged.places) (g.lines arranged.lines.now))

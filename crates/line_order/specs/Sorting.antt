@@ -53,7 +53,8 @@ average_at line sum count = quotient (value_at line sum) (value_at line count)
 -- lines by what they are sorted by: members as in keys, ALL after every text, and values as numbers
 abbrev pub sort_key_cmp : SortKey → Line → Line → Ordering
 sort_key_cmp (Column column) left right = member_cmp (member_at left column) (member_at right column)
-sort_key_cmp (Aggregate aggregate) left right = fraction_cmp (aggregate_at left aggregate) (aggregate_at right aggregate)
+sort_key_cmp (Aggregate aggregate) left right =
+    fraction_cmp (aggregate_at left aggregate) (aggregate_at right aggregate)
 sort_key_cmp (Average sum count) left right = fraction_cmp (average_at left sum count) (average_at right sum count)
 
 -- descending is the reverse

@@ -84,7 +84,8 @@ fn places_for<L: Lines>(
     lines: &L,
     sorting: Option<Sorting>,
 ) -> Result<Option<Vec<usize>>, AllocError>
-    ensures ok { IfOk result (λ places. option_map (λ list. list.items) places ≡ places_for sorting (L.lines lines.now)) }
+    ensures ok { IfOk result
+        (λ places. option_map (λ list. list.items) places ≡ places_for sorting (L.lines lines.now)) }
     ensures free { sorting ≡ None → IsOk result }
 {
     match sorting {

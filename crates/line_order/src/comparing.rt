@@ -1,4 +1,5 @@
-//! The places of lines by their lines. Each call takes any place: past the last line is one with no member and no value.
+//! The places of lines by their lines. Each call takes any place: past the last line is one with no member and no
+//! value.
 ghost use Rattle.std.specs.Prelude.{◌≡◌, length};
 ghost use Rattle.std.specs.Option.{option_map};
 ghost use Rattle.std.specs.Ordering.{nat_cmp, ordering_then};
@@ -33,7 +34,9 @@ pub(crate) fn compare_places<L: Lines>(
 
 // Compares lines that are equal by what they are sorted by.
 fn compare_tied<L: Lines>(lines: &L, left: usize, right: usize) -> Ordering
-    ensures { result ≡ ordering_then (key_cmp (line_at (L.lines lines.now) left).key (line_at (L.lines lines.now) right).key) (nat_cmp left right) }
+    ensures { result
+        ≡ ordering_then (key_cmp (line_at (L.lines lines.now) left).key (line_at (L.lines lines.now) right).key)
+        (nat_cmp left right) }
 {
     match compare_keys(lines, left, right) {
         Ordering::Equal => left.cmp(&right),
@@ -90,7 +93,8 @@ fn compare_keys<L: Lines>(lines: &L, left: usize, right: usize) -> Ordering
 
 // Compares members: none is ALL.
 fn compare_members(left: Option<&[u8]>, right: Option<&[u8]>) -> Ordering
-    ensures { result ≡ member_cmp (text_member (option_map (λ text. text.now) left.entry)) (text_member (option_map (λ text. text.now) right.entry)) }
+    ensures { result ≡ member_cmp (text_member (option_map (λ text. text.now) left.entry))
+        (text_member (option_map (λ text. text.now) right.entry)) }
 {
     match (left, right) {
         (Some(left), Some(right)) => left.cmp(&right),
@@ -102,7 +106,8 @@ fn compare_members(left: Option<&[u8]>, right: Option<&[u8]>) -> Ordering
 
 // The text of a line in a column: none for ALL.
 fn text_at<L: Lines>(lines: &L, place: usize, column: usize) -> Option<&[u8]>
-    ensures { text_member (option_map (λ text. text.now) result) ≡ member_at (line_at (L.lines lines.now) place) column }
+    ensures { text_member (option_map (λ text. text.now) result) ≡ member_at (line_at (L.lines lines.now) place)
+        column }
 {
     if column < columns_at(lines, place) {
         lines.text(place, column)

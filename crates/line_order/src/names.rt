@@ -8,8 +8,8 @@ ghost use Rattle.line_order.specs.Named.{agg_word, is_named, sort_key_named};
 use crate::arrangement::SortKey;
 use cube_model::{Agg, Attr, Measure, Query};
 
-/// What the lines of a query's answer are sorted by, by a name: that of a column, such as `d_year`, or else that of an aggregate,
-/// such as `sum(revenue)` or `sum:revenue`. The first that has the name is taken.
+/// What the lines of a query's answer are sorted by, by a name: that of a column, such as `d_year`, or else that of an
+/// aggregate, such as `sum(revenue)` or `sum:revenue`. The first that has the name is taken.
 pub fn sort_key(query: &Query, name: &str) -> Option<SortKey>
     ensures { result ≡ sort_key_named query.now name.now }
 {

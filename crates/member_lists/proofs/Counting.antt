@@ -1,5 +1,7 @@
 -- The tallies of members, row by row.
-use Rattle.std.proofs.Common.{◌≡◌, ◌∙◌, sym, ap, subst, refl, ℕ, zero, suc, ◌+◌, ◌<◌, ◌≤◌, ◌≢◌, Bool, true, false, cond, List, [], ◌∷◌, length, take, set, get_or, get_or-set_same, get_or-set_other, length-set, arith, ◌⊎◌, inl, inr}
+use Rattle.std.proofs.Common.{◌≡◌, ◌∙◌, sym, ap, subst, refl, ℕ, zero, suc, ◌+◌, ◌<◌, ◌≤◌, ◌≢◌, Bool, true, false, cond}
+use Rattle.std.proofs.Common.{List, [], ◌∷◌, length, take, set, get_or, get_or-set_same, get_or-set_other, length-set}
+use Rattle.std.proofs.Common.{arith, ◌⊎◌, inl, inr}
 use Rattle.std.specs.Prelude.{count_by, ◌==◌}
 use Rattle.std.specs.List.{position_or_len}
 use Rattle.std.specs.Str.{bytes_eq}
@@ -17,37 +19,44 @@ use Rattle.member_lists.specs.Tallies.{AreTallies, IsTally, no_tally}
 use Rattle.member_lists.proofs.Ranks.{apart, is_counted, is_placed, length-texts}
 
 -- of texts of which none is counted none is the one
-no-earlier : (test : List ℕ → Bool) (texts : List (List ℕ)) (place k : ℕ) → place ≤ length texts → count_by test (take place texts) ≡ 0 → k < place → test (get_or texts k []) ≡ false
+no-earlier : (test : List ℕ → Bool) (texts : List (List ℕ)) (place k : ℕ) → place ≤ length texts
+    → count_by test (take place texts) ≡ 0 → k < place → test (get_or texts k []) ≡ false
 no-earlier test [] place k within none below = absurd (omega arith)
 no-earlier test (text ∷ texts) zero k within none below = absurd (omega arith)
 no-earlier test (text ∷ texts) (suc place) zero within none below =
-    here (test text) (count_by test (take place texts)) (sym (sum_by-cons (λ one. cond (test one) 1 0) text (take place texts)) ∙ none)
+    here (test text) (count_by test (take place texts))
+    (sym (sum_by-cons (λ one. cond (test one) 1 0) text (take place texts)) ∙ none)
   where
     here : (b : Bool) (n : ℕ) → cond b 1 0 + n ≡ 0 → b ≡ false
     here true n is = absurd (omega arith)
     here false n is = refl
 no-earlier test (text ∷ texts) (suc place) (suc k) within none below =
     no-earlier test texts place k (omega arith)
-    (after (test text) (count_by test (take place texts)) (sym (sum_by-cons (λ one. cond (test one) 1 0) text (take place texts)) ∙ none)) (omega arith)
+    (after (test text) (count_by test (take place texts))
+    (sym (sum_by-cons (λ one. cond (test one) 1 0) text (take place texts)) ∙ none)) (omega arith)
   where
     after : (b : Bool) (n : ℕ) → cond b 1 0 + n ≡ 0 → n ≡ 0
     after true n is = absurd (omega arith)
     after false n is = omega arith
 
-module _ (texts : List (List ℕ)) (place : ℕ) (within : place < length texts) (text : List ℕ) (tally next : Tally) (is : IsTally texts place text tally) where
+module _ (texts : List (List ℕ)) (place : ℕ) (within : place < length texts) (text : List ℕ) (tally next : Tally)
+    (is : IsTally texts place text tally) where
   first-next : bytes_eq text (get_or texts place []) ≡ true → next.first ≡ cond (tally.rows == 0) place tally.first
       → (tally.rows ≡ 0) ⊎ (0 < tally.rows) → next.first ≡ position_or_len (bytes_eq text) texts
   first-next here first (inl none) =
       let no : count_by (bytes_eq text) (take place texts) ≡ 0 = sym is.rows ∙ none in
       first ∙ ap (λ rows. cond (rows == 0) place tally.first) none
-      ∙ sym (position_or_len_is (bytes_eq text) texts place [] (omega arith) (λ k below. no-earlier (bytes_eq text) texts place k (omega arith) no below) (λ _. here))
-  first-next here first (inr some) = first ∙ ap (λ b. cond b place tally.first) (not-zero tally.rows some) ∙ is.first some
+      ∙ sym (position_or_len_is (bytes_eq text) texts place [] (omega arith)
+      (λ k below. no-earlier (bytes_eq text) texts place k (omega arith) no below) (λ _. here))
+  first-next here first (inr some) = first ∙ ap (λ b. cond b place tally.first) (not-zero tally.rows some)
+      ∙ is.first some
     where
       not-zero : (n : ℕ) → 0 < n → (n == 0) ≡ false
       not-zero n h = grind (arith, nat_tests)
 
   -- the row at the place has the text
-  tally-yes : bytes_eq text (get_or texts place []) ≡ true → next.first ≡ cond (tally.rows == 0) place tally.first → next.rows ≡ tally.rows + 1 → IsTally texts (place + 1) text next
+  tally-yes : bytes_eq text (get_or texts place []) ≡ true → next.first ≡ cond (tally.rows == 0) place tally.first
+      → next.rows ≡ tally.rows + 1 → IsTally texts (place + 1) text next
   tally-yes here first rows = record {
     rows = rows ∙ ap (λ n. n + 1) is.rows ∙ sym (count_by_more_yes (bytes_eq text) texts place [] within here);
     first = λ some. first-next here first (zero-or tally.rows);
@@ -67,23 +76,32 @@ module _ (rows : DimRows) (attr : Attr) where
   abbrev members : List (List ℕ)
   members = attr_members rows attr
 
-  module _ (place rank : ℕ) (tallies : List Tally) (next : Tally) (within : place < length (texts_of rows attr)) (lt : rank < length members)
+  module _ (place rank : ℕ) (tallies : List Tally) (next : Tally) (within : place < length (texts_of rows attr))
+      (lt : rank < length members)
       (text : get_or members rank [] ≡ text_at rows attr place) (are : AreTallies rows attr place tallies)
       (first : next.first ≡ cond ((get_or tallies rank no_tally).rows == 0) place (get_or tallies rank no_tally).first)
       (counted : next.rows ≡ (get_or tallies rank no_tally).rows + 1) where
     abbrev IsNext : ℕ → Type 0
-    IsNext k = IsTally (texts_of rows attr) (place + 1) (get_or members k []) (get_or (set tallies rank next) k no_tally)
+    IsNext k = IsTally (texts_of rows attr) (place + 1) (get_or members k [])
+        (get_or (set tallies rank next) k no_tally)
 
     same-rank : (k : ℕ) → k < length members → k ≡ rank → IsNext k
     same-rank k below same =
         let bound : rank < length tallies = omega (arith, are.count) in
-        let here : bytes_eq (get_or members rank []) (get_or (texts_of rows attr) place []) ≡ true = rw text (bytes_eq-refl (text_at rows attr place)) in
-        subst IsNext (sym same) (rw get_or-set_same (tally-yes (texts_of rows attr) place within (get_or members rank []) (get_or tallies rank no_tally) next (are.each rank lt) here first counted))
+        let here : bytes_eq (get_or members rank []) (get_or (texts_of rows attr) place []) ≡ true =
+        rw text (bytes_eq-refl (text_at rows attr place)) in
+        subst IsNext (sym same)
+        (rw get_or-set_same
+        (tally-yes (texts_of rows attr) place within (get_or members rank []) (get_or tallies rank no_tally) next
+        (are.each rank lt) here first counted))
 
     other-rank : (k : ℕ) → k < length members → k ≢ rank → IsNext k
     other-rank k below differ =
-        let other : bytes_eq (get_or members k []) (get_or (texts_of rows attr) place []) ≡ false = rw (← text) (apart rows attr k rank differ below lt) in
-        rw get_or-set_other (tally-no (texts_of rows attr) place within (get_or members k []) (get_or tallies k no_tally) next (are.each k below) other)
+        let other : bytes_eq (get_or members k []) (get_or (texts_of rows attr) place []) ≡ false =
+        rw (← text) (apart rows attr k rank differ below lt) in
+        rw get_or-set_other
+        (tally-no (texts_of rows attr) place within (get_or members k []) (get_or tallies k no_tally) next
+        (are.each k below) other)
 
     -- one row more is counted
     pub tallies-next : AreTallies rows attr (place + 1) (set tallies rank next)
@@ -100,12 +118,15 @@ module _ (rows : DimRows) (attr : Attr) where
         by_rank k below (inr differ) = other-rank k below differ
 
   -- what the tally of a rank says at the end
-  module _ (rank : ℕ) (lt : rank < length members) (tally : Tally) (is : IsTally (texts_of rows attr) (row_count_of rows (axis_of attr)) (get_or members rank []) tally) where
+  module _ (rank : ℕ) (lt : rank < length members) (tally : Tally)
+      (is : IsTally (texts_of rows attr) (row_count_of rows (axis_of attr)) (get_or members rank []) tally) where
     abbrev member : List ℕ
     member = get_or members rank []
 
     pub all-rows : tally.rows ≡ rows_with rows attr member
-    all-rows = is.rows ∙ ap (count_by (bytes_eq member)) (take_all (row_count_of rows (axis_of attr)) (texts_of rows attr) (omega (arith, length-texts rows attr)))
+    all-rows = is.rows
+        ∙ ap (count_by (bytes_eq member))
+        (take_all (row_count_of rows (axis_of attr)) (texts_of rows attr) (omega (arith, length-texts rows attr)))
 
     pub first-row : tally.first ≡ first_with rows attr member
     first-row = is.first (omega (arith, all-rows, is_counted rows attr rank lt))

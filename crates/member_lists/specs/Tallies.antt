@@ -11,7 +11,8 @@ use Rattle.cube_model.specs.Places.{attr_members, texts_of}
 use Rattle.ssb_reports.specs.Writing.{Writes}
 use Rattle.member_lists.specs.declared.tallies.Tally.{Tally}
 
--- the tally of a text among the texts before a place: how many of them it is and, if it is one of them, which is the first
+-- the tally of a text among the texts before a place: how many of them it is and, if it is one of them, which is the
+-- first
 pub record IsTally (texts : List (List ℕ)) (place : ℕ) (text : List ℕ) (tally : Tally) : Type 0 where
   pub rows : tally.rows ≡ count_by (bytes_eq text) (take place texts)
   pub first : 0 < tally.rows → tally.first ≡ position_or_len (bytes_eq text) texts
@@ -23,7 +24,8 @@ no_tally = record { first = 0; rows = 0 }
 pub record AreTallies (rows : DimRows) (attr : Attr) (place : ℕ) (tallies : List Tally) : Type 0 where
   pub count : length tallies ≡ length (attr_members rows attr)
   pub each : (rank : ℕ) → rank < length (attr_members rows attr)
-      → IsTally (texts_of rows attr) place (slice_index_or (attr_members rows attr) rank []) (slice_index_or tallies rank no_tally)
+      → IsTally (texts_of rows attr) place (slice_index_or (attr_members rows attr) rank [])
+      (slice_index_or tallies rank no_tally)
 
 -- all of a text was written or the writer failed, or memory was refused before any of it was written
 abbrev pub WritesInMemory : Option (List ℕ) → Option (List ℕ) → Result Unit Fault → List ℕ → Type 0

@@ -32,7 +32,8 @@ pub(crate) fn write_row<W: Write, F: Fields, G: Fields>(
     fields: &F,
     others: &G,
 ) -> Result<(), Fault>
-    ensures { Writes (W.contents out.old) (W.contents out.new) result (row_text (F.texts fields.now ++ G.texts others.now)) }
+    ensures { Writes (W.contents out.old) (W.contents out.new) result
+        (row_text (F.texts fields.now ++ G.texts others.now)) }
 {
     write_joined(out, b'|', fields, others)?;
     write_bytes(out, b"\n")

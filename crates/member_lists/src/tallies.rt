@@ -32,7 +32,8 @@ impl Tally {
 
 /// The tallies of the members of an attribute, by their ranks. It can only fail when out of memory.
 pub(crate) fn tallies_of(alloc: Global, dims: &Dims, attr: Attr) -> Result<Vec<Tally>, Fault>
-    ensures ok { IfOk result (λ tallies. AreTallies dims.now attr (row_count_of dims.now (axis_of attr)) tallies.items) }
+    ensures ok { IfOk result
+        (λ tallies. AreTallies dims.now attr (row_count_of dims.now (axis_of attr)) tallies.items) }
     ensures err { IfErr result (λ fault. fault ≡ Fault.Memory) }
 {
     let mut tallies = no_tallies(alloc, dims.members(attr))?;

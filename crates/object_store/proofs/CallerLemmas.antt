@@ -1,5 +1,6 @@
 -- What the layers above the store need of contents and of what images show.
-use Rattle.std.proofs.Common.{◌≡◌, ◌≢◌, ℕ, ◌+◌, ◌%◌, ◌<◌, ◌≤◌, ◌==◌, if◌then◌else◌, cond, ltb, eqb, length, Some, None, List, [], ◌∷◌, refl, sym, ◌∙◌, ap, subst, arith}
+use Rattle.std.proofs.Common.{◌≡◌, ◌≢◌, ℕ, ◌+◌, ◌%◌, ◌<◌, ◌≤◌, ◌==◌, if◌then◌else◌, cond, ltb, eqb, length, Some, None}
+use Rattle.std.proofs.Common.{List, [], ◌∷◌, refl, sym, ◌∙◌, ap, subst, arith}
 use Rattle.std.proofs.lemmas.Bool.Decides.{nat_tests}
 use Rattle.std.proofs.lemmas.Bool.{cond_both}
 use Rattle.std.proofs.lemmas.List.Elements.{All-nil, All-cons}
@@ -8,11 +9,12 @@ use Rattle.wire.specs.Limits.{most_object_bytes}
 use Rattle.sector_device.specs.Device.{Image}
 use Rattle.superblock.specs.declared.superblock.Super.{Super}
 use Rattle.superblock.specs.Superblock.{IsSuperblock}
-use Rattle.catalogue.specs.declared.entry.Entry.{Entry}
-use Rattle.catalogue.specs.Catalogue.{IsCatalogue}
-use Rattle.catalogue.proofs.CallerLemmas.{IsCatalogue-one}
+use Rattle.object_store.specs.declared.catalogue.entry.Entry.{Entry}
+use Rattle.object_store.specs.Catalogue.{IsCatalogue}
+use Rattle.object_store.proofs.Catalogues.{IsCatalogue-one}
 use Rattle.object_store.specs.Content.{Content, look_up, bytes_of}
-use Rattle.object_store.specs.Commit.{put_by, drop_by, put_all, drop_all, committed, created, among, without, IsObject, ArePuts}
+use Rattle.object_store.specs.Commit.{put_by, drop_by, put_all, drop_all, committed, created, among, without, IsObject}
+use Rattle.object_store.specs.Commit.{ArePuts}
 use Rattle.object_store.specs.Places.{bytes_at, objects_at}
 use Rattle.object_store.specs.Shows.{Shows}
 use Rattle.object_store.specs.Disk.{Disk, AllShow, IsShown}
@@ -22,39 +24,50 @@ use Rattle.object_store.proofs.Lists.{AllPairs-drop_each, AllPairs-nil, ascendin
 use Rattle.object_store.proofs.Looking.{newest_shows}
 use Rattle.object_store.proofs.Committing.{content_is, generation_is, layout_is, objects_is, root_is}
 
-look_put : (put : ℕ × List ℕ) (objects : List (ℕ × List ℕ)) (id : ℕ) → look_up id (put_by (λ o. o.0) put objects) ≡ (if put.0 == id then Some put.1 else look_up id objects)
+look_put : (put : ℕ × List ℕ) (objects : List (ℕ × List ℕ)) (id : ℕ)
+    → look_up id (put_by (λ o. o.0) put objects) ≡ (if put.0 == id then Some put.1 else look_up id objects)
 look_put put [] id = refl
 look_put put (first ∷ rest) id = grind (arith, nat_tests, look_put put rest id)
 
-look_drop : (drop : ℕ) (objects : List (ℕ × List ℕ)) (id : ℕ) → look_up id (drop_by (λ o. o.0) drop objects) ≡ (if drop == id then None else look_up id objects)
+look_drop : (drop : ℕ) (objects : List (ℕ × List ℕ)) (id : ℕ)
+    → look_up id (drop_by (λ o. o.0) drop objects) ≡ (if drop == id then None else look_up id objects)
 look_drop drop [] id = grind (arith, nat_tests)
 look_drop drop (first ∷ rest) id = grind (arith, nat_tests, look_drop drop rest id)
 
-look_puts : (puts : List (ℕ × List ℕ)) (objects : List (ℕ × List ℕ)) (id : ℕ) → look_up id (put_all puts objects) ≡ among puts id (look_up id objects)
+look_puts : (puts : List (ℕ × List ℕ)) (objects : List (ℕ × List ℕ)) (id : ℕ)
+    → look_up id (put_all puts objects) ≡ among puts id (look_up id objects)
 look_puts [] objects id = refl
-look_puts (put ∷ puts) objects id = look_puts puts (put_by (λ o. o.0) put objects) id ∙ ap (among puts id) (look_put put objects id)
+look_puts (put ∷ puts) objects id = look_puts puts (put_by (λ o. o.0) put objects) id
+    ∙ ap (among puts id) (look_put put objects id)
 
-look_drops : (drops : List ℕ) (objects : List (ℕ × List ℕ)) (id : ℕ) → look_up id (drop_all drops objects) ≡ without drops id (look_up id objects)
+look_drops : (drops : List ℕ) (objects : List (ℕ × List ℕ)) (id : ℕ)
+    → look_up id (drop_all drops objects) ≡ without drops id (look_up id objects)
 look_drops [] objects id = refl
-look_drops (drop ∷ drops) objects id = look_drops drops (drop_by (λ o. o.0) drop objects) id ∙ ap (without drops id) (look_drop drop objects id)
+look_drops (drop ∷ drops) objects id = look_drops drops (drop_by (λ o. o.0) drop objects) id
+    ∙ ap (without drops id) (look_drop drop objects id)
 
 -- of the puts the last one of an id counts, and no dropped object is left
-pub bytes_after : (puts : List (ℕ × List ℕ)) (drops root : List ℕ) (layout : ℕ) (c : Content) (id : ℕ) → bytes_of (committed puts drops root layout c) id ≡ among puts id (without drops id (bytes_of c id))
+pub bytes_after : (puts : List (ℕ × List ℕ)) (drops root : List ℕ) (layout : ℕ) (c : Content) (id : ℕ)
+    → bytes_of (committed puts drops root layout c) id ≡ among puts id (without drops id (bytes_of c id))
 bytes_after puts drops root layout c id =
     ap (λ (l : List (ℕ × List ℕ)). look_up id l) (objects_is puts drops root layout c)
     ∙ look_puts puts (drop_all drops c.objects) id ∙ ap (among puts id) (look_drops drops c.objects id)
 
-pub root_after : (puts : List (ℕ × List ℕ)) (drops root : List ℕ) (layout : ℕ) (c : Content) → (committed puts drops root layout c).root ≡ root
+pub root_after : (puts : List (ℕ × List ℕ)) (drops root : List ℕ) (layout : ℕ) (c : Content)
+    → (committed puts drops root layout c).root ≡ root
 root_after puts drops root layout c = root_is puts drops root layout c
 
-pub generation_after : (puts : List (ℕ × List ℕ)) (drops root : List ℕ) (layout : ℕ) (c : Content) → (committed puts drops root layout c).generation ≡ c.generation + 1
+pub generation_after : (puts : List (ℕ × List ℕ)) (drops root : List ℕ) (layout : ℕ) (c : Content)
+    → (committed puts drops root layout c).generation ≡ c.generation + 1
 generation_after puts drops root layout c = generation_is puts drops root layout c
 
-pub layout_after : (puts : List (ℕ × List ℕ)) (drops root : List ℕ) (layout : ℕ) (c : Content) → (committed puts drops root layout c).layout ≡ layout
+pub layout_after : (puts : List (ℕ × List ℕ)) (drops root : List ℕ) (layout : ℕ) (c : Content)
+    → (committed puts drops root layout c).layout ≡ layout
 layout_after puts drops root layout c = layout_is puts drops root layout c
 
 -- the content that is made on a device without one
-pub bytes_created : (puts : List (ℕ × List ℕ)) (root : List ℕ) (layout : ℕ) (id : ℕ) → bytes_of (created puts root layout) id ≡ among puts id None
+pub bytes_created : (puts : List (ℕ × List ℕ)) (root : List ℕ) (layout : ℕ) (id : ℕ)
+    → bytes_of (created puts root layout) id ≡ among puts id None
 unfolding created
 bytes_created puts root layout id = look_puts puts [] id
 
@@ -62,7 +75,8 @@ pub root_created : (puts : List (ℕ × List ℕ)) (root : List ℕ) (layout : �
 unfolding created
 root_created puts root layout = refl
 
-pub layout_created : (puts : List (ℕ × List ℕ)) (root : List ℕ) (layout : ℕ) → (created puts root layout).layout ≡ layout
+pub layout_created : (puts : List (ℕ × List ℕ)) (root : List ℕ) (layout : ℕ)
+    → (created puts root layout).layout ≡ layout
 unfolding created
 layout_created puts root layout = refl
 
@@ -75,8 +89,10 @@ shows_one size image c d first second =
       newest = λ slot lt other is. omega (arith, (first.2).newest slot lt other is, numbered);
     } in
     let super : first.0 ≡ second.0 = newest_shows size image first.0 newest d second.0 second.1 second.2 in
-    let one = IsCatalogue-one (bytes_at image (first.0).catalogue (first.0).bytes) first.1 second.1 c.root d.root (first.2).spells.spelled
-    (subst (λ (s : Super). IsCatalogue (bytes_at image s.catalogue s.bytes) second.1 d.root) (sym super) (second.2).spells.spelled) in
+    let one = IsCatalogue-one (bytes_at image (first.0).catalogue (first.0).bytes) first.1 second.1 c.root d.root
+    (first.2).spells.spelled
+    (subst (λ (s : Super). IsCatalogue (bytes_at image s.catalogue s.bytes) second.1 d.root) (sym super)
+    (second.2).spells.spelled) in
     content_is c d
     (sym numbered ∙ ap (λ (s : Super). s.generation) super ∙ (second.2).spells.numbered)
     (sym (first.2).spells.of_layout ∙ ap (λ (s : Super). s.layout) super ∙ (second.2).spells.of_layout)
@@ -92,59 +108,80 @@ shown_has P now c w all shown =
 length-put_by : (put : ℕ × List ℕ) (l : List (ℕ × List ℕ)) → length (put_by (λ o. o.0) put l) ≤ 1 + length l
 length-put_by put [] = omega arith
 length-put_by put (first ∷ rest) =
-    cond_both (ltb put.0 first.0) (put ∷ first ∷ rest) (cond (eqb put.0 first.0) (put ∷ rest) (first ∷ put_by (λ o. o.0) put rest)) (λ (m : List (ℕ × List ℕ)). length m ≤ 1 + length (first ∷ rest))
+    cond_both (ltb put.0 first.0) (put ∷ first ∷ rest)
+    (cond (eqb put.0 first.0) (put ∷ rest) (first ∷ put_by (λ o. o.0) put rest))
+    (λ (m : List (ℕ × List ℕ)). length m ≤ 1 + length (first ∷ rest))
     (λ _. omega arith)
-    (λ _. cond_both (eqb put.0 first.0) (put ∷ rest) (first ∷ put_by (λ o. o.0) put rest) (λ (m : List (ℕ × List ℕ)). length m ≤ 1 + length (first ∷ rest))
+    (λ _. cond_both (eqb put.0 first.0) (put ∷ rest) (first ∷ put_by (λ o. o.0) put rest)
+    (λ (m : List (ℕ × List ℕ)). length m ≤ 1 + length (first ∷ rest))
     (λ _. omega arith)
-    (λ _. let more : length (put_by (λ o. o.0) put rest) ≤ 1 + length rest = length-put_by put rest in omega (arith, more)))
+    (λ _. let more : length (put_by (λ o. o.0) put rest) ≤ 1 + length rest = length-put_by put rest in
+    omega (arith, more)))
 
 length-drop_by : (id : ℕ) (l : List (ℕ × List ℕ)) → length (drop_by (λ o. o.0) id l) ≤ length l
 length-drop_by id [] = omega arith
 length-drop_by id (first ∷ rest) =
-    cond_both (eqb first.0 id) (drop_by (λ o. o.0) id rest) (first ∷ drop_by (λ o. o.0) id rest) (λ (m : List (ℕ × List ℕ)). length m ≤ length (first ∷ rest))
-    (λ _. let fewer : length (drop_by (λ o. o.0) id rest) ≤ length rest = length-drop_by id rest in omega (arith, fewer))
-    (λ _. let fewer : length (drop_by (λ o. o.0) id rest) ≤ length rest = length-drop_by id rest in omega (arith, fewer))
+    cond_both (eqb first.0 id) (drop_by (λ o. o.0) id rest) (first ∷ drop_by (λ o. o.0) id rest)
+    (λ (m : List (ℕ × List ℕ)). length m ≤ length (first ∷ rest))
+    (λ _. let fewer : length (drop_by (λ o. o.0) id rest) ≤ length rest = length-drop_by id rest in
+    omega (arith, fewer))
+    (λ _. let fewer : length (drop_by (λ o. o.0) id rest) ≤ length rest = length-drop_by id rest in
+    omega (arith, fewer))
 
 length-put_all : (puts l : List (ℕ × List ℕ)) → length (put_all puts l) ≤ length puts + length l
 length-put_all [] l = omega arith
 length-put_all (put ∷ puts) l =
-    let rest : length (put_all puts (put_by (λ o. o.0) put l)) ≤ length puts + length (put_by (λ o. o.0) put l) = length-put_all puts (put_by (λ o. o.0) put l) in
+    let rest : length (put_all puts (put_by (λ o. o.0) put l)) ≤ length puts + length (put_by (λ o. o.0) put l) =
+    length-put_all puts (put_by (λ o. o.0) put l) in
     let one : length (put_by (λ o. o.0) put l) ≤ 1 + length l = length-put_by put l in
     omega (arith, rest, one)
 
 length-drop_all : (drops : List ℕ) (l : List (ℕ × List ℕ)) → length (drop_all drops l) ≤ length l
 length-drop_all [] l = omega arith
 length-drop_all (id ∷ drops) l =
-    let rest : length (drop_all drops (drop_by (λ o. o.0) id l)) ≤ length (drop_by (λ o. o.0) id l) = length-drop_all drops (drop_by (λ o. o.0) id l) in
+    let rest : length (drop_all drops (drop_by (λ o. o.0) id l)) ≤ length (drop_by (λ o. o.0) id l) =
+    length-drop_all drops (drop_by (λ o. o.0) id l) in
     let one : length (drop_by (λ o. o.0) id l) ≤ length l = length-drop_by id l in
     omega (arith, rest, one)
 
 -- a commit leaves no more objects than there were and are put
-pub few_after : (puts : List (ℕ × List ℕ)) (drops root : List ℕ) (layout : ℕ) (c : Content) → length (committed puts drops root layout c).objects ≤ length puts + length c.objects
+pub few_after : (puts : List (ℕ × List ℕ)) (drops root : List ℕ) (layout : ℕ) (c : Content)
+    → length (committed puts drops root layout c).objects ≤ length puts + length c.objects
 few_after puts drops root layout c =
-    let parts : length (committed puts drops root layout c).objects ≡ length (put_all puts (drop_all drops c.objects)) = ap (λ (l : List (ℕ × List ℕ)). length l) (objects_is puts drops root layout c) in
-    let most : length (put_all puts (drop_all drops c.objects)) ≤ length puts + length (drop_all drops c.objects) = length-put_all puts (drop_all drops c.objects) in
+    let parts : length (committed puts drops root layout c).objects ≡ length (put_all puts (drop_all drops c.objects)) =
+    ap (λ (l : List (ℕ × List ℕ)). length l) (objects_is puts drops root layout c) in
+    let most : length (put_all puts (drop_all drops c.objects)) ≤ length puts + length (drop_all drops c.objects) =
+    length-put_all puts (drop_all drops c.objects) in
     let fewer : length (drop_all drops c.objects) ≤ length c.objects = length-drop_all drops c.objects in
     omega (arith, parts, most, fewer)
 
-pub few_created : (puts : List (ℕ × List ℕ)) (root : List ℕ) (layout : ℕ) → length (created puts root layout).objects ≤ length puts
+pub few_created : (puts : List (ℕ × List ℕ)) (root : List ℕ) (layout : ℕ)
+    → length (created puts root layout).objects ≤ length puts
 unfolding created
-few_created puts root layout = let most : length (put_all puts []) ≤ length puts + length {A = ℕ × List ℕ} [] = length-put_all puts [] in omega (arith, most)
+few_created puts root layout = let most : length (put_all puts []) ≤ length puts + length {A = ℕ × List ℕ} [] =
+    length-put_all puts [] in omega (arith, most)
 
 -- one object may be put
-pub one_put : (id : ℕ) (bytes : List ℕ) → 1 ≤ length bytes → length bytes ≤ most_object_bytes → ArePuts ((id, bytes) ∷ [])
+pub one_put : (id : ℕ) (bytes : List ℕ) → 1 ≤ length bytes → length bytes ≤ most_object_bytes
+    → ArePuts ((id, bytes) ∷ [])
 one_put id bytes least most = record {
   each = All-cons IsObject (id, bytes) [] (record { least = least; most = most }) (All-nil IsObject);
-  distinct = AllPairs-cons (λ (a : ℕ × List ℕ) (b : ℕ × List ℕ). a.0 ≢ b.0) (id, bytes) [] (All-nil (λ (b : ℕ × List ℕ). id ≢ b.0)) (AllPairs-nil (λ (a : ℕ × List ℕ) (b : ℕ × List ℕ). a.0 ≢ b.0));
+  distinct = AllPairs-cons (λ (a : ℕ × List ℕ) (b : ℕ × List ℕ). a.0 ≢ b.0) (id, bytes) []
+      (All-nil (λ (b : ℕ × List ℕ). id ≢ b.0)) (AllPairs-nil (λ (a : ℕ × List ℕ) (b : ℕ × List ℕ). a.0 ≢ b.0));
 }
 
 -- no id is there twice, also after a commit
-pub once_after : (puts : List (ℕ × List ℕ)) (drops root : List ℕ) (layout : ℕ) (c : Content) → AllPairs (λ (a : ℕ × List ℕ) (b : ℕ × List ℕ). a.0 < b.0) c.objects
+pub once_after : (puts : List (ℕ × List ℕ)) (drops root : List ℕ) (layout : ℕ) (c : Content)
+    → AllPairs (λ (a : ℕ × List ℕ) (b : ℕ × List ℕ). a.0 < b.0) c.objects
     → AllPairs (λ (a : ℕ × List ℕ) (b : ℕ × List ℕ). a.0 < b.0) (committed puts drops root layout c).objects
 once_after puts drops root layout c up =
-    subst (λ (l : List (ℕ × List ℕ)). AllPairs (λ (a : ℕ × List ℕ) (b : ℕ × List ℕ). a.0 < b.0) l) (sym (objects_is puts drops root layout c))
-    (ascending-put_each (λ o. o.0) puts (drop_all drops c.objects) (AllPairs-drop_each (λ (a : ℕ × List ℕ) (b : ℕ × List ℕ). a.0 < b.0) (λ o. o.0) drops c.objects up))
+    subst (λ (l : List (ℕ × List ℕ)). AllPairs (λ (a : ℕ × List ℕ) (b : ℕ × List ℕ). a.0 < b.0) l)
+    (sym (objects_is puts drops root layout c))
+    (ascending-put_each (λ o. o.0) puts (drop_all drops c.objects)
+    (AllPairs-drop_each (λ (a : ℕ × List ℕ) (b : ℕ × List ℕ). a.0 < b.0) (λ o. o.0) drops c.objects up))
 
-pub once_created : (puts : List (ℕ × List ℕ)) (root : List ℕ) (layout : ℕ) → AllPairs (λ (a : ℕ × List ℕ) (b : ℕ × List ℕ). a.0 < b.0) (created puts root layout).objects
+pub once_created : (puts : List (ℕ × List ℕ)) (root : List ℕ) (layout : ℕ)
+    → AllPairs (λ (a : ℕ × List ℕ) (b : ℕ × List ℕ). a.0 < b.0) (created puts root layout).objects
 unfolding created
-once_created puts root layout = ascending-put_each (λ o. o.0) puts [] (AllPairs-nil (λ (a : ℕ × List ℕ) (b : ℕ × List ℕ). a.0 < b.0))
+once_created puts root layout =
+    ascending-put_each (λ o. o.0) puts [] (AllPairs-nil (λ (a : ℕ × List ℕ) (b : ℕ × List ℕ). a.0 < b.0))

@@ -1,3 +1,7 @@
+mod Catalogues
+mod CatalogueDecoded
+mod CataloguePlaces
+mod CatalogueRead
 pub mod Lists
 pub mod Extents
 pub mod Written

@@ -1,21 +1,24 @@
 -- One object more in its place.
-use Rattle.std.proofs.Common.{◌≡◌, ℕ, ◌+◌, ◌<◌, List, [], ◌∷◌, ◌++◌, length, take, get_or, Bor, sym, ◌∙◌, ap, subst, arith}
+use Rattle.std.proofs.Common.{◌≡◌, ℕ, ◌+◌, ◌<◌, List, [], ◌∷◌, ◌++◌, length, take, get_or, Bor, sym, ◌∙◌, ap, subst}
+use Rattle.std.proofs.Common.{arith}
 use Rattle.std.specs.List.{AllPairs}
 use Rattle.std.proofs.lemmas.List.{length-map, get_or-map, map_more, take_more, take-map}
 use Rattle.std.proofs.lemmas.List.Elements.{All-get_or}
 use Rattle.sector_device.specs.Device.{Image}
 use Rattle.extents.specs.declared.extent.Extent.{Extent}
 use Rattle.extents.specs.Extents.{Holds, SomeHolds, AreApart, IsInRange, AreLaidOut}
-use Rattle.catalogue.specs.declared.entry.Entry.{Entry}
+use Rattle.object_store.specs.declared.catalogue.entry.Entry.{Entry}
 use Rattle.object_store.specs.Commit.{size_of, puts_of}
 use Rattle.object_store.specs.Places.{bytes_at, extent_of, extents_of, object_at, objects_at, size_at}
 use Rattle.object_store.specs.Publish.{AreFor}
 use Rattle.object_store.proofs.Extents.{before_apart, one_holds}
 use Rattle.object_store.specs.Frames.{objects_same}
 
-module _ (placed : List Entry) (raw : List (ℕ × Bor (List ℕ))) (for_puts : AreFor placed (puts_of raw)) (k : ℕ) (d : Entry) (e : ℕ × Bor (List ℕ)) (lt : k < length placed) where
+module _ (placed : List Entry) (raw : List (ℕ × Bor (List ℕ))) (for_puts : AreFor placed (puts_of raw)) (k : ℕ)
+    (d : Entry) (e : ℕ × Bor (List ℕ)) (lt : k < length placed) where
   pub many : length placed ≡ length raw
-  many = sym (length-map placed size_at) ∙ ap length for_puts ∙ length-map (puts_of raw) size_of ∙ length-map raw (λ put. (put.0, put.1.now))
+  many = sym (length-map placed size_at) ∙ ap length for_puts ∙ length-map (puts_of raw) size_of
+      ∙ length-map raw (λ put. (put.0, put.1.now))
 
   below : k < length raw
   below = omega (arith, lt, many)
@@ -35,34 +38,48 @@ module _ (placed : List Entry) (raw : List (ℕ × Bor (List ℕ))) (for_puts : 
   same_bytes = ap (λ (s : ℕ × ℕ). s.1) sizes
 
   -- its extent is one of the list
-  extent_is : get_or (extents_of placed) k (extent_of d.first d.bytes) ≡ extent_of (get_or placed k d).first (length (get_or raw k e).1.now)
+  extent_is : get_or (extents_of placed) k (extent_of d.first d.bytes)
+      ≡ extent_of (get_or placed k d).first (length (get_or raw k e).1.now)
   extent_is =
       get_or-map (λ (x : Entry). extent_of x.first x.bytes) placed k d (extent_of d.first d.bytes) lt
       ∙ ap (λ (n : ℕ). extent_of (get_or placed k d).first n) same_bytes
 
-  pub in_range : (size : ℕ) → AreLaidOut size (extents_of placed) → IsInRange size (extent_of (get_or placed k d).first (length (get_or raw k e).1.now))
+  pub in_range : (size : ℕ) → AreLaidOut size (extents_of placed)
+      → IsInRange size (extent_of (get_or placed k d).first (length (get_or raw k e).1.now))
   in_range size laid =
-      let many_extents : length (extents_of placed) ≡ length placed = length-map placed (λ (x : Entry). extent_of x.first x.bytes) in
-      subst (IsInRange size) extent_is (All-get_or (IsInRange size) (extents_of placed) k (extent_of d.first d.bytes) (omega (arith, lt, many_extents)) laid.in_range)
+      let many_extents : length (extents_of placed) ≡ length placed =
+      length-map placed (λ (x : Entry). extent_of x.first x.bytes) in
+      subst (IsInRange size) extent_is
+      (All-get_or (IsInRange size) (extents_of placed) k (extent_of d.first d.bytes)
+      (omega (arith, lt, many_extents)) laid.in_range)
 
-  pub held : (i : ℕ) → Holds (extent_of (get_or placed k d).first (length (get_or raw k e).1.now)) i → SomeHolds (extents_of placed) i
+  pub held : (i : ℕ) → Holds (extent_of (get_or placed k d).first (length (get_or raw k e).1.now)) i
+      → SomeHolds (extents_of placed) i
   held i here =
-      let many_extents : length (extents_of placed) ≡ length placed = length-map placed (λ (x : Entry). extent_of x.first x.bytes) in
-      one_holds (extents_of placed) k (extent_of d.first d.bytes) (omega (arith, lt, many_extents)) i (subst (λ (x : Extent). Holds x i) (sym extent_is) here)
+      let many_extents : length (extents_of placed) ≡ length placed =
+      length-map placed (λ (x : Entry). extent_of x.first x.bytes) in
+      one_holds (extents_of placed) k (extent_of d.first d.bytes) (omega (arith, lt, many_extents)) i
+      (subst (λ (x : Extent). Holds x i) (sym extent_is) here)
 
-  pub object_step : (mid new : Image) → AllPairs AreApart (extents_of placed) → objects_at mid (take k placed) ≡ take k (puts_of raw)
+  pub object_step : (mid new : Image) → AllPairs AreApart (extents_of placed)
+      → objects_at mid (take k placed) ≡ take k (puts_of raw)
       → ((i : ℕ) → (Holds (extent_of (get_or placed k d).first (length (get_or raw k e).1.now)) i → ⊥) → new i ≡ mid i)
       → bytes_at new (get_or placed k d).first (length (get_or raw k e).1.now) ≡ (get_or raw k e).1.now
       → objects_at new (take (k + 1) placed) ≡ take (k + 1) (puts_of raw)
   object_step mid new apart so_far others written =
-      let many_extents : length (extents_of placed) ≡ length placed = length-map placed (λ (x : Entry). extent_of x.first x.bytes) in
+      let many_extents : length (extents_of placed) ≡ length placed =
+      length-map placed (λ (x : Entry). extent_of x.first x.bytes) in
       let many_puts : length (puts_of raw) ≡ length raw = length-map raw (λ put. (put.0, put.1.now)) in
-      let earlier : objects_at new (take k placed) ≡ objects_at mid (take k placed) = objects_same new mid (take k placed) (λ i there.
-      others i (λ here. before_apart (extents_of placed) k (extent_of d.first d.bytes) apart (omega (arith, lt, many_extents)) i
-      (subst (λ (l : List Extent). SomeHolds l i) (sym (take-map (λ (x : Entry). extent_of x.first x.bytes) k placed)) there)
+      let earlier : objects_at new (take k placed) ≡ objects_at mid (take k placed) =
+      objects_same new mid (take k placed) (λ i there.
+      others i (λ here. before_apart (extents_of placed) k (extent_of d.first d.bytes) apart
+      (omega (arith, lt, many_extents)) i
+      (subst (λ (l : List Extent). SomeHolds l i) (sym (take-map (λ (x : Entry). extent_of x.first x.bytes) k placed))
+      there)
       (subst (λ (x : Extent). Holds x i) (sym extent_is) here))) in
       let this : object_at new (get_or placed k d) ≡ ((get_or raw k e).0, (get_or raw k e).1.now) =
-      ap (λ (s : ℕ × ℕ). (s.0, bytes_at new (get_or placed k d).first s.1)) sizes ∙ ap (λ (b : List ℕ). ((get_or raw k e).0, b)) written in
+      ap (λ (s : ℕ × ℕ). (s.0, bytes_at new (get_or placed k d).first s.1)) sizes
+      ∙ ap (λ (b : List ℕ). ((get_or raw k e).0, b)) written in
       map_more (object_at new) placed k d lt
       ∙ ap (λ (l : List (ℕ × List ℕ)). l ++ object_at new (get_or placed k d) ∷ []) (earlier ∙ so_far)
       ∙ ap (λ (o : ℕ × List ℕ). take k (puts_of raw) ++ o ∷ []) (this ∙ sym put_is)

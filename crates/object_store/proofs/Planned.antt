@@ -1,20 +1,21 @@
 -- What a plan is made of.
-use Rattle.std.proofs.Common.{◌≡◌, ⊎_elim, ℕ, ◌+◌, ◌*◌, ◌^◌, ◌<◌, ◌≤◌, List, [], ◌∷◌, length, map, get_or, refl, sym, ◌∙◌, ap, subst, arith}
+use Rattle.std.proofs.Common.{◌≡◌, ⊎_elim, ℕ, ◌+◌, ◌*◌, ◌^◌, ◌<◌, ◌≤◌, List, [], ◌∷◌, length, map, get_or, refl, sym}
+use Rattle.std.proofs.Common.{◌∙◌, ap, subst, arith}
 use Rattle.std.specs.List.{All}
 use Rattle.std.proofs.lemmas.List.{length-map, get_or-map}
 use Rattle.std.proofs.lemmas.List.Elements.{All-cons, All-get_or}
 use Rattle.std.proofs.lemmas.List.Kept.{AllPairs-cons}
 use Rattle.extents.specs.declared.extent.Extent.{Extent}
 use Rattle.extents.specs.Extents.{Holds, SomeHolds, AreApart, IsInRange, AreLaidOut}
-use Rattle.extents.specs.Runs.{FreeSectors, AreFreeFrom, IsFirstFit, IsFreeBeside}
+use Rattle.extents.specs.Runs.{FreeSectors, AreFreeFrom, IsFirstFit, IsFreeOutside}
 use Rattle.superblock.specs.Superblock as superblocks
 use Rattle.superblock.specs.Superblock.{sectors_of}
 use Rattle.wire.specs.Limits.{least_sectors, most_objects}
-use Rattle.catalogue.specs.declared.entry.Entry.{Entry}
-use Rattle.catalogue.specs.Catalogue as catalogues
-use Rattle.catalogue.specs.Catalogue.{FitsFields, IsProperEntry, AreAscending, IsCatalogue, catalogue_of}
-use Rattle.catalogue.proofs.CallerLemmas.{length-catalogue_of}
-use Rattle.object_store.specs.declared.plan.Plan.{Plan}
+use Rattle.object_store.specs.declared.catalogue.entry.Entry.{Entry}
+use Rattle.object_store.specs.Catalogue as catalogues
+use Rattle.object_store.specs.Catalogue.{FitsFields, IsProperEntry, AreAscending, IsCatalogue, catalogue_of}
+use Rattle.object_store.proofs.Catalogues.{length-catalogue_of}
+use Rattle.object_store.specs.declared.plan.CommitPlan.{CommitPlan}
 use Rattle.object_store.specs.Commit.{IsLayout, IsRoot, IsObject, ArePuts, put_each, size_of}
 use Rattle.object_store.specs.Places.{extent_of, extents_of, size_at, sizes_at}
 use Rattle.object_store.specs.Room.{FitsFail, LacksPlaces, asked_for, lengths_of, catalogue_bytes}
@@ -25,47 +26,62 @@ use Rattle.object_store.proofs.Extents.{apart_each, held_put_each, laid_out_put_
 use Rattle.object_store.proofs.Fits.{was_free, not_placed, fail_more, fail_last}
 
 -- how many objects there are after it
-pub objects_after : (placed kept : List Entry) (puts : List (ℕ × List ℕ)) → AreFor placed puts → length (put_each (λ e. e.id) placed kept) ≡ length (put_each (λ o. o.0) (map size_of puts) (sizes_at kept))
+pub objects_after : (placed kept : List Entry) (puts : List (ℕ × List ℕ)) → AreFor placed puts
+    → length (put_each (λ e. e.id) placed kept) ≡ length (put_each (λ o. o.0) (map size_of puts) (sizes_at kept))
 objects_after placed kept puts are_for =
     sym (length-map (put_each (λ (e : Entry). e.id) placed kept) size_at)
-    ∙ ap (λ (l : List (ℕ × ℕ)). length l) (map-put_each size_at (λ (e : Entry). e.id) (λ (o : ℕ × ℕ). o.0) (λ e. refl) placed kept)
+    ∙ ap (λ (l : List (ℕ × ℕ)). length l)
+    (map-put_each size_at (λ (e : Entry). e.id) (λ (o : ℕ × ℕ). o.0) (λ e. refl) placed kept)
     ∙ ap (λ (l : List (ℕ × ℕ)). length (put_each (λ o. o.0) l (sizes_at kept))) are_for
 
 -- an entry that was placed keeps the rules
-placed_size : (placed : List Entry) (puts : List (ℕ × List ℕ)) → AreFor placed puts → ArePuts puts → (k : ℕ) (d : Entry) → k < length placed → (1 ≤ (get_or placed k d).bytes) × ((get_or placed k d).bytes ≤ 134217728)
+placed_size : (placed : List Entry) (puts : List (ℕ × List ℕ)) → AreFor placed puts → ArePuts puts → (k : ℕ) (d : Entry)
+    → k < length placed → (1 ≤ (get_or placed k d).bytes) × ((get_or placed k d).bytes ≤ 134217728)
 placed_size placed puts are_for good k d lt =
-    let many : length placed ≡ length puts = sym (length-map placed size_at) ∙ ap (λ (l : List (ℕ × ℕ)). length l) are_for ∙ length-map puts size_of in
+    let many : length placed ≡ length puts = sym (length-map placed size_at)
+    ∙ ap (λ (l : List (ℕ × ℕ)). length l) are_for ∙ length-map puts size_of in
     let below : k < length puts = omega (arith, lt, many) in
     let o : IsObject (get_or puts k (0, [])) = good.each k (0, []) below in
     let size : size_at (get_or placed k d) ≡ size_of (get_or puts k (0, [])) =
-    sym (get_or-map size_at placed k d (0, 0) lt) ∙ ap (λ (l : List (ℕ × ℕ)). get_or l k (0, 0)) are_for ∙ get_or-map size_of puts k (0, []) (0, 0) below in
+    sym (get_or-map size_at placed k d (0, 0) lt) ∙ ap (λ (l : List (ℕ × ℕ)). get_or l k (0, 0)) are_for
+    ∙ get_or-map size_of puts k (0, []) (0, 0) below in
     let bytes : (get_or placed k d).bytes ≡ length (get_or puts k (0, [])).1 = ap (λ (s : ℕ × ℕ). s.1) size in
     (omega (arith, o.least, bytes), omega (arith, o.most, bytes))
 
 -- where an entry's extent lies in range, its first sector is that of a small device
-placed_first : (sectors : ℕ) (placed : List Entry) → sectors < 2 ^ 32 → AreLaidOut sectors (extents_of placed) → (k : ℕ) (d : Entry) → k < length placed → (get_or placed k d).first < 2 ^ 32
+placed_first : (sectors : ℕ) (placed : List Entry) → sectors < 2 ^ 32 → AreLaidOut sectors (extents_of placed)
+    → (k : ℕ) (d : Entry) → k < length placed → (get_or placed k d).first < 2 ^ 32
 placed_first sectors placed few laid k d lt =
-    let many : length (extents_of placed) ≡ length placed = length-map placed (λ (e : Entry). extent_of e.first e.bytes) in
+    let many : length (extents_of placed) ≡ length placed =
+    length-map placed (λ (e : Entry). extent_of e.first e.bytes) in
     let r : IsInRange sectors (extent_of (get_or placed k d).first (get_or placed k d).bytes) =
-    subst (IsInRange sectors) (get_or-map (λ (e : Entry). extent_of e.first e.bytes) placed k d (extent_of d.first d.bytes) lt)
-    (All-get_or (IsInRange sectors) (extents_of placed) k (extent_of d.first d.bytes) (omega (arith, lt, many)) laid.in_range) in
+    subst (IsInRange sectors)
+    (get_or-map (λ (e : Entry). extent_of e.first e.bytes) placed k d (extent_of d.first d.bytes) lt)
+    (All-get_or (IsInRange sectors) (extents_of placed) k (extent_of d.first d.bytes) (omega (arith, lt, many))
+    laid.in_range) in
     let some = r.not_empty in
     let ends = r.ends in
     omega (arith, few)
 
-module _ (sectors : ℕ) (used : List Extent) (kept : List Entry) (puts : List (ℕ × List ℕ)) (root : List ℕ) (generation layout : ℕ) (plan : Plan)
+module _ (sectors : ℕ) (used : List Extent) (kept : List Entry) (puts : List (ℕ × List ℕ)) (root : List ℕ)
+    (generation layout : ℕ) (plan : CommitPlan)
     (free mid next : FreeSectors) (e : Extent)
-    (large : least_sectors ≤ sectors) (few_sectors : sectors < 2 ^ 32) (counted : 1 ≤ generation) (fits : generation < 2 ^ 64) (known : IsLayout layout)
-    (kept_laid : AreLaidOut sectors (extents_of kept)) (in_use : (sector : ℕ) → SomeHolds (extents_of kept) sector → SomeHolds used sector)
-    (kept_fit : All FitsFields kept) (kept_proper : All IsProperEntry kept) (ascending : AreAscending kept) (good : ArePuts puts) (is_root : IsRoot root)
+    (large : least_sectors ≤ sectors) (few_sectors : sectors < 2 ^ 32) (counted : 1 ≤ generation)
+    (fits : generation < 2 ^ 64) (known : IsLayout layout)
+    (kept_laid : AreLaidOut sectors (extents_of kept)) (in_use : (sector : ℕ) → SomeHolds (extents_of kept) sector
+    → SomeHolds used sector)
+    (kept_fit : All FitsFields kept) (kept_proper : All IsProperEntry kept) (ascending : AreAscending kept)
+    (good : ArePuts puts) (is_root : IsRoot root)
     (few : length (put_each (λ o. o.0) (map size_of puts) (sizes_at kept)) ≤ most_objects)
-    (beside : IsFreeBeside sectors used free) (placed : ArePlaced free puts plan.placed.items mid)
-    (entries : plan.entries.items ≡ put_each (λ e. e.id) plan.placed.items kept) (same_root : plan.root.items ≡ root) (spelled : plan.catalogue.items ≡ catalogue_of plan.entries.items root)
+    (outside : IsFreeOutside sectors used free) (placed : ArePlaced free puts plan.placed.items mid)
+    (entries : plan.entries.items ≡ put_each (λ e. e.id) plan.placed.items kept) (same_root : plan.root.items ≡ root)
+    (spelled : plan.catalogue.items ≡ catalogue_of plan.entries.items root)
     (fit : IsFirstFit mid (sectors_of (length plan.catalogue.items)) e) (in_range : IsInRange mid.count e)
-    (sized : plan.superblock.sectors ≡ sectors) (numbered : plan.superblock.generation ≡ generation) (of_layout : plan.superblock.layout ≡ layout)
+    (sized : plan.superblock.sectors ≡ sectors) (numbered : plan.superblock.generation ≡ generation)
+    (of_layout : plan.superblock.layout ≡ layout)
     (first : plan.superblock.catalogue ≡ e.first) (bytes : plan.superblock.bytes ≡ length plan.catalogue.items) where
   placed_laid : AreLaidOut sectors (extents_of plan.placed.items)
-  placed_laid = subst (λ (n : ℕ). AreLaidOut n (extents_of plan.placed.items)) beside.of_device placed.laid_out
+  placed_laid = subst (λ (n : ℕ). AreLaidOut n (extents_of plan.placed.items)) outside.of_device placed.laid_out
 
   extent_is : e ≡ extent_of plan.superblock.catalogue plan.superblock.bytes
   extent_is =
@@ -73,34 +89,51 @@ module _ (sectors : ℕ) (used : List Extent) (kept : List Entry) (puts : List (
       ∙ sym (ap (λ (n : ℕ). extent_of n plan.superblock.bytes) first)
 
   range : IsInRange sectors (extent_of plan.superblock.catalogue plan.superblock.bytes)
-  range = subst (IsInRange sectors) extent_is (subst (λ (n : ℕ). IsInRange n e) (placed.count ∙ beside.of_device) in_range)
+  range = subst (IsInRange sectors) extent_is
+      (subst (λ (n : ℕ). IsInRange n e) (placed.count ∙ outside.of_device) in_range)
 
   free_there : (i : ℕ) → Holds (extent_of plan.superblock.catalogue plan.superblock.bytes) i → SomeHolds used i → ⊥
   free_there i here held =
-      (((beside.sectors i).0 (was_free free mid puts plan.placed.items placed (sectors_of (length plan.catalogue.items)) e fit i (subst (λ (x : Extent). Holds x i) (sym extent_is) here))).2) held
+      (((outside.sectors i).0
+      (was_free free mid puts plan.placed.items placed (sectors_of (length plan.catalogue.items)) e fit i
+      (subst (λ (x : Extent). Holds x i) (sym extent_is) here))).2) held
 
-  apart_there : (i : ℕ) → Holds (extent_of plan.superblock.catalogue plan.superblock.bytes) i → SomeHolds (extents_of plan.placed.items) i → ⊥
-  apart_there i here = not_placed free mid puts plan.placed.items placed (sectors_of (length plan.catalogue.items)) e fit i (subst (λ (x : Extent). Holds x i) (sym extent_is) here)
+  apart_there : (i : ℕ) → Holds (extent_of plan.superblock.catalogue plan.superblock.bytes) i
+      → SomeHolds (extents_of plan.placed.items) i → ⊥
+  apart_there i here = not_placed free mid puts plan.placed.items placed (sectors_of (length plan.catalogue.items)) e
+      fit i (subst (λ (x : Extent). Holds x i) (sym extent_is) here)
 
   placed_free : (i : ℕ) → SomeHolds (extents_of plan.placed.items) i → SomeHolds used i → ⊥
-  placed_free i there held = ((beside.sectors i).0 (placed.were_free i there)).2 held
+  placed_free i there held = ((outside.sectors i).0 (placed.were_free i there)).2 held
 
   entries_laid : AreLaidOut sectors (extents_of plan.entries.items)
   entries_laid = subst (λ (l : List Entry). AreLaidOut sectors (extents_of l)) (sym entries)
-      (laid_out_put_each sectors (λ (x : Entry). x.id) plan.placed.items kept placed_laid kept_laid (λ i there held. placed_free i there (in_use i held)))
+      (laid_out_put_each sectors (λ (x : Entry). x.id) plan.placed.items kept placed_laid kept_laid
+      (λ i there held. placed_free i there (in_use i held)))
 
   -- the catalogue and what it names
-  with_catalogue : (l : List Entry) → AreLaidOut sectors (extents_of l) → ((i : ℕ) → Holds (extent_of plan.superblock.catalogue plan.superblock.bytes) i → SomeHolds (extents_of l) i → ⊥) → AreLaidOut sectors (extent_of plan.superblock.catalogue plan.superblock.bytes ∷ extents_of l)
+  with_catalogue : (l : List Entry) → AreLaidOut sectors (extents_of l)
+      → ((i : ℕ) → Holds (extent_of plan.superblock.catalogue plan.superblock.bytes) i → SomeHolds (extents_of l) i → ⊥)
+      → AreLaidOut sectors (extent_of plan.superblock.catalogue plan.superblock.bytes ∷ extents_of l)
   with_catalogue l laid none = record {
-    in_range = All-cons (IsInRange sectors) (extent_of plan.superblock.catalogue plan.superblock.bytes) (extents_of l) range laid.in_range;
-    apart = AllPairs-cons AreApart (extent_of plan.superblock.catalogue plan.superblock.bytes) (extents_of l) (apart_each (extent_of plan.superblock.catalogue plan.superblock.bytes) (extents_of l) none) laid.apart;
+    in_range = All-cons (IsInRange sectors) (extent_of plan.superblock.catalogue plan.superblock.bytes) (extents_of l)
+        range laid.in_range;
+    apart = AllPairs-cons AreApart (extent_of plan.superblock.catalogue plan.superblock.bytes) (extents_of l)
+        (apart_each (extent_of plan.superblock.catalogue plan.superblock.bytes) (extents_of l) none) laid.apart;
   }
 
   many_bytes : length plan.catalogue.items ≡ 12 + 16 * length plan.entries.items + length root
   many_bytes = ap (λ (l : List ℕ). length l) spelled ∙ length-catalogue_of plan.entries.items root
 
   many_entries : length plan.entries.items ≤ 65536
-  many_entries = omega (arith, few, ap (λ (l : List Entry). length l) entries, objects_after plan.placed.items kept puts placed.places)
+  many_entries =
+      omega (
+        arith,
+        few,
+        ap (λ (l : List Entry). length l) entries,
+        objects_after plan.placed.items kept puts
+            placed.places,
+      )
 
   proper : superblocks.IsProper plan.superblock
   proper =
@@ -112,7 +145,7 @@ module _ (sectors : ℕ) (used : List Extent) (kept : List Entry) (puts : List (
         generation_fits = omega (arith, numbered, fits);
         least_sectors = omega (arith, large, sized);
         first_generation = omega (arith, counted, numbered);
-        behind = begins;
+        after = begins;
         within = omega (arith, ends, sized);
         least_bytes = omega (arith, bytes, many_bytes);
         most_bytes = omega (arith, bytes, many_bytes, many_entries, is_root);
@@ -120,16 +153,19 @@ module _ (sectors : ℕ) (used : List Extent) (kept : List Entry) (puts : List (
 
   proper_catalogue : catalogues.IsProper plan.entries.items root
   proper_catalogue = record {
-    fit = subst (λ (l : List Entry). All FitsFields l) (sym entries) (All-put_each FitsFields (λ (x : Entry). x.id) plan.placed.items kept (λ k d lt. record {
-      id = placed.ids_fit k d lt;
-      first = placed_first sectors plan.placed.items few_sectors placed_laid k d lt;
-      bytes = let size = placed_size plan.placed.items puts placed.places good k d lt in omega (arith, size.1);
-    }) kept_fit);
-    each = subst (λ (l : List Entry). All IsProperEntry l) (sym entries) (All-put_each IsProperEntry (λ (x : Entry). x.id) plan.placed.items kept (λ k d lt. record {
-      least_bytes = (placed_size plan.placed.items puts placed.places good k d lt).0;
-      most_bytes = (placed_size plan.placed.items puts placed.places good k d lt).1;
-    }) kept_proper);
-    ascending = subst AreAscending (sym entries) (ascending-put_each (λ (x : Entry). x.id) plan.placed.items kept ascending);
+    fit = subst (λ (l : List Entry). All FitsFields l) (sym entries)
+        (All-put_each FitsFields (λ (x : Entry). x.id) plan.placed.items kept (λ k d lt. record {
+          id = placed.ids_fit k d lt;
+          first = placed_first sectors plan.placed.items few_sectors placed_laid k d lt;
+          bytes = let size = placed_size plan.placed.items puts placed.places good k d lt in omega (arith, size.1);
+        }) kept_fit);
+    each = subst (λ (l : List Entry). All IsProperEntry l) (sym entries)
+        (All-put_each IsProperEntry (λ (x : Entry). x.id) plan.placed.items kept (λ k d lt. record {
+          least_bytes = (placed_size plan.placed.items puts placed.places good k d lt).0;
+          most_bytes = (placed_size plan.placed.items puts placed.places good k d lt).1;
+        }) kept_proper);
+    ascending =
+        subst AreAscending (sym entries) (ascending-put_each (λ (x : Entry). x.id) plan.placed.items kept ascending);
     most_entries = many_entries;
     most_root = is_root;
   }
@@ -149,26 +185,40 @@ module _ (sectors : ℕ) (used : List Extent) (kept : List Entry) (puts : List (
     apart = λ i held in_it. ⊎_elim (λ here. free_there i here in_it) (λ there. placed_free i there in_it) held;
     laid_out = with_catalogue plan.entries.items entries_laid (λ i here held.
         ⊎_elim (λ new. apart_there i here new) (λ was. free_there i here (in_use i was))
-        (held_put_each (λ (x : Entry). x.id) plan.placed.items kept i (subst (λ (l : List Entry). SomeHolds (extents_of l) i) entries held)));
+        (held_put_each (λ (x : Entry). x.id) plan.placed.items kept i
+        (subst (λ (l : List Entry). SomeHolds (extents_of l) i) entries held)));
   }
 
 -- where no place is found for a put
-pub lacks_put : (sectors : ℕ) (used : List Extent) (kept : List Entry) (puts : List (ℕ × List ℕ)) (root : List ℕ) (free : FreeSectors) → IsFreeBeside sectors used free → FitsFail free (lengths_of puts) → LacksPlaces sectors used (asked_for (sizes_at kept) puts root)
-lacks_put sectors used kept puts root free beside fail = record {
+pub lacks_put : (sectors : ℕ) (used : List Extent) (kept : List Entry) (puts : List (ℕ × List ℕ)) (root : List ℕ)
+    (free : FreeSectors) → IsFreeOutside sectors used free → FitsFail free (lengths_of puts)
+    → LacksPlaces sectors used (asked_for (sizes_at kept) puts root)
+lacks_put sectors used kept puts root free outside fail = record {
   free = free;
-  beside = beside;
-  fail = fail_more free (lengths_of puts) (sectors_of (catalogue_bytes (length (put_each (λ o. o.0) (map size_of puts) (sizes_at kept))) (length root))) fail;
+  outside = outside;
+  fail = fail_more free (lengths_of puts)
+      (sectors_of (catalogue_bytes (length (put_each (λ o. o.0) (map size_of puts) (sizes_at kept))) (length root)))
+      fail;
 }
 
 -- where none is found for the catalogue
-pub lacks_catalogue : (sectors : ℕ) (used : List Extent) (kept placed entries : List Entry) (puts : List (ℕ × List ℕ)) (root catalogue : List ℕ) (free mid : FreeSectors) (len : ℕ) → IsFreeBeside sectors used free → ArePlaced free puts placed mid
-    → entries ≡ put_each (λ e. e.id) placed kept → catalogue ≡ catalogue_of entries root → len ≡ sectors_of (length catalogue) → ((at : ℕ) → ¬ AreFreeFrom mid len at) → LacksPlaces sectors used (asked_for (sizes_at kept) puts root)
-lacks_catalogue sectors used kept placed entries puts root catalogue free mid len beside are merged spelled asked none =
-    let many : length catalogue ≡ catalogue_bytes (length (put_each (λ o. o.0) (map size_of puts) (sizes_at kept))) (length root) =
+pub lacks_catalogue : (sectors : ℕ) (used : List Extent) (kept placed entries : List Entry) (puts : List (ℕ × List ℕ))
+    (root catalogue : List ℕ) (free mid : FreeSectors) (len : ℕ) → IsFreeOutside sectors used free
+    → ArePlaced free puts placed mid
+    → entries ≡ put_each (λ e. e.id) placed kept → catalogue ≡ catalogue_of entries root
+    → len ≡ sectors_of (length catalogue) → ((at : ℕ) → ¬ AreFreeFrom mid len at)
+    → LacksPlaces sectors used (asked_for (sizes_at kept) puts root)
+lacks_catalogue sectors used kept placed entries puts root catalogue free mid len outside are merged spelled asked
+    none =
+    let many : length catalogue ≡ catalogue_bytes (length (put_each (λ o. o.0) (map size_of puts) (sizes_at kept)))
+    (length root) =
     ap (λ (l : List ℕ). length l) spelled ∙ length-catalogue_of entries root
-    ∙ ap (λ (n : ℕ). catalogue_bytes n (length root)) (ap (λ (l : List Entry). length l) merged ∙ objects_after placed kept puts are.places) in record {
+    ∙ ap (λ (n : ℕ). catalogue_bytes n (length root)) (ap (λ (l : List Entry). length l) merged
+    ∙ objects_after placed kept puts are.places) in record {
       free = free;
-      beside = beside;
-      fail = fail_last free mid puts placed (sectors_of (catalogue_bytes (length (put_each (λ o. o.0) (map size_of puts) (sizes_at kept))) (length root))) are
+      outside = outside;
+      fail = fail_last free mid puts placed
+          (sectors_of (catalogue_bytes (length (put_each (λ o. o.0) (map size_of puts) (sizes_at kept))) (length root)))
+          are
           (λ at. subst (λ (n : ℕ). ¬ AreFreeFrom mid n at) (asked ∙ ap (λ (n : ℕ). sectors_of n) many) (none at));
     }

@@ -1,5 +1,6 @@
 -- What a commit makes of a content. Our own.
-use Rattle.std.specs.Prelude.{◌≢◌, ℕ, ◌+◌, ◌≤◌, ◌==◌, nat_lt, if◌then◌else◌, Option, Some, None, List, [], ◌∷◌, length, map, All, AllPairs}
+use Rattle.std.specs.Prelude.{◌≢◌, ℕ, ◌+◌, ◌≤◌, ◌==◌, nat_lt, if◌then◌else◌, Option, Some, None, List, [], ◌∷◌, length}
+use Rattle.std.specs.Prelude.{map, All, AllPairs}
 use Rattle.std.proofs.Common.{Bor}
 use Rattle.wire.specs.Limits.{most_object_bytes, most_objects, most_root_bytes}
 use Rattle.object_store.specs.Content.{Content}
@@ -8,7 +9,8 @@ use Rattle.object_store.specs.Content.{Content}
 abbrev pub put_by : {A : Type 0} → (A → ℕ) → A → List A → List A
 put_by key x [] = x ∷ []
 put_by key x (first ∷ rest) =
-    if nat_lt (key x) (key first) then x ∷ first ∷ rest else (if key x == key first then x ∷ rest else first ∷ put_by key x rest)
+    if nat_lt (key x) (key first) then x ∷ first
+    ∷ rest else (if key x == key first then x ∷ rest else first ∷ put_by key x rest)
 
 -- the list without the one of this key
 abbrev pub drop_by : {A : Type 0} → (A → ℕ) → ℕ → List A → List A

@@ -1,6 +1,6 @@
 -- Where an entry is among entries by ascending id. Our own.
 use Rattle.std.specs.Prelude.{◌≡◌, ◌≢◌, ℕ, ◌<◌, ◌≤◌, List, length, slice_index_or}
-use Rattle.catalogue.specs.declared.entry.Entry.{Entry}
+use Rattle.object_store.specs.declared.catalogue.entry.Entry.{Entry}
 
 -- the entries before a place have lower ids, and those from it on have not
 abbrev pub IsPlace : List Entry → ℕ → ℕ → Type 0

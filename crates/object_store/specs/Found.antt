@@ -3,8 +3,8 @@ use Rattle.std.specs.Prelude.{◌≡◌, ◌≢◌, ◌⊎◌, ◌<◌, ℕ, ⊤
 use Rattle.sector_device.specs.Device.{Image, DeviceState, IsSettled}
 use Rattle.extents.specs.Extents.{AreLaidOut}
 use Rattle.superblock.specs.declared.superblock.Super.{Super}
-use Rattle.catalogue.specs.declared.entry.Entry.{Entry}
-use Rattle.catalogue.specs.Catalogue.{IsCatalogue}
+use Rattle.object_store.specs.declared.catalogue.entry.Entry.{Entry}
+use Rattle.object_store.specs.Catalogue.{IsCatalogue}
 use Rattle.cube_model.specs.declared.fault.Fault.{Fault}
 use Rattle.cube_model.specs.declared.fault.Fault.TheVariants.{NotFormatted, BadLayout, DeviceSize}
 use Rattle.object_store.specs.Content.{Content}
@@ -20,7 +20,8 @@ pub record IsFound (s : DeviceState) (super : Super) (entries : List Entry) (roo
 
 -- bytes that spell no catalogue whose extents keep the rules of the layout
 abbrev pub SpellNone : Super → List ℕ → Type 0
-SpellNone super bytes = (entries : List Entry) (root : List ℕ) → IsCatalogue bytes entries root → AreLaidOut super.sectors (used_by super entries) → ⊥
+SpellNone super bytes = (entries : List Entry) (root : List ℕ) → IsCatalogue bytes entries root
+    → AreLaidOut super.sectors (used_by super entries) → ⊥
 
 abbrev pub ShowsNothing : ℕ → Image → Type 0
 ShowsNothing size image = (c : Content) → Shows size image c → ⊥
@@ -32,8 +33,8 @@ is_of_layout BadLayout = true
 is_of_layout DeviceSize = true
 is_of_layout fault = false
 
--- What a refusal of the layout says of an image of so many sectors: it has no valid superblock, or its newest one is of a
--- device of this size, or it is of another, or the device is too small.
+-- What a refusal of the layout says of an image of so many sectors: it has no valid superblock, or its newest one is of
+-- a device of this size, or it is of another, or the device is too small.
 abbrev pub Explains : Fault → ℕ → Image → Type 0
 Explains NotFormatted size image = HasNone image
 Explains BadLayout size image = (super : Super) × IsNewest image super × (super.sectors ≡ size)

@@ -9,7 +9,8 @@ use Rattle.object_store.specs.Shows.{Shows}
 abbrev pub ImageShowsOneContent : Type 0
 ImageShowsOneContent = (size : ℕ) (image : Image) (c d : Content) → Shows size image c → Shows size image d → c ≡ d
 
--- after a commit each id has the bytes of the last put with that id, if there is one, and else those of before, if it was not dropped
+-- after a commit each id has the bytes of the last put with that id, if there is one, and else those of before, if it
+-- was not dropped
 abbrev pub CommitPutsAndDrops : Type 0
 CommitPutsAndDrops = (puts : List (ℕ × List ℕ)) (drops root : List ℕ) (layout : ℕ) (c : Content) (id : ℕ)
     → bytes_of (committed puts drops root layout c) id ≡ among puts id (without drops id (bytes_of c id))

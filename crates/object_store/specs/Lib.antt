@@ -1,3 +1,5 @@
+pub mod Catalogue
+pub mod CatalogueReading
 pub mod Content
 pub mod Commit
 pub mod Places

@@ -7,7 +7,9 @@ use Rattle.object_store.specs.Content.{Content}
 use Rattle.object_store.specs.Disk.{Disk, Each, AllShow, Passes, Leaves, ShowsSome, OnlyImagesOf}
 
 -- before the first call
-pub begins : (P : ℕ → Image → Type 0) (now : Disk) → (now.keeps_word → (image : Image) → now.state.left_since now.state.moment image → IsImage now.state image) → Each now P → Passes now now P
+pub begins : (P : ℕ → Image → Type 0) (now : Disk)
+    → (now.keeps_word → (image : Image) → now.state.left_since now.state.moment image → IsImage now.state image)
+    → Each now P → Passes now now P
 begins P now only each = record {
   word = λ w. w;
   size = λ w. refl;
@@ -24,20 +26,25 @@ passes_then P old mid new first second = record {
 }
 
 -- and what is said may be weakened
-pub passes_also : (P Q : ℕ → Image → Type 0) (old new : Disk) → (old.keeps_word → (size : ℕ) (image : Image) → P size image → Q size image) → Passes old new P → Passes old new Q
+pub passes_also : (P Q : ℕ → Image → Type 0) (old new : Disk)
+    → (old.keeps_word → (size : ℕ) (image : Image) → P size image → Q size image) → Passes old new P → Passes old new Q
 passes_also P Q old new so passes = record {
   word = passes.word;
   size = passes.size;
-  moments = λ w. leaves_also old.state new.state (P old.state.size) (Q old.state.size) (so (passes.word w) old.state.size) (passes.moments w);
+  moments = λ w. leaves_also old.state new.state (P old.state.size) (Q old.state.size)
+      (so (passes.word w) old.state.size) (passes.moments w);
 }
 
 pub leaves_then : (P : Content → Type 0) (old mid new : Disk) → Leaves old mid P → Leaves mid new P → Leaves old new P
 leaves_then P = passes_then (ShowsSome P)
 
-pub leaves_weaker : (P Q : Content → Type 0) (old new : Disk) → (old.keeps_word → (c : Content) → P c → Q c) → Leaves old new P → Leaves old new Q
-leaves_weaker P Q old new so = passes_also (ShowsSome P) (ShowsSome Q) old new (λ w size image shown. (shown.0, shown.1, so w shown.0 shown.2))
+pub leaves_weaker : (P Q : Content → Type 0) (old new : Disk) → (old.keeps_word → (c : Content) → P c → Q c)
+    → Leaves old new P → Leaves old new Q
+leaves_weaker P Q old new so =
+    passes_also (ShowsSome P) (ShowsSome Q) old new (λ w size image shown. (shown.0, shown.1, so w shown.0 shown.2))
 
-pub all_weaker : (P Q : Content → Type 0) (now : Disk) → (now.keeps_word → (c : Content) → P c → Q c) → AllShow now P → AllShow now Q
+pub all_weaker : (P Q : Content → Type 0) (now : Disk) → (now.keeps_word → (c : Content) → P c → Q c) → AllShow now P
+    → AllShow now Q
 all_weaker P Q now so all w image is = let shown = all w image is in (shown.0, shown.1, so w shown.0 shown.2)
 
 -- where each image is one of those at the start, each has what all had then
@@ -45,5 +52,6 @@ pub only_images : (P : ℕ → Image → Type 0) (old new : Disk) → OnlyImages
 only_images P old new only each = record {
   word = only.word;
   size = only.size;
-  moments = λ w. leaves_also old.state new.state (IsImage old.state) (P old.state.size) (each (only.word w)) (only.moments w);
+  moments = λ w. leaves_also old.state new.state (IsImage old.state) (P old.state.size) (each (only.word w))
+      (only.moments w);
 }

@@ -4,7 +4,7 @@ use Rattle.sector_device.specs.Device.{Image}
 use Rattle.extents.specs.declared.extent.Extent.{Extent}
 use Rattle.superblock.specs.declared.superblock.Super.{Super}
 use Rattle.superblock.specs.Superblock.{sectors_of}
-use Rattle.catalogue.specs.declared.entry.Entry.{Entry}
+use Rattle.object_store.specs.declared.catalogue.entry.Entry.{Entry}
 
 -- so many sectors put end to end
 abbrev pub run_bytes : Image → ℕ → ℕ → List ℕ

@@ -5,9 +5,9 @@ use Rattle.extents.specs.declared.extent.Extent.{Extent}
 use Rattle.extents.specs.Extents.{SomeHolds, AreLaidOut}
 use Rattle.superblock.specs.declared.superblock.Super.{Super}
 use Rattle.superblock.specs.Superblock as superblocks
-use Rattle.catalogue.specs.declared.entry.Entry.{Entry}
-use Rattle.catalogue.specs.Catalogue as catalogues
-use Rattle.object_store.specs.declared.plan.Plan.{Plan}
+use Rattle.object_store.specs.declared.catalogue.entry.Entry.{Entry}
+use Rattle.object_store.specs.Catalogue as catalogues
+use Rattle.object_store.specs.declared.plan.CommitPlan.{CommitPlan}
 use Rattle.object_store.specs.Commit.{size_of, put_each, drop_each}
 use Rattle.object_store.specs.Places.{bytes_at, extent_of, extents_of, objects_at, sizes_at, used_by}
 
@@ -16,11 +16,12 @@ abbrev pub AreFor : List Entry → List (ℕ × List ℕ) → Type 0
 AreFor entries puts = sizes_at entries ≡ map size_of puts
 
 -- the sectors that a commit writes before its superblock
-abbrev pub written_by : Plan → List Extent
+abbrev pub written_by : CommitPlan → List Extent
 written_by plan = extent_of plan.superblock.catalogue plan.superblock.bytes ∷ extents_of plan.placed.items
 
 -- A plan for puts outside the sectors in use: entries for them and the kept ones, their catalogue, and its superblock.
-pub record IsPlan (sectors : ℕ) (used : List Extent) (kept : List Entry) (puts : List (ℕ × List ℕ)) (root : List ℕ) (generation layout : ℕ) (plan : Plan) : Type 0 where
+pub record IsPlan (sectors : ℕ) (used : List Extent) (kept : List Entry) (puts : List (ℕ × List ℕ)) (root : List ℕ)
+    (generation layout : ℕ) (plan : CommitPlan) : Type 0 where
   pub sized : plan.superblock.sectors ≡ sectors
   pub numbered : plan.superblock.generation ≡ generation
   pub of_layout : plan.superblock.layout ≡ layout
@@ -36,32 +37,35 @@ pub record IsPlan (sectors : ℕ) (used : List Extent) (kept : List Entry) (puts
   pub laid_out : AreLaidOut sectors (used_by plan.superblock plan.entries.items)
 
 -- the plan of a commit over what is there
-abbrev pub IsPlanOver : Super → List Entry → List (ℕ × List ℕ) → List ℕ → List ℕ → ℕ → Plan → Type 0
+abbrev pub IsPlanOver : Super → List Entry → List (ℕ × List ℕ) → List ℕ → List ℕ → ℕ → CommitPlan → Type 0
 IsPlanOver super entries puts drops root layout plan =
-    IsPlan super.sectors (used_by super entries) (drop_each (λ e. e.id) drops entries) puts root (super.generation + 1) layout plan
+    IsPlan super.sectors (used_by super entries) (drop_each (λ e. e.id) drops entries) puts root (super.generation + 1)
+    layout plan
 
 -- the plan of some commit of these puts
-pub record IsSomePlanOver (super : Super) (entries : List Entry) (puts : List (ℕ × List ℕ)) (plan : Plan) : Type 0 where
-  pub drops : List ℕ
-  pub root : List ℕ
-  pub layout : ℕ
-  pub planned : IsPlanOver super entries puts drops root layout plan
+pub record IsSomePlanOver (super : Super) (entries : List Entry) (puts : List (ℕ × List ℕ)) (plan : CommitPlan) : Type 0
+  where
+    pub drops : List ℕ
+    pub root : List ℕ
+    pub layout : ℕ
+    pub planned : IsPlanOver super entries puts drops root layout plan
 
 -- the slot of a plan's superblock
-abbrev pub slot_of : Plan → ℕ
+abbrev pub slot_of : CommitPlan → ℕ
 slot_of plan = plan.superblock.generation % 2
 
 -- an image that is as another, outside some sectors
-abbrev pub IsAsBeside : List Extent → Image → Image → Type 0
-IsAsBeside written was image = (i : ℕ) → (SomeHolds written i → ⊥) → image i ≡ was i
+abbrev pub IsUnchangedOutside : List Extent → Image → Image → Type 0
+IsUnchangedOutside written was image = (i : ℕ) → (SomeHolds written i → ⊥) → image i ≡ was i
 
--- an image with the superblock of a plan, the puts in their places and the catalogue, that is else as another outside the written sectors
-pub record HasWritten (plan : Plan) (puts : List (ℕ × List ℕ)) (was image : Image) : Type 0 where
+-- an image with the superblock of a plan, the puts in their places and the catalogue, that is else as another outside
+-- the written sectors
+pub record HasWritten (plan : CommitPlan) (puts : List (ℕ × List ℕ)) (was image : Image) : Type 0 where
   pub block : image (slot_of plan) ≡ superblocks.sector_of plan.superblock
   pub others : (i : ℕ) → (SomeHolds (written_by plan) i → ⊥) → i ≢ slot_of plan → image i ≡ was i
   pub objects : objects_at image plan.placed.items ≡ puts
   pub catalogue : bytes_at image plan.superblock.catalogue plan.superblock.bytes ≡ plan.catalogue.items
 
 -- what a crash within the writes leaves: all but the written sectors as it was, or all that was to be written
-abbrev pub IsEither : Plan → List (ℕ × List ℕ) → Image → Image → Type 0
-IsEither plan puts was image = IsAsBeside (written_by plan) was image ⊎ HasWritten plan puts was image
+abbrev pub IsEither : CommitPlan → List (ℕ × List ℕ) → Image → Image → Type 0
+IsEither plan puts was image = IsUnchangedOutside (written_by plan) was image ⊎ HasWritten plan puts was image

@@ -15,4 +15,5 @@ two even odd slot = if slot == 0 then even else odd
 -- the valid superblock of the greater generation
 pub record IsNewest (image : Image) (super : Super) : Type 0 where
   pub in_slot : IsSuperblock (super.generation % 2) (image (super.generation % 2)) super
-  pub newest : (slot : ℕ) → slot < 2 → (other : Super) → IsSuperblock slot (image slot) other → other.generation ≤ super.generation
+  pub newest : (slot : ℕ) → slot < 2 → (other : Super) → IsSuperblock slot (image slot) other
+      → other.generation ≤ super.generation

@@ -4,8 +4,8 @@ use Rattle.sector_device.specs.Device.{Image, DeviceState, IsSettled}
 use Rattle.extents.specs.Extents.{AreLaidOut}
 use Rattle.superblock.specs.declared.superblock.Super.{Super}
 use Rattle.superblock.specs.Superblock as superblocks
-use Rattle.catalogue.specs.declared.entry.Entry.{Entry}
-use Rattle.catalogue.specs.Catalogue as catalogues
+use Rattle.object_store.specs.declared.catalogue.entry.Entry.{Entry}
+use Rattle.object_store.specs.Catalogue as catalogues
 use Rattle.object_store.specs.Content.{Content}
 use Rattle.object_store.specs.Places.{objects_at, used_by}
 use Rattle.object_store.specs.Shows.{ShowsBy}

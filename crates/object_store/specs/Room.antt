@@ -1,7 +1,7 @@
 -- What the first fits of a commit look at, and that they fail. Our own.
 use Rattle.std.specs.Prelude.{◌≡◌, ℕ, ◌+◌, ◌*◌, ◌<◌, List, [], ◌∷◌, ◌++◌, length, map, take, slice_index}
 use Rattle.extents.specs.declared.extent.Extent.{Extent}
-use Rattle.extents.specs.Runs.{FreeSectors, AreFreeFrom, IsFirstFit, TakesAway, IsFreeBeside}
+use Rattle.extents.specs.Runs.{FreeSectors, AreFreeFrom, IsFirstFit, TakesAway, IsFreeOutside}
 use Rattle.superblock.specs.Superblock.{sectors_of}
 use Rattle.object_store.specs.Commit.{size_of, put_each, drop_each}
 
@@ -25,7 +25,8 @@ catalogue_bytes objects root = 12 + 16 * objects + root
 abbrev pub lengths_of : List (ℕ × List ℕ) → List ℕ
 lengths_of puts = map (λ put. sectors_of (length put.1)) puts
 
--- how many sectors in a row are asked for, where objects of these sizes are kept: for each put in order, and then for the catalogue
+-- how many sectors in a row are asked for, where objects of these sizes are kept: for each put in order, and then for
+-- the catalogue
 abbrev pub asked_for : List (ℕ × ℕ) → List (ℕ × List ℕ) → List ℕ → List ℕ
 asked_for kept puts root =
     let objects = length (put_each (λ o. o.0) (map size_of puts) kept) in
@@ -35,7 +36,8 @@ asked_for kept puts root =
 abbrev pub AreFirstFits : FreeSectors → List ℕ → List Extent → FreeSectors → Type 0
 AreFirstFits free [] [] after = after ≡ free
 AreFirstFits free (len ∷ lens) (extent ∷ extents) after =
-    (next : FreeSectors) × IsFirstFit free len extent × TakesAway free extent next × AreFirstFits next lens extents after
+    (next : FreeSectors) × IsFirstFit free len extent × TakesAway free extent next
+    × AreFirstFits next lens extents after
 AreFirstFits free lens extents after = ⊥
 
 -- the first fits go well up to one, for which no run of free sectors is long enough
@@ -50,9 +52,10 @@ pub record FitsFail (free : FreeSectors) (lens : List ℕ) : Type 0 where
 -- the first fits fail, for so many sectors each outside those that are used
 pub record LacksPlaces (sectors : ℕ) (used : List Extent) (lens : List ℕ) : Type 0 where
   pub free : FreeSectors
-  pub beside : IsFreeBeside sectors used free
+  pub outside : IsFreeOutside sectors used free
   pub fail : FitsFail free lens
 
 -- The first fits fail: there is no room for these puts and then the catalogue, outside what is used.
 unfoldable pub LacksRoom : Room → List (ℕ × List ℕ) → List ℕ → List ℕ → Type 0
-LacksRoom room puts drops root = LacksPlaces room.sectors room.used (asked_for (drop_each (λ o. o.0) drops room.sizes) puts root)
+LacksRoom room puts drops root =
+    LacksPlaces room.sectors room.used (asked_for (drop_each (λ o. o.0) drops room.sizes) puts root)

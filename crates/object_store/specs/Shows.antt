@@ -4,8 +4,8 @@ use Rattle.sector_device.specs.Device.{Image}
 use Rattle.extents.specs.Extents.{AreLaidOut}
 use Rattle.superblock.specs.declared.superblock.Super.{Super}
 use Rattle.superblock.specs.Superblock.{IsSuperblock}
-use Rattle.catalogue.specs.declared.entry.Entry.{Entry}
-use Rattle.catalogue.specs.Catalogue as catalogues
+use Rattle.object_store.specs.declared.catalogue.entry.Entry.{Entry}
+use Rattle.object_store.specs.Catalogue as catalogues
 use Rattle.object_store.specs.Content.{Content}
 use Rattle.object_store.specs.Places.{bytes_at, objects_at, used_by}
 
@@ -23,7 +23,8 @@ pub record Spells (size : ℕ) (image : Image) (c : Content) (super : Super) (en
 -- The content of the valid superblock with the greater generation. It names the superblock and the entries.
 pub record ShowsBy (size : ℕ) (image : Image) (c : Content) (super : Super) (entries : List Entry) : Type 0 where
   pub in_slot : IsSuperblock (c.generation % 2) (image (c.generation % 2)) super
-  pub newest : (slot : ℕ) → slot < 2 → (other : Super) → IsSuperblock slot (image slot) other → other.generation ≤ c.generation
+  pub newest : (slot : ℕ) → slot < 2 → (other : Super) → IsSuperblock slot (image slot) other
+      → other.generation ≤ c.generation
   pub spells : Spells size image c super entries
 
 abbrev pub Shows : ℕ → Image → Content → Type 0

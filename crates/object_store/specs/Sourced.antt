@@ -24,9 +24,11 @@ pub record CannotRead {D : Type 0} (g : Ghosts D) (fault : Fault) (old new : Sto
   pub leaves : has_failed old ≡ false → Leaves (disk_of g old) (disk_of g new) (λ c. c ≡ content_of g old)
 
 pub still_here : {D : Type 0} (g : Ghosts D) (store : Store D g) → IsStill g store store
-still_here g store = record { word = λ w. w; content = λ w. refl; room = refl; sizes = λ id. refl; failed = refl; failures = refl }
+still_here g store =
+    record { word = λ w. w; content = λ w. refl; room = refl; sizes = λ id. refl; failed = refl; failures = refl }
 
-pub still_then : {D : Type 0} (g : Ghosts D) (old mid new : Store D g) → IsStill g old mid → IsStill g mid new → IsStill g old new
+pub still_then : {D : Type 0} (g : Ghosts D) (old mid new : Store D g) → IsStill g old mid → IsStill g mid new
+    → IsStill g old new
 still_then g old mid new first second = record {
   word = λ w. first.word (second.word w);
   content = λ w. second.content w ∙ first.content (second.word w);
@@ -37,31 +39,40 @@ still_then g old mid new first second = record {
 }
 
 -- before the first read
-pub none_read : {D : Type 0} (g : Ghosts D) → ((d : D) (image : Image) → g.keeps_word d → (g.state d).left_since (g.state d).moment image → IsImage (g.state d) image) → (store : Store D g) → HasOnlyRead g store store
+pub none_read : {D : Type 0} (g : Ghosts D)
+    → ((d : D) (image : Image) → g.keeps_word d → (g.state d).left_since (g.state d).moment image
+    → IsImage (g.state d) image) → (store : Store D g) → HasOnlyRead g store store
 none_read g only store = record {
   still = still_here g store;
-  leaves = λ fine. begins (ShowsSome (λ (c : Content). c ≡ content_of g store)) (disk_of g store) (λ w image. only (device_of store) image w) (always_shows g store fine);
+  leaves = λ fine. begins (ShowsSome (λ (c : Content). c ≡ content_of g store)) (disk_of g store)
+      (λ w image. only (device_of store) image w) (always_shows g store fine);
 }
 
 -- what a later part leaves, said of the content at the start
-leaves_later : {D : Type 0} (g : Ghosts D) (old mid new : Store D g) → HasOnlyRead g old mid → (has_failed mid ≡ false → Leaves (disk_of g mid) (disk_of g new) (λ c. c ≡ content_of g mid))
+leaves_later : {D : Type 0} (g : Ghosts D) (old mid new : Store D g) → HasOnlyRead g old mid
+    → (has_failed mid ≡ false → Leaves (disk_of g mid) (disk_of g new) (λ c. c ≡ content_of g mid))
     → has_failed old ≡ false → Leaves (disk_of g old) (disk_of g new) (λ c. c ≡ content_of g old)
 leaves_later g old mid new first second fine =
-    leaves_then (λ (c : Content). c ≡ content_of g old) (disk_of g old) (disk_of g mid) (disk_of g new) (first.leaves fine)
-    (leaves_weaker (λ (c : Content). c ≡ content_of g mid) (λ (c : Content). c ≡ content_of g old) (disk_of g mid) (disk_of g new)
+    leaves_then (λ (c : Content). c ≡ content_of g old) (disk_of g old) (disk_of g mid) (disk_of g new)
+    (first.leaves fine)
+    (leaves_weaker (λ (c : Content). c ≡ content_of g mid) (λ (c : Content). c ≡ content_of g old) (disk_of g mid)
+    (disk_of g new)
     (λ w c is. is ∙ first.still.content w) (second (first.still.failed ∙ fine)))
 
 -- one run of reads after another
-pub reads_on : {D : Type 0} (g : Ghosts D) (old mid new : Store D g) → HasOnlyRead g old mid → HasOnlyRead g mid new → HasOnlyRead g old new
+pub reads_on : {D : Type 0} (g : Ghosts D) (old mid new : Store D g) → HasOnlyRead g old mid → HasOnlyRead g mid new
+    → HasOnlyRead g old new
 reads_on g old mid new first second = record {
   still = still_then g old mid new first.still second.still;
   leaves = leaves_later g old mid new first second.leaves;
 }
 
 -- a refusal after a run of reads
-pub fails_later : {D : Type 0} (g : Ghosts D) (fault : Fault) (old mid new : Store D g) → HasOnlyRead g old mid → CannotRead g fault mid new → CannotRead g fault old new
+pub fails_later : {D : Type 0} (g : Ghosts D) (fault : Fault) (old mid new : Store D g) → HasOnlyRead g old mid
+    → CannotRead g fault mid new → CannotRead g fault old new
 fails_later g fault old mid new first second = record {
-  failed_before = λ is. let before = second.failed_before is in (sym first.still.failed ∙ before.0, still_then g old mid new first.still before.1);
+  failed_before = λ is. let before = second.failed_before is in
+      (sym first.still.failed ∙ before.0, still_then g old mid new first.still before.1);
   breaks = λ is. let broken = second.breaks is in record {
     before = sym first.still.failed ∙ broken.before;
     failed = broken.failed;

@@ -72,7 +72,9 @@ pub record Breaks {D : Type 0} (g : Ghosts D) (old new : Store D g) : Type 0 whe
 -- Why a commit is refused before its first device call: no memory, the last generation, or no room.
 abbrev pub Refuses : Content → Room → List (ℕ × List ℕ) → List ℕ → List ℕ → Fault → Type 0
 Refuses content room puts drops root fault =
-    (fault ≡ Memory) ⊎ (((fault ≡ Worn) × (content.generation ≡ last_generation)) ⊎ ((fault ≡ Full) × LacksRoom room puts drops root))
+    (fault ≡ Memory)
+    ⊎ (((fault ≡ Worn) × (content.generation ≡ last_generation))
+    ⊎ ((fault ≡ Full) × LacksRoom room puts drops root))
 
 -- the one or the other
 abbrev pub IsOneOf : Content → Content → Content → Type 0

@@ -9,7 +9,7 @@ ghost use Rattle.object_store.specs.Room.{LacksPlaces, asked_for};
 ghost use Rattle.object_store.specs.Shows.{HasNone};
 
 use crate::find::newest;
-use crate::plan::{Plan, first_plan};
+use crate::plan::{CommitPlan, first_plan};
 use crate::publish::publish;
 use cube_model::Fault;
 use sector_device::Sectors;
@@ -22,28 +22,39 @@ pub(crate) fn create<D: Sectors>(
     puts: &[(u32, &[u8])],
     root: &[u8],
     layout: u32,
-) -> Result<Plan, Fault>
+) -> Result<CommitPlan, Fault>
     requires least { 64 ≤ (D.state device.old).size }
     requires puts { ArePuts (puts_of puts.now) }
     requires root { IsRoot root.now }
     requires layout { IsLayout layout }
     requires few { IsFew (created (puts_of puts.now) root.now layout) }
-    ensures kept { IfOk result (λ plan. IsKept (D.state device.new).size plan.superblock plan.entries.items plan.root.items) }
+    ensures kept { IfOk result
+        (λ plan. IsKept (D.state device.new).size plan.superblock plan.entries.items plan.root.items) }
     ensures ready { IfOk result (λ plan. D.keeps_word device.new
         → IsReady (D.state device.new) plan.superblock plan.entries.items plan.root.items) }
     ensures content { IfOk result (λ plan. D.keeps_word device.new
-        → content_from (D.state device.new).reads plan.superblock plan.entries.items plan.root.items ≡ created (puts_of puts.now) root.now layout) }
+        → content_from (D.state device.new).reads plan.superblock plan.entries.items plan.root.items
+        ≡ created (puts_of puts.now) root.now layout) }
     ensures failures { OnOk result (D.failed device.new ≡ D.failed device.old) }
     ensures leaves { Each (disk D.Sectors device.old) IsBlank
-        → LeavesOrNone (disk D.Sectors device.old) (disk D.Sectors device.new) (λ c. c ≡ created (puts_of puts.now) root.now layout) }
-    ensures blank { IfErr result (λ fault. fault ≢ Fault.Device → Each (disk D.Sectors device.old) IsBlank → Each (disk D.Sectors device.new) IsBlank) }
-    ensures not_already { IfErr result (λ fault. D.keeps_word device.new → Each (disk D.Sectors device.old) IsBlank → fault ≢ Fault.AlreadyFormatted) }
-    ensures only { IfErr result (λ fault. fault ≡ Fault.AlreadyFormatted → OnlyImagesOf (disk D.Sectors device.old) (disk D.Sectors device.new)) }
+        → LeavesOrNone (disk D.Sectors device.old) (disk D.Sectors device.new)
+        (λ c. c ≡ created (puts_of puts.now) root.now layout) }
+    ensures blank { IfErr result (λ fault. fault ≢ Fault.Device → Each (disk D.Sectors device.old) IsBlank
+        → Each (disk D.Sectors device.new) IsBlank) }
+    ensures not_already { IfErr result (λ fault. D.keeps_word device.new → Each (disk D.Sectors device.old) IsBlank
+        → fault ≢ Fault.AlreadyFormatted) }
+    ensures only { IfErr result (λ fault. fault ≡ Fault.AlreadyFormatted
+        → OnlyImagesOf (disk D.Sectors device.old) (disk D.Sectors device.new)) }
     ensures unformatted { OnOk result (D.keeps_word device.new → HasNone (D.state device.old).reads) }
-    ensures spared { OnErr result ((HasNone (D.state device.old).reads → ⊥) → OnlyImagesOf (disk D.Sectors device.old) (disk D.Sectors device.new)) }
-    ensures device { IfErr result (λ fault. fault ≡ Fault.Device → D.failed device.new ≡ min (D.failed device.old + 1) (2 ^ 64 - 1)) }
-    ensures full { IfErr result (λ fault. fault ≡ Fault.Full → LacksPlaces (D.state device.old).size [] (asked_for [] (puts_of puts.now) root.now)) }
-    ensures causes { IfErr result (λ fault. (fault ≡ Fault.AlreadyFormatted) ⊎ ((fault ≡ Fault.Device) ⊎ ((fault ≡ Fault.Memory) ⊎ (fault ≡ Fault.Full)))) }
+    ensures spared { OnErr result ((HasNone (D.state device.old).reads → ⊥)
+        → OnlyImagesOf (disk D.Sectors device.old) (disk D.Sectors device.new)) }
+    ensures device { IfErr result (λ fault. fault ≡ Fault.Device
+        → D.failed device.new ≡ min (D.failed device.old + 1) (2 ^ 64 - 1)) }
+    ensures full { IfErr result
+        (λ fault. fault ≡ Fault.Full
+        → LacksPlaces (D.state device.old).size [] (asked_for [] (puts_of puts.now) root.now)) }
+    ensures causes { IfErr result (λ fault. (fault ≡ Fault.AlreadyFormatted)
+        ⊎ ((fault ≡ Fault.Device) ⊎ ((fault ≡ Fault.Memory) ⊎ (fault ≡ Fault.Full)))) }
 {
     match newest(device) {
         Ok(None) => {}
@@ -60,7 +71,7 @@ fn publish_first<D: Sectors>(
     puts: &[(u32, &[u8])],
     root: &[u8],
     layout: u32,
-) -> Result<Plan, Fault>
+) -> Result<CommitPlan, Fault>
     requires least { 64 ≤ (D.state device.old).size }
     requires puts { ArePuts (puts_of puts.now) }
     requires root { IsRoot root.now }
@@ -70,17 +81,23 @@ fn publish_first<D: Sectors>(
     requires none { D.keeps_word device.old → HasNone (D.state device.old).reads }
     ensures size { (D.state device.new).size ≡ (D.state device.old).size }
     ensures word { D.keeps_word device.new → D.keeps_word device.old }
-    ensures kept { IfOk result (λ plan. IsKept (D.state device.new).size plan.superblock plan.entries.items plan.root.items) }
+    ensures kept { IfOk result
+        (λ plan. IsKept (D.state device.new).size plan.superblock plan.entries.items plan.root.items) }
     ensures ready { IfOk result (λ plan. D.keeps_word device.new
         → IsReady (D.state device.new) plan.superblock plan.entries.items plan.root.items) }
     ensures content { IfOk result (λ plan. D.keeps_word device.new
-        → content_from (D.state device.new).reads plan.superblock plan.entries.items plan.root.items ≡ created (puts_of puts.now) root.now layout) }
+        → content_from (D.state device.new).reads plan.superblock plan.entries.items plan.root.items
+        ≡ created (puts_of puts.now) root.now layout) }
     ensures failures { OnOk result (D.failed device.new ≡ D.failed device.old) }
-    ensures moments { (device.new ≡ device.old) ⊎ (D.keeps_word device.new → LeavesOnly (D.state device.old) (D.state device.new)
+    ensures moments { (device.new ≡ device.old)
+        ⊎ (D.keeps_word device.new → LeavesOnly (D.state device.old) (D.state device.new)
         (ShowsSomeOrNone (λ c. c ≡ created (puts_of puts.now) root.now layout) (D.state device.old).size)) }
     ensures untouched { IfErr result (λ fault. fault ≢ Fault.Device → device.new ≡ device.old) }
-    ensures device { IfErr result (λ fault. fault ≡ Fault.Device → D.failed device.new ≡ min (D.failed device.old + 1) (2 ^ 64 - 1)) }
-    ensures full { IfErr result (λ fault. fault ≡ Fault.Full → LacksPlaces (D.state device.old).size [] (asked_for [] (puts_of puts.now) root.now)) }
+    ensures device { IfErr result (λ fault. fault ≡ Fault.Device
+        → D.failed device.new ≡ min (D.failed device.old + 1) (2 ^ 64 - 1)) }
+    ensures full { IfErr result
+        (λ fault. fault ≡ Fault.Full
+        → LacksPlaces (D.state device.old).size [] (asked_for [] (puts_of puts.now) root.now)) }
     ensures causes { IfErr result (λ fault. (fault ≡ Fault.Device) ⊎ ((fault ≡ Fault.Memory) ⊎ (fault ≡ Fault.Full))) }
 {
     let plan = first_plan(alloc, device.count(), puts, root, layout)?;

@@ -1,12 +1,12 @@
 // The entries of a catalogue, by ascending id. Each is found by halving.
 ghost use Rattle.std.specs.Prelude.{◌≡◌, ◌≤◌, ◌<◌, ℕ, length, slice_index_or, IfErr, IfOk, OnOk, MatchResult};
 ghost use Rattle.cube_model.specs.declared.fault.Fault.{Fault};
-ghost use Rattle.catalogue.specs.declared.entry.Entry.{Entry};
-ghost use Rattle.catalogue.specs.Catalogue.{AreAscending};
+ghost use Rattle.object_store.specs.declared.catalogue.entry.Entry.{Entry};
+ghost use Rattle.object_store.specs.Catalogue.{AreAscending};
 ghost use Rattle.object_store.specs.Commit.{put_by, drop_by, put_each, drop_each, find_by};
 ghost use Rattle.object_store.specs.Entries.{IsPlace, IsEntryAt, IsMissing};
 
-use catalogue::Entry;
+use crate::catalogue::Entry;
 use cube_model::Fault;
 use std::alloc::Global;
 
@@ -90,7 +90,8 @@ fn place_of(entries: &[Entry], id: u32) -> usize
     requires { AreAscending entries.now }
     ensures within { result ≤ length entries.now }
     ensures before { (k : ℕ) (d : Entry) → k < result → (slice_index_or entries.now k d).id < id }
-    ensures behind { (k : ℕ) (d : Entry) → result ≤ k → k < length entries.now → id ≤ (slice_index_or entries.now k d).id }
+    ensures after { (k : ℕ) (d : Entry) → result ≤ k → k < length entries.now
+        → id ≤ (slice_index_or entries.now k d).id }
 {
     entries.partition_point(|entry| entry.id < id)
 }

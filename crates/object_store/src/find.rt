@@ -1,5 +1,6 @@
 // What is on a device.
-ghost use Rattle.std.specs.Prelude.{◌≡◌, ◌⊎◌, ◌+◌, ◌-◌, ◌^◌, ◌%◌, ◌<◌, ◌≤◌, ℕ, min, true, IfOk, IfErr, IfSome, OnOk, MatchOption};
+ghost use Rattle.std.specs.Prelude.{◌≡◌, ◌⊎◌, ◌+◌, ◌-◌, ◌^◌, ◌%◌, ◌<◌, ◌≤◌, ℕ, min, true, IfOk, IfErr, IfSome, OnOk};
+ghost use Rattle.std.specs.Prelude.{MatchOption};
 ghost use Rattle.cube_model.specs.declared.fault.Fault.{Fault};
 ghost use Rattle.sector_device.specs.Device.{CountsFailure, IsSettled, Syncs};
 ghost use Rattle.superblock.specs.Superblock.{IsProper};
@@ -7,14 +8,14 @@ ghost use Rattle.object_store.specs.Shows.{HasNone};
 ghost use Rattle.object_store.specs.Reading.{IsOnlyRead, IsNewest, two};
 ghost use Rattle.object_store.specs.Ready.{IsKept, IsReady};
 ghost use Rattle.extents.specs.Extents.{AreLaidOut};
-ghost use Rattle.catalogue.specs.Catalogue as catalogues;
-ghost use Rattle.catalogue.specs.Catalogue.{IsCatalogue};
+ghost use Rattle.object_store.specs.Catalogue as catalogues;
+ghost use Rattle.object_store.specs.Catalogue.{IsCatalogue};
 ghost use Rattle.object_store.specs.Places.{bytes_at, used_by};
 ghost use Rattle.object_store.specs.Found.{Explains, ShowsNothing, SpellNone, is_of_layout};
 
+use crate::catalogue::{Catalogue, decode as decode_catalogue};
 use crate::layout::check_extents;
 use crate::read::read_range;
-use catalogue::{Catalogue, decode as decode_catalogue};
 use cube_model::Fault;
 use sector_device::{DeviceError, Sectors};
 use std::alloc::Global;
@@ -33,15 +34,20 @@ pub(crate) fn find<D: Sectors>(alloc: Global, device: &mut D) -> Result<Found, F
     ensures size { (D.state device.new).size ≡ (D.state device.old).size }
     ensures word { D.keeps_word device.new → D.keeps_word device.old }
     ensures only { D.keeps_word device.new → IsOnlyRead (D.state device.old) (D.state device.new) }
-    ensures kept { IfOk result (λ found. IsKept (D.state device.new).size found.superblock found.catalogue.entries.items found.catalogue.root.items) }
+    ensures kept { IfOk result
+        (λ found. IsKept (D.state device.new).size found.superblock found.catalogue.entries.items
+        found.catalogue.root.items) }
     ensures ready { IfOk result (λ found. D.keeps_word device.new
         → IsReady (D.state device.new) found.superblock found.catalogue.entries.items found.catalogue.root.items) }
     ensures failures { OnOk result (D.failed device.new ≡ D.failed device.old) }
-    ensures device { IfErr result (λ fault. fault ≡ Fault.Device → D.failed device.new ≡ min (D.failed device.old + 1) (2 ^ 64 - 1)) }
+    ensures device { IfErr result (λ fault. fault ≡ Fault.Device
+        → D.failed device.new ≡ min (D.failed device.old + 1) (2 ^ 64 - 1)) }
     ensures nothing { IfErr result (λ fault. is_of_layout fault ≡ true → D.keeps_word device.new
         → ShowsNothing (D.state device.old).size (D.state device.old).reads) }
-    ensures explained { IfErr result (λ fault. D.keeps_word device.new → Explains fault (D.state device.old).size (D.state device.old).reads) }
-    ensures causes { IfErr result (λ fault. (fault ≡ Fault.Memory) ⊎ (fault ≡ Fault.Device) ⊎ (is_of_layout fault ≡ true)) }
+    ensures explained { IfErr result (λ fault. D.keeps_word device.new
+        → Explains fault (D.state device.old).size (D.state device.old).reads) }
+    ensures causes { IfErr result (λ fault. (fault ≡ Fault.Memory) ⊎ (fault ≡ Fault.Device)
+        ⊎ (is_of_layout fault ≡ true)) }
 {
     let superblock = match newest(device) {
         Ok(Some(superblock)) => superblock,
@@ -110,11 +116,16 @@ fn read_catalogue<D: Sectors>(
     ensures proper { IfOk result (λ c. catalogues.IsProper c.entries.items c.root.items) }
     ensures laid_out { IfOk result (λ c. AreLaidOut superblock.now.sectors (used_by superblock.now c.entries.items)) }
     ensures spelled { IfOk result (λ c. D.keeps_word device.new
-        → IsCatalogue (bytes_at (D.state device.old).reads superblock.now.catalogue superblock.now.bytes) c.entries.items c.root.items) }
+        → IsCatalogue (bytes_at (D.state device.old).reads superblock.now.catalogue superblock.now.bytes)
+        c.entries.items c.root.items) }
     ensures failures { OnOk result (D.failed device.new ≡ D.failed device.old) }
-    ensures device { IfErr result (λ fault. fault ≡ Fault.Device → D.failed device.new ≡ min (D.failed device.old + 1) (2 ^ 64 - 1)) }
-    ensures refused { IfErr result (λ fault. (fault ≡ Fault.Memory) ⊎ ((fault ≡ Fault.Device) ⊎ ((fault ≡ Fault.BadLayout)
-        × (D.keeps_word device.new → SpellNone superblock.now (bytes_at (D.state device.old).reads superblock.now.catalogue superblock.now.bytes))))) }
+    ensures device { IfErr result (λ fault. fault ≡ Fault.Device
+        → D.failed device.new ≡ min (D.failed device.old + 1) (2 ^ 64 - 1)) }
+    ensures refused { IfErr result
+        (λ fault. (fault ≡ Fault.Memory) ⊎ ((fault ≡ Fault.Device) ⊎ ((fault ≡ Fault.BadLayout)
+        × (D.keeps_word device.new
+        → SpellNone superblock.now
+        (bytes_at (D.state device.old).reads superblock.now.catalogue superblock.now.bytes))))) }
 {
     let bytes = read_bytes(alloc, device, superblock)?;
     parse(alloc, superblock, &bytes)
@@ -134,7 +145,8 @@ fn read_bytes<D: Sectors>(
     ensures bytes { IfOk result (λ bytes. D.keeps_word device.new
         → bytes.items ≡ bytes_at (D.state device.old).reads superblock.now.catalogue superblock.now.bytes) }
     ensures failures { OnOk result (D.failed device.new ≡ D.failed device.old) }
-    ensures device { IfErr result (λ fault. fault ≡ Fault.Device → D.failed device.new ≡ min (D.failed device.old + 1) (2 ^ 64 - 1)) }
+    ensures device { IfErr result (λ fault. fault ≡ Fault.Device
+        → D.failed device.new ≡ min (D.failed device.old + 1) (2 ^ 64 - 1)) }
     ensures causes { IfErr result (λ fault. (fault ≡ Fault.Memory) ⊎ (fault ≡ Fault.Device)) }
 {
     let mut bytes = Vec::from_elem(alloc, 0u8, superblock.bytes as usize)?;
@@ -149,7 +161,8 @@ fn parse(alloc: Global, superblock: &Super, bytes: &[u8]) -> Result<Catalogue, F
     requires { IsProper superblock.now }
     ensures spelled { IfOk result (λ c. IsCatalogue bytes.now c.entries.items c.root.items) }
     ensures laid_out { IfOk result (λ c. AreLaidOut superblock.now.sectors (used_by superblock.now c.entries.items)) }
-    ensures refused { IfErr result (λ fault. (fault ≡ Fault.Memory) ⊎ ((fault ≡ Fault.BadLayout) × SpellNone superblock.now bytes.now)) }
+    ensures refused { IfErr result
+        (λ fault. (fault ≡ Fault.Memory) ⊎ ((fault ≡ Fault.BadLayout) × SpellNone superblock.now bytes.now)) }
 {
     let catalogue = decode_catalogue(alloc, bytes)?;
     check_extents(alloc, superblock, &catalogue.entries)?;

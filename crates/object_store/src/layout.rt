@@ -3,10 +3,10 @@ ghost use Rattle.std.specs.Prelude.{◌≡◌, ◌⊎◌, ◌≤◌, ℕ, All, I
 ghost use Rattle.cube_model.specs.declared.fault.Fault.{Fault};
 ghost use Rattle.extents.specs.Extents.{AreLaidOut};
 ghost use Rattle.superblock.specs.Superblock.{IsProper};
-ghost use Rattle.catalogue.specs.Catalogue.{IsProperEntry};
+ghost use Rattle.object_store.specs.Catalogue.{IsProperEntry};
 ghost use Rattle.object_store.specs.Places.{extent_of, used_by};
 
-use catalogue::Entry;
+use crate::catalogue::Entry;
 use cube_model::Fault;
 use extents::{Extent, Free};
 use std::alloc::Global;

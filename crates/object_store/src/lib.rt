@@ -1,6 +1,7 @@
 //! A content of objects and a root on a device of sectors, replaced by commits that a crash leaves done or not begun.
 #![tactic(auto)]
 
+pub mod catalogue;
 mod create;
 mod entries;
 mod extent;

@@ -3,19 +3,19 @@ ghost use Rattle.std.specs.Prelude.{◌≡◌, ◌^◌, ◌<◌, ℕ, length, If
 ghost use Rattle.cube_model.specs.declared.fault.Fault.{Fault};
 ghost use Rattle.extents.specs.declared.extent.Extent.{Extent};
 ghost use Rattle.extents.specs.Extents.{AreLaidOut};
-ghost use Rattle.extents.specs.Runs.{IsFreeBeside};
+ghost use Rattle.extents.specs.Runs.{IsFreeOutside};
 ghost use Rattle.object_store.specs.Commit.{ArePuts, puts_of};
 ghost use Rattle.object_store.specs.Room.{FitsFail, LacksPlaces, lengths_of};
-ghost use Rattle.object_store.specs.Planning.{ArePlaced, ArePlacedBeside, LacksMemoryOr};
+ghost use Rattle.object_store.specs.Planning.{ArePlaced, ArePlacedOutside, LacksMemoryOr};
 
-use catalogue::Entry;
+use crate::catalogue::Entry;
 use cube_model::Fault;
 use extents::{Extent, Free};
 use std::alloc::Global;
 
-/// An entry for each put, in order, each by first fit outside extents that keep the rules of the layout, and what is then
-/// free.
-pub(crate) fn place_beside(
+/// An entry for each put, in order, each by first fit outside extents that keep the rules of the layout, and what is
+/// then free.
+pub(crate) fn place_outside(
     alloc: Global,
     sectors: u32,
     used: &[Extent],
@@ -23,18 +23,18 @@ pub(crate) fn place_beside(
 ) -> Result<(Free, Vec<Entry>), Fault>
     requires used { AreLaidOut sectors used.now }
     requires puts { ArePuts (puts_of puts.now) }
-    ensures ok { IfOk result (λ both. ArePlacedBeside sectors used.now (puts_of puts.now) both.1.items both.0) }
+    ensures ok { IfOk result (λ both. ArePlacedOutside sectors used.now (puts_of puts.now) both.1.items both.0) }
     ensures refused { IfErr result (LacksMemoryOr (LacksPlaces sectors used.now (lengths_of (puts_of puts.now)))) }
 {
-    let mut free = free_beside(alloc, sectors, used)?;
+    let mut free = free_outside(alloc, sectors, used)?;
     let placed = place(alloc, &mut free, puts)?;
     Ok((free, placed))
 }
 
 // The free sectors outside extents that keep the rules of the layout.
-fn free_beside(alloc: Global, sectors: u32, used: &[Extent]) -> Result<Free, Fault>
+fn free_outside(alloc: Global, sectors: u32, used: &[Extent]) -> Result<Free, Fault>
     requires { AreLaidOut sectors used.now }
-    ensures ok { IfOk result (IsFreeBeside sectors used.now) }
+    ensures ok { IfOk result (IsFreeOutside sectors used.now) }
     ensures memory { IfErr result (λ fault. fault ≡ Fault.Memory) }
 {
     Free::from_used(alloc, sectors, used)

@@ -3,7 +3,7 @@ ghost use Rattle.std.specs.Prelude.{◌≡◌, ◌+◌, ◌≤◌, ◌<◌, ◌^
 ghost use Rattle.cube_model.specs.declared.fault.Fault.{Fault};
 ghost use Rattle.extents.specs.Extents.{SomeHolds, AreLaidOut};
 ghost use Rattle.superblock.specs.Superblock as superblocks;
-ghost use Rattle.catalogue.specs.Catalogue.{FitsFields, IsProperEntry, AreAscending, catalogue_of};
+ghost use Rattle.object_store.specs.Catalogue.{FitsFields, IsProperEntry, AreAscending, catalogue_of};
 ghost use Rattle.wire.specs.Limits.{least_sectors, most_objects};
 ghost use Rattle.object_store.specs.Commit.{ArePuts, IsLayout, IsRoot, drop_each, put_each, puts_of, size_of};
 ghost use Rattle.object_store.specs.Places.{extents_of, sizes_at, used_by};
@@ -11,10 +11,10 @@ ghost use Rattle.object_store.specs.Room.{LacksPlaces, asked_for};
 ghost use Rattle.object_store.specs.Planning.{LacksMemoryOr};
 ghost use Rattle.object_store.specs.Publish.{IsPlan};
 
+use crate::catalogue::{Entry, encode};
 use crate::entries::{put_entries, without};
 use crate::layout::used_extents;
-use crate::place::place_beside;
-use catalogue::{Entry, encode};
+use crate::place::place_outside;
 use cube_model::Fault;
 use extents::Extent;
 use std::alloc::Global;
@@ -22,7 +22,7 @@ use superblock::Super;
 
 /// What a commit is to write.
 #[derive(Drop)]
-pub(crate) struct Plan {
+pub(crate) struct CommitPlan {
     /// An entry for each put, in order.
     pub placed: Vec<Entry>,
     /// The entries of the new catalogue.
@@ -49,7 +49,7 @@ pub(crate) fn prepare(
     kept: Vec<Entry>,
     puts: &[(u32, &[u8])],
     root: &[u8],
-) -> Result<Plan, Fault>
+) -> Result<CommitPlan, Fault>
     requires sectors { least_sectors ≤ stamp.sectors }
     requires few_sectors { stamp.sectors < 2 ^ 32 }
     requires generation { 1 ≤ stamp.generation }
@@ -64,11 +64,13 @@ pub(crate) fn prepare(
     requires puts { ArePuts (puts_of puts.now) }
     requires root { IsRoot root.now }
     requires few { length (put_each (λ o. o.0) (map size_of (puts_of puts.now)) (sizes_at kept.items)) ≤ most_objects }
-    ensures ok { IfOk result (IsPlan stamp.sectors used.now kept.items (puts_of puts.now) root.now stamp.generation stamp.layout) }
+    ensures ok { IfOk result
+        (IsPlan stamp.sectors used.now kept.items (puts_of puts.now) root.now stamp.generation stamp.layout) }
     ensures refused { IfErr result
-        (LacksMemoryOr (LacksPlaces stamp.sectors used.now (asked_for (sizes_at kept.items) (puts_of puts.now) root.now))) }
+        (LacksMemoryOr
+        (LacksPlaces stamp.sectors used.now (asked_for (sizes_at kept.items) (puts_of puts.now) root.now))) }
 {
-    let (mut free, placed) = place_beside(alloc, stamp.sectors, used, puts)?;
+    let (mut free, placed) = place_outside(alloc, stamp.sectors, used, puts)?;
     let (entries, catalogue, root) = catalogued(alloc, &placed, kept, root)?;
     let extent = free.take(catalogue.len().div_ceil(512) as u32)?;
     let superblock = Super {
@@ -78,7 +80,7 @@ pub(crate) fn prepare(
         catalogue: extent.first,
         bytes: catalogue.len() as u32,
     };
-    Ok(Plan {
+    Ok(CommitPlan {
         placed,
         entries,
         root,
@@ -118,7 +120,7 @@ pub(crate) fn next_plan(
     drops: &[u32],
     root: &[u8],
     layout: u32,
-) -> Result<Plan, Fault>
+) -> Result<CommitPlan, Fault>
     requires superblock { superblocks.IsProper superblock.now }
     requires last { superblock.now.generation + 1 < 2 ^ 64 }
     requires fit { All FitsFields entries.now }
@@ -128,10 +130,15 @@ pub(crate) fn next_plan(
     requires puts { ArePuts (puts_of puts.now) }
     requires root { IsRoot root.now }
     requires layout { IsLayout layout }
-    requires few { length (put_each (λ o. o.0) (map size_of (puts_of puts.now)) (sizes_at (drop_each (λ e. e.id) drops.now entries.now))) ≤ most_objects }
-    ensures ok { IfOk result (IsPlan superblock.now.sectors (used_by superblock.now entries.now) (drop_each (λ e. e.id) drops.now entries.now)
+    requires few { length
+        (put_each (λ o. o.0) (map size_of (puts_of puts.now)) (sizes_at (drop_each (λ e. e.id) drops.now entries.now)))
+        ≤ most_objects }
+    ensures ok { IfOk result
+        (IsPlan superblock.now.sectors (used_by superblock.now entries.now)
+        (drop_each (λ e. e.id) drops.now entries.now)
         (puts_of puts.now) root.now (superblock.now.generation + 1) layout) }
-    ensures refused { IfErr result (LacksMemoryOr (LacksPlaces superblock.now.sectors (used_by superblock.now entries.now)
+    ensures refused { IfErr result
+        (LacksMemoryOr (LacksPlaces superblock.now.sectors (used_by superblock.now entries.now)
         (asked_for (sizes_at (drop_each (λ e. e.id) drops.now entries.now)) (puts_of puts.now) root.now))) }
 {
     let used = used_extents(alloc, superblock, entries)?;
@@ -151,7 +158,7 @@ pub(crate) fn first_plan(
     puts: &[(u32, &[u8])],
     root: &[u8],
     layout: u32,
-) -> Result<Plan, Fault>
+) -> Result<CommitPlan, Fault>
     requires sectors { least_sectors ≤ sectors }
     requires puts { ArePuts (puts_of puts.now) }
     requires root { IsRoot root.now }

@@ -6,9 +6,9 @@ ghost use Rattle.object_store.specs.Commit.{puts_of};
 ghost use Rattle.object_store.specs.Places.{bytes_at, extents_of, objects_at};
 ghost use Rattle.object_store.specs.Publish.{AreFor, written_by, HasWritten, IsEither};
 
+use crate::catalogue::Entry;
 use crate::extent::write_extent;
-use crate::plan::Plan;
-use catalogue::Entry;
+use crate::plan::CommitPlan;
 use sector_device::{DeviceError, Sectors};
 use superblock::encode;
 
@@ -16,7 +16,7 @@ use superblock::encode;
 pub(crate) fn publish<D: Sectors>(
     device: &mut D,
     puts: &[(u32, &[u8])],
-    plan: &Plan,
+    plan: &CommitPlan,
 ) -> Result<(), DeviceError>
     requires places { AreFor plan.now.placed.items (puts_of puts.now) }
     requires bytes { plan.now.superblock.bytes ≡ length plan.now.catalogue.items }
@@ -31,7 +31,8 @@ pub(crate) fn publish<D: Sectors>(
     ensures written { OnOk result (D.keeps_word device.new
         → HasWritten plan.now (puts_of puts.now) (D.state device.old).reads (D.state device.new).reads) }
     ensures moments { D.keeps_word device.new
-        → LeavesOnly (D.state device.old) (D.state device.new) (IsEither plan.now (puts_of puts.now) (D.state device.old).reads) }
+        → LeavesOnly (D.state device.old) (D.state device.new)
+        (IsEither plan.now (puts_of puts.now) (D.state device.old).reads) }
 {
     write_texts(device, puts, plan)?;
     device.sync()?;
@@ -46,7 +47,7 @@ pub(crate) fn publish<D: Sectors>(
 fn write_texts<D: Sectors>(
     device: &mut D,
     puts: &[(u32, &[u8])],
-    plan: &Plan,
+    plan: &CommitPlan,
 ) -> Result<(), DeviceError>
     requires places { AreFor plan.now.placed.items (puts_of puts.now) }
     requires bytes { plan.now.superblock.bytes ≡ length plan.now.catalogue.items }
@@ -60,7 +61,8 @@ fn write_texts<D: Sectors>(
     ensures objects { OnOk result (D.keeps_word device.new
         → objects_at (D.state device.new).reads plan.now.placed.items ≡ puts_of puts.now) }
     ensures catalogue { OnOk result (D.keeps_word device.new
-        → bytes_at (D.state device.new).reads plan.now.superblock.catalogue plan.now.superblock.bytes ≡ plan.now.catalogue.items) }
+        → bytes_at (D.state device.new).reads plan.now.superblock.catalogue plan.now.superblock.bytes
+        ≡ plan.now.catalogue.items) }
 {
     write_objects(device, puts, &plan.placed)?;
     write_extent(device, plan.superblock.catalogue, &plan.catalogue)

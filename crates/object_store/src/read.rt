@@ -1,5 +1,6 @@
 // Reading bytes that begin at a sector.
-ghost use Rattle.std.specs.Prelude.{◌≡◌, ◌+◌, ◌-◌, ◌*◌, ◌/◌, ◌%◌, ◌<◌, ◌≤◌, ◌^◌, ◌++◌, ℕ, length, take, drop, min, IfOk, OnOk};
+ghost use Rattle.std.specs.Prelude.{◌≡◌, ◌+◌, ◌-◌, ◌*◌, ◌/◌, ◌%◌, ◌<◌, ◌≤◌, ◌^◌, ◌++◌, ℕ, length, take, drop, min};
+ghost use Rattle.std.specs.Prelude.{IfOk, OnOk};
 ghost use Rattle.std.specs.Vec.{vec_capacity};
 ghost use Rattle.sector_device.specs.Device.{CountsFailure};
 ghost use Rattle.superblock.specs.Superblock.{sectors_of};
@@ -31,7 +32,8 @@ pub(crate) fn read_range<D: Sectors>(
     Ok(())
 }
 
-// Reads from a place on: whole sectors where one begins there, or up to the end of the sector. It answers how many bytes.
+// Reads from a place on: whole sectors where one begins there, or up to the end of the sector. It answers how many
+// bytes.
 fn read_some<D: Sectors>(
     device: &mut D,
     first: u32,

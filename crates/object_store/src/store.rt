@@ -1,6 +1,8 @@
 // A store on a device.
-ghost use Rattle.std.specs.Prelude.{◌≡◌, ◌≢◌, ◌⊎◌, ◌+◌, ◌-◌, ◌*◌, ◌^◌, ◌<◌, ◌≤◌, ◌↔◌, min, ℕ, true, false, List, [], Some, length, option_map, IfOk, IfErr, IsSomeAnd, IsTrue, OnOk, OnErr, IsErrOf};
-ghost use Rattle.cube_model.specs.declared.fault.Fault.TheVariants.{Device, Failed, Full, Worn, Memory, AlreadyFormatted, DeviceSize};
+ghost use Rattle.std.specs.Prelude.{◌≡◌, ◌≢◌, ◌⊎◌, ◌+◌, ◌-◌, ◌*◌, ◌^◌, ◌<◌, ◌≤◌, ◌↔◌, min, ℕ, true, false, List, []};
+ghost use Rattle.std.specs.Prelude.{Some, length, option_map, IfOk, IfErr, IsSomeAnd, IsTrue, OnOk, OnErr, IsErrOf};
+ghost use Rattle.cube_model.specs.declared.fault.Fault.TheVariants.{Device, Failed, Full, Worn, Memory};
+ghost use Rattle.cube_model.specs.declared.fault.Fault.TheVariants.{AlreadyFormatted, DeviceSize};
 ghost use Rattle.std.specs.Vec.{vec_capacity};
 ghost use Rattle.superblock.specs.Superblock.{sectors_of};
 ghost use Rattle.wire.specs.Parts.{Gives};
@@ -9,17 +11,18 @@ ghost use Rattle.object_store.specs.Commit.{ArePuts, IsFew, IsLayout, IsRoot, co
 ghost use Rattle.object_store.specs.Ready.{IsKept, IsReady};
 ghost use Rattle.object_store.specs.Publish.{IsPlanOver, IsSomePlanOver};
 ghost use Rattle.object_store.specs.Room.{LacksRoom, empty_room};
-ghost use Rattle.object_store.specs.Disk.{disk, IsBlank, AllShow, Leaves, LeavesOrNone, Each, OnlyImagesOf, IsShown, MayShowNothing, HasOneImage};
+ghost use Rattle.object_store.specs.Disk.{disk, IsBlank, AllShow, Leaves, LeavesOrNone, Each, OnlyImagesOf, IsShown};
+ghost use Rattle.object_store.specs.Disk.{MayShowNothing, HasOneImage};
 ghost use Rattle.object_store.specs.Found.{Explains, is_of_layout};
 ghost use Rattle.object_store.specs.Shows.{HasNone};
 
+use crate::catalogue::Entry;
 use crate::create::create;
 use crate::entries::find as find_entry;
 use crate::find::find;
-use crate::plan::{Plan, next_plan};
+use crate::plan::{CommitPlan, next_plan};
 use crate::publish::publish;
 use crate::read::{push_sectors, read_range};
-use catalogue::Entry;
 use cube_model::Fault;
 use sector_device::Sectors;
 use std::alloc::Global;
@@ -38,11 +41,13 @@ pub struct Store<D: Sectors> {
     root: Vec<u8>,
     failed: bool,
     ghost kept: { IsKept (D.state device).size superblock entries.items root.items },
-    ghost ready: { failed ≡ false → D.keeps_word device → IsReady (D.state device) superblock entries.items root.items },
+    ghost ready: { failed ≡ false → D.keeps_word device
+        → IsReady (D.state device) superblock entries.items root.items },
 }
 
 impl<D: Sectors> Store<D> {
-    ghost use Rattle.object_store.specs.Store.{device_of, content_of, has_failed, disk_of, room_of, size_in, IsAsBefore, IsStill, KeepsObjects, Breaks, Refuses, IsOneOf};
+    ghost use Rattle.object_store.specs.Store.{device_of, content_of, has_failed, disk_of, room_of, size_in};
+    ghost use Rattle.object_store.specs.Store.{IsAsBefore, IsStill, KeepsObjects, Breaks, Refuses, IsOneOf};
 
     /// Makes a store on a device without one, of generation 1. A refusal hands the device back.
     pub fn create(
@@ -59,29 +64,42 @@ impl<D: Sectors> Store<D> {
 
         // Where no image at the start has a valid superblock: until the end an image has none, or shows the content.
         ensures leaves { IfOk result (λ store. Each (disk D.Sectors device) IsBlank →
-            LeavesOrNone (disk D.Sectors device) (disk_of D.Sectors store) (λ c. c ≡ created (puts_of puts.now) root.now layout)) }
+            LeavesOrNone (disk D.Sectors device) (disk_of D.Sectors store)
+            (λ c. c ≡ created (puts_of puts.now) root.now layout)) }
         ensures leaves_err { IfErr result (λ e. Each (disk D.Sectors device) IsBlank →
-            LeavesOrNone (disk D.Sectors device) (disk D.Sectors e.1) (λ c. c ≡ created (puts_of puts.now) root.now layout)) }
-        ensures still_blank { IfErr result (λ e. e.0 ≢ Device → Each (disk D.Sectors device) IsBlank → Each (disk D.Sectors e.1) IsBlank) }
-        ensures not_already { IfErr result (λ e. D.keeps_word e.1 → Each (disk D.Sectors device) IsBlank → e.0 ≢ AlreadyFormatted) }
+            LeavesOrNone (disk D.Sectors device) (disk D.Sectors e.1)
+            (λ c. c ≡ created (puts_of puts.now) root.now layout)) }
+        ensures still_blank { IfErr result (λ e. e.0 ≢ Device → Each (disk D.Sectors device) IsBlank
+            → Each (disk D.Sectors e.1) IsBlank) }
+        ensures not_already { IfErr result (λ e. D.keeps_word e.1 → Each (disk D.Sectors device) IsBlank
+            → e.0 ≢ AlreadyFormatted) }
 
         // Then it is usable, there is one image, and it shows the content.
         ensures fine { IfOk result (λ store. has_failed store ≡ false) }
-        ensures ok { IfOk result (λ store. (disk_of D.Sectors store).keeps_word → content_of D.Sectors store ≡ created (puts_of puts.now) root.now layout) }
-        ensures settled { IfOk result (λ store. (disk_of D.Sectors store).keeps_word → HasOneImage (disk_of D.Sectors store)) }
+        ensures ok { IfOk result (λ store. (disk_of D.Sectors store).keeps_word
+            → content_of D.Sectors store ≡ created (puts_of puts.now) root.now layout) }
+        ensures settled { IfOk result (λ store. (disk_of D.Sectors store).keeps_word
+            → HasOneImage (disk_of D.Sectors store)) }
         ensures shows { IfOk result (λ store. AllShow (disk_of D.Sectors store) (λ c. c ≡ content_of D.Sectors store)) }
         ensures failures { IfOk result (λ store. (disk_of D.Sectors store).failures ≡ D.failed device) }
 
-        // It succeeds only where reads show no valid superblock at the start. Where they show one, no sector is written.
-        ensures only { IfErr result (λ e. e.0 ≡ AlreadyFormatted → OnlyImagesOf (disk D.Sectors device) (disk D.Sectors e.1)) }
-        ensures unformatted { IfOk result (λ store. (disk_of D.Sectors store).keeps_word → HasNone (D.state device).reads) }
-        ensures spared { IfErr result (λ e. (HasNone (D.state device).reads → ⊥) → OnlyImagesOf (disk D.Sectors device) (disk D.Sectors e.1)) }
+        // It succeeds only where reads show no valid superblock at the start. Where they show one, no sector is
+        // written.
+        ensures only { IfErr result
+            (λ e. e.0 ≡ AlreadyFormatted → OnlyImagesOf (disk D.Sectors device) (disk D.Sectors e.1)) }
+        ensures unformatted { IfOk result (λ store. (disk_of D.Sectors store).keeps_word
+            → HasNone (D.state device).reads) }
+        ensures spared { IfErr result (λ e. (HasNone (D.state device).reads → ⊥)
+            → OnlyImagesOf (disk D.Sectors device) (disk D.Sectors e.1)) }
 
         // When each error comes.
         ensures device { IfErr result (λ e. e.0 ≡ Device → D.failed e.1 ≡ min (D.failed device + 1) (2 ^ 64 - 1)) }
         ensures size { IfErr result (λ e. e.0 ≡ DeviceSize → (D.state device).size < 64) }
-        ensures full { IfErr result (λ e. e.0 ≡ Full → LacksRoom (empty_room (D.state device).size) (puts_of puts.now) [] root.now) }
-        ensures causes { IfErr result (λ e. (e.0 ≡ AlreadyFormatted) ⊎ ((e.0 ≡ DeviceSize) ⊎ ((e.0 ≡ Device) ⊎ ((e.0 ≡ Full) ⊎ (e.0 ≡ Memory))))) }
+        ensures full { IfErr result
+            (λ e. e.0 ≡ Full → LacksRoom (empty_room (D.state device).size) (puts_of puts.now) [] root.now) }
+        ensures causes { IfErr result
+            (λ e. (e.0 ≡ AlreadyFormatted)
+            ⊎ ((e.0 ≡ DeviceSize) ⊎ ((e.0 ≡ Device) ⊎ ((e.0 ≡ Full) ⊎ (e.0 ≡ Memory))))) }
     {
         if device.count() < LEAST_SECTORS {
             return Err((Fault::DeviceSize, device));
@@ -102,8 +120,10 @@ impl<D: Sectors> Store<D> {
     pub fn open(alloc: Global, mut device: D) -> Result<Store<D>, (Fault, D)>
         // It is usable, there is one image, and it shows the content, which an image at the start showed.
         ensures fine { IfOk result (λ store. has_failed store ≡ false) }
-        ensures settled { IfOk result (λ store. (disk_of D.Sectors store).keeps_word → HasOneImage (disk_of D.Sectors store)) }
-        ensures found { IfOk result (λ store. (disk_of D.Sectors store).keeps_word → IsShown (disk D.Sectors device) (content_of D.Sectors store)) }
+        ensures settled { IfOk result (λ store. (disk_of D.Sectors store).keeps_word
+            → HasOneImage (disk_of D.Sectors store)) }
+        ensures found { IfOk result (λ store. (disk_of D.Sectors store).keeps_word
+            → IsShown (disk D.Sectors device) (content_of D.Sectors store)) }
         ensures shows { IfOk result (λ store. AllShow (disk_of D.Sectors store) (λ c. c ≡ content_of D.Sectors store)) }
         ensures failures { IfOk result (λ store. (disk_of D.Sectors store).failures ≡ D.failed device) }
 
@@ -112,8 +132,10 @@ impl<D: Sectors> Store<D> {
         ensures only_err { IfErr result (λ e. OnlyImagesOf (disk D.Sectors device) (disk D.Sectors e.1)) }
 
         // When each error comes.
-        ensures nothing { IfErr result (λ e. is_of_layout e.0 ≡ true → D.keeps_word e.1 → MayShowNothing (disk D.Sectors device)) }
-        ensures explained { IfErr result (λ e. D.keeps_word e.1 → Explains e.0 (D.state device).size (D.state device).reads) }
+        ensures nothing { IfErr result (λ e. is_of_layout e.0 ≡ true → D.keeps_word e.1
+            → MayShowNothing (disk D.Sectors device)) }
+        ensures explained { IfErr result
+            (λ e. D.keeps_word e.1 → Explains e.0 (D.state device).size (D.state device).reads) }
         ensures device { IfErr result (λ e. e.0 ≡ Device → D.failed e.1 ≡ min (D.failed device + 1) (2 ^ 64 - 1)) }
         ensures causes { IfErr result (λ e. (e.0 ≡ Memory) ⊎ ((e.0 ≡ Device) ⊎ (is_of_layout e.0 ≡ true))) }
     {
@@ -149,9 +171,13 @@ impl<D: Sectors> Store<D> {
     /// Whether the device failed in an earlier call. Until then there is one image, and it shows the content.
     pub fn is_broken(&self) -> bool
         ensures broken { result ≡ has_failed self.now }
-        ensures shows { has_failed self.now ≡ false → AllShow (disk_of D.Sectors self.now) (λ c. c ≡ content_of D.Sectors self.now) }
-        ensures leaves { has_failed self.now ≡ false → Leaves (disk_of D.Sectors self.now) (disk_of D.Sectors self.now) (λ c. c ≡ content_of D.Sectors self.now) }
-        ensures settled { has_failed self.now ≡ false → (disk_of D.Sectors self.now).keeps_word → HasOneImage (disk_of D.Sectors self.now) }
+        ensures shows { has_failed self.now ≡ false
+            → AllShow (disk_of D.Sectors self.now) (λ c. c ≡ content_of D.Sectors self.now) }
+        ensures leaves { has_failed self.now ≡ false
+            → Leaves (disk_of D.Sectors self.now) (disk_of D.Sectors self.now)
+            (λ c. c ≡ content_of D.Sectors self.now) }
+        ensures settled { has_failed self.now ≡ false → (disk_of D.Sectors self.now).keeps_word
+            → HasOneImage (disk_of D.Sectors self.now) }
     {
         self.failed
     }
@@ -187,7 +213,8 @@ impl<D: Sectors> Store<D> {
     /// How many bytes an object has, if there is one of that id.
     pub fn size(&self, id: u32) -> Option<u64>
         ensures entry { result ≡ size_in self.now id }
-        ensures bytes { D.keeps_word (device_of self.now) → result ≡ option_map length (bytes_of (content_of D.Sectors self.now) id) }
+        ensures bytes { D.keeps_word (device_of self.now)
+            → result ≡ option_map length (bytes_of (content_of D.Sectors self.now) id) }
     {
         match find_entry(&self.entries, id) {
             Some(entry) => Some(entry.bytes),
@@ -197,10 +224,13 @@ impl<D: Sectors> Store<D> {
 
     /// The bytes of an object, if there is one of that id.
     pub fn get(&mut self, alloc: Global, id: u32) -> Result<Option<Vec<u8>>, Fault>
-        ensures found { IfOk result (λ found. D.keeps_word (device_of self.new) → option_map (λ bytes. bytes.items) found ≡ bytes_of (content_of D.Sectors self.old) id) }
+        ensures found { IfOk result (λ found. D.keeps_word (device_of self.new)
+            → option_map (λ bytes. bytes.items) found ≡ bytes_of (content_of D.Sectors self.old) id) }
 
         // The content stays, at each moment.
-        ensures leaves { has_failed self.old ≡ false → Leaves (disk_of D.Sectors self.old) (disk_of D.Sectors self.new) (λ c. c ≡ content_of D.Sectors self.old) }
+        ensures leaves { has_failed self.old ≡ false
+            → Leaves (disk_of D.Sectors self.old) (disk_of D.Sectors self.new)
+            (λ c. c ≡ content_of D.Sectors self.old) }
         ensures stays { (IsErrOf result Device → ⊥) → IsStill D.Sectors self.old self.new }
         ensures kept { KeepsObjects D.Sectors self.old self.new }
         ensures no_call { IsErrOf result Failed → device_of self.new ≡ device_of self.old }
@@ -228,11 +258,14 @@ impl<D: Sectors> Store<D> {
     pub fn read_at(&mut self, id: u32, at: u64, to: &mut [u8]) -> Result<bool, Fault>
         ensures within { IfOk result (λ within. D.keeps_word (device_of self.new) → IsTrue within
             ↔ IsSomeAnd (bytes_of (content_of D.Sectors self.old) id) (λ bytes. at + length to.old ≤ length bytes)) }
-        ensures bytes { IfOk result (λ within. IsTrue within → D.keeps_word (device_of self.new) → Gives (bytes_of (content_of D.Sectors self.old) id) at to.new) }
+        ensures bytes { IfOk result (λ within. IsTrue within → D.keeps_word (device_of self.new)
+            → Gives (bytes_of (content_of D.Sectors self.old) id) at to.new) }
         ensures untouched { IfOk result (λ within. within ≡ false → to.new ≡ to.old) }
 
         // The content stays, at each moment.
-        ensures leaves { has_failed self.old ≡ false → Leaves (disk_of D.Sectors self.old) (disk_of D.Sectors self.new) (λ c. c ≡ content_of D.Sectors self.old) }
+        ensures leaves { has_failed self.old ≡ false
+            → Leaves (disk_of D.Sectors self.old) (disk_of D.Sectors self.new)
+            (λ c. c ≡ content_of D.Sectors self.old) }
         ensures stays { (IsErrOf result Device → ⊥) → IsStill D.Sectors self.old self.new }
         ensures kept { KeepsObjects D.Sectors self.old self.new }
         ensures no_call { IsErrOf result Failed → device_of self.new ≡ device_of self.old }
@@ -269,8 +302,10 @@ impl<D: Sectors> Store<D> {
         requires found { find_by (λ e. e.id) id self.old.entries.items ≡ Some entry }
         requires none { to.old.items ≡ [] }
         requires room { sectors_of entry.bytes * 512 ≤ vec_capacity to.old }
-        ensures bytes { OnOk result (D.keeps_word (device_of self.new) → Some to.new.items ≡ bytes_of (content_of D.Sectors self.old) id) }
-        ensures leaves { Leaves (disk_of D.Sectors self.old) (disk_of D.Sectors self.new) (λ c. c ≡ content_of D.Sectors self.old) }
+        ensures bytes { OnOk result (D.keeps_word (device_of self.new)
+            → Some to.new.items ≡ bytes_of (content_of D.Sectors self.old) id) }
+        ensures leaves { Leaves (disk_of D.Sectors self.old) (disk_of D.Sectors self.new)
+            (λ c. c ≡ content_of D.Sectors self.old) }
         ensures stays { OnOk result (IsStill D.Sectors self.old self.new) }
         ensures kept { KeepsObjects D.Sectors self.old self.new }
         ensures device { OnErr result (Breaks D.Sectors self.old self.new) }
@@ -294,8 +329,10 @@ impl<D: Sectors> Store<D> {
         requires fine { has_failed self.old ≡ false }
         requires found { find_by (λ e. e.id) id self.old.entries.items ≡ Some entry }
         requires within { at + length to.old ≤ entry.bytes }
-        ensures bytes { OnOk result (D.keeps_word (device_of self.new) → Gives (bytes_of (content_of D.Sectors self.old) id) at to.new) }
-        ensures leaves { Leaves (disk_of D.Sectors self.old) (disk_of D.Sectors self.new) (λ c. c ≡ content_of D.Sectors self.old) }
+        ensures bytes { OnOk result (D.keeps_word (device_of self.new)
+            → Gives (bytes_of (content_of D.Sectors self.old) id) at to.new) }
+        ensures leaves { Leaves (disk_of D.Sectors self.old) (disk_of D.Sectors self.new)
+            (λ c. c ≡ content_of D.Sectors self.old) }
         ensures stays { OnOk result (IsStill D.Sectors self.old self.new) }
         ensures kept { KeepsObjects D.Sectors self.old self.new }
         ensures device { OnErr result (Breaks D.Sectors self.old self.new) }
@@ -310,7 +347,8 @@ impl<D: Sectors> Store<D> {
         }
     }
 
-    /// Puts objects, drops others, and replaces the root and the layout. A put takes the place of an object with its id.
+    /// Puts objects, drops others, and replaces the root and the layout. A put takes the place of an object with its
+    /// id.
     pub fn commit(
         &mut self,
         alloc: Global,
@@ -326,11 +364,13 @@ impl<D: Sectors> Store<D> {
 
         // A crash at any point leaves the content before or the content after.
         ensures leaves { has_failed self.old ≡ false → Leaves (disk_of D.Sectors self.old) (disk_of D.Sectors self.new)
-            (IsOneOf (content_of D.Sectors self.old) (committed (puts_of puts.now) drops.now root.now layout (content_of D.Sectors self.old))) }
+            (IsOneOf (content_of D.Sectors self.old)
+            (committed (puts_of puts.now) drops.now root.now layout (content_of D.Sectors self.old))) }
 
         // Then the content after.
         ensures ok { OnOk result ((disk_of D.Sectors self.new).keeps_word
-            → content_of D.Sectors self.new ≡ committed (puts_of puts.now) drops.now root.now layout (content_of D.Sectors self.old)) }
+            → content_of D.Sectors self.new ≡ committed (puts_of puts.now) drops.now root.now layout
+            (content_of D.Sectors self.old)) }
         ensures fine { OnOk result ((has_failed self.old ≡ false) × (has_failed self.new ≡ false)) }
         ensures failures { OnOk result ((disk_of D.Sectors self.new).failures ≡ (disk_of D.Sectors self.old).failures) }
         ensures shows { OnOk result (AllShow (disk_of D.Sectors self.new) (λ c. c ≡ content_of D.Sectors self.new)) }
@@ -355,12 +395,13 @@ impl<D: Sectors> Store<D> {
         drops: &[u32],
         root: &[u8],
         layout: u32,
-    ) -> Result<Plan, Fault>
+    ) -> Result<CommitPlan, Fault>
         requires puts { ArePuts (puts_of puts.now) }
         requires root { IsRoot root.now }
         requires layout { IsLayout layout }
         requires few { IsFew (committed (puts_of puts.now) drops.now root.now layout (content_of D.Sectors self.now)) }
-        ensures ok { IfOk result (IsPlanOver self.now.superblock self.now.entries.items (puts_of puts.now) drops.now root.now layout) }
+        ensures ok { IfOk result
+            (IsPlanOver self.now.superblock self.now.entries.items (puts_of puts.now) drops.now root.now layout) }
         ensures fine { OnOk result (has_failed self.now ≡ false) }
         ensures failed { IsErrOf result Failed ↔ (has_failed self.now ≡ true) }
         ensures not_device { IsErrOf result Device → ⊥ }
@@ -386,15 +427,19 @@ impl<D: Sectors> Store<D> {
     }
 
     // Writes what a plan names, and takes the plan over. Where the device fails, the store has failed.
-    fn put_plan(&mut self, puts: &[(u32, &[u8])], plan: Plan) -> Result<(), Fault>
+    fn put_plan(&mut self, puts: &[(u32, &[u8])], plan: CommitPlan) -> Result<(), Fault>
         requires fine { has_failed self.old ≡ false }
         requires planned { IsSomePlanOver self.old.superblock self.old.entries.items (puts_of puts.now) plan }
-        ensures leaves { (drops root : List ℕ) (layout : ℕ) → IsPlanOver self.old.superblock self.old.entries.items (puts_of puts.now) drops root layout plan
+        ensures leaves { (drops root : List ℕ) (layout : ℕ)
+            → IsPlanOver self.old.superblock self.old.entries.items (puts_of puts.now) drops root layout plan
             → Leaves (disk_of D.Sectors self.old) (disk_of D.Sectors self.new)
-            (IsOneOf (content_of D.Sectors self.old) (committed (puts_of puts.now) drops root layout (content_of D.Sectors self.old))) }
-        ensures ok { OnOk result ((drops root : List ℕ) (layout : ℕ) → IsPlanOver self.old.superblock self.old.entries.items (puts_of puts.now) drops root layout plan
+            (IsOneOf (content_of D.Sectors self.old)
+            (committed (puts_of puts.now) drops root layout (content_of D.Sectors self.old))) }
+        ensures ok { OnOk result ((drops root : List ℕ) (layout : ℕ)
+            → IsPlanOver self.old.superblock self.old.entries.items (puts_of puts.now) drops root layout plan
             → (disk_of D.Sectors self.new).keeps_word
-            → content_of D.Sectors self.new ≡ committed (puts_of puts.now) drops root layout (content_of D.Sectors self.old)) }
+            → content_of D.Sectors self.new ≡ committed (puts_of puts.now) drops root layout
+            (content_of D.Sectors self.old)) }
         ensures fine { OnOk result (has_failed self.new ≡ false) }
         ensures failures { OnOk result ((disk_of D.Sectors self.new).failures ≡ (disk_of D.Sectors self.old).failures) }
         ensures device { OnErr result (Breaks D.Sectors self.old self.new) }

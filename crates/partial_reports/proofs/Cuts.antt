@@ -15,15 +15,19 @@ no_front test (c ∷ r) b t pass ends e =
     both_ways (test b) (subst (λ k. test k ≡ false) same ends) pass
 
 -- stretches of bytes that pass, and what comes after each
-pub cut_by : (test : ℕ → Bool) (x y r s : List ℕ) → list_all test x ≡ true → list_all test y ≡ true → EndsAt test r → EndsAt test s
+pub cut_by : (test : ℕ → Bool) (x y r s : List ℕ) → list_all test x ≡ true → list_all test y ≡ true → EndsAt test r
+    → EndsAt test s
     → x ++ r ≡ y ++ s → (x ≡ y) × (r ≡ s)
 cut_by test [] [] r s p q u v e = (refl, e)
-cut_by test [] (b ∷ y) r s p q u v e = absurd (no_front test r b (y ++ s) (and_parts (test b) (list_all test y) q).0 u e)
-cut_by test (a ∷ x) [] r s p q u v e = absurd (no_front test s a (x ++ r) (and_parts (test a) (list_all test x) p).0 v (sym e))
+cut_by test [] (b ∷ y) r s p q u v e =
+    absurd (no_front test r b (y ++ s) (and_parts (test b) (list_all test y) q).0 u e)
+cut_by test (a ∷ x) [] r s p q u v e =
+    absurd (no_front test s a (x ++ r) (and_parts (test a) (list_all test x) p).0 v (sym e))
 cut_by test (a ∷ x) (b ∷ y) r s p q u v e =
     let first : a ≡ b = cc in
     let after : x ++ r ≡ y ++ s = cc in
-    let rest = cut_by test x y r s (and_parts (test a) (list_all test x) p).1 (and_parts (test b) (list_all test y) q).1 u v after in
+    let rest = cut_by test x y r s (and_parts (test a) (list_all test x) p).1 (and_parts (test b) (list_all test y) q).1
+    u v after in
     ((λ i. first i ∷ rest.0 i), rest.1)
 
 one_less : (n m : ℕ) → suc n ≡ suc m → n ≡ m

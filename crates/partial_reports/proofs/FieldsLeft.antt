@@ -1,5 +1,6 @@
 -- Fields that are taken one after the other.
-use Rattle.std.proofs.Common.{◌≡◌, ◌∙◌, sym, ap, refl, subst, ℕ, ◌+◌, ◌<◌, List, [], ◌∷◌, ◌++◌, length, map, append_assoc, append-nil, Option, None, Some, ◌⊎◌, inl, inr, arith}
+use Rattle.std.proofs.Common.{◌≡◌, ◌∙◌, sym, ap, refl, subst, ℕ, ◌+◌, ◌<◌, List, [], ◌∷◌, ◌++◌, length, map}
+use Rattle.std.proofs.Common.{append_assoc, append-nil, Option, None, Some, ◌⊎◌, inl, inr, arith}
 use Rattle.std.specs.List.{AllByRecursion, join_with_byte}
 use Rattle.std.proofs.lemmas.Option.{none-some, same_Some}
 use Rattle.cube_model.specs.declared.answer.Line.{Line}
@@ -24,7 +25,8 @@ pub record IsNextField (text field : List ℕ) (others : List (List ℕ)) : Type
   pub lacks : HasNoByte 124 field
   pub left : AreLeft (Some back) others
 
-pub last_or_next_field : (left : Option (List ℕ)) (text field : List ℕ) (others : List (List ℕ)) → left ≡ Some text → AreLeft left (field ∷ others)
+pub last_or_next_field : (left : Option (List ℕ)) (text field : List ℕ) (others : List (List ℕ)) → left ≡ Some text
+    → AreLeft left (field ∷ others)
     → IsLastField text field others ⊎ IsNextField text field others
 last_or_next_field left text field [] is fields =
     let alone : text ≡ field = same_Some text field (sym is ∙ fields.joined) in
@@ -45,7 +47,8 @@ none_left [] e = record { each = tt; joined = tt }
 none_left (field ∷ others) e = cc
 
 -- what is left of members, after some of them were read
-pub record KeyLeft (key read : List Member) (columns taken : ℕ) (left : Option (List ℕ)) (others : List (List ℕ)) : Type 0 where
+pub record KeyLeft (key read : List Member) (columns taken : ℕ) (left : Option (List ℕ)) (others : List (List ℕ)) : Type
+    0 where
   pub rest : List Member
   pub is : key ≡ read ++ rest
   pub size : taken + length rest ≡ columns
@@ -53,18 +56,22 @@ pub record KeyLeft (key read : List Member) (columns taken : ℕ) (left : Option
   pub fields : AreLeft left (map member_text rest ++ others)
 
 -- another member
-pub record IsNextMember (key read : List Member) (columns taken : ℕ) (left : Option (List ℕ)) (others : List (List ℕ)) : Type 0 where
+pub record IsNextMember (key read : List Member) (columns taken : ℕ) (left : Option (List ℕ))
+    (others : List (List ℕ)) : Type 0 where
   pub member : Member
   pub plain : IsPlainMember member
   pub more : List (List ℕ)
   pub fields : AreLeft left (member_text member ∷ more)
-  pub after : (new : List Member) (moved : Option (List ℕ)) → new ≡ read ++ member ∷ [] → AreLeft moved more → KeyLeft key new columns (taken + 1) moved others
+  pub after : (new : List Member) (moved : Option (List ℕ)) → new ≡ read ++ member ∷ [] → AreLeft moved more
+      → KeyLeft key new columns (taken + 1) moved others
 
-pub next_member : (key read : List Member) (columns taken : ℕ) (left : Option (List ℕ)) (others : List (List ℕ)) → taken < columns
+pub next_member : (key read : List Member) (columns taken : ℕ) (left : Option (List ℕ)) (others : List (List ℕ))
+    → taken < columns
     → KeyLeft key read columns taken left others → IsNextMember key read columns taken left others
 next_member key read columns taken left others less k = by k.rest k.is k.size k.plain k.fields
   where
-    by : (rest : List Member) → key ≡ read ++ rest → taken + length rest ≡ columns → AllByRecursion IsPlainMember rest → AreLeft left (map member_text rest ++ others)
+    by : (rest : List Member) → key ≡ read ++ rest → taken + length rest ≡ columns → AllByRecursion IsPlainMember rest
+        → AreLeft left (map member_text rest ++ others)
         → IsNextMember key read columns taken left others
     by [] is size plain fields = absurd (omega (arith, size, less))
     by (member ∷ rest) is size plain fields = record {
@@ -85,7 +92,8 @@ pub all_members : (key read : List Member) (columns : ℕ) (left : Option (List 
     → KeyLeft key read columns columns left others → (read ≡ key) × AreLeft left others
 all_members key read columns left others k = by k.rest k.is k.size k.fields
   where
-    by : (rest : List Member) → key ≡ read ++ rest → columns + length rest ≡ columns → AreLeft left (map member_text rest ++ others) → (read ≡ key) × AreLeft left others
+    by : (rest : List Member) → key ≡ read ++ rest → columns + length rest ≡ columns
+        → AreLeft left (map member_text rest ++ others) → (read ≡ key) × AreLeft left others
     by [] is size fields = (sym (is ∙ append-nil read), fields)
     by (member ∷ rest) is size fields = absurd (omega (arith, size))
 
@@ -103,13 +111,15 @@ pub record IsNextValue (values read : List Value) (aggregates taken : ℕ) (left
   pub whole : IsWholeNumber value
   pub more : List (List ℕ)
   pub fields : AreLeft left (value_text value ∷ more)
-  pub after : (new : List Value) (moved : Option (List ℕ)) → new ≡ read ++ value ∷ [] → AreLeft moved more → ValuesLeft values new aggregates (taken + 1) moved
+  pub after : (new : List Value) (moved : Option (List ℕ)) → new ≡ read ++ value ∷ [] → AreLeft moved more
+      → ValuesLeft values new aggregates (taken + 1) moved
 
 pub next_value : (values read : List Value) (aggregates taken : ℕ) (left : Option (List ℕ)) → taken < aggregates
     → ValuesLeft values read aggregates taken left → IsNextValue values read aggregates taken left
 next_value values read aggregates taken left less k = by k.rest k.is k.size k.whole k.fields
   where
-    by : (rest : List Value) → values ≡ read ++ rest → taken + length rest ≡ aggregates → AllByRecursion IsWholeNumber rest → AreLeft left (map value_text rest)
+    by : (rest : List Value) → values ≡ read ++ rest → taken + length rest ≡ aggregates
+        → AllByRecursion IsWholeNumber rest → AreLeft left (map value_text rest)
         → IsNextValue values read aggregates taken left
     by [] is size whole fields = absurd (omega (arith, size, less))
     by (value ∷ rest) is size whole fields = record {
@@ -130,14 +140,17 @@ pub all_values : (values read : List Value) (aggregates : ℕ) (left : Option (L
     → ValuesLeft values read aggregates aggregates left → (read ≡ values) × AreLeft left []
 all_values values read aggregates left k = by k.rest k.is k.size k.fields
   where
-    by : (rest : List Value) → values ≡ read ++ rest → aggregates + length rest ≡ aggregates → AreLeft left (map value_text rest) → (read ≡ values) × AreLeft left []
+    by : (rest : List Value) → values ≡ read ++ rest → aggregates + length rest ≡ aggregates
+        → AreLeft left (map value_text rest) → (read ≡ values) × AreLeft left []
     by [] is size fields = (sym (is ∙ append-nil read), fields)
     by (value ∷ rest) is size fields = absurd (omega (arith, size))
 
 -- the fields of a line are left of its text
-all_joined : (fields : List (List ℕ)) (text : List ℕ) → AllByRecursion (HasNoByte 124) fields → text ≡ join_with_byte 124 fields → AreLeft (Some text) fields
+all_joined : (fields : List (List ℕ)) (text : List ℕ) → AllByRecursion (HasNoByte 124) fields
+    → text ≡ join_with_byte 124 fields → AreLeft (Some text) fields
 all_joined [] text each e = record { each = tt; joined = e }
 all_joined (field ∷ fields) text each e = record { each = each; joined = ap Some e }
 
-pub line_left : (query : Query) (line : Line) (text : List ℕ) → IsReadableLine query line → text ≡ join_with_byte 124 (fields_of line) → AreLeft (Some text) (fields_of line)
+pub line_left : (query : Query) (line : Line) (text : List ℕ) → IsReadableLine query line
+    → text ≡ join_with_byte 124 (fields_of line) → AreLeft (Some text) (fields_of line)
 line_left query line text is e = all_joined (fields_of line) text (line_bar query line is) e

@@ -1,5 +1,6 @@
 -- A text tells the numbers that it begins with.
-use Rattle.std.proofs.Common.{◌≡◌, ◌∙◌, sym, ap, refl, ℕ, ◌+◌, ◌%◌, ◌<◌, ◌^◌, true, ◌&&◌, List, [], ◌∷◌, ◌++◌, length, get_or, append_assoc, arith}
+use Rattle.std.proofs.Common.{◌≡◌, ◌∙◌, sym, ap, refl, ℕ, ◌+◌, ◌%◌, ◌<◌, ◌^◌, true, ◌&&◌, List, [], ◌∷◌, ◌++◌, length}
+use Rattle.std.proofs.Common.{get_or, append_assoc, arith}
 use Rattle.std.specs.Prelude.{nat_le, nat_lt}
 use Rattle.std.specs.Char.{is_ascii_digit}
 use Rattle.std.specs.Fmt.{decimal}
@@ -24,7 +25,8 @@ last_digit n = omega arith
 pub digits : (n : ℕ) → n < 2 ^ 64 → list_all is_ascii_digit (decimal n) ≡ true
 digits =
     decimal_by_steps (λ n text. list_all is_ascii_digit text ≡ true) one_digit
-    (λ n text h all. list_all-append is_ascii_digit text ((48 + n % 10) ∷ []) ∙ and_from (list_all is_ascii_digit text) _ all (one_digit (n % 10) (last_digit n)))
+    (λ n text h all. list_all-append is_ascii_digit text ((48 + n % 10) ∷ [])
+    ∙ and_from (list_all is_ascii_digit text) _ all (one_digit (n % 10) (last_digit n)))
 
 -- a number, and what comes after it
 pub number_same : (n m : ℕ) (r s : List ℕ) → n < 2 ^ 64 → m < 2 ^ 64 → EndsAt is_ascii_digit r → EndsAt is_ascii_digit s
@@ -50,9 +52,11 @@ commas_same [] [] r s p q e = let rest : r ≡ s = cc in (refl, rest)
 commas_same [] (m ∷ ms) r s p q e = absurd (omega (arith, ap (λ (l : List ℕ). get_or l 0 0) e))
 commas_same (n ∷ ns) [] r s p q e = absurd (omega (arith, ap (λ (l : List ℕ). get_or l 0 0) e))
 commas_same (n ∷ ns) (m ∷ ms) r s p q e =
-    let inner : (decimal n ++ flat_map after_comma ns) ++ 47 ∷ r ≡ (decimal m ++ flat_map after_comma ms) ++ 47 ∷ s = cc in
+    let inner : (decimal n ++ flat_map after_comma ns) ++ 47 ∷ r ≡ (decimal m ++ flat_map after_comma ms) ++ 47 ∷ s =
+    cc in
     let halves = number_same n m (commas ns r) (commas ms s) p.0 q.0 (commas_end ns r) (commas_end ms s)
-    (sym (append_assoc (decimal n) (flat_map after_comma ns) (47 ∷ r)) ∙ inner ∙ append_assoc (decimal m) (flat_map after_comma ms) (47 ∷ s)) in
+    (sym (append_assoc (decimal n) (flat_map after_comma ns) (47 ∷ r)) ∙ inner
+    ∙ append_assoc (decimal m) (flat_map after_comma ms) (47 ∷ s)) in
     let rest = commas_same ns ms r s p.1 q.1 halves.1 in
     ((λ i. halves.0 i ∷ rest.0 i), rest.1)
 
@@ -63,7 +67,8 @@ numbers_same [] ms r s some any p q e = absurd (omega (arith, some))
 numbers_same (n ∷ ns) [] r s some any p q e = absurd (omega (arith, any))
 numbers_same (n ∷ ns) (m ∷ ms) r s some any p q e =
     let halves = number_same n m (commas ns r) (commas ms s) p.0 q.0 (commas_end ns r) (commas_end ms s)
-    (sym (append_assoc (decimal n) (flat_map after_comma ns) (47 ∷ r)) ∙ e ∙ append_assoc (decimal m) (flat_map after_comma ms) (47 ∷ s)) in
+    (sym (append_assoc (decimal n) (flat_map after_comma ns) (47 ∷ r)) ∙ e
+    ∙ append_assoc (decimal m) (flat_map after_comma ms) (47 ∷ s)) in
     let rest = commas_same ns ms r s p.1 q.1 halves.1 in
     ((λ i. halves.0 i ∷ rest.0 i), rest.1)
 
@@ -71,7 +76,8 @@ below : (n high : ℕ) → nat_le n high ≡ true → high < 2 ^ 64 → n < 2 ^ 
 below n high e h = omega (arith, leb-true n high e)
 
 -- numbers that ascend up to a small number are small
-pub ascending_small : (low high : ℕ) (numbers : List ℕ) → high < 2 ^ 64 → ascend_between low high numbers ≡ true → AreSmall numbers
+pub ascending_small : (low high : ℕ) (numbers : List ℕ) → high < 2 ^ 64 → ascend_between low high numbers ≡ true
+    → AreSmall numbers
 ascending_small low high [] h e = tt
 ascending_small low high (n ∷ ns) h e =
     let parts = and_parts (nat_lt low n) (nat_le n high && ascend_between n high ns) e in

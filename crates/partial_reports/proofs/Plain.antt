@@ -1,5 +1,6 @@
 -- Members that passed the test can be read back.
-use Rattle.std.proofs.Common.{◌≡◌, ◌∙◌, sym, refl, ap, ℕ, ◌==◌, Bool, true, false, ◌&&◌, ◌||◌, not, List, [], ◌∷◌, codes}
+use Rattle.std.proofs.Common.{◌≡◌, ◌∙◌, sym, refl, ap, ℕ, ◌==◌, Bool, true, false, ◌&&◌, ◌||◌, not, List, [], ◌∷◌}
+use Rattle.std.proofs.Common.{codes}
 use Rattle.std.specs.List.{AllByRecursion, list_all}
 use Rattle.std.specs.Str.{bytes_eq}
 use Rattle.std.proofs.lemmas.Bool.{false_from_ne_true}
@@ -63,7 +64,8 @@ plain_members (member ∷ key) e =
     (plain_member member parts.first, plain_members key parts.second)
 
 -- and members that can be read back pass it
-ends_none : (text : List ℕ) → HasNoByte 124 text → HasNoByte 10 text → list_all (λ byte. not (ends_field byte)) text ≡ true
+ends_none : (text : List ℕ) → HasNoByte 124 text → HasNoByte 10 text
+    → list_all (λ byte. not (ends_field byte)) text ≡ true
 ends_none [] bar feed = refl
 ends_none (byte ∷ text) bar feed =
     (λ i. not (bar.0 i || feed.0 i) && list_all (λ b. not (ends_field b)) text) ∙ ends_none text bar.1 feed.1
@@ -71,7 +73,8 @@ ends_none (byte ∷ text) bar feed =
 text_plain : (text : List ℕ) → IsPlainText text → is_plain_text text ≡ true
 text_plain text is =
     (λ i. ends_none text is.no_bar is.no_lf i && not (bytes_eq (codes "ALL") text))
-    ∙ ap not (false_from_ne_true (bytes_eq (codes "ALL") text) (λ same. is.not_all (sym ((bytes_eq-Decides (codes "ALL") text).0 same))))
+    ∙ ap not (false_from_ne_true (bytes_eq (codes "ALL") text)
+    (λ same. is.not_all (sym ((bytes_eq-Decides (codes "ALL") text).0 same))))
 
 member_plain : (member : Member) → IsPlainMember member → is_plain_member member ≡ true
 member_plain (Text text) is = text_plain text is
@@ -79,4 +82,5 @@ member_plain All is = refl
 
 pub members_plain : (key : List Member) → AllByRecursion IsPlainMember key → list_all is_plain_member key ≡ true
 members_plain [] all = refl
-members_plain (member ∷ key) all = (λ i. member_plain member all.0 i && list_all is_plain_member key) ∙ members_plain key all.1
+members_plain (member ∷ key) all = (λ i. member_plain member all.0 i && list_all is_plain_member key)
+    ∙ members_plain key all.1

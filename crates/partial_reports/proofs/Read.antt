@@ -17,7 +17,8 @@ no_text [] text none = refl
 no_text (line ∷ lines) text none = absurd (omega (arith, none))
 
 -- one more line was read
-pub one_more : (query : Query) (old new : List Line) (text left rest : List ℕ) → text ≡ flat_map line_text old ++ left → ReadsLine query old new left rest
+pub one_more : (query : Query) (old new : List Line) (text left rest : List ℕ) → text ≡ flat_map line_text old ++ left
+    → ReadsLine query old new left rest
     → text ≡ flat_map line_text new ++ rest
 one_more query old new text left rest is reads =
     is ∙ ap (λ l. flat_map line_text old ++ l) reads.spelled
@@ -27,7 +28,8 @@ one_more query old new text left rest is reads =
     ∙ ap (λ lines. flat_map line_text lines ++ rest) (sym reads.added)
 
 -- the number of lines was read, and with it all
-pub all_read : (query : Query) (old new : List Line) (text left : List ℕ) → AreLinesOf query old → text ≡ flat_map line_text old ++ left → ReadsCount query old new left
+pub all_read : (query : Query) (old new : List Line) (text left : List ℕ) → AreLinesOf query old
+    → text ≡ flat_map line_text old ++ left → ReadsCount query old new left
     → SpellsLines query text new
 all_read query old new text left are is reads = rw reads.same (record {
   are = are;

@@ -19,6 +19,8 @@ version_line = codes "ssbcube partial report 1"
 pub version_lacks : HasNoByte 10 version_line
 version_lacks = lacks 10 version_line refl
 
-pub same_version : (line other : List ℕ) (r : Bool) → line ≡ version_line → other ≡ version_line → r ≡ not (bytes_eq line other) → r ≡ true → ⊥
+pub same_version : (line other : List ℕ) (r : Bool) → line ≡ version_line → other ≡ version_line
+    → r ≡ not (bytes_eq line other) → r ≡ true → ⊥
 same_version line other r is spelled test e =
-    both_ways (bytes_eq line other) (not-true (bytes_eq line other) (sym test ∙ e)) ((bytes_eq-Decides line other).1 (is ∙ sym spelled))
+    both_ways (bytes_eq line other) (not-true (bytes_eq line other) (sym test ∙ e))
+    ((bytes_eq-Decides line other).1 (is ∙ sym spelled))

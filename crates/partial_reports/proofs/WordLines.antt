@@ -1,5 +1,6 @@
 -- The lines of words.
-use Rattle.std.proofs.Common.{◌≡◌, ◌∙◌, sym, ap, refl, subst, ℕ, ◌+◌, ◌≤◌, ◌<◌, Bool, true, false, List, [], ◌∷◌, ◌++◌, length, append_assoc, append-nil, length-append, Some, None, ◌⊎◌, inl, inr, arith}
+use Rattle.std.proofs.Common.{◌≡◌, ◌∙◌, sym, ap, refl, subst, ℕ, ◌+◌, ◌≤◌, ◌<◌, Bool, true, false, List, [], ◌∷◌, ◌++◌}
+use Rattle.std.proofs.Common.{length, append_assoc, append-nil, length-append, Some, None, ◌⊎◌, inl, inr, arith}
 use Rattle.std.specs.Prelude.{◌==◌, slice_get, cond}
 use Rattle.std.specs.List.{flat_map, list_all}
 use Rattle.std.proofs.lemmas.Bool.{and_parts, both_ways, eqb-true}
@@ -13,7 +14,8 @@ use Rattle.partial_reports.proofs.NumbersLeft.{lack_both}
 use Rattle.partial_reports.proofs.WordTexts.{inner, is_inner, word_front}
 
 -- the first byte of a word's line tells its kind
-pub first_read : (kind : WordKind) (text : List ℕ) (letter : ℕ) → Some letter ≡ slice_get (kind_text kind ++ text) 0 → kind_by letter ≡ kind
+pub first_read : (kind : WordKind) (text : List ℕ) (letter : ℕ) → Some letter ≡ slice_get (kind_text kind ++ text) 0
+    → kind_by letter ≡ kind
 first_read Q text letter e = ap kind_by (same_Some letter 113 e)
 first_read Set text letter e = ap kind_by (same_Some letter 115 e)
 first_read By text letter e = ap kind_by (same_Some letter 98 e)
@@ -77,22 +79,27 @@ pub record IsNextWord (words read : List Word) (text left : List ℕ) (taken all
   pub spelled : text ≡ word_line word ++ 10 ∷ others
   pub more : WordsLeft words (read ++ word ∷ []) others left (taken + 1) all
 
-pub end_or_word : (words read : List Word) (text left : List ℕ) (taken all : ℕ) → WordsLeft words read text left taken all
+pub end_or_word : (words read : List Word) (text left : List ℕ) (taken all : ℕ)
+    → WordsLeft words read text left taken all
     → IsEnd words read text left ⊎ IsNextWord words read text left taken all
 end_or_word words read text left taken all w = by w.rest w.short w.is w.spelled w.room
   where
-    by : (rest : List Word) → list_all is_short_word rest ≡ true → words ≡ read ++ rest → text ≡ flat_map word_text rest ++ 10 ∷ left → taken + length text ≤ all
+    by : (rest : List Word) → list_all is_short_word rest ≡ true → words ≡ read ++ rest
+        → text ≡ flat_map word_text rest ++ 10 ∷ left → taken + length text ≤ all
         → IsEnd words read text left ⊎ IsNextWord words read text left taken all
     by [] short is spelled room = inl (record { is = sym (is ∙ append-nil read); spelled = spelled })
     by (word ∷ rest) short is spelled room =
         let parts = and_parts (is_short_word word) (list_all is_short_word rest) short in
         let others : List ℕ = flat_map word_text rest ++ 10 ∷ left in
-        let front : text ≡ word_line word ++ 10 ∷ others = spelled ∙ word_front word rest left ∙ sym (append_assoc (kind_text word.kind) word.text (10 ∷ others)) in
-        let long : 0 < length (word_line word) = omega (arith, length-append (kind_text word.kind) word.text, kind_long word.kind) in
+        let front : text ≡ word_line word ++ 10 ∷ others = spelled ∙ word_front word rest left
+        ∙ sym (append_assoc (kind_text word.kind) word.text (10 ∷ others)) in
+        let long : 0 < length (word_line word) =
+        omega (arith, length-append (kind_text word.kind) word.text, kind_long word.kind) in
         inr (record {
           word = word;
           others = others;
-          lacks = lack_both 10 (kind_text word.kind) word.text (kind_lacks word.kind) (inner_lacks word.text (inner word parts.0));
+          lacks = lack_both 10 (kind_text word.kind) word.text (kind_lacks word.kind)
+              (inner_lacks word.text (inner word parts.0));
           long = long;
           spelled = front;
           more = record {
@@ -105,7 +112,8 @@ end_or_word words read text left taken all w = by w.rest w.short w.is w.spelled 
         })
 
 -- the next word was read
-pub word_read : (words read new : List Word) (text left after : List ℕ) (taken all : ℕ) (word : Word) (next : IsNextWord words read text left taken all)
+pub word_read : (words read new : List Word) (text left after : List ℕ) (taken all : ℕ) (word : Word)
+    (next : IsNextWord words read text left taken all)
     → word ≡ next.word → new ≡ read ++ word ∷ [] → after ≡ next.others → WordsLeft words new after left (taken + 1) all
 word_read words read new text left after taken all word next same added moved =
     let more = next.more in

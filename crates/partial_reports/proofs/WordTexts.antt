@@ -1,5 +1,6 @@
 -- A text tells the words that it begins with.
-use Rattle.std.proofs.Common.{◌≡◌, ◌∙◌, sym, ap, refl, ℕ, Bool, true, false, List, [], ◌∷◌, ◌++◌, length, get_or, append_assoc, arith}
+use Rattle.std.proofs.Common.{◌≡◌, ◌∙◌, sym, ap, refl, ℕ, Bool, true, false, List, [], ◌∷◌, ◌++◌, length, get_or}
+use Rattle.std.proofs.Common.{append_assoc, arith}
 use Rattle.std.specs.Prelude.{nat_le, if◌then◌else◌}
 use Rattle.std.specs.List.{flat_map, list_all}
 use Rattle.std.proofs.lemmas.Bool.{and_parts}
@@ -49,7 +50,8 @@ word_front word words r =
     ∙ ap (λ l. kind_text word.kind ++ l) (append_assoc word.text (10 ∷ []) (words_end words r))
 
 word_same : (one other : Word) (r s : List ℕ) → is_short_word one ≡ true → is_short_word other ≡ true
-    → kind_text one.kind ++ (one.text ++ 10 ∷ r) ≡ kind_text other.kind ++ (other.text ++ 10 ∷ s) → (one ≡ other) × (r ≡ s)
+    → kind_text one.kind ++ (one.text ++ 10 ∷ r) ≡ kind_text other.kind ++ (other.text ++ 10 ∷ s)
+    → (one ≡ other) × (r ≡ s)
 word_same one other r s p q e =
     let kinds = kind_same one.kind other.kind (one.text ++ 10 ∷ r) (other.text ++ 10 ∷ s) e in
     let texts = append_cancel_left (kind_text one.kind) (one.text ++ 10 ∷ r) (other.text ++ 10 ∷ s)
@@ -63,7 +65,8 @@ word_same one other r s p q e =
     tail_of (x ∷ xs) = xs
 
 -- words, and what is after the empty line
-pub words_same : (ones others : List Word) (r s : List ℕ) → list_all is_short_word ones ≡ true → list_all is_short_word others ≡ true
+pub words_same : (ones others : List Word) (r s : List ℕ) → list_all is_short_word ones ≡ true
+    → list_all is_short_word others ≡ true
     → flat_map word_text ones ++ 10 ∷ r ≡ flat_map word_text others ++ 10 ∷ s → (ones ≡ others) × (r ≡ s)
 words_same [] [] r s p q e = let rest : r ≡ s = cc in (refl, rest)
 words_same [] (b ∷ others) r s p q e =
@@ -73,6 +76,8 @@ words_same (a ∷ ones) [] r s p q e =
 words_same (a ∷ ones) (b ∷ others) r s p q e =
     let here = and_parts (is_short_word a) (list_all is_short_word ones) p in
     let there = and_parts (is_short_word b) (list_all is_short_word others) q in
-    let halves = word_same a b (words_end ones r) (words_end others s) here.0 there.0 (sym (word_front a ones r) ∙ e ∙ word_front b others s) in
+    let halves =
+    word_same a b (words_end ones r) (words_end others s) here.0 there.0
+    (sym (word_front a ones r) ∙ e ∙ word_front b others s) in
     let rest = words_same ones others r s here.1 there.1 halves.1 in
     ((λ i. halves.0 i ∷ rest.0 i), rest.1)

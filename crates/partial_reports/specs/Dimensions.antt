@@ -14,7 +14,8 @@ object_of dimensions axis = dimension_spelling axis (rows_on dimensions axis)
 -- the four objects, one after the other
 abbrev pub objects_of : DimRows → List ℕ
 objects_of dimensions =
-    ((object_of dimensions Customer ++ object_of dimensions Supplier) ++ object_of dimensions Part) ++ object_of dimensions Date
+    ((object_of dimensions Customer ++ object_of dimensions Supplier) ++ object_of dimensions Part)
+    ++ object_of dimensions Date
 
 abbrev pub digest_of : DimRows → List ℕ
 digest_of dimensions = sha256 (objects_of dimensions)

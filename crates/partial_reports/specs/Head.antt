@@ -1,5 +1,7 @@
--- The head of a partial report: of which parts of a whole it is, over which dimension rows, and the words of its query. Our own.
-use Rattle.std.specs.Prelude.{ℕ, ◌==◌, ◌&&◌, nat_lt, nat_le, Bool, true, false, if◌then◌else◌, Option, Some, None, List, [], ◌∷◌, ◌++◌, length, map, codes}
+-- The head of a partial report: of which parts of a whole it is, over which dimension rows, and the words of its query.
+-- Our own.
+use Rattle.std.specs.Prelude.{ℕ, ◌==◌, ◌&&◌, nat_lt, nat_le, Bool, true, false, if◌then◌else◌, Option, Some, None, List}
+use Rattle.std.specs.Prelude.{[], ◌∷◌, ◌++◌, length, map, codes}
 use Rattle.std.specs.Fmt.{decimal}
 use Rattle.std.specs.List.{flat_map, list_all}
 use Rattle.hex.specs.Hex.{encode_lower}
@@ -31,12 +33,14 @@ abbrev pub is_line_feed : ℕ → Bool
 is_line_feed byte = byte == 10
 
 abbrev pub is_short_word : Word → Bool
-is_short_word word = nat_le (length word.text) longest_word && list_all (λ byte. if is_line_feed byte then false else true) word.text
+is_short_word word =
+    nat_le (length word.text) longest_word && list_all (λ byte. if is_line_feed byte then false else true) word.text
 
 -- numbers ascend from above one number up to another
 abbrev pub ascend_between : ℕ → ℕ → List ℕ → Bool
 ascend_between low high [] = true
-ascend_between low high (number ∷ numbers) = nat_lt low number && (nat_le number high && ascend_between number high numbers)
+ascend_between low high (number ∷ numbers) =
+    nat_lt low number && (nat_le number high && ascend_between number high numbers)
 
 -- numbers are those of some parts of a whole, in ascending order
 abbrev pub are_parts : ℕ → List ℕ → Bool
@@ -60,7 +64,8 @@ kind_text If = codes "if "
 
 -- the kind whose name begins with a letter (113 is `q`, 115 is `s`, 98 is `b`, 97 is `a`), and conditions at any other
 abbrev pub kind_by : ℕ → WordKind
-kind_by letter = if letter == 113 then Q else if letter == 115 then Set else if letter == 98 then By else if letter == 97 then Agg else If
+kind_by letter = if letter == 113 then Q else if letter == 115 then Set else if letter == 98 then By else if letter ==
+    97 then Agg else If
 
 abbrev pub word_text : Word → List ℕ
 word_text word = kind_text word.kind ++ (word.text ++ codes "\n")
@@ -82,4 +87,5 @@ dimensions_text digest = codes "dimensions " ++ (encode_lower digest ++ codes "\
 -- the text of a head over dimensions of some digest: an empty line ends it
 abbrev pub head_text : Head → List ℕ → List ℕ
 head_text head digest =
-    codes "ssbcube partial report 1\n" ++ (part_text head ++ (dimensions_text digest ++ (flat_map word_text head.words ++ codes "\n")))
+    codes "ssbcube partial report 1\n"
+    ++ (part_text head ++ (dimensions_text digest ++ (flat_map word_text head.words ++ codes "\n")))

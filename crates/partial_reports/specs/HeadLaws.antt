@@ -21,5 +21,6 @@ abbrev pub PartialReportsReadBack : Type 0
 PartialReportsReadBack = (query : Query) (one other : Head) (digest another : List ℕ) (first second : Answer)
     → is_proper one ≡ true → is_proper other ≡ true → IsDigest digest → IsDigest another
     → IsReadableAnswer (partial_query query) first → IsReadableAnswer (partial_query query) second
-    → head_text one digest ++ report_of (partial_query query) first ≡ head_text other another ++ report_of (partial_query query) second
+    → head_text one digest ++ report_of (partial_query query) first ≡ head_text other another
+    ++ report_of (partial_query query) second
     → (one ≡ other) × (digest ≡ another) × (first ≡ second)

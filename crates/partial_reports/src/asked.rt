@@ -16,7 +16,8 @@ pub struct PartAsked {
 }
 
 impl PartAsked {
-    /// The partial report of a query, under a head that names the words of the query. It can only fail when out of memory.
+    /// The partial report of a query, under a head that names the words of the query. It can only fail when out of
+    /// memory.
     pub fn new(alloc: Global, head: Head, query: Query) -> Result<PartAsked, Fault>
         ensures ok { IfOk result (λ asked. asked ≡ part_asked head query) }
         ensures only { IfErr result (λ fault. fault ≡ Fault.Memory) }

@@ -9,8 +9,8 @@ use dimensions::Dims;
 use sha2::{Digest, Sha256};
 use std::alloc::Global;
 
-/// The SHA-256 of the four dimensions as a warehouse stores them: customers, suppliers, parts, dates. The same rows have the same
-/// digest wherever they are. It can only fail when out of memory.
+/// The SHA-256 of the four dimensions as a warehouse stores them: customers, suppliers, parts, dates. The same rows
+/// have the same digest wherever they are. It can only fail when out of memory.
 pub fn digest_of(alloc: Global, dims: &Dims) -> Result<[u8; 32], Fault>
     ensures ok { IfOk result (λ digest. digest ≡ digest_of dims.now) }
     ensures only { IfErr result (λ fault. fault ≡ Fault.Memory) }
@@ -25,7 +25,8 @@ pub fn digest_of(alloc: Global, dims: &Dims) -> Result<[u8; 32], Fault>
 
 // Adds the bytes of a dimension to what is digested.
 fn add_object(alloc: Global, hasher: &mut Sha256, dims: &Dims, axis: Axis) -> Result<(), Fault>
-    ensures ok { OnOk result ((bytes : List ℕ) → Holds256 hasher.old bytes → Holds256 hasher.new (bytes ++ object_of dims.now axis)) }
+    ensures ok { OnOk result ((bytes : List ℕ) → Holds256 hasher.old bytes
+        → Holds256 hasher.new (bytes ++ object_of dims.now axis)) }
     ensures only { IfErr result (λ fault. fault ≡ Fault.Memory) }
 {
     let bytes = encode(alloc, dims, axis)?;

@@ -1,5 +1,6 @@
 //! The fields of a line.
-ghost use Rattle.std.specs.Prelude.{◌≡◌, ◌<◌, ◌^◌, [], ◌∷◌, ◌++◌, ℕ, ℤ, false, List, Some, length, map, IsOkAnd, IsSomeAnd};
+ghost use Rattle.std.specs.Prelude.{◌≡◌, ◌<◌, ◌^◌, [], ◌∷◌, ◌++◌, ℕ, ℤ, false, List, Some, length, map, IsOkAnd};
+ghost use Rattle.std.specs.Prelude.{IsSomeAnd};
 ghost use Rattle.std.specs.Fmt.{signed_decimal};
 ghost use Rattle.std.specs.Int.Signed.{mag};
 ghost use Rattle.std.specs.List.{AllByRecursion, join_with_byte};
@@ -17,8 +18,8 @@ use crate::refused::{Refused, Wrong};
 use cube_model::{Items, Line, Member, Query, Value};
 use std::alloc::Global;
 
-/// The line that a text may spell: a member for each column of a query, then a number for each aggregate. Its spelling is
-/// compared by the caller.
+/// The line that a text may spell: a member for each column of a query, then a number for each aggregate. Its spelling
+/// is compared by the caller.
 pub(crate) fn parse_line(
     alloc: Global,
     number: u64,
@@ -46,8 +47,10 @@ struct LineFields<'a> {
 impl<'a> LineFields<'a> {
     // The next field.
     fn next(&mut self) -> Option<&'a [u8]>
-        ensures { (field : List ℕ) (others : List (List ℕ)) → AreLeft (option_map (λ text. text.now) self.old.left) (field ∷ others)
-            → IsSomeAnd result (λ read. read.now ≡ field) × AreLeft (option_map (λ text. text.now) self.new.left) others }
+        ensures { (field : List ℕ) (others : List (List ℕ))
+            → AreLeft (option_map (λ text. text.now) self.old.left) (field ∷ others)
+            → IsSomeAnd result (λ read. read.now ≡ field)
+            × AreLeft (option_map (λ text. text.now) self.new.left) others }
     {
         let left = self.left?;
         match cut(left, b'|') {
@@ -116,7 +119,8 @@ fn parse_values(
 }
 
 fn member_of(alloc: Global, field: &[u8]) -> Result<Member, Refused>
-    ensures { (member : Member) → IsPlainMember member → field.now ≡ member_text member → UnlessMemory result (λ read. read ≡ member) }
+    ensures { (member : Member) → IsPlainMember member → field.now ≡ member_text member
+        → UnlessMemory result (λ read. read ≡ member) }
 {
     if field == b"ALL".as_slice() {
         return Ok(Member::All);
@@ -126,7 +130,8 @@ fn member_of(alloc: Global, field: &[u8]) -> Result<Member, Refused>
 }
 
 fn value_of(line: u64, field: &[u8]) -> Result<Value, Refused>
-    ensures { (value : Value) → IsWholeNumber value → field.now ≡ value_text value → IsOkAnd result (λ read. read ≡ value) }
+    ensures { (value : Value) → IsWholeNumber value → field.now ≡ value_text value
+        → IsOkAnd result (λ read. read ≡ value) }
 {
     match whole_number(field) {
         Some(number) => Ok(Value::Whole(number)),

@@ -26,8 +26,8 @@ pub struct Head {
 impl Head {
     /// The head of one part, with the words of the query as they were given.
     ///
-    /// `BadQuery` where the number is 0 or greater than that of all parts, there are more than 1,024 parts, or a word has a line feed
-    /// or more than 8,000 bytes; or `Memory`.
+    /// `BadQuery` where the number is 0 or greater than that of all parts, there are more than 1,024 parts, or a word
+    /// has a line feed or more than 8,000 bytes; or `Memory`.
     pub fn new(
         alloc: Global,
         number: u32,
@@ -39,11 +39,16 @@ impl Head {
         conditions: &[&str],
     ) -> Result<Head, Fault>
         ensures ok { IfOk result (λ head. (is_proper head ≡ true)
-            × (head ≡ head_of number parts (words_given (option_map (λ word. word.now) q.entry) (option_map (λ word. word.now) set.entry)
-            (option_map (λ word. word.now) by.entry) (option_map (λ word. word.now) agg.entry) (map (λ word. word.now) conditions.now)))) }
+            × (head ≡ head_of number parts
+            (words_given (option_map (λ word. word.now) q.entry) (option_map (λ word. word.now) set.entry)
+            (option_map (λ word. word.now) by.entry) (option_map (λ word. word.now) agg.entry)
+            (map (λ word. word.now) conditions.now)))) }
         ensures refused { IfErr result (λ fault. (fault ≡ Fault.Memory) ⊎ ((fault ≡ Fault.BadQuery)
-            × (is_proper (head_of number parts (words_given (option_map (λ word. word.now) q.entry) (option_map (λ word. word.now) set.entry)
-            (option_map (λ word. word.now) by.entry) (option_map (λ word. word.now) agg.entry) (map (λ word. word.now) conditions.now))) ≡ false))) }
+            × (is_proper
+            (head_of number parts
+            (words_given (option_map (λ word. word.now) q.entry) (option_map (λ word. word.now) set.entry)
+            (option_map (λ word. word.now) by.entry) (option_map (λ word. word.now) agg.entry)
+            (map (λ word. word.now) conditions.now))) ≡ false))) }
     {
         let numbers = Items::from_vec(Vec::from_slice(alloc, &[number])?);
         let words = words_given(alloc, q, set, by, agg, conditions)?;
@@ -108,8 +113,10 @@ fn words_given(
     agg: Option<&str>,
     conditions: &[&str],
 ) -> Result<Items<Word>, Fault>
-    ensures ok { IfOk result (λ words. words ≡ words_given (option_map (λ word. word.now) q.entry) (option_map (λ word. word.now) set.entry)
-        (option_map (λ word. word.now) by.entry) (option_map (λ word. word.now) agg.entry) (map (λ word. word.now) conditions.now)) }
+    ensures ok { IfOk result
+        (λ words. words ≡ words_given (option_map (λ word. word.now) q.entry) (option_map (λ word. word.now) set.entry)
+        (option_map (λ word. word.now) by.entry) (option_map (λ word. word.now) agg.entry)
+        (map (λ word. word.now) conditions.now)) }
     ensures only { IfErr result (λ fault. fault ≡ Fault.Memory) }
 {
     let mut words = Items::new(alloc);
@@ -123,7 +130,9 @@ fn words_given(
 
 // Adds conditions.
 fn push_conditions(alloc: Global, words: &mut Items<Word>, conditions: &[&str]) -> Result<(), Fault>
-    ensures ok { OnOk result (words.new ≡ words.old ++ map (λ text. record { kind = If; text = text }) (map (λ word. word.now) conditions.now)) }
+    ensures ok { OnOk result
+        (words.new ≡ words.old ++ map (λ text. record { kind = If; text = text })
+        (map (λ word. word.now) conditions.now)) }
     ensures only { IfErr result (λ fault. fault ≡ Fault.Memory) }
 {
     for condition in conditions {

@@ -1,5 +1,6 @@
 //! Reading the head of a partial report.
-ghost use Rattle.std.specs.Prelude.{◌≡◌, ◌++◌, ◌∷◌, ◌<◌, ◌^◌, ℕ, List, true, length, None, Some, IfOk, IfSome, IsOkAnd, IsSomeAnd, codes};
+ghost use Rattle.std.specs.Prelude.{◌≡◌, ◌++◌, ◌∷◌, ◌<◌, ◌^◌, ℕ, List, true, length, None, Some, IfOk, IfSome, IsOkAnd};
+ghost use Rattle.std.specs.Prelude.{IsSomeAnd, codes};
 ghost use Rattle.std.specs.Fmt.{decimal};
 ghost use Rattle.std.specs.List.{AllByRecursion, flat_map, list_all};
 ghost use Rattle.hex.specs.Hex.{encode_lower};
@@ -7,7 +8,8 @@ ghost use Rattle.partial_reports.specs.declared.head.Head.{Head};
 ghost use Rattle.partial_reports.specs.declared.words.Word.{Word};
 ghost use Rattle.answer_merge.specs.Readable.{HasNoByte};
 ghost use Rattle.partial_reports.specs.HeadReading.{IsDigest, UnlessMemory, part_line};
-ghost use Rattle.partial_reports.specs.Head.{dimensions_text, head_text, is_proper, is_short_word, kind_text, numbers_text, part_text, word_text};
+ghost use Rattle.partial_reports.specs.Head.{dimensions_text, head_text, is_proper, is_short_word, kind_text};
+ghost use Rattle.partial_reports.specs.Head.{numbers_text, part_text, word_text};
 
 use crate::head::Head;
 use crate::refused::{Refused, Wrong};
@@ -35,7 +37,8 @@ pub struct HeadRead<'a> {
 pub fn read_head(alloc: Global, text: &[u8]) -> Result<HeadRead<'_>, Refused>
     ensures text { IfOk result (λ read. text.now ≡ head_text read.head read.digest ++ read.report.now) }
     ensures proper { IfOk result (λ read. is_proper read.head ≡ true) }
-    ensures complete { (head : Head) (digest left : List ℕ) → is_proper head ≡ true → IsDigest digest → text.now ≡ head_text head digest ++ left
+    ensures complete { (head : Head) (digest left : List ℕ) → is_proper head ≡ true → IsDigest digest
+        → text.now ≡ head_text head digest ++ left
         → UnlessMemory result (λ read. (read.head ≡ head) × (read.digest ≡ digest) × (read.report.now ≡ left)) }
 {
     let mut lines = TextLines {
@@ -101,7 +104,8 @@ impl<'a> TextLines<'a> {
 
 // The head that lines may spell. Its spelling is compared by the caller.
 fn parse_head(alloc: Global, lines: &mut TextLines<'_>) -> Result<(Head, [u8; 32]), Refused>
-    ensures { (head : Head) (digest left : List ℕ) → is_proper head ≡ true → IsDigest digest → lines.old.left.now ≡ head_text head digest ++ left
+    ensures { (head : Head) (digest left : List ℕ) → is_proper head ≡ true → IsDigest digest
+        → lines.old.left.now ≡ head_text head digest ++ left
         → UnlessMemory result (λ read. (read.0 ≡ head) × (read.1 ≡ digest)) }
 {
     let version = lines.next()?;
@@ -132,7 +136,8 @@ fn parse_part(alloc: Global, lines: &mut TextLines<'_>) -> Result<(Items<u32>, u
 }
 
 fn part_in(alloc: Global, line: &[u8]) -> Result<Option<(Items<u32>, u32)>, Refused>
-    ensures { (head : Head) → is_proper head ≡ true → line.now ≡ part_line head → UnlessMemory result (λ part. part ≡ Some (head.numbers, head.parts)) }
+    ensures { (head : Head) → is_proper head ≡ true → line.now ≡ part_line head
+        → UnlessMemory result (λ part. part ≡ Some (head.numbers, head.parts)) }
 {
     let Some(part) = after(line, b"part ") else {
         return Ok(None);
@@ -149,7 +154,8 @@ fn part_in(alloc: Global, line: &[u8]) -> Result<Option<(Items<u32>, u32)>, Refu
 
 // The numbers up to the first field that is none.
 fn numbers_in(alloc: Global, fields: &[u8]) -> Result<Items<u32>, Refused>
-    ensures { (numbers : List ℕ) → 0 < length numbers → AllByRecursion (λ number. number < 2 ^ 32) numbers → fields.now ≡ numbers_text numbers
+    ensures { (numbers : List ℕ) → 0 < length numbers → AllByRecursion (λ number. number < 2 ^ 32) numbers
+        → fields.now ≡ numbers_text numbers
         → UnlessMemory result (λ read. read ≡ numbers) }
 {
     let mut numbers = Items::new(alloc);
@@ -188,7 +194,8 @@ fn parse_dimensions(lines: &mut TextLines<'_>) -> Result<[u8; 32], Refused>
 }
 
 fn digest_in(line: &[u8]) -> Option<[u8; 32]>
-    ensures { (digest : List ℕ) → IsDigest digest → line.now ≡ codes "dimensions " ++ encode_lower digest → result ≡ Some digest }
+    ensures { (digest : List ℕ) → IsDigest digest → line.now ≡ codes "dimensions " ++ encode_lower digest
+        → result ≡ Some digest }
 {
     let digits = after(line, b"dimensions ")?;
     <[u8; 32] as FromHex>::from_hex(digits).ok()
@@ -196,7 +203,8 @@ fn digest_in(line: &[u8]) -> Option<[u8; 32]>
 
 // The words up to an empty line. Each takes a byte at least, so the loop does not end before.
 fn parse_words(alloc: Global, lines: &mut TextLines<'_>) -> Result<Items<Word>, Refused>
-    ensures { (words : List Word) (left : List ℕ) → list_all is_short_word words ≡ true → lines.old.left.now ≡ flat_map word_text words ++ 10 ∷ left
+    ensures { (words : List Word) (left : List ℕ) → list_all is_short_word words ≡ true
+        → lines.old.left.now ≡ flat_map word_text words ++ 10 ∷ left
         → UnlessMemory result (λ read. (read ≡ words) × (lines.new.left.now ≡ left)) }
 {
     let mut words = Items::new(alloc);
@@ -215,7 +223,8 @@ fn parse_words(alloc: Global, lines: &mut TextLines<'_>) -> Result<Items<Word>, 
 }
 
 fn word_in(alloc: Global, line: &[u8]) -> Result<Option<Word>, Refused>
-    ensures { (word : Word) → line.now ≡ kind_text word.kind ++ word.text → UnlessMemory result (λ read. read ≡ Some word) }
+    ensures { (word : Word) → line.now ≡ kind_text word.kind ++ word.text
+        → UnlessMemory result (λ read. read ≡ Some word) }
 {
     let Some((kind, text)) = kind_and_text(line) else {
         return Ok(None);
@@ -229,7 +238,8 @@ fn word_in(alloc: Global, line: &[u8]) -> Result<Option<Word>, Refused>
 
 // The kind of a word, and its text.
 fn kind_and_text(line: &[u8]) -> Option<(WordKind, &[u8])>
-    ensures { (word : Word) → line.now ≡ kind_text word.kind ++ word.text → IsSomeAnd result (λ read. (read.0 ≡ word.kind) × (read.1.now ≡ word.text)) }
+    ensures { (word : Word) → line.now ≡ kind_text word.kind ++ word.text
+        → IsSomeAnd result (λ read. (read.0 ≡ word.kind) × (read.1.now ≡ word.text)) }
 {
     let letter = line.first()?;
     let kind = WordKind::of(*letter);

@@ -3,12 +3,14 @@ ghost use Rattle.std.specs.Prelude.{◌≡◌, ◌<◌, None, Some, length, not,
 ghost use Rattle.std.specs.List.{list_all};
 ghost use Rattle.cube_model.specs.declared.answer.Member.TheVariants.{All};
 ghost use Rattle.cube_query.specs.GroupLines.{line_at};
-ghost use Rattle.partial_reports.specs.Members.{are_plain_lines, ends_field, is_plain_line, is_plain_member, is_plain_text, member_cause};
+ghost use Rattle.partial_reports.specs.Members.{are_plain_lines, ends_field, is_plain_line, is_plain_member};
+ghost use Rattle.partial_reports.specs.Members.{is_plain_text, member_cause};
 
 use cube_model::Fault;
 use ssb_reports::Lines;
 
-/// Checks that each member of the lines can be read back: `BadLayout` where one has a bar or a line feed, or is the text ALL.
+/// Checks that each member of the lines can be read back: `BadLayout` where one has a bar or a line feed, or is the
+/// text ALL.
 pub(crate) fn check_members<L: Lines>(lines: &L) -> Result<(), Fault>
     ensures ok { OnOk result (member_cause (record { lines = L.lines lines.now }) ≡ None) }
     ensures refused { IfErr result (λ fault. member_cause (record { lines = L.lines lines.now }) ≡ Some fault) }

@@ -1,5 +1,6 @@
 //! Reading the lines of a partial report.
-ghost use Rattle.std.specs.Prelude.{◌≡◌, [], ◌∷◌, ◌++◌, ◌<◌, ◌^◌, ℕ, List, None, length, IfErr, IfOk, IfSome, IfNone, IsSomeAnd, OnOk};
+ghost use Rattle.std.specs.Prelude.{◌≡◌, [], ◌∷◌, ◌++◌, ◌<◌, ◌^◌, ℕ, List, None, length, IfErr, IfOk, IfSome, IfNone};
+ghost use Rattle.std.specs.Prelude.{IsSomeAnd, OnOk};
 ghost use Rattle.cube_model.specs.declared.answer.Answer.{Answer};
 ghost use Rattle.cube_model.specs.declared.answer.Line.{Line};
 ghost use Rattle.cube_model.specs.Ascending.{IsAscending};
@@ -18,7 +19,8 @@ use crate::rows::{after, spell_count, spell_row};
 use cube_model::{Answer, Items, Line, Query};
 use std::alloc::Global;
 
-/// The answer to a query whose report is a text, which begins at a line of a file. The lines are in the order of their keys.
+/// The answer to a query whose report is a text, which begins at a line of a file. The lines are in the order of their
+/// keys.
 ///
 /// `At` where the text is the report of no such answer; or `Memory`.
 pub fn read_answer(alloc: Global, query: &Query, first: u64, text: &[u8]) -> Result<Answer, Refused>
@@ -26,7 +28,8 @@ pub fn read_answer(alloc: Global, query: &Query, first: u64, text: &[u8]) -> Res
     ensures text { IfOk result (λ answer. text.now ≡ report_of query.now answer) }
     ensures readable { IfOk result (IsReadableAnswer query.now) }
     ensures rising { IfOk result (λ answer. IsAscending (answer_cmp None) answer.lines) }
-    ensures complete { (answer : Answer) → IsReadableAnswer query.now answer → IsAscending (answer_cmp None) answer.lines → text.now ≡ report_of query.now answer
+    ensures complete { (answer : Answer) → IsReadableAnswer query.now answer
+        → IsAscending (answer_cmp None) answer.lines → text.now ≡ report_of query.now answer
         → UnlessMemory result (λ read. read ≡ answer) }
 {
     let left = after_names(alloc, query, first, text)?;
@@ -42,7 +45,8 @@ fn after_names<'a>(
     text: &'a [u8],
 ) -> Result<&'a [u8], Refused>
     ensures text { IfOk result (λ left. text.now ≡ header_text query.now ++ left.now) }
-    ensures complete { (left : List ℕ) → text.now ≡ header_text query.now ++ left → UnlessMemory result (λ rest. rest.now ≡ left) }
+    ensures complete { (left : List ℕ) → text.now ≡ header_text query.now ++ left
+        → UnlessMemory result (λ rest. rest.now ≡ left) }
 {
     let mut row = Vec::new(alloc);
     spell_row(
@@ -60,7 +64,8 @@ fn after_names<'a>(
 #[tactic(auto, using(crate::proofs::Read::no_lines, crate::proofs::Read::no_text, crate::proofs::Read::one_more, crate::proofs::Read::all_read))]
 fn read_lines(alloc: Global, query: &Query, first: u64, text: &[u8]) -> Result<Items<Line>, Refused>
     ensures spelled { IfOk result (SpellsLines query.now text.now) }
-    ensures complete { (lines : List Line) → SpellsLines query.now text.now lines → UnlessMemory result (λ read. read ≡ lines) }
+    ensures complete { (lines : List Line) → SpellsLines query.now text.now lines
+        → UnlessMemory result (λ read. read ≡ lines) }
 {
     let mut lines = Items::new(alloc);
     let mut row = Vec::new(alloc);
@@ -87,11 +92,14 @@ fn read_line<'a>(
     text: &'a [u8],
 ) -> Result<Option<&'a [u8]>, Refused>
     requires { AreLinesOf query.now lines.old }
-    ensures line { IfOk result (λ rest. IfSome rest (λ left. ReadsLine query.now lines.old lines.new text.now left.now)) }
+    ensures line { IfOk result
+        (λ rest. IfSome rest (λ left. ReadsLine query.now lines.old lines.new text.now left.now)) }
     ensures count { IfOk result (λ rest. IfNone rest (ReadsCount query.now lines.old lines.new text.now)) }
     ensures next { (next : Line) (left : List ℕ) → IsNextLine query.now lines.old next text.now left
-        → UnlessMemory result (λ rest. IsSomeAnd rest (λ rest. rest.now ≡ left) × (lines.new ≡ lines.old ++ next ∷ [])) }
-    ensures end { length lines.old < 2 ^ 63 → text.now ≡ count_text (length lines.old) → UnlessMemory result (λ rest. rest ≡ None) }
+        → UnlessMemory result
+        (λ rest. IsSomeAnd rest (λ rest. rest.now ≡ left) × (lines.new ≡ lines.old ++ next ∷ [])) }
+    ensures end { length lines.old < 2 ^ 63 → text.now ≡ count_text (length lines.old)
+        → UnlessMemory result (λ rest. rest ≡ None) }
 {
     let Some((front, back)) = cut(text, b'\n') else {
         return Err(Refused::at(number, Wrong::Cut));
@@ -119,7 +127,8 @@ fn check_count(line: u64, count: usize, row: &mut Vec<u8>, text: &[u8]) -> Resul
     Err(Refused::at(line, Wrong::Count))
 }
 
-// What is after a line, where the text begins with it, it can be read back, and its key is above those of the lines before.
+// What is after a line, where the text begins with it, it can be read back, and its key is above those of the lines
+// before.
 #[tactic(auto, using(crate::proofs::Rising::all_and))]
 fn after_line<'a>(
     number: u64,
@@ -132,7 +141,8 @@ fn after_line<'a>(
     requires { AreLinesOf query.now lines.now }
     ensures text { IfOk result (λ left. text.now ≡ line_text line.now ++ left.now) }
     ensures are { IfOk result (λ left. AreLinesOf query.now (lines.now ++ line.now ∷ [])) }
-    ensures complete { (left : List ℕ) → IsNextLine query.now lines.now line.now text.now left → UnlessMemory result (λ rest. rest.now ≡ left) }
+    ensures complete { (left : List ℕ) → IsNextLine query.now lines.now line.now text.now left
+        → UnlessMemory result (λ rest. rest.now ≡ left) }
 {
     check_readable(number, query, line)?;
     check_follows(number, lines, line)?;

@@ -2,7 +2,8 @@
 ghost use Rattle.std.specs.Prelude.{◌≡◌, ◌++◌, [], ◌∷◌, IfErr, IfOk, OnOk, codes};
 ghost use Rattle.std.specs.Fmt.{decimal};
 ghost use Rattle.std.specs.List.{flat_map};
-ghost use Rattle.partial_reports.specs.Head.{after_comma, dimensions_text, head_text, numbers_text, part_text, word_text};
+ghost use Rattle.partial_reports.specs.Head.{after_comma, dimensions_text, head_text, numbers_text, part_text};
+ghost use Rattle.partial_reports.specs.Head.{word_text};
 
 use crate::head::Head;
 use crate::words::Word;

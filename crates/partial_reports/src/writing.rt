@@ -27,14 +27,16 @@ pub fn begin_partial<L: Lines>(
 ) -> Result<Vec<u8>, Fault>
     ensures ok { IfOk result (λ head. head.items ≡ head_text asked.now.head (digest_of dims.now)) }
     ensures plain { IfOk result (λ head. member_cause (record { lines = L.lines lines.now }) ≡ None) }
-    ensures refused { IfErr result (λ fault. (fault ≡ Fault.Memory) ⊎ (member_cause (record { lines = L.lines lines.now }) ≡ Some fault)) }
+    ensures refused { IfErr result
+        (λ fault. (fault ≡ Fault.Memory) ⊎ (member_cause (record { lines = L.lines lines.now }) ≡ Some fault)) }
 {
     check_members(lines)?;
     let digest = digest_of(alloc, dims)?;
     head_text(alloc, &asked.head, &digest)
 }
 
-/// Hands a writer the text of a head, then the report of the lines of a partial answer, and flushes it. It takes no memory.
+/// Hands a writer the text of a head, then the report of the lines of a partial answer, and flushes it. It takes no
+/// memory.
 pub fn write_partial<L: Lines, W: Write>(
     asked: &PartAsked,
     head: &[u8],

@@ -24,9 +24,11 @@ stored_of w = map seen_of w.cuboids
 abbrev pub IsPlanOf : Warehouse → ℕ → Query → Plan → Type 0
 IsPlanOf w as_of query plan = IsPlan query (stored_of w) (map length w.batches) as_of plan
 
--- every plan that answers a query over the first batches of a warehouse, each with what it reads, the one to be taken first
+-- every plan that answers a query over the first batches of a warehouse, each with what it reads, the one to be taken
+-- first
 pub record ArePlansOf (w : Warehouse) (as_of : ℕ) (query : Query) (plans : List Priced) : Type 0 where
-  pub each : (one : Priced) → Contains plans one ↔ AnswersAt query (stored_of w) (map length w.batches) as_of one.plan one.cost
+  pub each : (one : Priced) → Contains plans one
+      ↔ AnswersAt query (stored_of w) (map length w.batches) as_of one.plan one.cost
   pub first : HasCheapestFirst query (stored_of w) (map length w.batches) as_of plans
 
 -- how many of the first batches the cells of a plan hold
@@ -42,4 +44,5 @@ ServesBy query (Cells view mark) = Serves view query
 -- the cells of a plan are those of a stored cuboid of a warehouse
 abbrev pub IsOfCuboid : Warehouse → Plan → Type 0
 IsOfCuboid w Scan = Unit {0}
-IsOfCuboid w (Cells view mark) = (cuboid : Cuboid) × (cuboid_at (index_of view) w.cuboids ≡ Some cuboid) × (cuboid.mark ≡ mark)
+IsOfCuboid w (Cells view mark) = (cuboid : Cuboid) × (cuboid_at (index_of view) w.cuboids ≡ Some cuboid)
+    × (cuboid.mark ≡ mark)

@@ -11,7 +11,8 @@ use Rattle.planner.specs.declared.price.Plan.{Plan}
 use Rattle.warehouse_objects.specs.Warehouse.{AreInOrder, Warehouse}
 use Rattle.planned_queries.specs.Planned.{IsPlanOf, mark_of}
 
--- a running query: the rows of its dimensions, its fold, how many of the first batches the fold holds, and how many it asks for
+-- a running query: the rows of its dimensions, its fold, how many of the first batches the fold holds, and how many it
+-- asks for
 pub record RunningState : Type 0 where
   pub rows : DimRows
   pub fold : FoldState

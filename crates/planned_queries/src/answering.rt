@@ -1,13 +1,13 @@
 //! Answers by plans.
-ghost use Rattle.std.specs.Prelude.{◌≡◌, ◌⊎◌, ◌≤◌, [], false, length, take, IfErr, IfOk, IsErrOf, OnOk};
+ghost use Rattle.std.specs.Prelude.{◌≡◌, ◌⊎◌, ◌≤◌, false, length, take, IfErr, IfOk, IsErrOf, OnOk};
 ghost use Rattle.cube_model.specs.declared.fault.Fault.TheVariants.{BadLayout, Device, Memory};
 ghost use Rattle.cube_model.specs.Admission.{all_rows};
 ghost use Rattle.cube_model.specs.Answers.{answer};
 ghost use Rattle.cube_model.specs.Proper.{IsProper};
 ghost use Rattle.cube_query.specs.Groups.{Begins, IsOver, RepresentsRows};
-ghost use Rattle.object_store.specs.Disk.{Leaves};
-ghost use Rattle.object_store.specs.Store.{Breaks, IsStill, content_of, device_of, disk_of, has_failed};
+ghost use Rattle.object_store.specs.Store.{content_of, device_of, has_failed};
 ghost use Rattle.warehouse_objects.specs.Warehouse.{Warehouse};
+ghost use Rattle.warehouse_objects.specs.Reads.{ReadsOnly};
 ghost use Rattle.warehouse_objects.specs.Represents.{Represents, root_of};
 ghost use Rattle.planner.specs.declared.price.Plan.{Plan};
 ghost use Rattle.planned_queries.specs.Planned.{IsPlanOf, mark_of};
@@ -27,8 +27,8 @@ use warehouse_root::Root;
 
 /// The groups of the answer to a proper query over the first `as_of` batches of a store, by the plan that reads least.
 ///
-/// `BadLayout` where a cuboid or a batch is not as the root says. It can also run out of memory, or fail because the device
-/// does.
+/// `BadLayout` where a cuboid or a batch is not as the root says. It can also run out of memory, or fail because the
+/// device does.
 pub fn groups_by_plan<D: Sectors>(
     alloc: Global,
     store: &mut Store<D>,
@@ -42,15 +42,16 @@ pub fn groups_by_plan<D: Sectors>(
     requires few { as_of ≤ length root.now.batches }
 
     // The answer is the definition's over the rows of these batches.
-    ensures answer { IfOk result (λ found. D.keeps_word (device_of store.new) → (w : Warehouse) → Represents (content_of D.Sectors store.old) w
-        → root.now ≡ root_of w → dims.now.value ≡ w.rows → found ≡ answer query.now dims.now.value (all_rows (take as_of w.batches))) }
-    ensures refused { IsErrOf result BadLayout → D.keeps_word (device_of store.new) → (w : Warehouse) → Represents (content_of D.Sectors store.old) w
+    ensures answer { IfOk result (λ found. D.keeps_word (device_of store.new) → (w : Warehouse)
+        → Represents (content_of D.Sectors store.old) w
+        → root.now ≡ root_of w → dims.now.value ≡ w.rows
+        → found ≡ answer query.now dims.now.value (all_rows (take as_of w.batches))) }
+    ensures refused { IsErrOf result BadLayout → D.keeps_word (device_of store.new) → (w : Warehouse)
+        → Represents (content_of D.Sectors store.old) w
         → root.now ≡ root_of w → dims.now.value ≡ w.rows → ⊥ }
 
     // The content stays, at each moment.
-    ensures leaves { Leaves (disk_of D.Sectors store.old) (disk_of D.Sectors store.new) (λ c. c ≡ content_of D.Sectors store.old) }
-    ensures stays { (IsErrOf result Device → ⊥) → IsStill D.Sectors store.old store.new }
-    ensures device { IsErrOf result Device → Breaks D.Sectors store.old store.new }
+    ensures reads { ReadsOnly D.Sectors store.old store.new result }
     ensures causes { IfErr result (λ fault. (fault ≡ Memory) ⊎ ((fault ≡ Device) ⊎ (fault ≡ BadLayout))) }
 {
     let _usable = store.is_broken();
@@ -77,15 +78,16 @@ fn fold_by_plan<D: Sectors>(
     requires fine { has_failed store.old ≡ false }
     requires begins { Begins dims.now query.now fold.old }
     requires few { as_of ≤ length root.now.batches }
-    ensures ok { OnOk result (D.keeps_word (device_of store.new) → (w : Warehouse) → Represents (content_of D.Sectors store.old) w
-        → root.now ≡ root_of w → dims.now ≡ w.rows → RepresentsRows dims.now fold.new (all_rows (take as_of w.batches))) }
+    ensures ok { OnOk result (D.keeps_word (device_of store.new) → (w : Warehouse)
+        → Represents (content_of D.Sectors store.old) w
+        → root.now ≡ root_of w → dims.now ≡ w.rows
+        → RepresentsRows dims.now fold.new (all_rows (take as_of w.batches))) }
     ensures over { IsOver dims.now fold.new }
     ensures query { fold.new.query ≡ query.now }
-    ensures refused { IsErrOf result BadLayout → D.keeps_word (device_of store.new) → (w : Warehouse) → Represents (content_of D.Sectors store.old) w
+    ensures refused { IsErrOf result BadLayout → D.keeps_word (device_of store.new) → (w : Warehouse)
+        → Represents (content_of D.Sectors store.old) w
         → root.now ≡ root_of w → dims.now ≡ w.rows → ⊥ }
-    ensures leaves { Leaves (disk_of D.Sectors store.old) (disk_of D.Sectors store.new) (λ c. c ≡ content_of D.Sectors store.old) }
-    ensures stays { (IsErrOf result Device → ⊥) → IsStill D.Sectors store.old store.new }
-    ensures device { IsErrOf result Device → Breaks D.Sectors store.old store.new }
+    ensures reads { ReadsOnly D.Sectors store.old store.new result }
     ensures causes { IfErr result (λ fault. (fault ≡ Memory) ⊎ ((fault ≡ Device) ⊎ (fault ≡ BadLayout))) }
 {
     let from = begin_fold(alloc, store, root, dims, fold, as_of, query)?;
@@ -93,8 +95,8 @@ fn fold_by_plan<D: Sectors>(
     Ok(())
 }
 
-/// Counts the cells of a query's plan into a fold of it that represents no row yet. It answers how many of the first batches
-/// they hold.
+/// Counts the cells of a query's plan into a fold of it that represents no row yet. It answers how many of the first
+/// batches they hold.
 pub(crate) fn begin_fold<D: Sectors>(
     alloc: Global,
     store: &mut Store<D>,
@@ -107,17 +109,18 @@ pub(crate) fn begin_fold<D: Sectors>(
     requires fine { has_failed store.old ≡ false }
     requires begins { Begins dims.now query.now fold.old }
     requires few { as_of ≤ length root.now.batches }
-    ensures begun { IfOk result (λ done. D.keeps_word (device_of store.new) → (w : Warehouse) → Represents (content_of D.Sectors store.old) w
-        → root.now ≡ root_of w → dims.now ≡ w.rows → (plan : Plan) × IsPlanOf w as_of query.now plan × (done ≡ mark_of plan)
+    ensures begun { IfOk result (λ done. D.keeps_word (device_of store.new) → (w : Warehouse)
+        → Represents (content_of D.Sectors store.old) w
+        → root.now ≡ root_of w → dims.now ≡ w.rows → (plan : Plan) × IsPlanOf w as_of query.now plan
+        × (done ≡ mark_of plan)
         × RepresentsRows dims.now fold.new (all_rows (take done w.batches))) }
     ensures in_time { IfOk result (λ done. done ≤ as_of) }
     ensures over { IsOver dims.now fold.new }
     ensures query { fold.new.query ≡ query.now }
-    ensures refused { IsErrOf result BadLayout → D.keeps_word (device_of store.new) → (w : Warehouse) → Represents (content_of D.Sectors store.old) w
+    ensures refused { IsErrOf result BadLayout → D.keeps_word (device_of store.new) → (w : Warehouse)
+        → Represents (content_of D.Sectors store.old) w
         → root.now ≡ root_of w → dims.now ≡ w.rows → ⊥ }
-    ensures leaves { Leaves (disk_of D.Sectors store.old) (disk_of D.Sectors store.new) (λ c. c ≡ content_of D.Sectors store.old) }
-    ensures stays { (IsErrOf result Device → ⊥) → IsStill D.Sectors store.old store.new }
-    ensures device { IsErrOf result Device → Breaks D.Sectors store.old store.new }
+    ensures reads { ReadsOnly D.Sectors store.old store.new result }
     ensures causes { IfErr result (λ fault. (fault ≡ Memory) ⊎ ((fault ≡ Device) ⊎ (fault ≡ BadLayout))) }
 {
     let _usable = store.is_broken();

@@ -5,11 +5,10 @@ ghost use Rattle.cube_model.specs.declared.fault.Fault.TheVariants.{BadLayout, D
 ghost use Rattle.cube_model.specs.Admission.{all_rows};
 ghost use Rattle.cube_query.specs.Groups.{IsOver, RepresentsRows};
 ghost use Rattle.lattice.specs.Determined.{Serves};
-ghost use Rattle.lattice.specs.Views.{index_of};
-ghost use Rattle.object_store.specs.Disk.{Leaves};
-ghost use Rattle.object_store.specs.Store.{Breaks, IsStill, content_of, device_of, disk_of, has_failed};
+ghost use Rattle.object_store.specs.Store.{content_of, device_of, has_failed};
 ghost use Rattle.planner.specs.declared.price.Plan.TheVariants as plans;
 ghost use Rattle.warehouse_objects.specs.Warehouse.{Warehouse};
+ghost use Rattle.warehouse_objects.specs.Reads.{ReadsOnly};
 ghost use Rattle.warehouse_objects.specs.Represents.{Represents, root_of};
 ghost use Rattle.planned_queries.specs.Planned.{IsOfCuboid, ServesBy, mark_of};
 
@@ -24,8 +23,8 @@ use std::alloc::Global;
 use stored_cuboids::fold_runs;
 use warehouse_root::{Root, StoredCuboid};
 
-/// Counts the cells of a plan into a fold that represents no row yet. It answers how many of the first batches they hold: none
-/// of a scan.
+/// Counts the cells of a plan into a fold that represents no row yet. It answers how many of the first batches they
+/// hold: none of a scan.
 ///
 /// `BadLayout` where the cuboid is not as the root says, and where the fold cannot take its cells.
 pub fn begin_by_plan<D: Sectors>(
@@ -41,18 +40,19 @@ pub fn begin_by_plan<D: Sectors>(
     requires serves { ServesBy fold.old.query plan }
 
     // Then it represents the rows of these batches.
-    ensures ok { OnOk result (D.keeps_word (device_of store.new) → (w : Warehouse) → Represents (content_of D.Sectors store.old) w
-        → root.now ≡ root_of w → dims.now ≡ w.rows → IsOfCuboid w plan → RepresentsRows dims.now fold.new (all_rows (take (mark_of plan) w.batches))) }
+    ensures ok { OnOk result (D.keeps_word (device_of store.new) → (w : Warehouse)
+        → Represents (content_of D.Sectors store.old) w
+        → root.now ≡ root_of w → dims.now ≡ w.rows → IsOfCuboid w plan
+        → RepresentsRows dims.now fold.new (all_rows (take (mark_of plan) w.batches))) }
     ensures from { IfOk result (λ from. from ≡ mark_of plan) }
     ensures over { IsOver dims.now fold.new }
     ensures query { fold.new.query ≡ fold.old.query }
-    ensures refused { IsErrOf result BadLayout → D.keeps_word (device_of store.new) → (w : Warehouse) → Represents (content_of D.Sectors store.old) w
+    ensures refused { IsErrOf result BadLayout → D.keeps_word (device_of store.new) → (w : Warehouse)
+        → Represents (content_of D.Sectors store.old) w
         → root.now ≡ root_of w → dims.now ≡ w.rows → IsOfCuboid w plan → ⊥ }
 
     // The content stays, at each moment.
-    ensures leaves { Leaves (disk_of D.Sectors store.old) (disk_of D.Sectors store.new) (λ c. c ≡ content_of D.Sectors store.old) }
-    ensures stays { (IsErrOf result Device → ⊥) → IsStill D.Sectors store.old store.new }
-    ensures device { IsErrOf result Device → Breaks D.Sectors store.old store.new }
+    ensures reads { ReadsOnly D.Sectors store.old store.new result }
     ensures causes { IfErr result (λ fault. (fault ≡ Memory) ⊎ ((fault ≡ Device) ⊎ (fault ≡ BadLayout))) }
 {
     let _usable = store.is_broken();
@@ -65,7 +65,8 @@ pub fn begin_by_plan<D: Sectors>(
     }
 }
 
-// Counts the cells of the stored cuboid of a view into a fold that represents no row yet. They hold so many of the first batches.
+// Counts the cells of the stored cuboid of a view into a fold that represents no row yet. They hold so many of the
+// first batches.
 fn add_cuboid<D: Sectors>(
     alloc: Global,
     store: &mut Store<D>,
@@ -78,15 +79,16 @@ fn add_cuboid<D: Sectors>(
     requires fine { has_failed store.old ≡ false }
     requires begun { RepresentsRows dims.now fold.old [] }
     requires serves { Serves view fold.old.query }
-    ensures ok { OnOk result (D.keeps_word (device_of store.new) → (w : Warehouse) → Represents (content_of D.Sectors store.old) w
-        → root.now ≡ root_of w → dims.now ≡ w.rows → IsOfCuboid w (plans.Cells view mark) → RepresentsRows dims.now fold.new (all_rows (take mark w.batches))) }
+    ensures ok { OnOk result (D.keeps_word (device_of store.new) → (w : Warehouse)
+        → Represents (content_of D.Sectors store.old) w
+        → root.now ≡ root_of w → dims.now ≡ w.rows → IsOfCuboid w (plans.Cells view mark)
+        → RepresentsRows dims.now fold.new (all_rows (take mark w.batches))) }
     ensures over { IsOver dims.now fold.new }
     ensures query { fold.new.query ≡ fold.old.query }
-    ensures refused { IsErrOf result BadLayout → D.keeps_word (device_of store.new) → (w : Warehouse) → Represents (content_of D.Sectors store.old) w
+    ensures refused { IsErrOf result BadLayout → D.keeps_word (device_of store.new) → (w : Warehouse)
+        → Represents (content_of D.Sectors store.old) w
         → root.now ≡ root_of w → dims.now ≡ w.rows → IsOfCuboid w (plans.Cells view mark) → ⊥ }
-    ensures leaves { Leaves (disk_of D.Sectors store.old) (disk_of D.Sectors store.new) (λ c. c ≡ content_of D.Sectors store.old) }
-    ensures stays { (IsErrOf result Device → ⊥) → IsStill D.Sectors store.old store.new }
-    ensures device { IsErrOf result Device → Breaks D.Sectors store.old store.new }
+    ensures reads { ReadsOnly D.Sectors store.old store.new result }
     ensures causes { IfErr result (λ fault. (fault ≡ Memory) ⊎ ((fault ≡ Device) ⊎ (fault ≡ BadLayout))) }
 {
     let _usable = store.is_broken();

@@ -11,8 +11,8 @@ use std::alloc::{AllocError, Global};
 use std::marker::Model;
 use std::rc::Rc;
 
-/// An answer as the groups that a fold found, with the dimensions that have their texts. None of its lines is made. Contracts
-/// see the answer.
+/// An answer as the groups that a fold found, with the dimensions that have their texts. None of its lines is made.
+/// Contracts see the answer.
 pub struct Found {
     dims: Rc<Dims>,
     groups: Groups,

@@ -11,8 +11,8 @@ use planner::{Plan, Priced, Stored, plan, plans};
 use std::alloc::{AllocError, Global};
 use warehouse_root::{Root, StoredCuboid};
 
-/// The plan that reads least of those that answer a query over the first `as_of` batches: a scan of their fact rows, or the
-/// cells of a stored cuboid and the fact rows of the batches after its mark.
+/// The plan that reads least of those that answer a query over the first `as_of` batches: a scan of their fact rows, or
+/// the cells of a stored cuboid and the fact rows of the batches after its mark.
 ///
 /// It can run out of memory.
 pub fn plan_of(alloc: Global, root: &Root, as_of: u32, query: &Query) -> Result<Plan, Fault>
@@ -26,13 +26,14 @@ pub fn plan_of(alloc: Global, root: &Root, as_of: u32, query: &Query) -> Result<
     Ok(plan(query, stored.as_slice(), root.batches(), as_of))
 }
 
-/// Every plan that answers a query over the first `as_of` batches, each with how many cells and fact rows it reads. The first is
-/// the one that `plan_of` gives.
+/// Every plan that answers a query over the first `as_of` batches, each with how many cells and fact rows it reads. The
+/// first is the one that `plan_of` gives.
 ///
 /// It can run out of memory.
 pub fn plans_of(alloc: Global, root: &Root, as_of: u32, query: &Query) -> Result<Vec<Priced>, Fault>
     requires { as_of ≤ length root.now.batches }
-    ensures plans { IfOk result (λ plans. (w : Warehouse) → root.now ≡ root_of w → ArePlansOf w as_of query.now plans.items) }
+    ensures plans { IfOk result (λ plans. (w : Warehouse) → root.now ≡ root_of w
+        → ArePlansOf w as_of query.now plans.items) }
     ensures memory { IfErr result (λ fault. fault ≡ Memory) }
 {
     let stored = stored_in(alloc, root)?;

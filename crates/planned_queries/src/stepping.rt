@@ -2,9 +2,9 @@
 ghost use Rattle.std.specs.Prelude.{◌≡◌, ◌⊎◌, ◌≤◌, false, length, IfErr, IfOk, IsErrOf, OnErr};
 ghost use Rattle.cube_model.specs.declared.fault.Fault.TheVariants.{BadLayout, Device, Memory};
 ghost use Rattle.cube_model.specs.Proper.{IsProper};
-ghost use Rattle.object_store.specs.Disk.{Leaves};
-ghost use Rattle.object_store.specs.Store.{Breaks, IsStill, content_of, device_of, disk_of, has_failed};
+ghost use Rattle.object_store.specs.Store.{content_of, device_of, has_failed};
 ghost use Rattle.warehouse_objects.specs.Warehouse.{Warehouse};
+ghost use Rattle.warehouse_objects.specs.Reads.{ReadsOnly};
 ghost use Rattle.warehouse_objects.specs.Represents.{Represents, root_of};
 
 use crate::answering::begin_fold;
@@ -19,8 +19,8 @@ use std::rc::Rc;
 use warehouse_objects::fold_batch;
 use warehouse_root::Root;
 
-/// A query that runs, batch by batch. It shares the dimensions with the session that began it, and needs no more of it: its
-/// answer is over the batches of its start, whatever is stored later.
+/// A query that runs, batch by batch. It shares the dimensions with the session that began it, and needs no more of it:
+/// its answer is over the batches of its start, whatever is stored later.
 pub struct Running {
     dims: Rc<Dims>,
     fold: Fold,
@@ -60,10 +60,11 @@ impl Model for Running {
 impl Running {
     ghost use Rattle.planned_queries.specs.Stepping.{Advances, Extends, IsRunning, Started, Starts};
 
-    /// Starts a proper query over the first `as_of` batches of a store. All cells of the plan that reads least are counted, and
-    /// no batch is read.
+    /// Starts a proper query over the first `as_of` batches of a store. All cells of the plan that reads least are
+    /// counted, and no batch is read.
     ///
-    /// `BadLayout` where a cuboid is not as the root says. It can also run out of memory, or fail because the device does.
+    /// `BadLayout` where a cuboid is not as the root says. It can also run out of memory, or fail because the device
+    /// does.
     pub fn begin<D: Sectors>(
         alloc: Global,
         store: &mut Store<D>,
@@ -75,15 +76,16 @@ impl Running {
         requires fine { has_failed store.old ≡ false }
         requires proper { IsProper query.now }
         requires few { as_of ≤ length root.now.batches }
-        ensures begun { IfOk result (λ running. D.keeps_word (device_of store.new) → (w : Warehouse) → Represents (content_of D.Sectors store.old) w
-            → root.now ≡ root_of w → dims.now.value ≡ w.rows → (s : Started) × Starts w as_of query.now s × IsRunning running s) }
-        ensures refused { IsErrOf result BadLayout → D.keeps_word (device_of store.new) → (w : Warehouse) → Represents (content_of D.Sectors store.old) w
+        ensures begun { IfOk result (λ running. D.keeps_word (device_of store.new) → (w : Warehouse)
+            → Represents (content_of D.Sectors store.old) w
+            → root.now ≡ root_of w → dims.now.value ≡ w.rows → (s : Started) × Starts w as_of query.now s
+            × IsRunning running s) }
+        ensures refused { IsErrOf result BadLayout → D.keeps_word (device_of store.new) → (w : Warehouse)
+            → Represents (content_of D.Sectors store.old) w
             → root.now ≡ root_of w → dims.now.value ≡ w.rows → ⊥ }
 
         // The content stays, at each moment.
-        ensures leaves { Leaves (disk_of D.Sectors store.old) (disk_of D.Sectors store.new) (λ c. c ≡ content_of D.Sectors store.old) }
-        ensures stays { (IsErrOf result Device → ⊥) → IsStill D.Sectors store.old store.new }
-        ensures device { IsErrOf result Device → Breaks D.Sectors store.old store.new }
+        ensures reads { ReadsOnly D.Sectors store.old store.new result }
         ensures causes { IfErr result (λ fault. (fault ≡ Memory) ⊎ ((fault ≡ Device) ⊎ (fault ≡ BadLayout))) }
     {
         let _usable = store.is_broken();
@@ -105,8 +107,8 @@ impl Running {
 
     /// Counts the next batch in, or answers after the last one. A refusal leaves the running query as it was.
     ///
-    /// It asks nothing of the store and its root: `BadLayout` says that the next batch is not there as the root says, or cannot
-    /// be counted in.
+    /// It asks nothing of the store and its root: `BadLayout` says that the next batch is not there as the root says,
+    /// or cannot be counted in.
     pub fn advance<D: Sectors>(
         &mut self,
         alloc: Global,
@@ -116,16 +118,16 @@ impl Running {
         requires fine { has_failed store.old ≡ false }
 
         // On a store that has what the query was started over, it goes on by a step.
-        ensures steps { IfOk result (λ found. D.keeps_word (device_of store.new) → (w : Warehouse) → Represents (content_of D.Sectors store.old) w
+        ensures steps { IfOk result (λ found. D.keeps_word (device_of store.new) → (w : Warehouse)
+            → Represents (content_of D.Sectors store.old) w
             → root.now ≡ root_of w → (s : Started) → Extends s w → IsRunning self.old s → Advances s self.new found) }
         ensures err { OnErr result (self.new ≡ self.old) }
-        ensures refused { IsErrOf result BadLayout → D.keeps_word (device_of store.new) → (w : Warehouse) → Represents (content_of D.Sectors store.old) w
+        ensures refused { IsErrOf result BadLayout → D.keeps_word (device_of store.new) → (w : Warehouse)
+            → Represents (content_of D.Sectors store.old) w
             → root.now ≡ root_of w → (s : Started) → Extends s w → IsRunning self.old s → ⊥ }
 
         // The content stays, at each moment.
-        ensures leaves { Leaves (disk_of D.Sectors store.old) (disk_of D.Sectors store.new) (λ c. c ≡ content_of D.Sectors store.old) }
-        ensures stays { (IsErrOf result Device → ⊥) → IsStill D.Sectors store.old store.new }
-        ensures device { IsErrOf result Device → Breaks D.Sectors store.old store.new }
+        ensures reads { ReadsOnly D.Sectors store.old store.new result }
         ensures causes { IfErr result (λ fault. (fault ≡ Memory) ⊎ ((fault ≡ Device) ⊎ (fault ≡ BadLayout))) }
     {
         let _usable = store.is_broken();

@@ -1,5 +1,6 @@
 -- What one more stored cuboid changes of the plan to take.
-use Rattle.std.proofs.Common.{◌≡◌, ℕ, zero, suc, ◌+◌, ◌<◌, ◌≤◌, ◌⊎◌, inl, inr, Bool, true, false, List, [], ◌∷◌, ◌++◌, length, refl, slice_index_or, get_or, take, sym, ap, subst, ◌∙◌, arith}
+use Rattle.std.proofs.Common.{◌≡◌, ℕ, zero, suc, ◌+◌, ◌<◌, ◌≤◌, ◌⊎◌, inl, inr, Bool, true, false, List, [], ◌∷◌, ◌++◌}
+use Rattle.std.proofs.Common.{length, refl, slice_index_or, get_or, take, sym, ap, subst, ◌∙◌, arith}
 use Rattle.std.proofs.lemmas.List.{take_more}
 use Rattle.std.proofs.lemmas.List.Elements.{Contains-append_left, Contains-append_cases, Contains-push}
 use Rattle.cube_model.specs.declared.query.Query.{Query}
@@ -12,8 +13,8 @@ use Rattle.planner.specs.Plans.{ServesAsOf, AnswersAt, IsCheapest, ComesFirst, r
 
 -- no test tells both
 pub untrue : (b : Bool) → b ≡ true → b ≡ false → ⊥
-untrue true told denied = grind (arith, denied)
-untrue false told denied = grind (arith, told)
+untrue true fact denied = grind (arith, denied)
+untrue false fact denied = grind (arith, fact)
 
 -- an element of a list of one
 only_at : {X : Type 0} (x y : X) (k : ℕ) → k < 1 → slice_index_or (x ∷ []) k y ≡ y → x ≡ y
@@ -21,7 +22,8 @@ only_at x y zero below is = is
 only_at x y (suc k) below is = absurd (omega arith)
 
 module _ (query : Query) (rows : List ℕ) (as_of : ℕ) (stored : List Stored) (one : Stored) where
-  pub more : (plan : Plan) (cost : ℕ) → AnswersAt query stored rows as_of plan cost → AnswersAt query (stored ++ one ∷ []) rows as_of plan cost
+  pub more : (plan : Plan) (cost : ℕ) → AnswersAt query stored rows as_of plan cost
+      → AnswersAt query (stored ++ one ∷ []) rows as_of plan cost
   more Scan cost h = h
   more (Cells view mark) cost h = (h.0, Contains-append_left stored (one ∷ []) h.0 h.1, h.2, h.3, h.4, h.5)
 
@@ -44,7 +46,8 @@ module _ (query : Query) (rows : List ℕ) (as_of : ℕ) (stored : List Stored) 
   ]
 
   -- one that does not serve changes nothing
-  pub passed : (best : Priced) → IsCheapest query stored rows as_of best.plan best.cost → (ServesAsOf query as_of one → ⊥)
+  pub passed : (best : Priced) → IsCheapest query stored rows as_of best.plan best.cost
+      → (ServesAsOf query as_of one → ⊥)
       → IsCheapest query (stored ++ one ∷ []) rows as_of best.plan best.cost
   passed best least unable = record {
     answers = more best.plan best.cost least.answers;
@@ -66,7 +69,10 @@ module _ (query : Query) (rows : List ℕ) (as_of : ℕ) (stored : List Stored) 
     answers = more plan cost least.answers;
     none_cheaper = λ other price h. elim (cases other price h) [
       | inl before ↦ least.none_cheaper other price before
-      | inr it ↦ elim order [ inl less ↦ omega (arith, it.2, priced, less) | inr same ↦ omega (arith, it.2, priced, same.0) ]
+      | inr it ↦ elim order [
+        | inl less ↦ omega (arith, it.2, priced, less)
+        | inr same ↦ omega (arith, it.2, priced, same.0)
+      ]
     ];
     tie = λ other h. elim (cases other cost h) [
       | inl before ↦ least.tie other before
@@ -78,7 +84,8 @@ module _ (query : Query) (rows : List ℕ) (as_of : ℕ) (stored : List Stored) 
   }
 
   -- one that comes first is taken
-  turn : (plan : Plan) (cost its : ℕ) → its ≡ cells_cost rows as_of one → ServesAsOf query as_of one → IsCheapest query stored rows as_of plan cost
+  turn : (plan : Plan) (cost its : ℕ) → its ≡ cells_cost rows as_of one → ServesAsOf query as_of one
+      → IsCheapest query stored rows as_of plan cost
       → (its < cost) ⊎ ((its ≡ cost) × (index_of one.view + 1 ≤ rank plan))
       → IsCheapest query (stored ++ one ∷ []) rows as_of (Cells one.view one.mark) its
   turn plan cost its priced able least order = record {
@@ -93,7 +100,8 @@ module _ (query : Query) (rows : List ℕ) (as_of : ℕ) (stored : List Stored) 
       | inl before ↦ elim order [
         | inl less ↦ let bound : cost ≤ its = least.none_cheaper other its before in absurd (omega (arith, bound, less))
         | inr same ↦
-            let first : rank plan ≤ rank other = least.tie other (subst (AnswersAt query stored rows as_of other) same.0 before) in
+            let first : rank plan ≤ rank other =
+            least.tie other (subst (AnswersAt query stored rows as_of other) same.0 before) in
             omega (arith, same.1, first)
       ]
       | inr it ↦ subst (λ p. index_of one.view + 1 ≤ rank p) (sym it.1) (omega arith)
@@ -120,14 +128,16 @@ module _ (query : Query) (rows : List ℕ) (as_of : ℕ) (stored : List Stored) 
   ]
 
 -- before any cuboid the scan is taken
-pub scan_alone : (query : Query) (rows : List ℕ) (as_of : ℕ) → IsCheapest query [] rows as_of Scan (rows_between rows 0 as_of)
+pub scan_alone : (query : Query) (rows : List ℕ) (as_of : ℕ)
+    → IsCheapest query [] rows as_of Scan (rows_between rows 0 as_of)
 scan_alone query rows as_of = record {
   answers = refl;
   none_cheaper = only_scan;
   tie = first;
 }
   where
-    only_scan : (other : Plan) (price : ℕ) → AnswersAt query [] rows as_of other price → rows_between rows 0 as_of ≤ price
+    only_scan : (other : Plan) (price : ℕ) → AnswersAt query [] rows as_of other price
+        → rows_between rows 0 as_of ≤ price
     only_scan Scan price h = omega (arith, h)
     only_scan (Cells view mark) price h = absurd (omega (arith, h.1.1))
 
@@ -147,9 +157,12 @@ module _ (query : Query) (rows : List ℕ) (as_of : ℕ) (stored : List Stored) 
   pub taken_at : i < length stored → (best result : Priced) (its : ℕ) → its ≡ cells_cost rows as_of (get_or stored i d)
       → ServesAsOf query as_of (get_or stored i d)
       → IsCheapest query (take i stored) rows as_of best.plan best.cost
-      → (result ≡ best) ⊎ (result ≡ record { plan = Cells (get_or stored i d).view (get_or stored i d).mark; cost = its })
-      → ComesFirst result best → ComesFirst result (record { plan = Cells (get_or stored i d).view (get_or stored i d).mark; cost = its })
+      → (result ≡ best)
+      ⊎ (result ≡ record { plan = Cells (get_or stored i d).view (get_or stored i d).mark; cost = its })
+      → ComesFirst result best
+      → ComesFirst result (record { plan = Cells (get_or stored i d).view (get_or stored i d).mark; cost = its })
       → IsCheapest query (take (i + 1) stored) rows as_of result.plan result.cost
   taken_at below best result its priced able least which before_best before_one =
       subst (λ xs. IsCheapest query xs rows as_of result.plan result.cost) (sym (take_more stored i d below))
-      (taken query rows as_of (take i stored) (get_or stored i d) best result its priced able least which before_best before_one)
+      (taken query rows as_of (take i stored) (get_or stored i d) best result its priced able least which before_best
+      before_one)

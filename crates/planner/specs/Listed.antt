@@ -13,4 +13,5 @@ HasCheapestFirst query stored batch_rows as_of plans =
 -- the first plan of a list is that of another list, or one more: the one of the two that is taken before the other
 abbrev pub HasBetterFirst : List Priced → Priced → List Priced → Type 0
 HasBetterFirst old other new = (first : Priced) → slice_get old 0 ≡ Some first
-    → (next : Priced) × (slice_get new 0 ≡ Some next) × ((next ≡ first) ⊎ (next ≡ other)) × ComesFirst next first × ComesFirst next other
+    → (next : Priced) × (slice_get new 0 ≡ Some next) × ((next ≡ first) ⊎ (next ≡ other)) × ComesFirst next first
+    × ComesFirst next other

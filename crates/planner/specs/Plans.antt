@@ -36,11 +36,13 @@ abbrev pub rank : Plan → ℕ
 rank Scan = 0
 rank (Cells view mark) = index_of view + 1
 
--- a plan of a cost is the one to take: it answers, no plan that answers reads less, and of those that read as much it is
--- the first
-pub record IsCheapest (query : Query) (stored : List Stored) (batch_rows : List ℕ) (as_of : ℕ) (plan : Plan) (cost : ℕ) : Type 0 where
+-- a plan of a cost is the one to take: it answers, no plan that answers reads less, and of those that read as much it
+-- is the first
+pub record IsCheapest (query : Query) (stored : List Stored) (batch_rows : List ℕ) (as_of : ℕ) (plan : Plan)
+    (cost : ℕ) : Type 0 where
   pub answers : AnswersAt query stored batch_rows as_of plan cost
-  pub none_cheaper : (other : Plan) (other_cost : ℕ) → AnswersAt query stored batch_rows as_of other other_cost → cost ≤ other_cost
+  pub none_cheaper : (other : Plan) (other_cost : ℕ) → AnswersAt query stored batch_rows as_of other other_cost
+      → cost ≤ other_cost
   pub tie : (other : Plan) → AnswersAt query stored batch_rows as_of other cost → rank plan ≤ rank other
 
 abbrev pub IsPlan : Query → List Stored → List ℕ → ℕ → Plan → Type 0
@@ -48,4 +50,5 @@ IsPlan query stored batch_rows as_of plan = (cost : ℕ) × IsCheapest query sto
 
 -- one priced plan is taken before another: it reads less, or as much and is not after it in the order
 abbrev pub ComesFirst : Priced → Priced → Type 0
-ComesFirst first second = (first.cost < second.cost) ⊎ ((first.cost ≡ second.cost) × (rank first.plan ≤ rank second.plan))
+ComesFirst first second = (first.cost < second.cost)
+    ⊎ ((first.cost ≡ second.cost) × (rank first.plan ≤ rank second.plan))

@@ -41,7 +41,10 @@ pub(crate) fn by_scan(batch_rows: &[u32], as_of: u32) -> Priced
 pub(crate) fn by_cells(batch_rows: &[u32], one: &Stored, as_of: u32) -> Priced
     requires order { one.now.mark ≤ as_of }
     requires known { as_of ≤ length batch_rows.now }
-    ensures { result ≡ record { plan = plans.Cells one.now.view one.now.mark; cost = cells_cost batch_rows.now as_of one.now } }
+    ensures { result ≡ record {
+      plan = plans.Cells one.now.view one.now.mark;
+      cost = cells_cost batch_rows.now as_of one.now;
+    } }
 {
     Priced {
         plan: Plan::Cells {

@@ -10,8 +10,8 @@ use crate::stored::Stored;
 use cube_model::Query;
 use std::alloc::{AllocError, Global};
 
-/// Every plan that answers a query over the first `as_of` batches, each with what it reads. The first is the one to be taken,
-/// that of `plan`.
+/// Every plan that answers a query over the first `as_of` batches, each with what it reads. The first is the one to be
+/// taken, that of `plan`.
 pub fn plans(
     alloc: Global,
     query: &Query,
@@ -37,7 +37,8 @@ pub fn plans(
 // Adds a plan: before the others where it is to be taken before the first of them, else after them.
 fn add(plans: &mut Vec<Priced>, other: Priced) -> Result<(), AllocError>
     requires some { 0 < length plans.old.items }
-    ensures each { OnOk result ((one : Priced) → Contains plans.new.items one ↔ (Contains plans.old.items one ⊎ (one ≡ other))) }
+    ensures each { OnOk result ((one : Priced) → Contains plans.new.items one
+        ↔ (Contains plans.old.items one ⊎ (one ≡ other))) }
     ensures first { OnOk result (HasBetterFirst plans.old.items other plans.new.items) }
 {
     if other.comes_before(plans[0]) {

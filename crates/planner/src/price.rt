@@ -9,7 +9,8 @@ use lattice::View;
 pub enum Plan {
     /// From the fact rows of all batches.
     Scan,
-    /// From the stored cells of a view, which group the batches up to the mark, and the fact rows of the batches after it.
+    /// From the stored cells of a view, which group the batches up to the mark, and the fact rows of the batches after
+    /// it.
     Cells { view: View, mark: u32 },
 }
 

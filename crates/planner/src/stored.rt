@@ -16,8 +16,8 @@ pub struct Stored {
 }
 
 impl Stored {
-    /// Whether the cuboid can serve a query over the first `as_of` batches: its cells group no later batch, and its view
-    /// serves the query.
+    /// Whether the cuboid can serve a query over the first `as_of` batches: its cells group no later batch, and its
+    /// view serves the query.
     pub fn serves(&self, query: &Query, as_of: u32) -> bool
         ensures { IsTrue result ↔ ServesAsOf query.now as_of self.now }
     {

@@ -3,16 +3,21 @@ use Rattle.std.proofs.Common.{◌≡◌, inl, inr, ℕ, cond, List, [], ◌∷�
 use Rattle.std.specs.List.{AllZip}
 use Rattle.std.specs.Str.{bytes_eq}
 use Rattle.cube_model.specs.declared.attr.Attr.{Attr}
-use Rattle.cube_model.specs.declared.attr.Attr.TheVariants.{CustomerCity, CustomerNation, CustomerRegion, SupplierCity, SupplierNation, SupplierRegion, PartBrand1, PartCategory, PartMfgr, DateKey, DateYearmonthnum, DateYear, DateYearmonth, DateWeeknuminyear}
+use Rattle.cube_model.specs.declared.attr.Attr.TheVariants.{CustomerCity, CustomerNation, CustomerRegion, SupplierCity}
+use Rattle.cube_model.specs.declared.attr.Attr.TheVariants.{SupplierNation, SupplierRegion, PartBrand1, PartCategory}
+use Rattle.cube_model.specs.declared.attr.Attr.TheVariants.{PartMfgr, DateKey, DateYearmonthnum, DateYear}
+use Rattle.cube_model.specs.declared.attr.Attr.TheVariants.{DateYearmonth, DateWeeknuminyear}
 use Rattle.cube_model.specs.declared.measure.Agg.{Agg}
 use Rattle.cube_model.specs.declared.measure.Agg.TheVariants.{Count, Sum, Min, Max, Avg}
 use Rattle.cube_model.specs.declared.measure.Measure.{Measure}
-use Rattle.cube_model.specs.declared.measure.Measure.TheVariants.{Quantity, ExtendedPrice, Revenue, SupplyCost, Discounted, Profit}
+use Rattle.cube_model.specs.declared.measure.Measure.TheVariants.{Quantity, ExtendedPrice, Revenue, SupplyCost}
+use Rattle.cube_model.specs.declared.measure.Measure.TheVariants.{Discounted, Profit}
 use Rattle.cube_model.specs.declared.query.Kind.{Kind}
 use Rattle.cube_model.specs.declared.query.Kind.TheVariants.{Plain, Rollup, Cube}
 use Rattle.cube_model.specs.Names.{attr_name, agg_name}
 use Rattle.ssb_reports.specs.declared.number.QNumber.{QNumber}
-use Rattle.ssb_reports.specs.declared.number.QNumber.TheVariants.{Q11, Q12, Q13, Q21, Q22, Q23, Q31, Q32, Q33, Q34, Q41, Q42, Q43}
+use Rattle.ssb_reports.specs.declared.number.QNumber.TheVariants.{Q11, Q12, Q13, Q21, Q22, Q23, Q31, Q32, Q33, Q34, Q41}
+use Rattle.ssb_reports.specs.declared.number.QNumber.TheVariants.{Q42, Q43}
 use Rattle.ssb_reports.specs.Benchmark.{number_text}
 use Rattle.query_words.specs.Words.{SpellsAggregate, agg_word, kind_name}
 
@@ -208,7 +213,8 @@ pub agg_once : (word : List ℕ) (one other : Agg) → SpellsAggregate word one 
 agg_once word one other spells spelled = sym (spelled_back word one spells) ∙ spelled_back word other spelled
 
 -- lists whose names are the same
-pub map_once : {A : Type 0} (name : A → List ℕ) → ((one other : A) → name one ≡ name other → one ≡ other) → (values others : List A)
+pub map_once : {A : Type 0} (name : A → List ℕ) → ((one other : A) → name one ≡ name other → one ≡ other)
+    → (values others : List A)
     → map name values ≡ map name others → values ≡ others
 map_once name once [] [] same = refl
 map_once name once [] (other ∷ others) same = cc
@@ -219,8 +225,10 @@ map_once name once (value ∷ values) (other ∷ others) same =
     cc
 
 -- lists that the same words spell
-pub zip_once : {A : Type 0} (Spells : List ℕ → A → Type 0) → ((word : List ℕ) (one other : A) → Spells word one → Spells word other
-    → one ≡ other) → (words : List (List ℕ)) (values others : List A) → AllZip Spells words values → AllZip Spells words others
+pub zip_once : {A : Type 0} (Spells : List ℕ → A → Type 0)
+    → ((word : List ℕ) (one other : A) → Spells word one → Spells word other
+    → one ≡ other) → (words : List (List ℕ)) (values others : List A) → AllZip Spells words values
+    → AllZip Spells words others
     → values ≡ others
 zip_once Spells once [] [] [] spells spelled = refl
 zip_once Spells once [] [] (other ∷ others) spells spelled = absurd spelled

@@ -1,5 +1,7 @@
 -- Where a word is cut at the first of two signs.
-use Rattle.std.proofs.Common.{◌≡◌, ◌⊎◌, inl, inr, ℕ, zero, suc, ◌+◌, ◌<◌, ◌≤◌, Bool, true, false, cond, eqb, eq-eqb, Bor, List, [], ◌∷◌, ◌++◌, length, get_or, None, Some, refl, sym, ap, ◌∙◌, arith, length-append}
+use Rattle.std.proofs.Common.{◌≡◌, ◌⊎◌, inl, inr, ℕ, zero, suc, ◌+◌, ◌<◌, ◌≤◌, Bool, true, false, cond, eqb, eq-eqb}
+use Rattle.std.proofs.Common.{Bor, List, [], ◌∷◌, ◌++◌, length, get_or, None, Some, refl, sym, ap, ◌∙◌, arith}
+use Rattle.std.proofs.Common.{length-append}
 use Rattle.std.proofs.Math.ListN.{get_or-append}
 use Rattle.std.proofs.Math.Seq.{get_or-append_seam}
 use Rattle.std.proofs.lemmas.Bool.{false≢true}
@@ -10,21 +12,26 @@ Lacks : ℕ → List ℕ → Type 0
 Lacks sign text = (i : ℕ) → i < length text → get_or text i 0 ≡ sign → ⊥
 
 -- a place before the end of a beginning is one of the whole
-in_front : (text front : List ℕ) (mark : ℕ) (rest : List ℕ) (i : ℕ) → text ≡ front ++ mark ∷ rest → i < length front → (i < length text) ×
+in_front : (text front : List ℕ) (mark : ℕ) (rest : List ℕ) (i : ℕ) → text ≡ front ++ mark ∷ rest → i < length front
+    → (i < length text) ×
     (get_or text i 0 ≡ get_or front i 0)
 in_front text front mark rest i whole below =
-    let long : length text ≡ length front + length (mark ∷ rest) = ap length whole ∙ length-append front (mark ∷ rest) in
+    let long : length text ≡ length front + length (mark ∷ rest) = ap length whole
+    ∙ length-append front (mark ∷ rest) in
     (omega arith, ap (λ (t : List ℕ). get_or t i 0) whole ∙ get_or-append front (mark ∷ rest) 0 i below)
 
 -- the sign after a beginning is in the whole
-sign_at : (text front : List ℕ) (mark : ℕ) (rest : List ℕ) → text ≡ front ++ mark ∷ rest → (length front < length text) × (get_or text
+sign_at : (text front : List ℕ) (mark : ℕ) (rest : List ℕ) → text ≡ front ++ mark ∷ rest → (length front < length text)
+    × (get_or text
     (length front) 0 ≡ mark)
 sign_at text front mark rest whole =
-    let long : length text ≡ length front + length (mark ∷ rest) = ap length whole ∙ length-append front (mark ∷ rest) in
+    let long : length text ≡ length front + length (mark ∷ rest) = ap length whole
+    ∙ length-append front (mark ∷ rest) in
     (omega arith, ap (λ (t : List ℕ). get_or t (length front) 0) whole ∙ get_or-append_seam front mark rest 0)
 
 -- no cut word lacks both signs
-pub uncut : (one other : ℕ) (text front : List ℕ) (sign : ℕ) (rest : List ℕ) → (sign ≡ one) ⊎ (sign ≡ other) → text ≡ front ++ sign ∷ rest
+pub uncut : (one other : ℕ) (text front : List ℕ) (sign : ℕ) (rest : List ℕ) → (sign ≡ one) ⊎ (sign ≡ other)
+    → text ≡ front ++ sign ∷ rest
     → HasNeither one other text → ⊥
 uncut one other text front sign rest (inl is) whole neither = let at = sign_at text front sign rest whole in (neither
     (length front) at.0).0 (at.1 ∙ is)
@@ -39,7 +46,8 @@ cut_neither one other word small little none nor i below = (
       little i below,
 )
 
-pub cut_one : (one other : ℕ) (word : List ℕ) (name rest : Bor (List ℕ)) → one < 128 → other < 128 → IsSplitOnceResult one word (Some
+pub cut_one : (one other : ℕ) (word : List ℕ) (name rest : Bor (List ℕ)) → one < 128 → other < 128
+    → IsSplitOnceResult one word (Some
     (name, rest)) → IsSplitOnceResult other word None → IsCut one other word name.now one rest.now
 cut_one one other word name rest small little is none =
     let parts = split_parts one word (Some (name, rest)) is small in
@@ -53,7 +61,8 @@ cut_one one other word name rest small little is none =
       );
     }
 
-pub cut_other : (one other : ℕ) (word : List ℕ) (name rest : Bor (List ℕ)) → one < 128 → other < 128 → IsSplitOnceResult one word None
+pub cut_other : (one other : ℕ) (word : List ℕ) (name rest : Bor (List ℕ)) → one < 128 → other < 128
+    → IsSplitOnceResult one word None
     → IsSplitOnceResult other word (Some (name, rest)) → IsCut one other word name.now other rest.now
 cut_other one other word name rest small little none is =
     let parts = split_parts other word (Some (name, rest)) is little in
@@ -102,20 +111,23 @@ cut_later one other word name rest longer tail small little is sooner shorter =
 -- a text has neither of two signs, by a test
 abbrev pub has_neither : ℕ → ℕ → List ℕ → Bool
 has_neither one other [] = true
-has_neither one other (byte ∷ text) = cond (eqb byte one) false (cond (eqb byte other) false (has_neither one other text))
+has_neither one other (byte ∷ text) =
+    cond (eqb byte one) false (cond (eqb byte other) false (has_neither one other text))
 
-neither_first : (here there behind : Bool) → cond here false (cond there false behind) ≡ true → (here ≡ false) × (there ≡ false) ×
-    (behind ≡ true)
-neither_first true there behind e = absurd (false≢true e)
-neither_first false true behind e = absurd (false≢true e)
-neither_first false false behind e = (refl, refl, e)
+neither_first : (here there after : Bool) → cond here false (cond there false after) ≡ true
+    → (here ≡ false) × (there ≡ false) ×
+    (after ≡ true)
+neither_first true there after e = absurd (false≢true e)
+neither_first false true after e = absurd (false≢true e)
+neither_first false false after e = (refl, refl, e)
 
 differs : (byte sign : ℕ) → eqb byte sign ≡ false → byte ≡ sign → ⊥
 differs byte sign unequal e = false≢true (sym unequal ∙ eq-eqb byte sign e)
 
 pub neither : (one other : ℕ) (text : List ℕ) → has_neither one other text ≡ true → HasNeither one other text
 neither one other [] e i below = absurd (omega arith)
-neither one other (byte ∷ text) e zero below = let tests = neither_first (eqb byte one) (eqb byte other) (has_neither one other text) e in
+neither one other (byte ∷ text) e zero below = let tests =
+    neither_first (eqb byte one) (eqb byte other) (has_neither one other text) e in
     (differs byte one tests.0, differs byte other tests.1)
 neither one other (byte ∷ text) e (suc i) below = neither one other text (neither_first (eqb byte one) (eqb byte other)
     (has_neither one other text) e).2 i (omega arith)
@@ -129,7 +141,8 @@ pub record SameCut (name front : List ℕ) (sign mark : ℕ) (rest tail : List �
 tail_lacks : (one other byte : ℕ) (text : List ℕ) → HasNeither one other (byte ∷ text) → HasNeither one other text
 tail_lacks one other byte text lacks i below = lacks (suc i) (omega arith)
 
-no_first : (one other byte sign : ℕ) (text : List ℕ) → HasNeither one other (byte ∷ text) → (sign ≡ one) ⊎ (sign ≡ other) → sign ≡ byte → ⊥
+no_first : (one other byte sign : ℕ) (text : List ℕ) → HasNeither one other (byte ∷ text) → (sign ≡ one)
+    ⊎ (sign ≡ other) → sign ≡ byte → ⊥
 no_first one other byte sign text lacks (inl is) same = (lacks 0 (omega arith)).0 (sym same ∙ is)
 no_first one other byte sign text lacks (inr is) same = (lacks 0 (omega arith)).1 (sym same ∙ is)
 
@@ -143,8 +156,8 @@ same_cut one other (byte ∷ name) [] sign mark rest tail lacks free is so same 
     (no_first one other byte mark name lacks so first)
 same_cut one other (byte ∷ name) (letter ∷ front) sign mark rest tail lacks free is so same =
     let first : byte ≡ letter = cc in
-    let behind : name ++ sign ∷ rest ≡ front ++ mark ∷ tail = cc in
+    let after : name ++ sign ∷ rest ≡ front ++ mark ∷ tail = cc in
     let cut = same_cut one other name front sign mark rest tail (tail_lacks one other byte name lacks)
-    (tail_lacks one other letter front free) is so behind in
+    (tail_lacks one other letter front free) is so after in
     let names : name ≡ front = cut.names in
     record { names = cc; signs = cut.signs; rests = cut.rests }

@@ -3,7 +3,10 @@ use Rattle.std.proofs.Common.{◌≡◌, ℕ, ◌≤◌, ◌+◌, List, refl, sy
 use Rattle.std.specs.List.{count_by}
 use Rattle.std.proofs.lemmas.List.Splits.{length-slice_split}
 use Rattle.cube_model.specs.declared.attr.Attr.{Attr}
-use Rattle.cube_model.specs.declared.attr.Attr.TheVariants.{CustomerCity, CustomerNation, CustomerRegion, SupplierCity, SupplierNation, SupplierRegion, PartBrand1, PartCategory, PartMfgr, DateKey, DateYearmonthnum, DateYear, DateYearmonth, DateWeeknuminyear}
+use Rattle.cube_model.specs.declared.attr.Attr.TheVariants.{CustomerCity, CustomerNation, CustomerRegion, SupplierCity}
+use Rattle.cube_model.specs.declared.attr.Attr.TheVariants.{SupplierNation, SupplierRegion, PartBrand1, PartCategory}
+use Rattle.cube_model.specs.declared.attr.Attr.TheVariants.{PartMfgr, DateKey, DateYearmonthnum, DateYear}
+use Rattle.cube_model.specs.declared.attr.Attr.TheVariants.{DateYearmonth, DateWeeknuminyear}
 use Rattle.cube_model.specs.declared.query.Cond.{Cond}
 use Rattle.cube_model.specs.declared.query.Cond.TheVariants.{OneOf, Between, Quantity, Discount}
 use Rattle.cube_model.specs.Names.{attr_name}
@@ -16,14 +19,34 @@ use Rattle.query_words.proofs.Shapes.{apart}
 -- no attribute has the name of a number
 pub no_number : (attr : Attr) → (attr_name attr ≡ codes "quantity" → ⊥) × (attr_name attr ≡ codes "discount" → ⊥)
 no_number attr = elim attr as (λ a. (attr_name a ≡ codes "quantity" → ⊥) × (attr_name a ≡ codes "discount" → ⊥)) [
-  | CustomerCity ↦ (apart (attr_name CustomerCity) (codes "quantity") refl, apart (attr_name CustomerCity) (codes "discount") refl)
-  | CustomerNation ↦ (apart (attr_name CustomerNation) (codes "quantity") refl, apart (attr_name CustomerNation) (codes "discount") refl)
-  | CustomerRegion ↦ (apart (attr_name CustomerRegion) (codes "quantity") refl, apart (attr_name CustomerRegion) (codes "discount") refl)
-  | SupplierCity ↦ (apart (attr_name SupplierCity) (codes "quantity") refl, apart (attr_name SupplierCity) (codes "discount") refl)
-  | SupplierNation ↦ (apart (attr_name SupplierNation) (codes "quantity") refl, apart (attr_name SupplierNation) (codes "discount") refl)
-  | SupplierRegion ↦ (apart (attr_name SupplierRegion) (codes "quantity") refl, apart (attr_name SupplierRegion) (codes "discount") refl)
-  | PartBrand1 ↦ (apart (attr_name PartBrand1) (codes "quantity") refl, apart (attr_name PartBrand1) (codes "discount") refl)
-  | PartCategory ↦ (apart (attr_name PartCategory) (codes "quantity") refl, apart (attr_name PartCategory) (codes "discount") refl)
+  | CustomerCity ↦
+      (apart (attr_name CustomerCity) (codes "quantity") refl, apart (attr_name CustomerCity) (codes "discount") refl)
+  | CustomerNation ↦ (
+    apart (attr_name CustomerNation) (codes "quantity") refl,
+    apart (attr_name CustomerNation) (codes "discount")
+        refl,
+  )
+  | CustomerRegion ↦ (
+    apart (attr_name CustomerRegion) (codes "quantity") refl,
+    apart (attr_name CustomerRegion) (codes "discount")
+        refl,
+  )
+  | SupplierCity ↦
+      (apart (attr_name SupplierCity) (codes "quantity") refl, apart (attr_name SupplierCity) (codes "discount") refl)
+  | SupplierNation ↦ (
+    apart (attr_name SupplierNation) (codes "quantity") refl,
+    apart (attr_name SupplierNation) (codes "discount")
+        refl,
+  )
+  | SupplierRegion ↦ (
+    apart (attr_name SupplierRegion) (codes "quantity") refl,
+    apart (attr_name SupplierRegion) (codes "discount")
+        refl,
+  )
+  | PartBrand1 ↦
+      (apart (attr_name PartBrand1) (codes "quantity") refl, apart (attr_name PartBrand1) (codes "discount") refl)
+  | PartCategory ↦
+      (apart (attr_name PartCategory) (codes "quantity") refl, apart (attr_name PartCategory) (codes "discount") refl)
   | PartMfgr ↦ (apart (attr_name PartMfgr) (codes "quantity") refl, apart (attr_name PartMfgr) (codes "discount") refl)
   | DateKey ↦ (apart (attr_name DateKey) (codes "quantity") refl, apart (attr_name DateKey) (codes "discount") refl)
   | DateYearmonthnum ↦ (
@@ -32,7 +55,8 @@ no_number attr = elim attr as (λ a. (attr_name a ≡ codes "quantity" → ⊥) 
         (codes "discount") refl,
   )
   | DateYear ↦ (apart (attr_name DateYear) (codes "quantity") refl, apart (attr_name DateYear) (codes "discount") refl)
-  | DateYearmonth ↦ (apart (attr_name DateYearmonth) (codes "quantity") refl, apart (attr_name DateYearmonth) (codes "discount") refl)
+  | DateYearmonth ↦
+      (apart (attr_name DateYearmonth) (codes "quantity") refl, apart (attr_name DateYearmonth) (codes "discount") refl)
   | DateWeeknuminyear ↦ (
     apart (attr_name DateWeeknuminyear) (codes "quantity") refl,
     apart (attr_name DateWeeknuminyear)
@@ -42,7 +66,8 @@ no_number attr = elim attr as (λ a. (attr_name a ≡ codes "quantity" → ⊥) 
 
 -- a text has at least one part
 pub some_part : (sign : ℕ) (text : List ℕ) → 1 ≤ length (parts_by sign text)
-some_part sign text = let count : length (parts_by sign text) ≡ count_by (λ byte. eqb byte sign) text + 1 = length-slice_split
+some_part sign text = let count : length (parts_by sign text) ≡ count_by (λ byte. eqb byte sign) text + 1 =
+    length-slice_split
     (λ byte. eqb byte sign) text in omega arith
 
 -- a range has two ends
@@ -57,7 +82,8 @@ two_ends subject range (Quantity m n) after = bounds_two range m n after.spelled
 two_ends subject range (Discount m n) after = bounds_two range m n after.spelled
 
 -- texts are of an attribute
-pub no_texts : (subject : Subject) (list : List ℕ) (condition : Cond) → (attr_name_is : (attr : Attr) → subject ≡ subjects.Member attr
+pub no_texts : (subject : Subject) (list : List ℕ) (condition : Cond)
+    → (attr_name_is : (attr : Attr) → subject ≡ subjects.Member attr
     → ⊥) → SpellsAfter subject 61 list condition → ⊥
 no_texts (subjects.Member attr) list condition none after = none attr refl
 no_texts subjects.Quantity list (OneOf attr texts) none after = (no_number attr).0 after.name_is

@@ -8,3 +8,4 @@ pub mod Refusals
 pub mod Shapes
 pub mod Signs
 pub mod Whole
+mod Least

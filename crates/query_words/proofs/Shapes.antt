@@ -4,7 +4,10 @@ use Rattle.std.proofs.lemmas.Bool.{false≢true}
 use Rattle.std.proofs.lemmas.Slice.Eq.{bytes_eq-Decides}
 use Rattle.std.specs.Str.{bytes_eq}
 use Rattle.cube_model.specs.declared.attr.Attr.{Attr}
-use Rattle.cube_model.specs.declared.attr.Attr.TheVariants.{CustomerCity, CustomerNation, CustomerRegion, SupplierCity, SupplierNation, SupplierRegion, PartBrand1, PartCategory, PartMfgr, DateKey, DateYearmonthnum, DateYear, DateYearmonth, DateWeeknuminyear}
+use Rattle.cube_model.specs.declared.attr.Attr.TheVariants.{CustomerCity, CustomerNation, CustomerRegion, SupplierCity}
+use Rattle.cube_model.specs.declared.attr.Attr.TheVariants.{SupplierNation, SupplierRegion, PartBrand1, PartCategory}
+use Rattle.cube_model.specs.declared.attr.Attr.TheVariants.{PartMfgr, DateKey, DateYearmonthnum, DateYear}
+use Rattle.cube_model.specs.declared.attr.Attr.TheVariants.{DateYearmonth, DateWeeknuminyear}
 use Rattle.cube_model.specs.declared.measure.Agg.{Agg}
 use Rattle.cube_model.specs.declared.measure.Agg.TheVariants as aggs
 use Rattle.cube_model.specs.declared.measure.Measure.{Measure}
@@ -39,20 +42,24 @@ no_count Max = apart (codes "count") (codes "max") refl
 no_count Avg = apart (codes "count") (codes "avg") refl
 
 -- an aggregate that is spelled by a word with a sign takes something of a measure
-pub record TakesOf (word : List ℕ) (agg : Agg) (taken : Taken) (measure : Measure) (sign : ℕ) (rest : List ℕ) : Type 0 where
-  pub is : agg ≡ agg_of taken measure
-  pub whole : word ≡ taken_name taken ++ sign ∷ rest
-  pub which : ((sign ≡ 58) × (rest ≡ measure_name measure)) ⊎ ((sign ≡ 40) × (rest ≡ measure_name measure ++ 41 ∷ []))
+pub record TakesOf (word : List ℕ) (agg : Agg) (taken : Taken) (measure : Measure) (sign : ℕ) (rest : List ℕ) : Type 0
+  where
+    pub is : agg ≡ agg_of taken measure
+    pub whole : word ≡ taken_name taken ++ sign ∷ rest
+    pub which : ((sign ≡ 58) × (rest ≡ measure_name measure)) ⊎ ((sign ≡ 40) × (rest ≡ measure_name measure ++ 41 ∷ []))
 
 abbrev pub IsShape : List ℕ → Agg → Type 0
 IsShape word agg = ((agg ≡ aggs.Count) × (word ≡ codes "count")) ⊎ ((taken : Taken) × (measure : Measure) × (sign : ℕ) ×
     (rest : List ℕ) × TakesOf word agg taken measure sign rest)
 
-with_colon : (word : List ℕ) (taken : Taken) (measure : Measure) → word ≡ taken_name taken ++ 58 ∷ measure_name measure → IsShape word
+with_colon : (word : List ℕ) (taken : Taken) (measure : Measure) → word ≡ taken_name taken ++ 58 ∷ measure_name measure
+    → IsShape word
     (agg_of taken measure)
-with_colon word taken measure e = inr (taken, measure, 58, measure_name measure, record { is = refl; whole = e; which = inl (refl, refl) })
+with_colon word taken measure e =
+    inr (taken, measure, 58, measure_name measure, record { is = refl; whole = e; which = inl (refl, refl) })
 
-in_brackets : (word : List ℕ) (taken : Taken) (measure : Measure) → word ≡ taken_name taken ++ 40 ∷ (measure_name measure ++ 41 ∷ [])
+in_brackets : (word : List ℕ) (taken : Taken) (measure : Measure)
+    → word ≡ taken_name taken ++ 40 ∷ (measure_name measure ++ 41 ∷ [])
     → IsShape word (agg_of taken measure)
 in_brackets word taken measure e = inr (
   taken,
@@ -79,7 +86,8 @@ shape word (aggs.Max measure) (inr e) = in_brackets word Max measure e
 shape word (aggs.Avg measure) (inl e) = with_colon word Avg measure e
 shape word (aggs.Avg measure) (inr e) = in_brackets word Avg measure e
 
-its_sign : (sign : ℕ) (measure : Measure) (rest : List ℕ) → ((sign ≡ 58) × (rest ≡ measure_name measure)) ⊎ ((sign ≡ 40) ×
+its_sign : (sign : ℕ) (measure : Measure) (rest : List ℕ) → ((sign ≡ 58) × (rest ≡ measure_name measure))
+    ⊎ ((sign ≡ 40) ×
     (rest ≡ measure_name measure ++ 41 ∷ [])) → (sign ≡ 58) ⊎ (sign ≡ 40)
 its_sign sign measure rest (inl w) = inl w.0
 its_sign sign measure rest (inr w) = inr w.0
@@ -104,7 +112,8 @@ pub record IsTaken (name : List ℕ) (sign : ℕ) (rest : List ℕ) (agg : Agg) 
 count_free : HasNeither 58 40 (codes "count")
 count_free = neither 58 40 (codes "count") refl
 
-taken_of : (word name : List ℕ) (sign : ℕ) (rest : List ℕ) (agg : Agg) → IsCut 58 40 word name sign rest → IsShape word agg
+taken_of : (word name : List ℕ) (sign : ℕ) (rest : List ℕ) (agg : Agg) → IsCut 58 40 word name sign rest
+    → IsShape word agg
     → IsTaken name sign rest agg
 taken_of word name sign rest agg cut (inl count) = absurd (uncut 58 40 (codes "count") name sign rest cut.is_sign
     (sym count.1 ∙ cut.whole) count_free)
@@ -116,18 +125,22 @@ taken_of word name sign rest agg cut (inr (taken, measure, mark, tail, takes)) =
       measure = measure;
       name_is = same.names;
       agg_is = takes.is;
-      which = subst (λ (m : ℕ). ((m ≡ 58) × (rest ≡ measure_name measure)) ⊎ ((m ≡ 40) × (rest ≡ measure_name measure ++ 41 ∷ [])))
+      which = subst (λ (m : ℕ). ((m ≡ 58) × (rest ≡ measure_name measure))
+          ⊎ ((m ≡ 40) × (rest ≡ measure_name measure ++ 41 ∷ [])))
           (sym same.signs)
-          (subst (λ (t : List ℕ). ((mark ≡ 58) × (t ≡ measure_name measure)) ⊎ ((mark ≡ 40) × (t ≡ measure_name measure ++ 41 ∷ [])))
+          (subst (λ (t : List ℕ). ((mark ≡ 58) × (t ≡ measure_name measure))
+          ⊎ ((mark ≡ 40) × (t ≡ measure_name measure ++ 41 ∷ [])))
           (sym same.rests) takes.which);
     }
 
-pub taken_in : (word name : List ℕ) (sign : ℕ) (rest : List ℕ) (agg : Agg) → IsCut 58 40 word name sign rest → SpellsAggregate word agg
+pub taken_in : (word name : List ℕ) (sign : ℕ) (rest : List ℕ) (agg : Agg) → IsCut 58 40 word name sign rest
+    → SpellsAggregate word agg
     → IsTaken name sign rest agg
 taken_in word name sign rest agg cut spelled = taken_of word name sign rest agg cut (shape word agg spelled)
 
 -- and what spells it
-pub spells_colon : (word : List ℕ) (taken : Taken) (measure : Measure) → word ≡ taken_name taken ++ 58 ∷ measure_name measure
+pub spells_colon : (word : List ℕ) (taken : Taken) (measure : Measure)
+    → word ≡ taken_name taken ++ 58 ∷ measure_name measure
     → SpellsAggregate word (agg_of taken measure)
 spells_colon word Sum measure e = inl e
 spells_colon word Min measure e = inl e
@@ -174,17 +187,24 @@ condition_mark (Discount low high) = inr refl
 
 -- a word without a sign spells no condition
 pub no_condition : (word : List ℕ) (condition : Cond) → HasNeither 61 58 word → SpellsFit word condition → ⊥
-no_condition word condition plain spelled = uncut 61 58 word (condition_name condition) (condition_sign condition) spelled.0.members
+no_condition word condition plain spelled =
+    uncut 61 58 word (condition_name condition) (condition_sign condition) spelled.0.members
     (condition_mark condition) spelled.0.whole plain
 
 -- what a cut word spells, and what spells it
 pub condition_in : (word name : List ℕ) (sign : ℕ) (rest : List ℕ) (condition : Cond) → IsCut 61 58 word name sign rest
-    → SpellsFit word condition → (condition_name condition ≡ name) × (condition_sign condition ≡ sign) × SpellsMembers rest condition
+    → SpellsFit word condition → (condition_name condition ≡ name) × (condition_sign condition ≡ sign)
+    × SpellsMembers rest condition
 condition_in word name sign rest condition cut spelled =
-    let same = same_cut 61 58 name (condition_name condition) sign (condition_sign condition) rest spelled.0.members cut.first
+    let same = same_cut 61 58 name (condition_name condition) sign (condition_sign condition) rest spelled.0.members
+    cut.first
     (neither 61 58 (condition_name condition) (plain_condition condition)) cut.is_sign (condition_mark condition)
-    (sym cut.whole ∙ spelled.0.whole) in
-    (sym same.names, sym same.signs, subst (λ (members : List ℕ). SpellsMembers members condition) (sym same.rests) spelled.0.spelled)
+    (sym cut.whole ∙ spelled.0.whole) in (
+      sym same.names,
+      sym same.signs,
+      subst (λ (members : List ℕ). SpellsMembers members condition) (sym same.rests)
+          spelled.0.spelled,
+    )
 
 pub after_sign : (word : List ℕ) (subject : Subject) (sign : ℕ) (rest : List ℕ) (condition : Cond) → IsCut 61 58 word
     (subject_name subject) sign rest → SpellsFit word condition → SpellsAfter subject sign rest condition
@@ -211,7 +231,8 @@ subject_of (Between attr low high) = (subjects.Member attr, refl)
 subject_of (Quantity low high) = (subjects.Quantity, refl)
 subject_of (Discount low high) = (subjects.Discount, refl)
 
-pub no_such_subject : (word name : List ℕ) (sign : ℕ) (rest : List ℕ) → IsCut 61 58 word name sign rest → ((subject : Subject)
+pub no_such_subject : (word name : List ℕ) (sign : ℕ) (rest : List ℕ) → IsCut 61 58 word name sign rest
+    → ((subject : Subject)
     → name ≡ subject_name subject → ⊥) → (condition : Cond) → SpellsFit word condition → ⊥
 no_such_subject word name sign rest cut none condition spelled =
     let parts = condition_in word name sign rest condition cut spelled in

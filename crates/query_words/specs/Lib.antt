@@ -7,3 +7,4 @@ pub mod Mistakes
 pub mod Reading
 pub mod Spelled
 pub mod Words
+pub mod Near

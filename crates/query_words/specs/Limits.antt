@@ -18,7 +18,8 @@ IsTooMany counted count most refused = (refused ≡ TooMany counted count most) 
 
 -- a value occurs, and occurs before
 abbrev pub OccursTwice : {A : Type 0} → List A → A → Type 0
-OccursTwice {A} values value = (front : List A) × (rest : List A) × (values ≡ front ++ value ∷ rest) × Contains front value
+OccursTwice {A} values value = (front : List A) × (rest : List A) × (values ≡ front ++ value ∷ rest)
+    × Contains front value
 
 -- one of some names occurs twice, and that is said
 abbrev pub IsTwice : List (List ℕ) → Refused → Type 0

@@ -10,9 +10,11 @@ use Rattle.query_words.specs.declared.known.Known.TheVariants as known
 use Rattle.query_words.specs.declared.known.Subject.{Subject}
 use Rattle.query_words.specs.declared.known.Taken.{Taken}
 use Rattle.query_words.specs.declared.refused.Counted.TheVariants.{Columns, Aggregates, Conditions, Texts}
-use Rattle.query_words.specs.declared.refused.Mistake.TheVariants.{NoSign, NoList, NotTwoEnds, NoBar, NoNumber, NoMeasure, NotClosed, CountAlone, OnlyCondition}
+use Rattle.query_words.specs.declared.refused.Mistake.TheVariants.{NoSign, NoList, NotTwoEnds, NoBar, NoNumber}
+use Rattle.query_words.specs.declared.refused.Mistake.TheVariants.{NoMeasure, NotClosed, CountAlone, OnlyCondition}
 use Rattle.query_words.specs.declared.refused.Refused.{Refused}
-use Rattle.query_words.specs.declared.refused.Refused.TheVariants.{Memory, NothingAsked, NotAlone, NoAggregate, NoColumn, Unknown, Wrong}
+use Rattle.query_words.specs.declared.refused.Refused.TheVariants.{Memory, NothingAsked, NotAlone, NoAggregate}
+use Rattle.query_words.specs.declared.refused.Refused.TheVariants.{NoColumn, Unknown, Wrong}
 use Rattle.query_words.specs.Cuts.{IsCut}
 use Rattle.query_words.specs.Given.{number_alone}
 use Rattle.query_words.specs.Known.{IsName, subject_name, taken_name}
@@ -47,7 +49,8 @@ IsColumnMistake text refused = ((refused ≡ NoColumn) × (text ≡ []))
 abbrev pub IsMistakeAmong : (List ℕ → Refused → Type 0) → List (List ℕ) → Refused → Type 0
 IsMistakeAmong IsMistake words refused = (word : List ℕ) × Contains words word × IsMistake word refused
 
--- an aggregate: what is taken is before the first colon (58) or opening bracket (40), and a closing bracket (41) ends its measure
+-- an aggregate: what is taken is before the first colon (58) or opening bracket (40), and a closing bracket (41) ends
+-- its measure
 abbrev pub IsMeasureMistake : List ℕ → List ℕ → Refused → Type 0
 IsMeasureMistake word measure (Unknown part known.Measure) = (part.now ≡ measure) × (IsName known.Measure measure → ⊥)
 IsMeasureMistake word measure (Wrong part OnlyCondition) = (part.now ≡ word) × (IsName known.Measure measure → ⊥)
@@ -57,8 +60,10 @@ abbrev pub IsNameMistake : List ℕ → Refused → Type 0
 IsNameMistake word (Unknown part Aggregate) = (IsName Aggregate part.now → ⊥)
     × ((part.now ≡ word) ⊎ ((sign : ℕ) × (rest : List ℕ) × IsCut 58 40 word part.now sign rest))
 IsNameMistake word (Wrong part NoMeasure) = (part.now ≡ word) × ((taken : Taken) × (word ≡ taken_name taken))
-IsNameMistake word (Wrong part CountAlone) = (part.now ≡ word) × ((sign : ℕ) × (rest : List ℕ) × IsCut 58 40 word (codes "count") sign rest)
-IsNameMistake word (Wrong part NotClosed) = (part.now ≡ word) × ((name : List ℕ) × (rest : List ℕ) × IsCut 58 40 word name 40 rest
+IsNameMistake word (Wrong part CountAlone) = (part.now ≡ word)
+    × ((sign : ℕ) × (rest : List ℕ) × IsCut 58 40 word (codes "count") sign rest)
+IsNameMistake word (Wrong part NotClosed) = (part.now ≡ word)
+    × ((name : List ℕ) × (rest : List ℕ) × IsCut 58 40 word name 40 rest
     × ((measure : List ℕ) → rest ≢ measure ++ 41 ∷ []))
 IsNameMistake word refused = ⊥
 
@@ -91,7 +96,8 @@ IsListMistake name list refused = IsTooMany Texts (length (parts_by 124 list)) m
 
 -- the ends of a range
 abbrev pub IsEndMistake : List ℕ → List ℕ → Refused → Type 0
-IsEndMistake low high (Wrong part NoNumber) = ((part.now ≡ low) ⊎ (part.now ≡ high)) × ((number : ℕ) → IsSmallNumber part.now number → ⊥)
+IsEndMistake low high (Wrong part NoNumber) = ((part.now ≡ low) ⊎ (part.now ≡ high))
+    × ((number : ℕ) → IsSmallNumber part.now number → ⊥)
 IsEndMistake low high refused = ⊥
 
 -- a range in a word
@@ -108,7 +114,8 @@ abbrev pub IsConditionMistake : List ℕ → Refused → Type 0
 IsConditionMistake word refused = IsSubjectMistake word refused
     ⊎ ((subject : Subject) × (list : List ℕ) × IsCut 61 58 word (subject_name subject) 61 list
     × IsListMistake (subject_name subject) list refused)
-    ⊎ ((subject : Subject) × (range : List ℕ) × IsCut 61 58 word (subject_name subject) 58 range × IsRangeMistake word range refused)
+    ⊎ ((subject : Subject) × (range : List ℕ) × IsCut 61 58 word (subject_name subject) 58 range
+    × IsRangeMistake word range refused)
 
 -- conditions: one with a mistake, or too many
 abbrev pub IsConditionsMistake : List (List ℕ) → Refused → Type 0

@@ -11,4 +11,5 @@ Finds IsSpelled (Some value) = IsSpelled value
 -- the same where memory may be refused, and else the mistake is said
 abbrev pub Reads : {A : Type 0} → (A → Type 0) → (Refused → Type 0) → Result A Refused → Type 0
 Reads IsSpelled IsMistake (Ok value) = IsSpelled value
-Reads {A} IsSpelled IsMistake (Err refused) = (refused ≡ Memory) ⊎ (IsMistake refused × ((value : A) → IsSpelled value → ⊥))
+Reads {A} IsSpelled IsMistake (Err refused) = (refused ≡ Memory)
+    ⊎ (IsMistake refused × ((value : A) → IsSpelled value → ⊥))

@@ -1,4 +1,5 @@
--- The words of a query, and the query that they spell. The grammar is our own; the names are those of the attributes and measures.
+-- The words of a query, and the query that they spell. The grammar is our own; the names are those of the attributes
+-- and measures.
 use Rattle.std.specs.Prelude.{◌≡◌, ◌≤◌, ◌⊎◌, ℕ, ◌==◌, List, [], ◌∷◌, ◌++◌, length, map, Option, None, Some, codes}
 use Rattle.std.specs.List.{AllZip, slice_split}
 use Rattle.std.specs.Str.Parse.{IsNumeral, digits_value}
@@ -61,8 +62,8 @@ SpellsAggregates None aggregates = ⊥
 SpellsAggregates (Some text) aggregates =
     (length (parts_by 44 text) ≤ most_asked_aggregates) × AllZip SpellsAggregate (parts_by 44 text) aggregates
 
--- a condition: the name of what it is on, a sign, and its texts or its two ends, separated by bars (124). No name has a sign in
--- it, so the first one ends the name
+-- a condition: the name of what it is on, a sign, and its texts or its two ends, separated by bars (124). No name has a
+-- sign in it, so the first one ends the name
 abbrev pub condition_name : Cond → List ℕ
 condition_name (OneOf attr texts) = attr_name attr
 condition_name (Between attr low high) = attr_name attr

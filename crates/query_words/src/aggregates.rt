@@ -17,7 +17,8 @@ use crate::refused::{Mistake, Refused};
 use cube_model::{Agg, Items};
 use std::alloc::Global;
 
-/// Reads aggregates that are separated by commas, such as `count,sum:revenue`, or as a header has them, `count,sum(revenue)`.
+/// Reads aggregates that are separated by commas, such as `count,sum:revenue`, or as a header has them,
+/// `count,sum(revenue)`.
 pub fn read_aggregates(alloc: Global, text: &str) -> Result<Items<Agg>, Refused<'_>>
     ensures { Reads (AllZip SpellsAggregate (parts_by 44 text.now)) (IsAggregatesMistake text.now) result }
 {
@@ -85,7 +86,8 @@ fn bare(word: &str) -> Result<Agg, Refused<'_>>
 
 // What is taken of the measure of a name, in a word.
 fn of_measure<'a>(word: &'a str, taken: Taken, name: &'a str) -> Result<Agg, Refused<'a>>
-    ensures { Reads (λ agg. (measure : Measure) × (agg ≡ agg_of taken measure) × (name.now ≡ measure_name measure)) (IsMeasureMistake word.now name.now) result }
+    ensures { Reads (λ agg. (measure : Measure) × (agg ≡ agg_of taken measure) × (name.now ≡ measure_name measure))
+        (IsMeasureMistake word.now name.now) result }
 {
     match measure(name) {
         Some(measure) => Ok(taken.of(measure)),

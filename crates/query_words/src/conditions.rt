@@ -48,7 +48,8 @@ fn read_condition(alloc: Global, word: &str) -> Result<Cond, Refused<'_>>
     }
 }
 
-// What is before the sign is no name. Comparisons of other languages, such as `d_year>=1993` and `d_year!=1993`, have their sign there.
+// What is before the sign is no name. Comparisons of other languages, such as `d_year>=1993` and `d_year!=1993`, have
+// their sign there.
 fn no_subject<'a>(word: &'a str, name: &'a str) -> Refused<'a>
     requires name { (subject : Subject) → name.now ≢ subject_name subject }
     requires cut { (sign : ℕ) × (rest : List ℕ) × IsCut 61 58 word.now name.now sign rest }

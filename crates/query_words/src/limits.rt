@@ -7,7 +7,8 @@ use crate::refused::{Counted, Mistake, Refused};
 use cube_model::limits::{MOST_ASKED_AGGREGATES, MOST_COLUMNS, MOST_CONDITIONS};
 use cube_model::{Attr, Query};
 
-/// The first limit that a query exceeds: that of its aggregates, its conditions and its columns, and then a column that it has twice.
+/// The first limit that a query exceeds: that of its aggregates, its conditions and its columns, and then a column that
+/// it has twice.
 pub fn limit_mistake(query: &Query) -> Option<Refused<'static>>
     ensures { MatchOption result (IsWithinLimits query.now) (IsLimitMistake query.now) }
 {

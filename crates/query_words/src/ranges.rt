@@ -71,7 +71,8 @@ fn between(alloc: Global, attr: Attr, low: &str, high: &str) -> Result<Cond, All
 
 // The numbers that two texts are.
 fn bounds<'a>(low: &'a str, high: &'a str) -> Result<(u8, u8), Refused<'a>>
-    ensures { Reads (λ ends. IsSmallNumber low.now ends.0 × IsSmallNumber high.now ends.1) (IsEndMistake low.now high.now) result }
+    ensures { Reads (λ ends. IsSmallNumber low.now ends.0 × IsSmallNumber high.now ends.1)
+        (IsEndMistake low.now high.now) result }
 {
     match (small_number(low), small_number(high)) {
         (Some(low), Some(high)) => Ok((low, high)),

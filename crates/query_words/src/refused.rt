@@ -6,14 +6,16 @@ use crate::known::Known;
 use cube_model::Fault;
 use std::alloc::{AllocError, AllocFailed};
 
-/// The words of a query: the number of a query of the benchmark, or the name of a set, columns, aggregates and conditions.
+/// The words of a query: the number of a query of the benchmark, or the name of a set, columns, aggregates and
+/// conditions.
 #[derive(Clone, Copy, Debug)]
 pub struct QueryWords<'a> {
     pub q: Option<&'a str>,
     pub set: Option<&'a str>,
     /// Columns that are separated by commas, such as `d_year,p_brand1`.
     pub by: Option<&'a str>,
-    /// Aggregates that are separated by commas, such as `count,sum:revenue`, or as a header has them, `count,sum(revenue)`.
+    /// Aggregates that are separated by commas, such as `count,sum:revenue`, or as a header has them,
+    /// `count,sum(revenue)`.
     pub agg: Option<&'a str>,
     /// Such as `d_year=1997|1998`, `p_brand1:MFGR#2221|MFGR#2228` and `quantity:0|24`.
     pub conditions: &'a [&'a str],
@@ -90,8 +92,8 @@ impl Mistake {
     }
 }
 
-/// Why words are refused: memory, or the first mistake in them, in the order set, columns, conditions, aggregates, and then the
-/// limits of their numbers.
+/// Why words are refused: memory, or the first mistake in them, in the order set, columns, conditions, aggregates, and
+/// then the limits of their numbers.
 #[derive(Clone, Copy, Debug, PartialEq, Eq, Drop)]
 pub enum Refused<'a> {
     /// A growth of memory was refused.

@@ -18,8 +18,9 @@ use cube_model::{Kind, Query};
 use ssb_reports::query_of;
 use std::alloc::Global;
 
-/// Reads the words of a query that may be asked: a query of the benchmark by its number, or a cube query by the name of its set,
-/// its columns, its aggregates and its conditions. Words that are no such query are refused with the first mistake in them.
+/// Reads the words of a query that may be asked: a query of the benchmark by its number, or a cube query by the name of
+/// its set, its columns, its aggregates and its conditions. Words that are no such query are refused with the first
+/// mistake in them.
 pub fn read_query<'a>(alloc: Global, words: &QueryWords<'a>) -> Result<Query, Refused<'a>>
     ensures { Reads (SpellsProper (words_of words.now)) (IsMistakeOf (words_of words.now)) result }
 {

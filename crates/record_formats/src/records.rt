@@ -4,8 +4,8 @@ use report_formats::Format;
 use std::alloc::{AllocError, Global};
 use std::fmt;
 
-/// Records under names, as a text: with csv and tsv a line of the names, then a line for each record; with json an object for each
-/// record, a line each, in which an empty cell is null.
+/// Records under names, as a text: with csv and tsv a line of the names, then a line for each record; with json an
+/// object for each record, a line each, in which an empty cell is null.
 #[derive(Drop)]
 pub struct Records {
     format: Format,

@@ -32,12 +32,14 @@ no_marks [] none = cc none
 no_marks (b ∷ rest) none = same_marks (b ∷ rest) ∙ none
 
 pub csv-reads_back : (fields : List (List ℕ)) (text : List ℕ) (next : ℕ) (rest : List ℕ) → (next == 34) ≡ false
-    → next_record default_config StartField fields [] (csv_text text ++ next ∷ rest) ≡ next_record default_config InField fields text (next ∷ rest)
+    → next_record default_config StartField fields [] (csv_text text ++ next ∷ rest)
+    ≡ next_record default_config InField fields text (next ∷ rest)
 unfolding next_record
 csv-reads_back fields text next rest other = elim (cases_Bool (needs_marks text)) [
   | inl needs ↦
       let written : csv_text text ++ next ∷ rest ≡ 34 ∷ (escaped default_writer text ++ 34 ∷ next ∷ rest) =
-      rw needs (ap (λ others. 34 ∷ others) (append_assoc (flat_map quoted_byte text) (34 ∷ []) (next ∷ rest) ∙ ap (λ others. others ++ 34 ∷ next ∷ rest) (same_quoted text))) in
+      rw needs (ap (λ others. 34 ∷ others) (append_assoc (flat_map quoted_byte text) (34 ∷ []) (next ∷ rest)
+      ∙ ap (λ others. others ++ 34 ∷ next ∷ rest) (same_quoted text))) in
       rw written (quoted-run fields [] text (next ∷ rest) ∙ after-quote-same fields text next rest other)
   | inr plain ↦ rw plain (rw (no_marks text plain) at (field-run fields text next rest other))
 ]

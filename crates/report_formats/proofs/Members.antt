@@ -5,7 +5,8 @@ use Rattle.cube_model.specs.declared.answer.Member.{Member}
 use Rattle.cube_model.specs.declared.answer.Member.TheVariants.{All, Text}
 use Rattle.report_formats.specs.Fields.{member_of}
 
-pub member_found : {R : Type 0} (now : R → List ℕ) (found : Option R) (member : Member) → IfSome found (λ text. member ≡ Text (now text))
+pub member_found : {R : Type 0} (now : R → List ℕ) (found : Option R) (member : Member)
+    → IfSome found (λ text. member ≡ Text (now text))
     → IfNone found (member ≡ All) → member ≡ member_of (option_map now found)
 member_found now None member text all = all
 member_found now (Some one) member text all = text

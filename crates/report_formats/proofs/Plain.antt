@@ -1,5 +1,6 @@
 -- Texts of which the first bytes are written as they are.
-use Rattle.std.proofs.Common.{◌≡◌, ℕ, ◌+◌, ◌-◌, ◌<◌, List, [], ◌∷◌, ◌++◌, length, take, drop, get_or, ap, sym, arith, ◌∙◌}
+use Rattle.std.proofs.Common.{◌≡◌, ℕ, ◌+◌, ◌-◌, ◌<◌, List, [], ◌∷◌, ◌++◌, length, take, drop, get_or, ap, sym, arith}
+use Rattle.std.proofs.Common.{◌∙◌}
 use Rattle.std.proofs.lemmas.Grind.{common_steps, flat_map-append}
 use Rattle.std.proofs.lemmas.List.{get_or_default, take-append-drop, take_all, take_more}
 use Rattle.std.specs.List.{flat_map}
@@ -25,7 +26,8 @@ plain_front f text i before =
     ∙ ap (λ front. front ++ flat_map f (drop i text)) before
 
 -- all bytes are written as they are
-pub plain_all : (f : ℕ → List ℕ) (text : List ℕ) (i : ℕ) → i ≡ length text → flat_map f (take i text) ≡ take i text → flat_map f text ≡ take i text
+pub plain_all : (f : ℕ → List ℕ) (text : List ℕ) (i : ℕ) → i ≡ length text → flat_map f (take i text) ≡ take i text
+    → flat_map f text ≡ take i text
 plain_all f text i all before =
     let whole : take i text ≡ text = ap (λ n. take n text) all ∙ take_all (length text) text (omega arith) in
     ap (flat_map f) (sym whole) ∙ before
@@ -35,7 +37,8 @@ whole_rest text i = grind (arith, common_steps)
 
 -- the first bytes, the one after them, and the rest
 pub plain_then : (f : ℕ → List ℕ) (text : List ℕ) (i : ℕ) → i < length text → flat_map f (take i text) ≡ take i text
-    → flat_map f text ≡ take i text ++ (f (get_or text i 0) ++ flat_map f (take (length text - (i + 1)) (drop (i + 1) text)))
+    → flat_map f text ≡ take i text
+    ++ (f (get_or text i 0) ++ flat_map f (take (length text - (i + 1)) (drop (i + 1) text)))
 plain_then f text i within before =
     flat_map-around f text i (get_or text i 0) within (get_or_default text i 0 (get_or text i 0) within)
     ∙ ap (λ front. front ++ (f (get_or text i 0) ++ flat_map f (drop (i + 1) text))) before

@@ -25,9 +25,11 @@ with_count aggregates = map summed aggregates ++ Count ∷ []
 -- the query that is asked: where averages are written as their sum and their count, that for both
 abbrev pub query_for : Layout → Query → Query
 query_for layout query =
-    if counts_averages layout && list_any is_average query.aggregates then record query { aggregates = with_count query.aggregates } else query
+    if counts_averages layout && list_any is_average query.aggregates then record query
+    { aggregates = with_count query.aggregates } else query
 
--- the report of a query in a layout: its columns and aggregates are those of the query, and its lines those of the answer as they are
+-- the report of a query in a layout: its columns and aggregates are those of the query, and its lines those of the
+-- answer as they are
 abbrev pub asked_for : Layout → Query → Asked
 asked_for layout query = record {
   layout = layout;

@@ -1,10 +1,11 @@
 -- Averages as decimals. Our own.
-use Rattle.std.specs.Prelude.{ℕ, zero, suc, ◌+◌, ◌*◌, ◌/◌, ◌%◌, ◌^◌, ◌==◌, nat_le, max, if◌then◌else◌, ℤ, pos, negsuc, nat_abs, List, [], ◌∷◌, ◌++◌, drop}
+use Rattle.std.specs.Prelude.{ℕ, zero, suc, ◌+◌, ◌*◌, ◌/◌, ◌%◌, ◌^◌, ◌==◌, nat_le, max, if◌then◌else◌, ℤ, pos, negsuc}
+use Rattle.std.specs.Prelude.{nat_abs, List, [], ◌∷◌, ◌++◌, drop}
 use Rattle.std.specs.Fmt.{decimal}
 use Rattle.cube_model.specs.declared.answer.Fraction.{Fraction}
 
--- how many units of which a scale makes 1 are nearest to the size of a fraction, the greater number where two are as near. (The
--- denominator of an average is at least 1.)
+-- how many units of which a scale makes 1 are nearest to the size of a fraction, the greater number where two are as
+-- near. (The denominator of an average is at least 1.)
 abbrev pub rounded : ℕ → Fraction → ℕ
 rounded scale fraction =
     let size = nat_abs fraction.numerator * scale in
@@ -21,7 +22,8 @@ sign_of (negsuc _) (suc _) = 45 ∷ []
 abbrev pub point_of : ℕ → List ℕ
 point_of digits = if digits == 0 then [] else 46 ∷ []
 
--- so many units of 10^-digits, without a sign: the digits after the point are those of 10^digits and the rest, after the first
+-- so many units of 10^-digits, without a sign: the digits after the point are those of 10^digits and the rest, after
+-- the first
 abbrev pub units_text : ℕ → ℕ → List ℕ
 units_text digits units =
     decimal (units / 10 ^ digits) ++ (point_of digits ++ drop 1 (decimal (10 ^ digits + units % 10 ^ digits)))

@@ -1,5 +1,6 @@
 -- How the bytes of a text are written in csv, tsv and json. Our own, by RFC 4180 and RFC 8259.
-use Rattle.std.specs.Prelude.{ℕ, ◌+◌, ◌/◌, ◌%◌, ◌==◌, ◌||◌, nat_lt, if◌then◌else◌, Bool, true, List, [], ◌∷◌, ◌++◌, codes}
+use Rattle.std.specs.Prelude.{ℕ, ◌+◌, ◌/◌, ◌%◌, ◌==◌, ◌||◌, nat_lt, if◌then◌else◌, Bool, true, List, [], ◌∷◌, ◌++◌}
+use Rattle.std.specs.Prelude.{codes}
 use Rattle.std.specs.List.{flat_map, list_any}
 use Rattle.std.specs.Str.{is_utf8}
 use Rattle.report_formats.specs.declared.escapes.Escaping.{Escaping}
@@ -12,7 +13,8 @@ quoted_byte b = if b == 34 then 34 ∷ b ∷ [] else b ∷ []
 -- tsv: a tab, a line feed, a carriage return and a backslash are \t, \n, \r and \\
 abbrev pub tabbed_byte : ℕ → List ℕ
 tabbed_byte b =
-    if b == 9 then codes "\\t" else (if b == 10 then codes "\\n" else (if b == 13 then codes "\\r" else (if b == 92 then codes "\\\\" else b ∷ [])))
+    if b == 9 then codes "\\t" else
+    (if b == 10 then codes "\\n" else (if b == 13 then codes "\\r" else (if b == 92 then codes "\\\\" else b ∷ [])))
 
 abbrev pub hex_digit : ℕ → ℕ
 hex_digit d = if nat_lt d 10 then 48 + d else 87 + d
@@ -21,10 +23,12 @@ hex_digit d = if nat_lt d 10 then 48 + d else 87 + d
 abbrev pub hex : ℕ → List ℕ
 hex b = hex_digit (b / 16) ∷ hex_digit (b % 16) ∷ []
 
--- json: a quotation mark and a backslash have a backslash in front, and a control character is \n, \r, \t or \u and four digits
+-- json: a quotation mark and a backslash have a backslash in front, and a control character is \n, \r, \t or \u and
+-- four digits
 abbrev pub json_byte : ℕ → List ℕ
 json_byte b =
-    if b == 34 then codes "\\\"" else (if b == 92 then codes "\\\\" else (if b == 10 then codes "\\n" else (if b == 13 then codes "\\r" else
+    if b == 34 then codes
+    "\\\"" else (if b == 92 then codes "\\\\" else (if b == 10 then codes "\\n" else (if b == 13 then codes "\\r" else
     (if b == 9 then codes "\\t" else (if nat_lt b 32 then codes "\\u00" ++ hex b else b ∷ [])))))
 
 -- json, of a text that is not UTF-8: a byte above 127 is \udc and its two digits

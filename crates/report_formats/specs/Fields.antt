@@ -1,5 +1,6 @@
 -- The fields of a report's lines, and the whole report. Our own.
-use Rattle.std.specs.Prelude.{ℕ, pos, ◌&&◌, if◌then◌else◌, List, [], ◌++◌, length, map, slice_index_or, min, codes, Option, None, Some}
+use Rattle.std.specs.Prelude.{ℕ, pos, ◌&&◌, if◌then◌else◌, List, [], ◌++◌, length, map, slice_index_or, min, codes}
+use Rattle.std.specs.Prelude.{Option, None, Some}
 use Rattle.std.specs.List.{flat_map, zip}
 use Rattle.cube_model.specs.declared.answer.Answer.{Answer}
 use Rattle.cube_model.specs.declared.answer.Line.{Line}
@@ -63,11 +64,13 @@ number_text (Some digits) (Ratio fraction) = decimal_text (min digits 18) fracti
 
 -- an average by its sum and its count
 abbrev pub average_text : Value → Value → List ℕ
-average_text sum count = (codes "{\"sum\":" ++ value_text sum) ++ ((codes ",\"count\":" ++ value_text count) ++ codes "}")
+average_text sum count = (codes "{\"sum\":" ++ value_text sum)
+    ++ ((codes ",\"count\":" ++ value_text count) ++ codes "}")
 
 abbrev pub counted_text : Layout → Value → Agg × Value → List ℕ
 counted_text layout count field =
-    if counts_averages layout && is_average field.0 then average_text field.1 count else number_text layout.decimals field.1
+    if counts_averages layout && is_average field.0 then average_text field.1 count else number_text layout.decimals
+    field.1
 
 abbrev pub value_field : Layout → Value → Agg × Value → List ℕ
 value_field layout count field = name_text layout.format (agg_name field.0) ++ counted_text layout count field
@@ -104,7 +107,8 @@ footer_text Json count = []
 
 abbrev pub laid_out : Asked → Answer → List ℕ
 laid_out asked answer =
-    header_text asked ++ (flat_map (line_text asked) answer.lines ++ footer_text asked.layout.format (length answer.lines))
+    header_text asked
+    ++ (flat_map (line_text asked) answer.lines ++ footer_text asked.layout.format (length answer.lines))
 
 -- a report of the lines of an answer as they come. With bars, and averages as fractions, it is that of each report
 abbrev pub unarranged : Asked → Answer → List ℕ

@@ -5,11 +5,12 @@ use Rattle.csv.specs.Reading.{default_config}
 use Rattle.csv.specs.declared.parser.State.TheVariants.{InField, StartField}
 use Rattle.report_formats.specs.Escapes.{csv_text, tsv_text}
 
--- A reader of csv that is at the beginning of a field has read its text once it is past what was written of it. Then comes a comma or
--- the end of the line, which is no quotation mark
+-- A reader of csv that is at the beginning of a field has read its text once it is past what was written of it. Then
+-- comes a comma or the end of the line, which is no quotation mark
 abbrev pub CsvReadsBack : Type 0
 CsvReadsBack = (fields : List (List ℕ)) (text : List ℕ) (next : ℕ) (rest : List ℕ) → (next == 34) ≡ false
-    → next_record default_config StartField fields [] (csv_text text ++ next ∷ rest) ≡ next_record default_config InField fields text (next ∷ rest)
+    → next_record default_config StartField fields [] (csv_text text ++ next ∷ rest)
+    ≡ next_record default_config InField fields text (next ∷ rest)
 
 -- what a byte after a backslash means in tsv
 abbrev pub meant_by : ℕ → ℕ

@@ -1,5 +1,6 @@
 -- What separates the fields of a report. Our own.
-use Rattle.std.specs.Prelude.{ℕ, ◌&&◌, if◌then◌else◌, Bool, false, true, Option, None, Some, List, [], ◌++◌, codes, bytes_eq}
+use Rattle.std.specs.Prelude.{ℕ, ◌&&◌, if◌then◌else◌, Bool, false, true, Option, None, Some, List, [], ◌++◌, codes}
+use Rattle.std.specs.Prelude.{bytes_eq}
 use Rattle.std.specs.List.{join_with_byte}
 use Rattle.std.specs.Option.{is_none}
 use Rattle.report_formats.specs.declared.layout.Format.{Format}

@@ -28,9 +28,9 @@ pub struct Asked {
 impl Asked {
     ghost use Rattle.line_order.specs.Shown.{shown};
 
-    /// The report of a query in a layout. Where averages are written as their sum and their count, the query to be answered has
-    /// sums in place of averages, and the count of rows after all aggregates: one of 8 aggregates is then not proper, since it
-    /// has 9.
+    /// The report of a query in a layout. Where averages are written as their sum and their count, the query to be
+    /// answered has sums in place of averages, and the count of rows after all aggregates: one of 8 aggregates is then
+    /// not proper, since it has 9.
     ///
     /// It can only fail when out of memory.
     pub fn new(alloc: Global, layout: Layout, query: Query) -> Result<Asked, Fault>
@@ -73,7 +73,8 @@ impl Asked {
         alloc: Global,
         lines: &'a L,
     ) -> Result<Arranged<'a, L>, Fault>
-        ensures ok { IfOk result (λ found. shown L.Lines found ≡ arranged (arrangement_in self.now) (L.lines lines.now)) }
+        ensures ok { IfOk result
+            (λ found. shown L.Lines found ≡ arranged (arrangement_in self.now) (L.lines lines.now)) }
         ensures only { IfErr result (λ fault. fault ≡ Fault.Memory) }
         ensures free { self.now.arrangement.sorting ≡ None → IsOk result }
     {

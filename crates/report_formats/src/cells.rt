@@ -1,6 +1,7 @@
 //! What is written of a member and of a value.
 ghost use Rattle.std.specs.Prelude.{◌++◌, codes, option_map};
-ghost use Rattle.report_formats.specs.Fields.{all_in, average_text, counted_text, member_field, member_of, member_text, name_text, number_text, text_in, value_field};
+ghost use Rattle.report_formats.specs.Fields.{all_in, average_text, counted_text, member_field, member_of, member_text};
+ghost use Rattle.report_formats.specs.Fields.{name_text, number_text, text_in, value_field};
 ghost use Rattle.ssb_reports.specs.Report.{value_text};
 ghost use Rattle.ssb_reports.specs.Writing.{Writes};
 
@@ -18,7 +19,8 @@ pub(crate) fn write_member_field<W: Write>(
     column: Attr,
     text: Option<&[u8]>,
 ) -> Result<(), Fault>
-    ensures { Writes (W.contents out.old) (W.contents out.new) result (member_field format (column, member_of (option_map (λ one. one.now) text.entry))) }
+    ensures { Writes (W.contents out.old) (W.contents out.new) result
+        (member_field format (column, member_of (option_map (λ one. one.now) text.entry))) }
 {
     write_name(out, format, &column)?;
     write_member(out, format, text)
@@ -26,7 +28,8 @@ pub(crate) fn write_member_field<W: Write>(
 
 // Hands a writer a member: none is ALL.
 fn write_member<W: Write>(out: &mut W, format: Format, text: Option<&[u8]>) -> Result<(), Fault>
-    ensures { Writes (W.contents out.old) (W.contents out.new) result (member_text format (member_of (option_map (λ one. one.now) text.entry))) }
+    ensures { Writes (W.contents out.old) (W.contents out.new) result
+        (member_text format (member_of (option_map (λ one. one.now) text.entry))) }
 {
     match text {
         Some(text) => write_text(out, format, text),

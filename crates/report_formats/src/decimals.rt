@@ -8,8 +8,8 @@ use itoa::Buffer;
 use ssb_reports::{write_bytes, write_parts};
 use std::io::Write;
 
-/// Hands a writer a fraction with so many digits after the point, rounded to the nearest, and to the greater size where two are as
-/// near.
+/// Hands a writer a fraction with so many digits after the point, rounded to the nearest, and to the greater size where
+/// two are as near.
 pub(crate) fn write_decimal<W: Write>(
     out: &mut W,
     digits: u32,

@@ -15,8 +15,8 @@ use ssb_reports::{Fields, Lines, flush, write_bytes, write_count, write_joined, 
 use std::alloc::Global;
 use std::io::Write;
 
-/// Hands a writer the report that is asked for of the lines of its query's answer, and flushes it. It takes memory only for the
-/// places of lines in an order.
+/// Hands a writer the report that is asked for of the lines of its query's answer, and flushes it. It takes memory only
+/// for the places of lines in an order.
 ///
 /// `Memory`, before anything is written, and `Output` where the writer fails, after a beginning of the report.
 pub fn write_formatted<L: Lines, W: Write>(
@@ -70,7 +70,8 @@ fn write_header<W: Write>(out: &mut W, asked: &Asked) -> Result<(), Fault>
 }
 
 fn write_lines<L: Lines, W: Write>(out: &mut W, asked: &Asked, lines: &L) -> Result<(), Fault>
-    ensures { Writes (W.contents out.old) (W.contents out.new) result (flat_map (line_text asked.now) (L.lines lines.now)) }
+    ensures { Writes (W.contents out.old) (W.contents out.new) result
+        (flat_map (line_text asked.now) (L.lines lines.now)) }
 {
     for place in 0..lines.count() {
         write_line(out, asked, lines, place)?;
@@ -85,7 +86,8 @@ fn write_line<L: Lines, W: Write>(
     place: usize,
 ) -> Result<(), Fault>
     requires { place < length (L.lines lines.now) }
-    ensures { Writes (W.contents out.old) (W.contents out.new) result (line_text asked.now (line_at (L.lines lines.now) place)) }
+    ensures { Writes (W.contents out.old) (W.contents out.new) result
+        (line_text asked.now (line_at (L.lines lines.now) place)) }
 {
     let members = MemberFields {
         asked,
@@ -107,7 +109,8 @@ fn write_row<W: Write, F: Fields, G: Fields>(
     fields: &F,
     others: &G,
 ) -> Result<(), Fault>
-    ensures { Writes (W.contents out.old) (W.contents out.new) result (row_text format (F.texts fields.now ++ G.texts others.now)) }
+    ensures { Writes (W.contents out.old) (W.contents out.new) result
+        (row_text format (F.texts fields.now ++ G.texts others.now)) }
 {
     write_bytes(out, format.opening())?;
     write_joined(out, format.separator(), fields, others)?;

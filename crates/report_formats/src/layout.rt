@@ -1,6 +1,7 @@
 //! How a report is written.
 ghost use Rattle.std.specs.Prelude.{◌≡◌};
-ghost use Rattle.report_formats.specs.Rows.{counts_averages, ending_of, format_named, is_plain, opening_of, separator_of};
+ghost use Rattle.report_formats.specs.Rows.{counts_averages, ending_of, format_named, is_plain, opening_of};
+ghost use Rattle.report_formats.specs.Rows.{separator_of};
 
 /// The format of a report.
 #[derive(Clone, Copy, Debug, PartialEq, Eq)]
@@ -19,8 +20,8 @@ pub enum Format {
 #[derive(Clone, Copy, Debug, PartialEq, Eq)]
 pub struct Layout {
     pub format: Format,
-    /// How many digits after the point an average has, at most 18. Without it an average is a fraction in lowest terms, and in json
-    /// an object with its sum and its count.
+    /// How many digits after the point an average has, at most 18. Without it an average is a fraction in lowest terms,
+    /// and in json an object with its sum and its count.
     pub decimals: Option<u32>,
 }
 

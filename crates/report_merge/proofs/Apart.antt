@@ -1,5 +1,6 @@
 -- Numbers of parts that are merged, where none is in both.
-use Rattle.std.proofs.Common.{◌≡◌, ◌∙◌, sym, ap, refl, subst, ℕ, zero, suc, ◌+◌, ◌-◌, ◌<◌, ◌≤◌, Bool, true, false, List, [], ◌∷◌, ◌++◌, length, get_or, inl, inr, arith}
+use Rattle.std.proofs.Common.{◌≡◌, ◌∙◌, sym, ap, refl, subst, ℕ, zero, suc, ◌+◌, ◌-◌, ◌<◌, ◌≤◌, Bool, true, false, List}
+use Rattle.std.proofs.Common.{[], ◌∷◌, ◌++◌, length, get_or, inl, inr, arith}
 use Rattle.std.specs.Prelude.{◌&&◌, eqb, nat_le, nat_lt}
 use Rattle.std.specs.List.{AllByRecursion, Contains, IsDistinct, list_any}
 use Rattle.std.specs.List.Sorted.{IsNonDecreasing, IsPermutation, IsStrictlyIncreasing}
@@ -18,12 +19,14 @@ use Rattle.report_merge.proofs.Gaps.{joined, next}
 abbrev IsBetween : ℕ → ℕ → ℕ → Type 0
 IsBetween low high number = (low < number) × (number ≤ high)
 
-wider : (low other high : ℕ) (numbers : List ℕ) → low < other → AllByRecursion (IsBetween other high) numbers → AllByRecursion (IsBetween low high) numbers
+wider : (low other high : ℕ) (numbers : List ℕ) → low < other → AllByRecursion (IsBetween other high) numbers
+    → AllByRecursion (IsBetween low high) numbers
 wider low other high [] less all = tt
 wider low other high (n ∷ ns) less all = ((omega (arith, less, all.0.0), all.0.1), wider low other high ns less all.1)
 
 -- numbers that ascend are between two others
-between : (low high : ℕ) (numbers : List ℕ) → ascend_between low high numbers ≡ true → AllByRecursion (IsBetween low high) numbers
+between : (low high : ℕ) (numbers : List ℕ) → ascend_between low high numbers ≡ true
+    → AllByRecursion (IsBetween low high) numbers
 between low high [] e = tt
 between low high (n ∷ ns) e =
     let is = next low high n ns e in
@@ -32,7 +35,8 @@ between low high (n ∷ ns) e =
 differ : (n m : ℕ) → n < m → eqb n m ≡ false
 differ n m less = false_from_ne_true (eqb n m) (λ e. omega (arith, less, eqb-true n m e))
 
-all_differ : (n high : ℕ) (numbers : List ℕ) → AllByRecursion (IsBetween n high) numbers → AllByRecursion (λ m. eqb n m ≡ false) numbers
+all_differ : (n high : ℕ) (numbers : List ℕ) → AllByRecursion (IsBetween n high) numbers
+    → AllByRecursion (λ m. eqb n m ≡ false) numbers
 all_differ n high [] all = tt
 all_differ n high (m ∷ ms) all = (differ n m all.0.0, all_differ n high ms all.1)
 
@@ -52,7 +56,10 @@ first x y ys e = (0, omega arith, e)
 
 none_in : (x : ℕ) (ys : List ℕ) → (Contains ys x → ⊥) → AllByRecursion (λ m. eqb x m ≡ false) ys
 none_in x [] none = tt
-none_in x (y ∷ ys) none = (false_from_ne_true (eqb x y) (λ e. none (first x y ys (sym (eqb-true x y e)))), none_in x ys (λ c. none (later x y ys c)))
+none_in x (y ∷ ys) none = (
+  false_from_ne_true (eqb x y) (λ e. none (first x y ys (sym (eqb-true x y e)))),
+  none_in x ys (λ c. none (later x y ys c)),
+)
 
 all_both : (P : ℕ → Type 0) (xs ys : List ℕ) → AllByRecursion P xs → AllByRecursion P ys → AllByRecursion P (xs ++ ys)
 all_both P [] ys one other = other
@@ -78,13 +85,16 @@ increase_on low n ns inc k h =
     let up : suc k + 1 ≡ suc (k + 1) = omega arith in
     subst (λ j. get_or (n ∷ ns) k 0 < get_or (low ∷ n ∷ ns) j 0) up (inc (suc k) (omega (arith, h)))
 
-ascending : (low high : ℕ) (numbers : List ℕ) → IsStrictlyIncreasing (low ∷ numbers) → AllByRecursion (IsBetween 0 high) numbers → ascend_between low high numbers ≡ true
+ascending : (low high : ℕ) (numbers : List ℕ) → IsStrictlyIncreasing (low ∷ numbers)
+    → AllByRecursion (IsBetween 0 high) numbers → ascend_between low high numbers ≡ true
 ascending low high [] inc all = refl
 ascending low high (n ∷ ns) inc all =
     joined (nat_lt low n) (nat_le n high && ascend_between n high ns) (lt_test low n (inc 0 (omega arith)))
-    (joined (nat_le n high) (ascend_between n high ns) (le_test n high all.0.1) (ascending n high ns (increase_on low n ns inc) all.1))
+    (joined (nat_le n high) (ascend_between n high ns) (le_test n high all.0.1)
+    (ascending n high ns (increase_on low n ns inc) all.1))
 
-from_zero : (numbers : List ℕ) (high : ℕ) → AllByRecursion (IsBetween 0 high) numbers → IsStrictlyIncreasing numbers → IsStrictlyIncreasing (0 ∷ numbers)
+from_zero : (numbers : List ℕ) (high : ℕ) → AllByRecursion (IsBetween 0 high) numbers → IsStrictlyIncreasing numbers
+    → IsStrictlyIncreasing (0 ∷ numbers)
 from_zero [] high all inc k h = absurd (omega (arith, h))
 from_zero (n ∷ ns) high all inc zero h = all.0.0
 from_zero (n ∷ ns) high all inc (suc k) h =
@@ -92,14 +102,19 @@ from_zero (n ∷ ns) high all inc (suc k) h =
     subst (λ j. get_or (n ∷ ns) k 0 < get_or (0 ∷ n ∷ ns) j 0) up (inc k (omega (arith, h)))
 
 -- the numbers of two lists without a number in both, sorted
-pub merged_ascend : (parts : ℕ) (ones others numbers : List ℕ) → ascend_between 0 parts ones ≡ true → ascend_between 0 parts others ≡ true → AreApart ones others
+pub merged_ascend : (parts : ℕ) (ones others numbers : List ℕ) → ascend_between 0 parts ones ≡ true
+    → ascend_between 0 parts others ≡ true → AreApart ones others
     → IsPermutation (ones ++ others) numbers → IsNonDecreasing numbers → ascend_between 0 parts numbers ≡ true
 merged_ascend parts ones others numbers one other apart moved sorted =
-    let differs = IsDistinct-IsPermutation eqb flips (ones ++ others) numbers moved (distinct_both ones others (distinct 0 parts ones one) (distinct 0 parts others other) apart) in
+    let differs =
+    IsDistinct-IsPermutation eqb flips (ones ++ others) numbers moved
+    (distinct_both ones others (distinct 0 parts ones one) (distinct 0 parts others other) apart) in
     let all = from_each (IsBetween 0 parts) numbers
     (All-permutation (IsBetween 0 parts) (ones ++ others) numbers moved
-    (at_each (IsBetween 0 parts) (ones ++ others) (all_both (IsBetween 0 parts) ones others (between 0 parts ones one) (between 0 parts others other)))) in
-    ascending 0 parts numbers (from_zero numbers parts all (IsStrictlyIncreasing-from_distinct numbers sorted differs)) all
+    (at_each (IsBetween 0 parts) (ones ++ others)
+    (all_both (IsBetween 0 parts) ones others (between 0 parts ones one) (between 0 parts others other)))) in
+    ascending 0 parts numbers (from_zero numbers parts all (IsStrictlyIncreasing-from_distinct numbers sorted differs))
+    all
   where
     flips : (x y : ℕ) → eqb x y ≡ eqb y x
     flips x y = grind (arith, nat_tests)
@@ -111,17 +126,21 @@ increase low high (n ∷ []) e k h = absurd (omega (arith, h))
 increase low high (n ∷ m ∷ ns) e zero h = (next n high m ns (next low high n (m ∷ ns) e).ascend).above
 increase low high (n ∷ m ∷ ns) e (suc k) h =
     let up : suc (k + 1) ≡ suc k + 1 = omega arith in
-    subst (λ j. get_or (m ∷ ns) k 0 < get_or (n ∷ m ∷ ns) j 0) up (increase n high (m ∷ ns) (next low high n (m ∷ ns) e).ascend k (omega (arith, h)))
+    subst (λ j. get_or (m ∷ ns) k 0 < get_or (n ∷ m ∷ ns) j 0) up
+    (increase n high (m ∷ ns) (next low high n (m ∷ ns) e).ascend k (omega (arith, h)))
 
-far : (numbers : List ℕ) → IsStrictlyIncreasing numbers → (i d : ℕ) → i + suc d < length numbers → get_or numbers i 0 < get_or numbers (i + suc d) 0
+far : (numbers : List ℕ) → IsStrictlyIncreasing numbers → (i d : ℕ) → i + suc d < length numbers
+    → get_or numbers i 0 < get_or numbers (i + suc d) 0
 far numbers inc i zero h = inc i h
 far numbers inc i (suc d) h =
     let before : get_or numbers i 0 < get_or numbers (i + suc d) 0 = far numbers inc i d (omega (arith, h)) in
     let up : (i + suc d) + 1 ≡ i + suc (suc d) = omega arith in
-    let after : get_or numbers (i + suc d) 0 < get_or numbers (i + suc (suc d)) 0 = subst (λ j. get_or numbers (i + suc d) 0 < get_or numbers j 0) up (inc (i + suc d) (omega (arith, h))) in
+    let after : get_or numbers (i + suc d) 0 < get_or numbers (i + suc (suc d)) 0 =
+    subst (λ j. get_or numbers (i + suc d) 0 < get_or numbers j 0) up (inc (i + suc d) (omega (arith, h))) in
     omega (arith, before, after)
 
-further : (numbers : List ℕ) → IsStrictlyIncreasing numbers → (i j : ℕ) → i < j → j < length numbers → get_or numbers i 0 < get_or numbers j 0
+further : (numbers : List ℕ) → IsStrictlyIncreasing numbers → (i j : ℕ) → i < j → j < length numbers
+    → get_or numbers i 0 < get_or numbers j 0
 further numbers inc i j less within =
     let up : i + suc (j - suc i) ≡ j = omega (arith, less) in
     subst (λ k. get_or numbers i 0 < get_or numbers k 0) up (far numbers inc i (j - suc i) (omega (arith, up, within)))
@@ -140,17 +159,22 @@ in_others others number test =
     get_or_same xs k x y within = get_or_default_zero xs k x within ∙ sym (get_or_default_zero xs k y within)
 
 found_in : (others : List ℕ) (number : ℕ) → Contains others number → is_in others number ≡ true
-found_in others number c = list_any_at (λ y. eqb y number) others c.0 number c.1 (eq-eqb (get_or others c.0 number) number c.2)
+found_in others number c =
+    list_any_at (λ y. eqb y number) others c.0 number c.1 (eq-eqb (get_or others c.0 number) number c.2)
 
 -- the number at the place where it is
 placed : (ones : List ℕ) (number : ℕ) (c : Contains ones number) → get_or ones c.0 0 ≡ number
 placed ones number c = sym (get_or_default_zero ones c.0 number c.1) ∙ c.2
 
-absent : (ones others : List ℕ) (number : ℕ) (c : Contains ones number) → Contains others number → is_in others (get_or ones c.0 0) ≡ false → ⊥
-absent ones others number c other none = both_ways (is_in others (get_or ones c.0 0)) none (ap (is_in others) (placed ones number c) ∙ found_in others number other)
+absent : (ones others : List ℕ) (number : ℕ) (c : Contains ones number) → Contains others number
+    → is_in others (get_or ones c.0 0) ≡ false → ⊥
+absent ones others number c other none =
+    both_ways (is_in others (get_or ones c.0 0)) none (ap (is_in others) (placed ones number c)
+    ∙ found_in others number other)
 
 -- the first number that is among others is the least
-pub first_least : (ones others : List ℕ) (place : ℕ) → IsStrictlyIncreasing ones → place < length ones → ((k : ℕ) → k < place → is_in others (get_or ones k 0) ≡ false)
+pub first_least : (ones others : List ℕ) (place : ℕ) → IsStrictlyIncreasing ones → place < length ones
+    → ((k : ℕ) → k < place → is_in others (get_or ones k 0) ≡ false)
     → is_in others (get_or ones place 0) ≡ true → IsLeastOfBoth ones others (get_or ones place 0)
 first_least ones others place inc within before test = record {
   one = (place, within, get_or_default_zero ones place (get_or ones place 0) within);
@@ -159,11 +183,14 @@ first_least ones others place inc within before test = record {
 } where
   least : (another : ℕ) → Contains ones another → Contains others another → get_or ones place 0 ≤ another
   least another c d = elim (cases_order c.0 place) [
-    | inl same ↦ (let at : get_or ones place 0 ≡ another = ap (λ k. get_or ones k 0) (sym same) ∙ placed ones another c in omega (arith, at))
+    | inl same ↦
+        (let at : get_or ones place 0 ≡ another = ap (λ k. get_or ones k 0) (sym same)
+        ∙ placed ones another c in omega (arith, at))
     | inr (inl less) ↦ absurd (absent ones others another c d (before c.0 less))
     | inr (inr more) ↦ omega (arith, further ones inc place c.0 more c.1, placed ones another c)
   ]
 
 -- none is among others
-pub all_apart : (ones others : List ℕ) → ((k : ℕ) → k < length ones → is_in others (get_or ones k 0) ≡ false) → AreApart ones others
+pub all_apart : (ones others : List ℕ) → ((k : ℕ) → k < length ones → is_in others (get_or ones k 0) ≡ false)
+    → AreApart ones others
 all_apart ones others none number one other = absent ones others number one other (none one.0 one.1)

@@ -1,5 +1,6 @@
 -- Lists whose items differ, sorted, are in order.
-use Rattle.std.proofs.Common.{◌≡◌, sym, ap, refl, ◌∙◌, ℕ, zero, suc, ◌<◌, ◌≤◌, false, List, [], ◌∷◌, length, get_or, arith}
+use Rattle.std.proofs.Common.{◌≡◌, sym, ap, refl, ◌∙◌, ℕ, zero, suc, ◌<◌, ◌≤◌, false, List, [], ◌∷◌, length, get_or}
+use Rattle.std.proofs.Common.{arith}
 use Rattle.std.specs.List.{All, AllByRecursion, IsDistinct}
 use Rattle.std.specs.List.Sorted.{IsPermutation, IsSortedBy}
 use Rattle.std.specs.declared.cmp.Ordering.{Ordering}
@@ -29,7 +30,8 @@ module _ {K : Type 0} (R : K → K → Ordering) (o : IsTotalOrder R) where
   lower Greater s turned last apart = absurd (cc (ap is_lt turned, last))
 
   lowest : (key : K) (keys : List K) → AllByRecursion (λ other. eq_by_cmp R key other ≡ false) keys
-      → ((j : ℕ) (d : K) → j < length keys → is_lt (R (get_or keys j d) key) ≡ false) → AllByRecursion (λ other. R key other ≡ Less) keys
+      → ((j : ℕ) (d : K) → j < length keys → is_lt (R (get_or keys j d) key) ≡ false)
+      → AllByRecursion (λ other. R key other ≡ Less) keys
   lowest key [] apart last = tt
   lowest key (other ∷ keys) apart last = (
     lower (R key other) (R other key) (o.antisymm other key) (last 0 other (omega arith)) apart.0,
@@ -37,7 +39,8 @@ module _ {K : Type 0} (R : K → K → Ordering) (o : IsTotalOrder R) where
   )
 
   rising : (keys : List K) → IsDistinct (eq_by_cmp R) keys
-      → ((i j : ℕ) (d : K) → i ≤ j → j < length keys → is_lt (R (get_or keys j d) (get_or keys i d)) ≡ false) → IsAscending R keys
+      → ((i j : ℕ) (d : K) → i ≤ j → j < length keys → is_lt (R (get_or keys j d) (get_or keys i d)) ≡ false)
+      → IsAscending R keys
   unfolding IsDistinct
   rising [] apart sorted = tt
   rising (key ∷ keys) apart sorted = (
@@ -46,14 +49,17 @@ module _ {K : Type 0} (R : K → K → Ordering) (o : IsTotalOrder R) where
   )
 
   -- a sorted list of what differs is in order
-  pub IsAscending-sorted : (xs ys : List K) → IsDistinct (eq_by_cmp R) xs → IsPermutation xs ys → IsSortedBy (λ x y. is_lt (R x y)) ys → IsAscending R ys
+  pub IsAscending-sorted : (xs ys : List K) → IsDistinct (eq_by_cmp R) xs → IsPermutation xs ys
+      → IsSortedBy (λ x y. is_lt (R x y)) ys → IsAscending R ys
   IsAscending-sorted xs ys apart moved sorted =
       rising ys (IsDistinct-IsPermutation (eq_by_cmp R) (eq_by_cmp_equiv o).symm xs ys moved apart)
       (sorted_far (λ x y. is_lt (R x y)) (ranks_by o (λ x. x)) ys sorted)
 
   -- so it is the one that has each in its place
-  pub ascending-sorted : IsAntisymmetric R → (xs ys : List K) → IsDistinct (eq_by_cmp R) xs → IsPermutation xs ys → IsSortedBy (λ x y. is_lt (R x y)) ys
+  pub ascending-sorted : IsAntisymmetric R → (xs ys : List K) → IsDistinct (eq_by_cmp R) xs → IsPermutation xs ys
+      → IsSortedBy (λ x y. is_lt (R x y)) ys
       → ys ≡ ascending R xs
   ascending-sorted same xs ys apart moved sorted =
-      IsAscending-unique R o same ys (ascending R xs) (IsAscending-sorted xs ys apart moved sorted) (IsAscending-ascending R o same xs)
+      IsAscending-unique R o same ys (ascending R xs) (IsAscending-sorted xs ys apart moved sorted)
+      (IsAscending-ascending R o same xs)
       (λ q. sym (list_any-IsPermutation (eq_by_cmp R q) xs ys moved) ∙ sym (list_any-ascending R o same q xs))

@@ -19,7 +19,8 @@ use Rattle.report_merge.specs.Finishing.{asks_for_counts, finished_for, recounte
 use Rattle.report_merge.specs.Lawful.{CountsAreAppended}
 
 -- what is kept of sums in place of averages is what is kept of these
-kept_values : (f : Agg → Value) (aggs : List Agg) → map f (map partial_agg aggs) ++ f Count ∷ [] ≡ map f (map partial_agg (with_count aggs))
+kept_values : (f : Agg → Value) (aggs : List Agg) → map f (map partial_agg aggs) ++ f Count
+    ∷ [] ≡ map f (map partial_agg (with_count aggs))
 kept_values f [] = refl
 kept_values f (Count ∷ aggs) = ap (λ rest. f Count ∷ rest) (kept_values f aggs)
 kept_values f (Sum measure ∷ aggs) = ap (λ rest. f (Sum measure) ∷ rest) (kept_values f aggs)
@@ -27,7 +28,8 @@ kept_values f (Min measure ∷ aggs) = ap (λ rest. f (Min measure) ∷ rest) (k
 kept_values f (Max measure ∷ aggs) = ap (λ rest. f (Max measure) ∷ rest) (kept_values f aggs)
 kept_values f (Avg measure ∷ aggs) = ap (λ rest. f (Sum measure) ∷ rest) (kept_values f aggs)
 
-map_map : {X Y Z : Type 0} (g : Y → Z) (f : X → Y) (h : X → Z) → ((x : X) → g (f x) ≡ h x) → (xs : List X) → map g (map f xs) ≡ map h xs
+map_map : {X Y Z : Type 0} (g : Y → Z) (f : X → Y) (h : X → Z) → ((x : X) → g (f x) ≡ h x) → (xs : List X)
+    → map g (map f xs) ≡ map h xs
 map_map g f h each [] = refl
 map_map g f h each (x ∷ xs) = λ i. each x i ∷ map_map g f h each xs i
 
@@ -41,32 +43,44 @@ recounted-answer query dimensions rows =
     let chosen = selected dimensions query.conditions rows in
     let keys = keys_among dimensions query chosen in
     ap (λ all. record { lines = all })
-    (map_map recounted_line (line_of dimensions (partial_query query) chosen) (line_of dimensions (partial_query (counted query)) chosen)
-    (λ key. ap (λ values. record { key = key; values = aggregate Count (rows_of_key dimensions query key chosen) ∷ values })
+    (map_map recounted_line (line_of dimensions (partial_query query) chosen)
+    (line_of dimensions (partial_query (counted query)) chosen)
+    (λ key. ap (λ values. record {
+      key = key;
+      values = aggregate Count (rows_of_key dimensions query key chosen) ∷ values;
+    })
     (kept_values (λ agg. aggregate agg (rows_of_key dimensions query key chosen)) query.aggregates)) keys)
 
 by_case : (query : Query) (dimensions : DimRows) (rows : List LineOrder) → PartialAnswersSuffice → (counts : Bool)
-    → finished (cond counts (counted query) query) (cond counts (recounted (answer (partial_query query) dimensions rows)) (answer (partial_query query) dimensions rows))
+    → finished (cond counts (counted query) query)
+    (cond counts (recounted (answer (partial_query query) dimensions rows))
+    (answer (partial_query query) dimensions rows))
     ≡ answer (cond counts (counted query) query) dimensions rows
 by_case query dimensions rows suffice true =
-    ap (finished (counted query)) (recounted-answer query dimensions rows) ∙ sym (suffice (counted query) dimensions rows).1
+    ap (finished (counted query)) (recounted-answer query dimensions rows)
+    ∙ sym (suffice (counted query) dimensions rows).1
 by_case query dimensions rows suffice false = sym (suffice query dimensions rows).1
 
 pub counts_are_appended : PartialAnswersSuffice → CountsAreAppended
-counts_are_appended suffice layout query dimensions rows = by_case query dimensions rows suffice (asks_for_counts layout query)
+counts_are_appended suffice layout query dimensions rows =
+    by_case query dimensions rows suffice (asks_for_counts layout query)
 
 abbrev answer_with : List Line → Answer
 answer_with lines = record { lines = lines }
 
 chosen_lines : (counts : Bool) (lines : List Line)
-    → answer_with (cond counts (map recounted_line lines) lines) ≡ cond counts (recounted (answer_with lines)) (answer_with lines)
+    → answer_with (cond counts (map recounted_line lines) lines) ≡ cond counts (recounted (answer_with lines))
+    (answer_with lines)
 chosen_lines true lines = refl
 chosen_lines false lines = refl
 
 -- what is finished of lines, with their counts where these are asked for
-pub done : (layout : Layout) (query asked : Query) (counts : Bool) (lines all : List Line) (found : Answer) → asked ≡ query_for layout query
-    → counts ≡ asks_for_counts layout query → all ≡ cond counts (map recounted_line lines) lines → found ≡ finished asked (record { lines = all })
+pub done : (layout : Layout) (query asked : Query) (counts : Bool) (lines all : List Line) (found : Answer)
+    → asked ≡ query_for layout query
+    → counts ≡ asks_for_counts layout query → all ≡ cond counts (map recounted_line lines) lines
+    → found ≡ finished asked (record { lines = all })
     → found ≡ finished_for layout query (record { lines = lines })
 done layout query asked counts lines all found asked_is counts_is all_is found_is =
     found_is ∙ (λ i. finished (asked_is i) (record { lines = all_is i }))
-    ∙ ap (finished (query_for layout query)) (ap (λ b. answer_with (cond b (map recounted_line lines) lines)) counts_is ∙ chosen_lines (asks_for_counts layout query) lines)
+    ∙ ap (finished (query_for layout query)) (ap (λ b. answer_with (cond b (map recounted_line lines) lines)) counts_is
+    ∙ chosen_lines (asks_for_counts layout query) lines)

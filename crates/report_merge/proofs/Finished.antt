@@ -1,5 +1,6 @@
 -- Merged lines that can be finished are.
-use Rattle.std.proofs.Common.{◌≡◌, ◌∙◌, sym, ap, refl, subst, ℤ, pos, ◌≤ℤ◌, Bool, true, false, cond, List, [], ◌∷◌, ◌++◌, map, inl, inr, arith}
+use Rattle.std.proofs.Common.{◌≡◌, ◌∙◌, sym, ap, refl, subst, ℤ, pos, ◌≤ℤ◌, Bool, true, false, cond, List, [], ◌∷◌}
+use Rattle.std.proofs.Common.{◌++◌, map, inl, inr, arith}
 use Rattle.std.specs.List.{AllByRecursion}
 use Rattle.std.proofs.lemmas.Int.{ints}
 use Rattle.cube_model.specs.declared.answer.Answer.{Answer}
@@ -10,7 +11,8 @@ use Rattle.cube_model.specs.declared.fault.Fault.TheVariants.{Memory}
 use Rattle.cube_model.specs.declared.measure.Agg.{Agg}
 use Rattle.cube_model.specs.declared.measure.Agg.TheVariants.{Count}
 use Rattle.cube_model.specs.declared.query.Query.{Query}
-use Rattle.answer_merge.specs.Finishing.{CanBeFinished, CountsNoRow, CountsRows, FinishRefuses, IsPastRange, LineRefuses}
+use Rattle.answer_merge.specs.Finishing.{CanBeFinished, CountsNoRow, CountsRows, FinishRefuses, IsPastRange}
+use Rattle.answer_merge.specs.Finishing.{LineRefuses}
 use Rattle.answer_merge.specs.Parts.{value_number}
 use Rattle.answer_merge.specs.Readable.{IsWholeNumber}
 use Rattle.report_formats.specs.declared.layout.Layout.{Layout}
@@ -26,17 +28,22 @@ abbrev IsFine : Line → Type 0
 IsFine line = CountsRows line.values × AllByRecursion IsWholeNumber line.values
 
 lines_for : (counts : Bool) (lines : List Line)
-    → (cond counts (recounted (answer_with lines)) (answer_with lines)).lines ≡ cond counts (map recounted_line lines) lines
+    → (cond counts (recounted (answer_with lines)) (answer_with lines)).lines ≡ cond counts (map recounted_line lines)
+    lines
 lines_for true lines = refl
 lines_for false lines = refl
 
 -- lines that are refused are those of what is asked for
-pub refused_for : (layout : Layout) (query asked : Query) (counts : Bool) (lines all : List Line) (fault : Fault) → asked ≡ query_for layout query
-    → counts ≡ asks_for_counts layout query → all ≡ cond counts (map recounted_line lines) lines → FinishRefuses asked.aggregates all fault
-    → FinishRefuses (query_for layout query).aggregates (partial_for layout query (record { lines = lines })).lines fault
+pub refused_for : (layout : Layout) (query asked : Query) (counts : Bool) (lines all : List Line) (fault : Fault)
+    → asked ≡ query_for layout query
+    → counts ≡ asks_for_counts layout query → all ≡ cond counts (map recounted_line lines) lines
+    → FinishRefuses asked.aggregates all fault
+    → FinishRefuses (query_for layout query).aggregates (partial_for layout query (record { lines = lines })).lines
+    fault
 refused_for layout query asked counts lines all fault asked_is counts_is all_is refused =
     let same : all ≡ (partial_for layout query (answer_with lines)).lines =
-    all_is ∙ ap (λ b. cond b (map recounted_line lines) lines) counts_is ∙ sym (lines_for (asks_for_counts layout query) lines) in
+    all_is ∙ ap (λ b. cond b (map recounted_line lines) lines) counts_is
+    ∙ sym (lines_for (asks_for_counts layout query) lines) in
     subst (λ (found : List Line). FinishRefuses (query_for layout query).aggregates found fault) same
     (subst (λ (one : Query). FinishRefuses one.aggregates all fault) asked_is refused)
 
@@ -47,7 +54,8 @@ no_row : (values : List Value) → CountsRows values → CountsNoRow values → 
 no_row [] some none = none
 no_row (count ∷ kept) some none = some_row (value_number count) some none
 
-not_past : (fault : Fault) (aggs : List Agg) (values : List Value) → AllByRecursion IsWholeNumber values → IsPastRange fault aggs values → ⊥
+not_past : (fault : Fault) (aggs : List Agg) (values : List Value) → AllByRecursion IsWholeNumber values
+    → IsPastRange fault aggs values → ⊥
 not_past fault [] values all past = past
 not_past fault (agg ∷ aggs) [] all past = past
 not_past fault (agg ∷ aggs) (value ∷ values) all (inl here) = here.1 all.0
@@ -57,12 +65,14 @@ fine_line : (aggs : List Agg) (fault : Fault) (line : Line) → IsFine line → 
 fine_line aggs fault line fine (inl none) = no_row line.values fine.0 none.1
 fine_line aggs fault line fine (inr past) = not_past fault (Count ∷ aggs) line.values fine.1 past
 
-fine_lines : (aggs : List Agg) (lines : List Line) (fault : Fault) → AllByRecursion IsFine lines → FinishRefuses aggs lines fault → fault ≡ Memory
+fine_lines : (aggs : List Agg) (lines : List Line) (fault : Fault) → AllByRecursion IsFine lines
+    → FinishRefuses aggs lines fault → fault ≡ Memory
 fine_lines aggs lines fault all (inl memory) = memory
 fine_lines aggs lines fault all (inr any) =
     absurd (fine_line aggs fault any.1 (subst IsFine any.3 (at_each IsFine lines all any.0 any.1 any.2)) any.4)
 
-all_whole : (xs ys : List Value) → AllByRecursion IsWholeNumber xs → AllByRecursion IsWholeNumber ys → AllByRecursion IsWholeNumber (xs ++ ys)
+all_whole : (xs ys : List Value) → AllByRecursion IsWholeNumber xs → AllByRecursion IsWholeNumber ys
+    → AllByRecursion IsWholeNumber (xs ++ ys)
 all_whole [] ys one other = other
 all_whole (x ∷ xs) ys one other = (one.0, all_whole xs ys one.1 other)
 
@@ -75,12 +85,14 @@ all_again : (lines : List Line) → AllByRecursion IsFine lines → AllByRecursi
 all_again [] all = tt
 all_again (line ∷ lines) all = (fine_again line.values all.0.0 all.0.1, all_again lines all.1)
 
-fine_for : (counts : Bool) (lines : List Line) → AllByRecursion IsFine lines → AllByRecursion IsFine (cond counts (map recounted_line lines) lines)
+fine_for : (counts : Bool) (lines : List Line) → AllByRecursion IsFine lines
+    → AllByRecursion IsFine (cond counts (map recounted_line lines) lines)
 fine_for true lines all = all_again lines all
 fine_for false lines all = all
 
 -- lines that can be finished are refused for memory only
-pub fine_memory : (aggs : List Agg) (counts : Bool) (lines all : List Line) (fault : Fault) → all ≡ cond counts (map recounted_line lines) lines
+pub fine_memory : (aggs : List Agg) (counts : Bool) (lines all : List Line) (fault : Fault)
+    → all ≡ cond counts (map recounted_line lines) lines
     → CanBeFinished (record { lines = lines }) → FinishRefuses aggs all fault → fault ≡ Memory
 fine_memory aggs counts lines all fault all_is can refused =
     fine_lines aggs all fault (subst (AllByRecursion IsFine) (sym all_is) (fine_for counts lines can)) refused

@@ -1,5 +1,6 @@
 -- Words as they were given tell what they say, so that they spell one query.
-use Rattle.std.proofs.Common.{◌≡◌, ◌∙◌, sym, ap, refl, subst, ℕ, Result, Ok, Err, IfOk, Bool, true, false, cond, Option, Some, None, List, [], ◌∷◌, ◌++◌, map, append-nil}
+use Rattle.std.proofs.Common.{◌≡◌, ◌∙◌, sym, ap, refl, subst, ℕ, Result, Ok, Err, IfOk, Bool, true, false, cond, Option}
+use Rattle.std.proofs.Common.{Some, None, List, [], ◌∷◌, ◌++◌, map, append-nil}
 use Rattle.cube_model.specs.declared.query.Query.{Query}
 use Rattle.partial_reports.specs.declared.words.Word.{Word}
 use Rattle.partial_reports.specs.declared.words.WordKind.{WordKind}
@@ -41,10 +42,12 @@ taken : (kind : WordKind) (word : Option (List ℕ)) (rest : List Word) → is_k
 taken kind None rest e = refl
 taken kind (Some text) rest e = ap (λ b. cond b (text ∷ texts_of kind rest) (texts_of kind rest)) e
 
-no_condition : (kind : WordKind) (texts : List (List ℕ)) → is_kind kind If ≡ false → texts_of kind (conditions_given texts) ≡ []
+no_condition : (kind : WordKind) (texts : List (List ℕ)) → is_kind kind If ≡ false
+    → texts_of kind (conditions_given texts) ≡ []
 no_condition kind [] e = refl
 no_condition kind (text ∷ texts) e =
-    ap (λ b. cond b (text ∷ texts_of kind (conditions_given texts)) (texts_of kind (conditions_given texts))) e ∙ no_condition kind texts e
+    ap (λ b. cond b (text ∷ texts_of kind (conditions_given texts)) (texts_of kind (conditions_given texts))) e
+    ∙ no_condition kind texts e
 
 all_conditions : (texts : List (List ℕ)) → texts_of If (conditions_given texts) ≡ texts
 all_conditions [] = refl
@@ -75,65 +78,85 @@ module _ (words : Words) where
   q_of : texts_of Q given ≡ listed words.q
   q_of =
       taken Q words.q set_given refl
-      ∙ ap (λ rest. listed words.q ++ rest) (passed Q Set words.set by_given refl ∙ passed Q By words.by agg_given refl ∙ passed Q Agg words.agg if_given refl
+      ∙ ap (λ rest. listed words.q ++ rest) (passed Q Set words.set by_given refl ∙ passed Q By words.by agg_given refl
+      ∙ passed Q Agg words.agg if_given refl
       ∙ no_condition Q words.conditions refl)
       ∙ append-nil (listed words.q)
 
   set_of : texts_of Set given ≡ listed words.set
   set_of =
       passed Set Q words.q set_given refl ∙ taken Set words.set by_given refl
-      ∙ ap (λ rest. listed words.set ++ rest) (passed Set By words.by agg_given refl ∙ passed Set Agg words.agg if_given refl ∙ no_condition Set words.conditions refl)
+      ∙ ap (λ rest. listed words.set ++ rest)
+      (passed Set By words.by agg_given refl ∙ passed Set Agg words.agg if_given refl
+      ∙ no_condition Set words.conditions refl)
       ∙ append-nil (listed words.set)
 
   by_of : texts_of By given ≡ listed words.by
   by_of =
       passed By Q words.q set_given refl ∙ passed By Set words.set by_given refl ∙ taken By words.by agg_given refl
-      ∙ ap (λ rest. listed words.by ++ rest) (passed By Agg words.agg if_given refl ∙ no_condition By words.conditions refl)
+      ∙ ap (λ rest. listed words.by ++ rest)
+      (passed By Agg words.agg if_given refl ∙ no_condition By words.conditions refl)
       ∙ append-nil (listed words.by)
 
   agg_of : texts_of Agg given ≡ listed words.agg
   agg_of =
-      passed Agg Q words.q set_given refl ∙ passed Agg Set words.set by_given refl ∙ passed Agg By words.by agg_given refl ∙ taken Agg words.agg if_given refl
+      passed Agg Q words.q set_given refl ∙ passed Agg Set words.set by_given refl
+      ∙ passed Agg By words.by agg_given refl ∙ taken Agg words.agg if_given refl
       ∙ ap (λ rest. listed words.agg ++ rest) (no_condition Agg words.conditions refl)
       ∙ append-nil (listed words.agg)
 
   if_of : texts_of If given ≡ words.conditions
   if_of =
-      passed If Q words.q set_given refl ∙ passed If Set words.set by_given refl ∙ passed If By words.by agg_given refl ∙ passed If Agg words.agg if_given refl
+      passed If Q words.q set_given refl ∙ passed If Set words.set by_given refl ∙ passed If By words.by agg_given refl
+      ∙ passed If Agg words.agg if_given refl
       ∙ all_conditions words.conditions
 
 -- words that were given alike are the same
-pub same_words : (one other : Words) → words_given one.q one.set one.by one.agg one.conditions ≡ words_given other.q other.set other.by other.agg other.conditions
+pub same_words : (one other : Words) → words_given one.q one.set one.by one.agg one.conditions
+    ≡ words_given other.q other.set other.by other.agg other.conditions
     → one ≡ other
 same_words one other e =
     let q : one.q ≡ other.q = listed_alike one.q other.q (sym (q_of one) ∙ ap (texts_of Q) e ∙ q_of other) in
-    let set : one.set ≡ other.set = listed_alike one.set other.set (sym (set_of one) ∙ ap (texts_of Set) e ∙ set_of other) in
+    let set : one.set ≡ other.set =
+    listed_alike one.set other.set (sym (set_of one) ∙ ap (texts_of Set) e ∙ set_of other) in
     let by : one.by ≡ other.by = listed_alike one.by other.by (sym (by_of one) ∙ ap (texts_of By) e ∙ by_of other) in
-    let agg : one.agg ≡ other.agg = listed_alike one.agg other.agg (sym (agg_of one) ∙ ap (texts_of Agg) e ∙ agg_of other) in
+    let agg : one.agg ≡ other.agg =
+    listed_alike one.agg other.agg (sym (agg_of one) ∙ ap (texts_of Agg) e ∙ agg_of other) in
     let conditions : one.conditions ≡ other.conditions = sym (if_of one) ∙ ap (texts_of If) e ∙ if_of other in
     λ i. record { q = q i; set = set i; by = by i; agg = agg i; conditions = conditions i }
 
 -- words that were given spell one query
-pub one_query : SpellOneQuery → (list : List Word) (one other : Query) → SpellsWords list one → SpellsWords list other → one ≡ other
+pub one_query : SpellOneQuery → (list : List Word) (one other : Query) → SpellsWords list one → SpellsWords list other
+    → one ≡ other
 one_query law list one other first second =
     let same : first.words ≡ second.words = same_words first.words second.words (sym first.are ∙ second.are) in
     law first.words one other first.spelled (subst (λ words. SpellsQuery words other) (sym same) second.spelled)
 
 -- a query that words spell, once it is found to be one that may be asked
 pub spelled_if : {E : Type 0} (found : Result Query E) (list : List Word) (words : Words) (query : Query)
-    → list ≡ words_given words.q words.set words.by words.agg words.conditions → AreUtf8 list → SpellsQuery words query → IfOk found (λ one. one ≡ query) → IfOk found IsProper
+    → list ≡ words_given words.q words.set words.by words.agg words.conditions → AreUtf8 list → SpellsQuery words query
+    → IfOk found (λ one. one ≡ query) → IfOk found IsProper
     → IfOk found (SpellsWords list)
 spelled_if (Ok one) list words query are utf8 spelled same asked =
-    record { words = words; utf8 = utf8; are = are; spelled = subst (SpellsQuery words) (sym same) spelled; asked = asked }
+    record {
+      words = words;
+      utf8 = utf8;
+      are = are;
+      spelled = subst (SpellsQuery words) (sym same) spelled;
+      asked = asked;
+    }
 spelled_if (Err refused) list words query are utf8 spelled same asked = tt
 
 -- words that spell a query as they were given spell the one that is read of them
-pub read_of_words : SpellOneQuery → (list : List Word) (words : Words) (query other : Query) → list ≡ words_given words.q words.set words.by words.agg words.conditions
+pub read_of_words : SpellOneQuery → (list : List Word) (words : Words) (query other : Query)
+    → list ≡ words_given words.q words.set words.by words.agg words.conditions
     → SpellsQuery words query → SpellsWords list other → other ≡ query
 read_of_words law list words query other are spelled spells =
     let same : words ≡ spells.words = same_words words spells.words (sym are ∙ spells.are) in
     law words other query (subst (λ (w : Words). SpellsQuery w other) (sym same) spells.spelled) spelled
 
-pub spelled_by : (list : List Word) (words : Words) (other : Query) → list ≡ words_given words.q words.set words.by words.agg words.conditions
+pub spelled_by : (list : List Word) (words : Words) (other : Query)
+    → list ≡ words_given words.q words.set words.by words.agg words.conditions
     → SpellsWords list other → SpellsQuery words other
-spelled_by list words other are spells = subst (λ (w : Words). SpellsQuery w other) (same_words spells.words words (sym spells.are ∙ are)) spells.spelled
+spelled_by list words other are spells =
+    subst (λ (w : Words). SpellsQuery w other) (same_words spells.words words (sym spells.are ∙ are)) spells.spelled

@@ -1,5 +1,6 @@
 -- A part with one more.
-use Rattle.std.proofs.Common.{◌≡◌, ◌∙◌, sym, ap, refl, subst, None, ℕ, ◌<◌, true, List, ◌++◌, length, length-append, arith}
+use Rattle.std.proofs.Common.{◌≡◌, ◌∙◌, sym, ap, refl, subst, None, ℕ, ◌<◌, true, List, ◌++◌, length, length-append}
+use Rattle.std.proofs.Common.{arith}
 use Rattle.std.specs.Prelude.{◌&&◌, nat_le, nat_lt}
 use Rattle.std.specs.List.{list_all}
 use Rattle.std.specs.List.Sorted.{IsPermutation}
@@ -30,14 +31,18 @@ is_some : (n : ℕ) → 0 < n → nat_lt 0 n ≡ true
 is_some n h = grind (arith, nat_tests)
 
 -- a proper head is so with more numbers that ascend
-pub proper_on : (head : Head) (others numbers : List ℕ) → is_proper head ≡ true → IsPermutation (head.numbers ++ others) numbers
-    → ascend_between 0 head.parts numbers ≡ true → is_proper (record { numbers = numbers; parts = head.parts; words = head.words }) ≡ true
+pub proper_on : (head : Head) (others numbers : List ℕ) → is_proper head ≡ true
+    → IsPermutation (head.numbers ++ others) numbers
+    → ascend_between 0 head.parts numbers ≡ true
+    → is_proper (record { numbers = numbers; parts = head.parts; words = head.words }) ≡ true
 proper_on head others numbers proper moved ascend =
     let halves = both (are_parts head.parts head.numbers) (list_all is_short_word head.words) proper in
-    let few = both (nat_le head.parts most_parts) (nat_lt 0 (length head.numbers) && ascend_between 0 head.parts head.numbers) halves.first in
+    let few = both (nat_le head.parts most_parts)
+    (nat_lt 0 (length head.numbers) && ascend_between 0 head.parts head.numbers) halves.first in
     let any = both (nat_lt 0 (length head.numbers)) (ascend_between 0 head.parts head.numbers) few.second in
     let before : 0 < length head.numbers = some (length head.numbers) any.first in
-    let after : 0 < length numbers = omega (arith, length_permutation (head.numbers ++ others) numbers moved, length-append head.numbers others) in
+    let after : 0 < length numbers =
+    omega (arith, length_permutation (head.numbers ++ others) numbers moved, length-append head.numbers others) in
     joined (are_parts head.parts numbers) (list_all is_short_word head.words)
     (joined (nat_le head.parts most_parts) (nat_lt 0 (length numbers) && ascend_between 0 head.parts numbers) few.first
     (joined (nat_lt 0 (length numbers)) (ascend_between 0 head.parts numbers) (is_some (length numbers) after) ascend))
@@ -50,9 +55,12 @@ pub record IsRead (partial : Query) (report : List ℕ) (answer : Answer) : Type
   pub rising : IsAscending (answer_cmp None) answer.lines
 
 -- a text that was read is the partial report of a part
-pub is_report : (text : List ℕ) (head : Head) (digest : List ℕ) (query partial : Query) (report : List ℕ) (answer : Answer)
-    → text ≡ head_text head digest ++ report → is_proper head ≡ true → IsDigest digest → SpellsWords head.words query → partial ≡ partial_query query
-    → IsRead partial report answer → IsPartialReport text (record { head = head; digest = digest; query = query; answer = answer })
+pub is_report : (text : List ℕ) (head : Head) (digest : List ℕ) (query partial : Query) (report : List ℕ)
+    (answer : Answer)
+    → text ≡ head_text head digest ++ report → is_proper head ≡ true → IsDigest digest → SpellsWords head.words query
+    → partial ≡ partial_query query
+    → IsRead partial report answer
+    → IsPartialReport text (record { head = head; digest = digest; query = query; answer = answer })
 is_report text head digest query partial report answer spelled proper is words partial_is read = record {
   proper = proper;
   digest = is;
@@ -63,15 +71,20 @@ is_report text head digest query partial report answer spelled proper is words p
 }
 
 -- the same with its lines as they are merged
-pub first_report : (text : List ℕ) (head : Head) (digest : List ℕ) (query partial : Query) (report : List ℕ) (answer : Answer) (lines : List WideLine)
-    → text ≡ head_text head digest ++ report → is_proper head ≡ true → IsDigest digest → SpellsWords head.words query → partial ≡ partial_query query
+pub first_report : (text : List ℕ) (head : Head) (digest : List ℕ) (query partial : Query) (report : List ℕ)
+    (answer : Answer) (lines : List WideLine)
+    → text ≡ head_text head digest ++ report → is_proper head ≡ true → IsDigest digest → SpellsWords head.words query
+    → partial ≡ partial_query query
     → IsRead partial report answer → lines_of lines ≡ answer.lines
-    → IsPartialReport text (record { head = head; digest = digest; query = query; answer = record { lines = lines_of lines } })
+    → IsPartialReport text
+    (record { head = head; digest = digest; query = query; answer = record { lines = lines_of lines } })
 first_report text head digest query partial report answer lines spelled proper is words partial_is read same =
-    subst (λ all. IsPartialReport text (record { head = head; digest = digest; query = query; answer = record { lines = all } })) (sym same)
+    subst (λ all. IsPartialReport text
+    (record { head = head; digest = digest; query = query; answer = record { lines = all } })) (sym same)
     (is_report text head digest query partial report answer spelled proper is words partial_is read)
 
-pub first_kept : (head : Head) (digest : List ℕ) (query partial : Query) (report : List ℕ) (answer : Answer) (lines : List WideLine)
+pub first_kept : (head : Head) (digest : List ℕ) (query partial : Query) (report : List ℕ) (answer : Answer)
+    (lines : List WideLine)
     → is_proper head ≡ true → IsDigest digest → SpellsWords head.words query → partial ≡ partial_query query
     → IsRead partial report answer → lines_of lines ≡ answer.lines → IsKept head digest query partial lines
 first_kept head digest query partial report answer lines proper is words partial_is read same = record {
@@ -83,14 +96,17 @@ first_kept head digest query partial report answer lines proper is words partial
 }
 
 -- what was read of one more partial report
-pub one_more : (start : Part) (text : List ℕ) (head : Head) (digest : List ℕ) (partial : Query) (report numbers : List ℕ) (answer : Answer) (own : List WideLine)
+pub one_more : (start : Part) (text : List ℕ) (head : Head) (digest : List ℕ) (partial : Query)
+    (report numbers : List ℕ) (answer : Answer) (own : List WideLine)
     → IsKept start.head start.digest start.query partial own
     → text ≡ head_text head digest ++ report → is_proper head ≡ true → IsAlike start.head start.digest head digest
-    → IsPermutation (start.head.numbers ++ head.numbers) numbers → ascend_between 0 start.head.parts numbers ≡ true → IsRead partial report answer
+    → IsPermutation (start.head.numbers ++ head.numbers) numbers → ascend_between 0 start.head.parts numbers ≡ true
+    → IsRead partial report answer
     → IsMore start text numbers answer
 one_more start text head digest partial report numbers answer own kept spelled proper alike moved ascend read = record {
   other = record { head = head; digest = digest; query = start.query; answer = answer };
-  report = is_report text head digest start.query partial report answer spelled proper (subst IsDigest (sym alike.dimensions) kept.digest_is)
+  report = is_report text head digest start.query partial report answer spelled proper
+      (subst IsDigest (sym alike.dimensions) kept.digest_is)
       (subst (λ words. SpellsWords words start.query) (sym alike.words) kept.words) kept.partial_is read;
   alike = record { words = alike.words; parts = alike.parts; dimensions = alike.dimensions; query = refl };
   moved = moved;
@@ -100,9 +116,12 @@ one_more start text head digest partial report numbers answer own kept spelled p
 }
 
 -- a part with the lines of one more
-pub added : (start : Part) (text : List ℕ) (partial : Query) (numbers : List ℕ) (answer : Answer) (own lines : List WideLine)
-    → start.answer ≡ record { lines = lines_of own } → partial ≡ partial_query start.query → IsMore start text numbers answer
-    → lines_of lines ≡ (merged_answer partial (record { lines = lines_of own }) answer).lines → Adds start text (with_lines start numbers lines)
+pub added : (start : Part) (text : List ℕ) (partial : Query) (numbers : List ℕ) (answer : Answer)
+    (own lines : List WideLine)
+    → start.answer ≡ record { lines = lines_of own } → partial ≡ partial_query start.query
+    → IsMore start text numbers answer
+    → lines_of lines ≡ (merged_answer partial (record { lines = lines_of own }) answer).lines
+    → Adds start text (with_lines start numbers lines)
 added start text partial numbers answer own lines start_is partial_is more merged = record {
   other = more.other;
   report = more.report;
@@ -111,14 +130,17 @@ added start text partial numbers answer own lines start_is partial_is more merge
     same = record { words = refl; parts = refl; dimensions = refl; query = refl };
     proper = more.proper;
     numbers = more.moved;
-    answer = ap (λ all. record { lines = all }) merged ∙ (λ i. merged_answer (partial_is i) (sym start_is i) (more.answer_is i));
+    answer = ap (λ all. record { lines = all }) merged
+        ∙ (λ i. merged_answer (partial_is i) (sym start_is i) (more.answer_is i));
   };
 }
 
 -- what is kept with it
-pub still_kept : (start : Part) (text : List ℕ) (partial : Query) (numbers : List ℕ) (answer : Answer) (own lines : List WideLine)
+pub still_kept : (start : Part) (text : List ℕ) (partial : Query) (numbers : List ℕ) (answer : Answer)
+    (own lines : List WideLine)
     → IsKept start.head start.digest start.query partial own → IsMore start text numbers answer → Rise lines
-    → IsKept (record { numbers = numbers; parts = start.head.parts; words = start.head.words }) start.digest start.query partial lines
+    → IsKept (record { numbers = numbers; parts = start.head.parts; words = start.head.words }) start.digest start.query
+    partial lines
 still_kept start text partial numbers answer own lines kept more rise = record {
   proper = more.proper;
   digest_is = kept.digest_is;

@@ -13,18 +13,21 @@ use Rattle.partial_reports.specs.declared.words.Word.{Word}
 use Rattle.partial_reports.specs.Head.{are_parts, ascend_between, is_proper, is_short_word, most_parts, words_given}
 use Rattle.partial_reports.specs.HeadLaws.{HeadsReadBack}
 use Rattle.query_words.specs.declared.refused.Refused.{Refused as Unspelled}
-use Rattle.query_words.specs.declared.refused.Refused.TheVariants.{Memory as NoMemoryForWords, NothingAsked, NotAlone, NoAggregate, NoColumn, Unknown, Wrong, TooMany}
+use Rattle.query_words.specs.declared.refused.Refused.TheVariants.{Memory as NoMemoryForWords, NothingAsked, NotAlone}
+use Rattle.query_words.specs.declared.refused.Refused.TheVariants.{NoAggregate, NoColumn, Unknown, Wrong, TooMany}
 use Rattle.query_words.specs.Laws.{SpellOneQuery}
 use Rattle.query_words.specs.Mistakes.{IsMistakeOf}
 use Rattle.query_words.specs.Reading.{Reads}
 use Rattle.query_words.specs.Words.{SpellsProper, Words}
 use Rattle.ssb_reports.specs.Report.{report_of}
 use Rattle.report_merge.specs.declared.refused.Refused.{Refused}
-use Rattle.report_merge.specs.declared.refused.Refused.TheVariants.{Memory, Input, At, OtherWords, OtherParts, OtherDimensions, Twice}
+use Rattle.report_merge.specs.declared.refused.Refused.TheVariants.{Memory, Input, At, OtherWords, OtherParts}
+use Rattle.report_merge.specs.declared.refused.Refused.TheVariants.{OtherDimensions, Twice}
 use Rattle.report_merge.specs.Given.{no_query, unspelled}
 use Rattle.report_merge.specs.Lawful.{PartialReportsAreOfOnePart}
 use Rattle.report_merge.specs.Merging.{Adds, AreOfOne, IsMergeOf, IsPartialReport, Part, SpellsWords}
-use Rattle.report_merge.specs.Refusals.{AddRefuses, AreApart, BeginsWith, IsAlike, IsLeastOfBoth, IsUnlike, NewRefuses, NumbersRefuse, WordsRefuse, refused_of}
+use Rattle.report_merge.specs.Refusals.{AddRefuses, AreApart, BeginsWith, IsAlike, IsLeastOfBoth, IsUnlike, NewRefuses}
+use Rattle.report_merge.specs.Refusals.{NumbersRefuse, WordsRefuse, refused_of}
 use Rattle.report_merge.proofs.Gaps.{both}
 use Rattle.report_merge.proofs.Given.{one_query, spelled_by}
 use Rattle.report_merge.proofs.Grown.{IsRead}
@@ -32,27 +35,37 @@ use Rattle.report_merge.proofs.Grown.{IsRead}
 -- a text is the partial report of one part
 pub one_part : HeadsReadBack → SpellOneQuery → ReportsReadBack → PartialReportsAreOfOnePart
 one_part heads words reports text one other p q =
-    let read = heads one.head other.head one.digest other.digest (report_of (partial_query one.query) one.answer) (report_of (partial_query other.query) other.answer)
+    let read = heads one.head other.head one.digest other.digest (report_of (partial_query one.query) one.answer)
+    (report_of (partial_query other.query) other.answer)
     p.proper q.proper p.digest q.digest (sym p.spelled ∙ q.spelled) in
-    let query : one.query ≡ other.query = one_query words one.head.words one.query other.query p.words (subst (λ (head : Head). SpellsWords head.words other.query) (sym read.0) q.words) in
-    let readable : IsReadableAnswer (partial_query one.query) other.answer = subst (λ (asked : Query). IsReadableAnswer (partial_query asked) other.answer) (sym query) q.readable in
+    let query : one.query ≡ other.query =
+    one_query words one.head.words one.query other.query p.words
+    (subst (λ (head : Head). SpellsWords head.words other.query) (sym read.0) q.words) in
+    let readable : IsReadableAnswer (partial_query one.query) other.answer =
+    subst (λ (asked : Query). IsReadableAnswer (partial_query asked) other.answer) (sym query) q.readable in
     let answers = reports (partial_query one.query) one.answer other.answer p.readable readable
     (read.2 ∙ ap (λ (asked : Query). report_of (partial_query asked) other.answer) (sym query)) in
     λ i. record { head = read.0 i; digest = read.1 i; query = query i; answer = answers i }
 
 -- a text that is not read is no first part, where it is read if it is a partial report
-pub new_unread : (text : List ℕ) (refused : Refused) (was : Unread) → ((part : Part) → IsPartialReport text part → was ≡ NoMemory) → refused ≡ refused_of was
+pub new_unread : (text : List ℕ) (refused : Refused) (was : Unread)
+    → ((part : Part) → IsPartialReport text part → was ≡ NoMemory) → refused ≡ refused_of was
     → NewRefuses text refused
 new_unread text refused NoMemory none is = subst (NewRefuses text) (sym is) tt
-new_unread text refused (WrongAt line wrong) none is = subst (NewRefuses text) (sym is) (λ part report. let e : WrongAt line wrong ≡ NoMemory = none part report in cc)
+new_unread text refused (WrongAt line wrong) none is =
+    subst (NewRefuses text) (sym is) (λ part report. let e : WrongAt line wrong ≡ NoMemory = none part report in cc)
 
-pub add_unread : (start : Part) (text : List ℕ) (refused : Refused) (was : Unread) → ((part : Part) → IsPartialReport text part → was ≡ NoMemory)
+pub add_unread : (start : Part) (text : List ℕ) (refused : Refused) (was : Unread)
+    → ((part : Part) → IsPartialReport text part → was ≡ NoMemory)
     → refused ≡ refused_of was → AddRefuses start text refused
 add_unread start text refused NoMemory none is = subst (AddRefuses start text) (sym is) tt
-add_unread start text refused (WrongAt line wrong) none is = subst (AddRefuses start text) (sym is) (λ part report. let e : WrongAt line wrong ≡ NoMemory = none part report in cc)
+add_unread start text refused (WrongAt line wrong) none is =
+    subst (AddRefuses start text) (sym is)
+    (λ part report. let e : WrongAt line wrong ≡ NoMemory = none part report in cc)
 
 -- words that spell a query are refused for memory only
-pub words_memory : (words : List Word) (refused : Refused) (query : Query) → WordsRefuse words refused → SpellsWords words query → refused ≡ Memory
+pub words_memory : (words : List Word) (refused : Refused) (query : Query) → WordsRefuse words refused
+    → SpellsWords words query → refused ≡ Memory
 words_memory words Memory query is spelled = refl
 words_memory words Input query is spelled = absurd is
 words_memory words (At line wrong) query is spelled = absurd (is query spelled)
@@ -65,7 +78,9 @@ words_memory words (Twice number) query is spelled = absurd is
 pub words_refused : (words : List Word) (refused : Refused) → (refused ≡ Memory) ⊎ (refused ≡ no_query)
     → ((query : Query) → SpellsWords words query → refused ≡ Memory) → WordsRefuse words refused
 words_refused words refused (inl memory) none = subst (WordsRefuse words) (sym memory) tt
-words_refused words refused (inr wrong) none = subst (WordsRefuse words) (sym wrong) (λ query spelled. let e : no_query ≡ Memory = sym wrong ∙ none query spelled in cc)
+words_refused words refused (inr wrong) none =
+    subst (WordsRefuse words) (sym wrong) (λ query spelled. let e : no_query ≡ Memory = sym wrong
+    ∙ none query spelled in cc)
 
 -- words that are not read spell no query
 unspelled_either : (was : Unspelled) → (unspelled was ≡ Memory) ⊎ (unspelled was ≡ no_query)
@@ -84,7 +99,8 @@ pub unread_words : (given : List Word) (words : Words) (refused : Refused) (was 
 unread_words given words refused was are (inl memory) is = subst (WordsRefuse given) (sym (is ∙ ap unspelled memory)) tt
 unread_words given words refused was are (inr wrong) is =
     let either = subst (λ (one : Refused). (one ≡ Memory) ⊎ (one ≡ no_query)) (sym is) (unspelled_either was) in
-    words_refused given refused either (λ query spells. absurd (wrong.1 query (spelled_by given words query are spells, spells.asked)))
+    words_refused given refused either
+    (λ query spells. absurd (wrong.1 query (spelled_by given words query are spells, spells.asked)))
 
 -- a text whose words are refused is no first part
 pub new_words : (text : List ℕ) (words : List Word) (refused : Refused) → WordsRefuse words refused
@@ -98,7 +114,8 @@ new_words text words OtherDimensions is spelled = absurd is
 new_words text words (Twice number) is spelled = absurd is
 
 -- a head that is not alike
-pub add_unlike : (start : Part) (text : List ℕ) (head : Head) (digest : List ℕ) (refused : Refused) → BeginsWith text head digest
+pub add_unlike : (start : Part) (text : List ℕ) (head : Head) (digest : List ℕ) (refused : Refused)
+    → BeginsWith text head digest
     → IsUnlike start.head start.digest head digest refused → AddRefuses start text refused
 add_unlike start text head digest Memory begins is = absurd is
 add_unlike start text head digest Input begins is = absurd is
@@ -109,8 +126,10 @@ add_unlike start text head digest OtherDimensions begins is = (head, digest, beg
 add_unlike start text head digest (Twice number) begins is = absurd is
 
 -- numbers that are in already
-pub add_numbers : (start : Part) (text : List ℕ) (head : Head) (digest ones others : List ℕ) (refused : Refused) → BeginsWith text head digest
-    → IsAlike start.head start.digest head digest → ones ≡ start.head.numbers → others ≡ head.numbers → NumbersRefuse ones others refused → AddRefuses start text refused
+pub add_numbers : (start : Part) (text : List ℕ) (head : Head) (digest ones others : List ℕ) (refused : Refused)
+    → BeginsWith text head digest
+    → IsAlike start.head start.digest head digest → ones ≡ start.head.numbers → others ≡ head.numbers
+    → NumbersRefuse ones others refused → AddRefuses start text refused
 add_numbers start text head digest ones others Memory begins alike one other is = tt
 add_numbers start text head digest ones others Input begins alike one other is = absurd is
 add_numbers start text head digest ones others (At line wrong) begins alike one other is = absurd is
@@ -121,19 +140,26 @@ add_numbers start text head digest ones others (Twice number) begins alike one o
   head,
   digest,
   begins,
-  (alike, subst (λ (l : List ℕ). IsLeastOfBoth l head.numbers number) one (subst (λ (l : List ℕ). IsLeastOfBoth ones l number) other is)),
+  (
+    alike,
+    subst (λ (l : List ℕ). IsLeastOfBoth l head.numbers number) one
+        (subst (λ (l : List ℕ). IsLeastOfBoth ones l number) other is),
+  ),
 )
 
 -- the head that a text begins with is that of the part of which it is the partial report
-same_head : HeadsReadBack → (text : List ℕ) (head : Head) (digest : List ℕ) (other : Part) → BeginsWith text head digest → IsPartialReport text other
+same_head : HeadsReadBack → (text : List ℕ) (head : Head) (digest : List ℕ) (other : Part) → BeginsWith text head digest
+    → IsPartialReport text other
     → (head ≡ other.head) × (digest ≡ other.digest)
 same_head heads text head digest other begins report =
-    let read = heads head other.head digest other.digest begins.left (report_of (partial_query other.query) other.answer) begins.proper report.proper begins.digest_is report.digest
+    let read = heads head other.head digest other.digest begins.left
+    (report_of (partial_query other.query) other.answer) begins.proper report.proper begins.digest_is report.digest
     (sym begins.spelled ∙ report.spelled) in
     (read.0, read.1)
 
 -- one more part of the whole, whose numbers are not in, is refused for memory only
-pub add_memory : HeadsReadBack → (start other : Part) (text : List ℕ) (refused : Refused) → AddRefuses start text refused → IsPartialReport text other
+pub add_memory : HeadsReadBack → (start other : Part) (text : List ℕ) (refused : Refused)
+    → AddRefuses start text refused → IsPartialReport text other
     → AreOfOne start other → AreApart start.head.numbers other.head.numbers → refused ≡ Memory
 add_memory heads start other text Memory is report alike apart = refl
 add_memory heads start other text Input is report alike apart = absurd is
@@ -153,18 +179,22 @@ add_memory heads start other text (Twice number) is report alike apart =
     absurd (apart number least.one least.other)
 
 -- what was added is that part
-pub add_whole : PartialReportsAreOfOnePart → (start other next : Part) (text : List ℕ) → Adds start text next → IsPartialReport text other → IsMergeOf start other next
-add_whole one start other next text adds report = subst (λ (part : Part). IsMergeOf start part next) (one text adds.other other adds.report report) adds.merged
+pub add_whole : PartialReportsAreOfOnePart → (start other next : Part) (text : List ℕ) → Adds start text next
+    → IsPartialReport text other → IsMergeOf start other next
+add_whole one start other next text adds report =
+    subst (λ (part : Part). IsMergeOf start part next) (one text adds.other other adds.report report) adds.merged
 
 -- the numbers of a proper head ascend
 pub proper_ascend : (head : Head) → is_proper head ≡ true → ascend_between 0 head.parts head.numbers ≡ true
 proper_ascend head proper =
     let halves = both (are_parts head.parts head.numbers) (list_all is_short_word head.words) proper in
-    let few = both (nat_le head.parts most_parts) (nat_lt 0 (length head.numbers) && ascend_between 0 head.parts head.numbers) halves.first in
+    let few = both (nat_le head.parts most_parts)
+    (nat_lt 0 (length head.numbers) && ascend_between 0 head.parts head.numbers) halves.first in
     (both (nat_lt 0 (length head.numbers)) (ascend_between 0 head.parts head.numbers) few.second).second
 
 -- the report that a text has is that of the part
-pub answer_read : (text : List ℕ) (part : Part) (query partial : Query) (report : List ℕ) → IsPartialReport text part → part.query ≡ query → partial ≡ partial_query query
+pub answer_read : (text : List ℕ) (part : Part) (query partial : Query) (report : List ℕ) → IsPartialReport text part
+    → part.query ≡ query → partial ≡ partial_query query
     → report ≡ report_of (partial_query part.query) part.answer → IsRead partial report part.answer
 answer_read text part query partial report is same partial_is left =
     let asked : partial_query part.query ≡ partial = ap partial_query same ∙ sym partial_is in

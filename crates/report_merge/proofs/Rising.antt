@@ -22,9 +22,13 @@ module _ (f : Line → Line) (own : (line : Line) → (f line).key ≡ line.key)
   map_rise [] rise = tt
   map_rise (line ∷ lines) rise = (below line lines rise.0, map_rise lines rise.1)
 
-pub finished_rise : (aggs : List Agg) (wide : List WideLine) (lines : List Line) → lines ≡ map (finished_line aggs) (lines_of wide) → Rise wide
+pub finished_rise : (aggs : List Agg) (wide : List WideLine) (lines : List Line)
+    → lines ≡ map (finished_line aggs) (lines_of wide) → Rise wide
     → IsAscending (answer_cmp None) lines
-finished_rise aggs wide lines are rise = subst (IsAscending (answer_cmp None)) (sym are) (map_rise (finished_line aggs) (λ line. refl) (lines_of wide) rise)
+finished_rise aggs wide lines are rise =
+    subst (IsAscending (answer_cmp None)) (sym are) (map_rise (finished_line aggs) (λ line. refl) (lines_of wide) rise)
 
-pub recounted_rise : (wide found : List WideLine) → lines_of found ≡ map recounted_line (lines_of wide) → Rise wide → Rise found
-recounted_rise wide found are rise = subst (IsAscending (answer_cmp None)) (sym are) (map_rise recounted_line (λ line. refl) (lines_of wide) rise)
+pub recounted_rise : (wide found : List WideLine) → lines_of found ≡ map recounted_line (lines_of wide) → Rise wide
+    → Rise found
+recounted_rise wide found are rise =
+    subst (IsAscending (answer_cmp None)) (sym are) (map_rise recounted_line (λ line. refl) (lines_of wide) rise)

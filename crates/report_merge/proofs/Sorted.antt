@@ -1,5 +1,6 @@
 -- Lines whose keys differ, sorted, are those lines in order.
-use Rattle.std.proofs.Common.{◌≡◌, ◌∙◌, sym, ap, refl, subst, ◌+◌, pos, Bool, true, false, cond, Option, Some, None, List, [], ◌∷◌, map, get_or, slice_index_or, arith}
+use Rattle.std.proofs.Common.{◌≡◌, ◌∙◌, sym, ap, refl, subst, ◌+◌, pos, Bool, true, false, cond, Option, Some, None}
+use Rattle.std.proofs.Common.{List, [], ◌∷◌, map, get_or, slice_index_or, arith}
 use Rattle.std.specs.List.{AllByRecursion, IsDistinct}
 use Rattle.std.specs.List.Sorted.{IsPermutation, IsSortedBy}
 use Rattle.std.specs.Cmp.{IsTotalOrder, back_total, int_cmp_total, on_total, then_total}
@@ -56,7 +57,8 @@ value_cmp_total = record {
 pub line_cmp_total : (order : Order) → IsTotalOrder (line_cmp order)
 line_cmp_total order =
     then_total (on_total (λ line. slice_index_or line.key order.column Any) member_cmp_total)
-    (then_total (back_total (on_total (λ line. slice_index_or line.values order.aggregate (Whole (pos 0))) value_cmp_total))
+    (then_total
+    (back_total (on_total (λ line. slice_index_or line.values order.aggregate (Whole (pos 0))) value_cmp_total))
     (on_total (λ line. line.key) key_cmp_total))
 
 -- what ends in a comparison of two things ties only where these do
@@ -82,7 +84,8 @@ not_before : (key other : List Member) → key_cmp key other ≡ Less → same_k
 not_before key other less = ap is_eq (key_cmp_total.antisymm other key ∙ ap ordering_reverse less)
 
 further : (line : Line) (lines others : List Line) → AllByRecursion (λ other. answer_cmp None line other ≡ Less) others
-    → AllByRecursion (λ other. line_of_key other.key lines ≡ Some other) others → AllByRecursion (λ other. line_of_key other.key (line ∷ lines) ≡ Some other) others
+    → AllByRecursion (λ other. line_of_key other.key lines ≡ Some other) others
+    → AllByRecursion (λ other. line_of_key other.key (line ∷ lines) ≡ Some other) others
 further line lines [] above all = tt
 further line lines (other ∷ others) above all = (
   ap (λ b. cond b (Some line) (line_of_key other.key lines)) (not_before line.key other.key above.0) ∙ all.0,
@@ -90,10 +93,13 @@ further line lines (other ∷ others) above all = (
 )
 
 -- lines in the order of their keys are found by their keys
-found : (lines : List Line) → IsAscending (answer_cmp None) lines → AllByRecursion (λ line. line_of_key line.key lines ≡ Some line) lines
+found : (lines : List Line) → IsAscending (answer_cmp None) lines
+    → AllByRecursion (λ line. line_of_key line.key lines ≡ Some line) lines
 found [] rise = tt
-found (line ∷ lines) rise =
-    (ap (λ b. cond b (Some line) (line_of_key line.key lines)) (same_key-refl line.key), further line lines lines rise.0 (found lines rise.1))
+found (line ∷ lines) rise = (
+  ap (λ b. cond b (Some line) (line_of_key line.key lines)) (same_key-refl line.key),
+  further line lines lines rise.0 (found lines rise.1),
+)
 
 module _ (order : Order) (all : List Line) where
   -- the line of a key
@@ -110,22 +116,28 @@ module _ (order : Order) (all : List Line) where
   by_line_same : IsAntisymmetric by_line
   by_line_same left right e = key_cmp-IsAntisymmetric left right (last_ties _ _ _ e)
 
-  insert_once-map : (key : List Member) (keys : List (List Member)) → insert_once (line_cmp order) (own key) (map own keys) ≡ map own (insert_once by_line key keys)
+  insert_once-map : (key : List Member) (keys : List (List Member))
+      → insert_once (line_cmp order) (own key) (map own keys) ≡ map own (insert_once by_line key keys)
   insert_once-map key [] = refl
   insert_once-map key (first ∷ others) =
-      elim (by_line key first) as (λ r. by_order r (own key ∷ own first ∷ map own others) (own first ∷ map own others) (own first ∷ insert_once (line_cmp order) (own key) (map own others))
+      elim (by_line key first) as
+      (λ r. by_order r (own key ∷ own first ∷ map own others) (own first ∷ map own others)
+      (own first ∷ insert_once (line_cmp order) (own key) (map own others))
       ≡ map own (by_order r (key ∷ first ∷ others) (first ∷ others) (first ∷ insert_once by_line key others))) [
         | Less ↦ refl
         | Equal ↦ refl
         | Greater ↦ ap (λ lines. own first ∷ lines) (insert_once-map key others)
       ]
 
-  ascending-map : (keys : List (List Member)) → ascending (line_cmp order) (map own keys) ≡ map own (ascending by_line keys)
+  ascending-map : (keys : List (List Member))
+      → ascending (line_cmp order) (map own keys) ≡ map own (ascending by_line keys)
   ascending-map [] = refl
-  ascending-map (key ∷ keys) = ap (insert_once (line_cmp order) (own key)) (ascending-map keys) ∙ insert_once-map key (ascending by_line keys)
+  ascending-map (key ∷ keys) = ap (insert_once (line_cmp order) (own key)) (ascending-map keys)
+      ∙ insert_once-map key (ascending by_line keys)
 
   -- keys of which one is below the other differ
-  apart : (key other : List Member) → key_cmp key other ≡ Less → (r : Ordering) → by_line key other ≡ r → is_eq r ≡ false
+  apart : (key other : List Member) → key_cmp key other ≡ Less → (r : Ordering) → by_line key other ≡ r
+      → is_eq r ≡ false
   apart key other less Less e = refl
   apart key other less Greater e = refl
   apart key other less Equal e =
@@ -134,7 +146,8 @@ module _ (order : Order) (all : List Line) where
   apart_all : (line : Line) (lines : List Line) → AllByRecursion (λ other. answer_cmp None line other ≡ Less) lines
       → AllByRecursion (λ other. eq_by_cmp by_line line.key other ≡ false) (keys_in lines)
   apart_all line [] above = tt
-  apart_all line (other ∷ lines) above = (apart line.key other.key above.0 (by_line line.key other.key) refl, apart_all line lines above.1)
+  apart_all line (other ∷ lines) above =
+      (apart line.key other.key above.0 (by_line line.key other.key) refl, apart_all line lines above.1)
 
   distinct : (lines : List Line) → IsAscending (answer_cmp None) lines → IsDistinct (eq_by_cmp by_line) (keys_in lines)
   unfolding IsDistinct
@@ -142,26 +155,32 @@ module _ (order : Order) (all : List Line) where
   distinct (line ∷ lines) rise = (apart_all line lines rise.0, distinct lines rise.1)
 
   -- lines are those of their keys
-  own_lines : (lines : List Line) → AllByRecursion (λ line. line_of_key line.key all ≡ Some line) lines → map own (keys_in lines) ≡ lines
+  own_lines : (lines : List Line) → AllByRecursion (λ line. line_of_key line.key all ≡ Some line) lines
+      → map own (keys_in lines) ≡ lines
   own_lines [] are = refl
   own_lines (line ∷ lines) are = λ i. record { key = line.key; values = values_in (are.0 i) } ∷ own_lines lines are.1 i
 
-  keys_sorted : (keys : List (List Member)) → IsSortedBy (λ x y. is_lt (line_cmp order x y)) (map own keys) → IsSortedBy (λ x y. is_lt (by_line x y)) keys
+  keys_sorted : (keys : List (List Member)) → IsSortedBy (λ x y. is_lt (line_cmp order x y)) (map own keys)
+      → IsSortedBy (λ x y. is_lt (by_line x y)) keys
   keys_sorted keys sorted k d low high =
       let one : get_or (map own keys) (k + 1) (own d) ≡ own (get_or keys (k + 1) d) = get_or-map own keys (k + 1) d in
       let other : get_or (map own keys) k (own d) ≡ own (get_or keys k d) = get_or-map own keys k d in
-      sym (λ i. is_lt (line_cmp order (one i) (other i))) ∙ sorted k (own d) low (omega (arith, high, length-map keys own))
+      sym (λ i. is_lt (line_cmp order (one i) (other i)))
+      ∙ sorted k (own d) low (omega (arith, high, length-map keys own))
 
   -- lines in the order of their keys, sorted
-  pub sorted_lines : IsAscending (answer_cmp None) all → (lines : List Line) → IsPermutation all lines → IsSortedBy (λ x y. is_lt (line_cmp order x y)) lines
+  pub sorted_lines : IsAscending (answer_cmp None) all → (lines : List Line) → IsPermutation all lines
+      → IsSortedBy (λ x y. is_lt (line_cmp order x y)) lines
       → lines ≡ ascending (line_cmp order) all
   sorted_lines rise lines moved sorted =
       let is : Line → Type 0 = λ line. line_of_key line.key all ≡ Some line in
       let here : AllByRecursion is all = found all rise in
-      let there : AllByRecursion is lines = from_each is lines (All-permutation is all lines moved (at_each is all here)) in
+      let there : AllByRecursion is lines =
+      from_each is lines (All-permutation is all lines moved (at_each is all here)) in
       let lines_are : map own (keys_in lines) ≡ lines = own_lines lines there in
       let keys : keys_in lines ≡ ascending by_line (keys_in all) =
       ascending-sorted by_line by_line_total by_line_same (keys_in all) (keys_in lines) (distinct all rise)
       (IsPermutation-map (λ line. line.key) all lines moved)
       (keys_sorted (keys_in lines) (subst (IsSortedBy (λ x y. is_lt (line_cmp order x y))) (sym lines_are) sorted)) in
-      sym lines_are ∙ ap (map own) keys ∙ sym (ascending-map (keys_in all)) ∙ ap (ascending (line_cmp order)) (own_lines all here)
+      sym lines_are ∙ ap (map own) keys ∙ sym (ascending-map (keys_in all))
+      ∙ ap (ascending (line_cmp order)) (own_lines all here)

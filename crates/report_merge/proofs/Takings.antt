@@ -26,7 +26,8 @@ after_set words = word_if_any By words.by ++ after_by words
 abbrev pub after_q : Words → List Word
 after_q words = word_if_any Set words.set ++ after_set words
 
-begins : (kind other : WordKind) (text : Option (List ℕ)) (rest : List Word) → other ≢ kind → BeginsOtherwise kind rest → BeginsOtherwise kind (word_if_any other text ++ rest)
+begins : (kind other : WordKind) (text : Option (List ℕ)) (rest : List Word) → other ≢ kind → BeginsOtherwise kind rest
+    → BeginsOtherwise kind (word_if_any other text ++ rest)
 begins kind other None rest apart is = is
 begins kind other (Some text) rest apart is = apart
 
@@ -34,12 +35,14 @@ begins_if : (kind : WordKind) (texts : List (List ℕ)) → If ≢ kind → Begi
 begins_if kind [] apart = tt
 begins_if kind (text ∷ texts) apart = apart
 
-left_utf8 : (kind : WordKind) (text : Option (List ℕ)) (rest : List Word) → AreUtf8 (word_if_any kind text ++ rest) → AreUtf8 rest
+left_utf8 : (kind : WordKind) (text : Option (List ℕ)) (rest : List Word) → AreUtf8 (word_if_any kind text ++ rest)
+    → AreUtf8 rest
 left_utf8 kind None rest all = all
 left_utf8 kind (Some text) rest all = all.1
 
 -- UTF-8 words, and those that are left of them
-pub both_utf8 : (kind : WordKind) (text : Option (List ℕ)) (words rest : List Word) → words ≡ word_if_any kind text ++ rest → AreUtf8 words → AreUtf8 rest
+pub both_utf8 : (kind : WordKind) (text : Option (List ℕ)) (words rest : List Word)
+    → words ≡ word_if_any kind text ++ rest → AreUtf8 words → AreUtf8 rest
 both_utf8 kind text words rest are all = left_utf8 kind text rest (subst AreUtf8 are all)
 
 module _ (given : List Word) (query : Query) (spells : SpellsWords given query) where
@@ -61,12 +64,15 @@ module _ (given : List Word) (query : Query) (spells : SpellsWords given query) 
   next_set left is = record {
     utf8 = subst AreUtf8 (sym is) (both_utf8 Q words.q given (after_q words) spells.are spells.utf8);
     are = is;
-    apart = begins Set By words.by (after_by words) (λ e. cc) (begins Set Agg words.agg (after_agg words) (λ e. cc) (begins_if Set words.conditions (λ e. cc)));
+    apart = begins Set By words.by (after_by words) (λ e. cc)
+        (begins Set Agg words.agg (after_agg words) (λ e. cc) (begins_if Set words.conditions (λ e. cc)));
   }
 
   pub next_by : (left : List Word) → left ≡ after_set words → IsNextGiven By left words.by (after_by words)
   next_by left is = record {
-    utf8 = subst AreUtf8 (sym is) (both_utf8 Set words.set (after_q words) (after_set words) refl (both_utf8 Q words.q given (after_q words) spells.are spells.utf8));
+    utf8 = subst AreUtf8 (sym is)
+        (both_utf8 Set words.set (after_q words) (after_set words) refl
+        (both_utf8 Q words.q given (after_q words) spells.are spells.utf8));
     are = is;
     apart = begins By Agg words.agg (after_agg words) (λ e. cc) (begins_if By words.conditions (λ e. cc));
   }
@@ -94,15 +100,18 @@ module _ (given : List Word) (query : Query) (spells : SpellsWords given query) 
       subst AreConditions (sym is) (conditions_utf8 words.conditions of_agg)
 
 -- words that were taken are UTF-8, where those left of them are
-pub first_utf8 : (kind : WordKind) (word : Word) (words : List Word) → IsUtf8 word.text → AreUtf8 words → AreUtf8 (word ∷ words)
+pub first_utf8 : (kind : WordKind) (word : Word) (words : List Word) → IsUtf8 word.text → AreUtf8 words
+    → AreUtf8 (word ∷ words)
 first_utf8 kind word others one all = (one, all)
 
 -- a word of a kind is taken
-pub taken_one : (kind : WordKind) (word : Word) (left : List Word) (text : Option (List ℕ)) (others : List Word) → word.kind ≡ kind → IsNextGiven kind (word ∷ left) text others
+pub taken_one : (kind : WordKind) (word : Word) (left : List Word) (text : Option (List ℕ)) (others : List Word)
+    → word.kind ≡ kind → IsNextGiven kind (word ∷ left) text others
     → (Some word.text ≡ text) × (left ≡ others)
 taken_one kind word left text others is next = by text next.are
   where
-    by : (text : Option (List ℕ)) → word ∷ left ≡ word_if_any kind text ++ others → (Some word.text ≡ text) × (left ≡ others)
+    by : (text : Option (List ℕ)) → word ∷ left ≡ word_if_any kind text ++ others → (Some word.text ≡ text)
+        × (left ≡ others)
     by None are = absurd (apart others are next.apart)
       where
         apart : (others : List Word) → word ∷ left ≡ others → BeginsOtherwise kind others → ⊥
@@ -114,7 +123,8 @@ taken_one kind word left text others is next = by text next.are
         (ap (λ (w : Word). Some w.text) one, rest)
 
 -- none is
-pub taken_none : (kind : WordKind) (words : List Word) (text : Option (List ℕ)) (others : List Word) → BeginsOtherwise kind words → IsNextGiven kind words text others
+pub taken_none : (kind : WordKind) (words : List Word) (text : Option (List ℕ)) (others : List Word)
+    → BeginsOtherwise kind words → IsNextGiven kind words text others
     → (None ≡ text) × (words ≡ others)
 taken_none kind words text others begin next = by text next.are
   where

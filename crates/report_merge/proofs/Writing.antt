@@ -14,21 +14,27 @@ use Rattle.report_merge.specs.Ranges.{IsRangeOrMemory}
 use Rattle.report_merge.specs.Written.{WritesOrKeeps}
 
 -- nothing was written
-pub nothing : (known : Option (List ℕ)) (fault : Fault) (result : Result Unit Fault) (bytes : List ℕ) → (other : Fault) × (result ≡ Err other) × (other ≡ fault)
+pub nothing : (known : Option (List ℕ)) (fault : Fault) (result : Result Unit Fault) (bytes : List ℕ)
+    → (other : Fault) × (result ≡ Err other) × (other ≡ fault)
     → IsRangeOrMemory fault → WritesOrKeeps known known result bytes
 nothing known fault result bytes stop range = rw (stop.1, stop.2) (inr (range, Keeps-refl known))
 
-pub lacks : (known : Option (List ℕ)) (fault : Fault) (result : Result Unit Fault) (bytes : List ℕ) → (other : Fault) × (result ≡ Err other) × (other ≡ fault)
+pub lacks : (known : Option (List ℕ)) (fault : Fault) (result : Result Unit Fault) (bytes : List ℕ)
+    → (other : Fault) × (result ≡ Err other) × (other ≡ fault)
     → fault ≡ Memory → WritesOrKeeps known known result bytes
-lacks known fault result bytes stop memory = nothing known fault result bytes stop (subst IsRangeOrMemory (sym memory) tt)
+lacks known fault result bytes stop memory =
+    nothing known fault result bytes stop (subst IsRangeOrMemory (sym memory) tt)
 
-pub written : (old new : Option (List ℕ)) (result : Result Unit Fault) (bytes : List ℕ) → Writes old new result bytes → WritesOrKeeps old new result bytes
+pub written : (old new : Option (List ℕ)) (result : Result Unit Fault) (bytes : List ℕ) → Writes old new result bytes
+    → WritesOrKeeps old new result bytes
 written old new (Ok done) bytes writes = writes
 written old new (Err fault) bytes writes = inl writes
 
 -- the text of a part was written
-pub part_written : (old new : Option (List ℕ)) (result : Result Unit Fault) (part : Part) (head : List ℕ) (partial : Query) (answer : Answer)
-    → head ≡ head_text part.head part.digest → partial ≡ partial_query part.query → answer ≡ part.answer → Writes old new result (head ++ report_of partial answer)
+pub part_written : (old new : Option (List ℕ)) (result : Result Unit Fault) (part : Part) (head : List ℕ)
+    (partial : Query) (answer : Answer)
+    → head ≡ head_text part.head part.digest → partial ≡ partial_query part.query → answer ≡ part.answer
+    → Writes old new result (head ++ report_of partial answer)
     → WritesOrKeeps old new result (head_text part.head part.digest ++ report_of (partial_query part.query) part.answer)
 part_written old new result part head partial answer head_is partial_is answer_is writes =
     written old new result (head_text part.head part.digest ++ report_of (partial_query part.query) part.answer)

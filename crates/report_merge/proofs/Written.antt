@@ -21,21 +21,32 @@ use Rattle.report_merge.specs.Lawful.{AreOfWhole, AreWritten, IsWritten, Written
 use Rattle.report_merge.specs.Mergeable.{CanAdd}
 use Rattle.report_merge.specs.Merging.{IsMergeOf, IsPartialReport, Part}
 
-module _ (merge : AnswersMerge) (suffice : PartialAnswersSuffice) (query : Query) (dimensions : DimRows) (digest : List ℕ) (is_digest : IsDigest digest) where
-  -- the lines of a partial answer are in the order of their keys: they are those of its merge with the answer over no row
+module _ (merge : AnswersMerge) (suffice : PartialAnswersSuffice) (query : Query) (dimensions : DimRows)
+    (digest : List ℕ) (is_digest : IsDigest digest) where
+  -- the lines of a partial answer are in the order of their keys: they are those of its merge with the answer over no
+  -- row
   rising : (rows : List LineOrder) → IsAscending (answer_cmp None) (answer (partial_query query) dimensions rows).lines
   rising rows =
       let over : List LineOrder → Answer = answer (partial_query query) dimensions in
       let whole : over rows ≡ merged_answer (partial_query query) (over rows) (over []) =
-      ap over (sym (append-nil rows)) ∙ merge (partial_query query) dimensions rows [] (suffice query dimensions rows).0 in
+      ap over (sym (append-nil rows))
+      ∙ merge (partial_query query) dimensions rows [] (suffice query dimensions rows).0 in
       subst (λ (found : Answer). IsAscending (answer_cmp None) found.lines) (sym whole)
       (merged_lines-rise (partial_query query).aggregates (over rows).lines (over []).lines)
 
   -- the part of a text that is written
   abbrev part_of : (rows : List LineOrder) (text : List ℕ) → IsWritten query dimensions digest rows text → Part
-  part_of rows text written = record { head = written.head; digest = digest; query = query; answer = answer (partial_query query) dimensions rows }
+  part_of rows text written =
+      record {
+        head = written.head;
+        digest = digest;
+        query = query;
+        answer = answer (partial_query query) dimensions
+            rows;
+      }
 
-  is_report : (rows : List LineOrder) (text : List ℕ) (written : IsWritten query dimensions digest rows text) → IsPartialReport text (part_of rows text written)
+  is_report : (rows : List LineOrder) (text : List ℕ) (written : IsWritten query dimensions digest rows text)
+      → IsPartialReport text (part_of rows text written)
   is_report rows text written = record {
     proper = written.proper;
     digest = is_digest;
@@ -54,7 +65,8 @@ module _ (merge : AnswersMerge) (suffice : PartialAnswersSuffice) (query : Query
     numbers : (n : ℕ) → Contains part.head.numbers n → Contains taken n
 
   -- with one part more
-  both_of : (words : List Word) (count : ℕ) (taken : List ℕ) (start other both : Part) → IsOfWhole words count taken start → IsMergeOf start other both
+  both_of : (words : List Word) (count : ℕ) (taken : List ℕ) (start other both : Part)
+      → IsOfWhole words count taken start → IsMergeOf start other both
       → IsOfWhole words count (taken ++ other.head.numbers) both
   both_of words count taken start other both is merged = record {
     words_are = merged.same.words ∙ is.words_are;
@@ -66,12 +78,14 @@ module _ (merge : AnswersMerge) (suffice : PartialAnswersSuffice) (query : Query
         (IsPermutation-sym (start.head.numbers ++ other.head.numbers) both.head.numbers merged.numbers) c));
   }
     where
-      by : (n : ℕ) → Contains start.head.numbers n ⊎ Contains other.head.numbers n → Contains (taken ++ other.head.numbers) n
+      by : (n : ℕ) → Contains start.head.numbers n ⊎ Contains other.head.numbers n
+          → Contains (taken ++ other.head.numbers) n
       by n (inl c) = Contains-append_left taken other.head.numbers n (is.numbers n c)
       by n (inr c) = Contains-append_right taken other.head.numbers n c
 
   can_add : (words : List Word) (count : ℕ) (taken : List ℕ) (start : Part) → IsOfWhole words count taken start
-      → (parts : List (List LineOrder)) (texts : List (List ℕ)) (written : AreWritten query dimensions digest parts texts)
+      → (parts : List (List LineOrder)) (texts : List (List ℕ))
+      (written : AreWritten query dimensions digest parts texts)
       → AreOfWhole words count taken (heads_in query dimensions digest parts texts written) → CanAdd start texts
   can_add words count taken start is [] [] written whole = tt
   can_add words count taken start is [] (text ∷ texts) written whole = absurd written
@@ -91,10 +105,12 @@ module _ (merge : AnswersMerge) (suffice : PartialAnswersSuffice) (query : Query
   )
 
 pub written_texts_can_be_merged : AnswersMerge → PartialAnswersSuffice → WrittenTextsCanBeMerged
-written_texts_can_be_merged merge suffice query dimensions digest words count rows parts text texts is_digest written whole =
+written_texts_can_be_merged merge suffice query dimensions digest words count rows parts text texts is_digest written
+    whole =
     let first = part_of merge suffice query dimensions digest is_digest rows text written.0 in (
       first,
       is_report merge suffice query dimensions digest is_digest rows text written.0,
       can_add merge suffice query dimensions digest is_digest words count written.0.head.numbers first
-          (record { words_are = whole.0; parts_are = whole.1; digest_is = refl; query_is = refl; numbers = λ n c. c }) parts texts written.1 whole.3,
+          (record { words_are = whole.0; parts_are = whole.1; digest_is = refl; query_is = refl; numbers = λ n c. c })
+          parts texts written.1 whole.3,
     )

@@ -2,7 +2,8 @@
 use Rattle.cube_model.specs.declared.fault.Fault.{Fault}
 use Rattle.cube_model.specs.declared.fault.Fault.TheVariants as faults
 use Rattle.report_merge.specs.declared.refused.Refused.{Refused}
-use Rattle.report_merge.specs.declared.refused.Refused.TheVariants.{Memory, Input, At, OtherWords, OtherParts, OtherDimensions, Twice}
+use Rattle.report_merge.specs.declared.refused.Refused.TheVariants.{Memory, Input, At, OtherWords, OtherParts}
+use Rattle.report_merge.specs.declared.refused.Refused.TheVariants.{OtherDimensions, Twice}
 
 -- a text that is no partial report is of a wrong layout, and parts that are not of one whole are a wrong query
 abbrev pub fault_of : Refused → Fault

@@ -22,10 +22,11 @@ BeginsOtherwise kind [] = Unit {0}
 BeginsOtherwise kind (word ∷ words) = word.kind ≢ kind
 
 -- words begin with one of a kind, or it is missing, and others come after it
-pub record IsNextGiven (kind : WordKind) (words : List Word) (text : Option (List ℕ)) (others : List Word) : Type 0 where
-  pub utf8 : AreUtf8 words
-  pub are : words ≡ word_if_any kind text ++ others
-  pub apart : BeginsOtherwise kind others
+pub record IsNextGiven (kind : WordKind) (words : List Word) (text : Option (List ℕ)) (others : List Word) : Type 0
+  where
+    pub utf8 : AreUtf8 words
+    pub are : words ≡ word_if_any kind text ++ others
+    pub apart : BeginsOtherwise kind others
 
 -- words are conditions
 abbrev pub AreConditions : List Word → Type 0

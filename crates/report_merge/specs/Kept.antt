@@ -13,7 +13,8 @@ use Rattle.partial_reports.specs.Head.{is_proper}
 use Rattle.partial_reports.specs.HeadReading.{IsDigest}
 use Rattle.report_merge.specs.Merging.{AreOfOne, IsPartialReport, Part, SpellsWords}
 
--- a proper head, a digest, the query that its words spell with the one for its partial answers, and lines in the order of their keys
+-- a proper head, a digest, the query that its words spell with the one for its partial answers, and lines in the order
+-- of their keys
 pub record IsKept (head : Head) (digest : List ℕ) (query partial : Query) (lines : List WideLine) : Type 0 where
   pub proper : is_proper head ≡ true
   pub digest_is : IsDigest digest

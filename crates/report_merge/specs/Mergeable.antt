@@ -8,7 +8,8 @@ use Rattle.report_merge.specs.Refusals.{AreApart}
 -- texts are partial reports of more parts of the whole that a part is of, and the numbers of each are not in yet
 abbrev pub CanAdd : Part → List (List ℕ) → Type 0
 CanAdd start [] = Unit {0}
-CanAdd start (text ∷ texts) = (other : Part) × IsPartialReport text other × AreOfOne start other × AreApart start.head.numbers other.head.numbers
+CanAdd start (text ∷ texts) = (other : Part) × IsPartialReport text other × AreOfOne start other
+    × AreApart start.head.numbers other.head.numbers
     × ((both : Part) → IsMergeOf start other both → CanAdd both texts)
 
 -- texts are partial reports of parts of one whole, and no number is in two of them

@@ -18,8 +18,8 @@ use Rattle.partial_reports.specs.HeadReading.{IsDigest}
 use Rattle.query_words.specs.Words.{SpellsQuery, Words}
 use Rattle.ssb_reports.specs.Report.{report_of}
 
--- what a partial report has: the numbers of its parts and its words, the digest of the dimension rows, the query that the words spell, and
--- the partial answer to it
+-- what a partial report has: the numbers of its parts and its words, the digest of the dimension rows, the query that
+-- the words spell, and the partial answer to it
 pub record Part : Type 0 where
   pub head : Head
   pub digest : List ℕ
@@ -50,7 +50,8 @@ pub record AreOfOne (one other : Part) : Type 0 where
   pub dimensions : other.digest ≡ one.digest
   pub query : other.query ≡ one.query
 
--- two parts as one: the numbers of both, of which none is in both since those of a proper head differ, and the merged answers
+-- two parts as one: the numbers of both, of which none is in both since those of a proper head differ, and the merged
+-- answers
 pub record IsMergeOf (one other both : Part) : Type 0 where
   pub alike : AreOfOne one other
   pub same : AreOfOne one both

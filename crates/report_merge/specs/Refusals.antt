@@ -9,7 +9,8 @@ use Rattle.partial_reports.specs.declared.words.Word.{Word}
 use Rattle.partial_reports.specs.Head.{head_text, is_proper}
 use Rattle.partial_reports.specs.HeadReading.{IsDigest}
 use Rattle.report_merge.specs.declared.refused.Refused.{Refused}
-use Rattle.report_merge.specs.declared.refused.Refused.TheVariants.{Memory, Input, At, OtherWords, OtherParts, OtherDimensions, Twice}
+use Rattle.report_merge.specs.declared.refused.Refused.TheVariants.{Memory, Input, At, OtherWords, OtherParts}
+use Rattle.report_merge.specs.declared.refused.Refused.TheVariants.{OtherDimensions, Twice}
 use Rattle.report_merge.specs.Merging.{IsPartialReport, Part, SpellsWords}
 
 -- something holds of what was merged, unless memory ran out
@@ -48,12 +49,13 @@ pub record BeginsWith (text : List ℕ) (head : Head) (digest : List ℕ) : Type
 abbrev pub HasHead : List ℕ → (Head → List ℕ → Type 0) → Type 0
 HasHead text holds = (head : Head) × (digest : List ℕ) × BeginsWith text head digest × holds head digest
 
--- A head over dimension rows with a digest is not alike: it has other words, or another number of parts, or another digest. What is named
--- is the first of these that differs
+-- A head over dimension rows with a digest is not alike: it has other words, or another number of parts, or another
+-- digest. What is named is the first of these that differs
 abbrev pub IsUnlike : Head → List ℕ → Head → List ℕ → Refused → Type 0
 IsUnlike one digest head another OtherWords = head.words ≢ one.words
 IsUnlike one digest head another OtherParts = (head.words ≡ one.words) × (head.parts ≢ one.parts)
-IsUnlike one digest head another OtherDimensions = (head.words ≡ one.words) × (head.parts ≡ one.parts) × (another ≢ digest)
+IsUnlike one digest head another OtherDimensions = (head.words ≡ one.words) × (head.parts ≡ one.parts)
+    × (another ≢ digest)
 IsUnlike one digest head another _ = ⊥
 
 -- no number is in both of two lists
@@ -78,12 +80,13 @@ pub record IsAlike (one : Head) (digest : List ℕ) (head : Head) (another : Lis
   pub parts : head.parts ≡ one.parts
   pub dimensions : another ≡ digest
 
--- Why a text is not merged into a part: it is no partial report, or memory ran out. Or its head is not that of one more part of the whole:
--- it is not alike, or has numbers that are in already, of which the least is named.
+-- Why a text is not merged into a part: it is no partial report, or memory ran out. Or its head is not that of one more
+-- part of the whole: it is not alike, or has numbers that are in already, of which the least is named.
 abbrev pub AddRefuses : Part → List ℕ → Refused → Type 0
 AddRefuses part text Memory = Unit {0}
 AddRefuses part text Input = ⊥
 AddRefuses part text (At line wrong) = IsNoPartialReport text
 AddRefuses part text (Twice number) =
-    HasHead text (λ head digest. IsAlike part.head part.digest head digest × IsLeastOfBoth part.head.numbers head.numbers number)
+    HasHead text (λ head digest. IsAlike part.head part.digest head digest
+    × IsLeastOfBoth part.head.numbers head.numbers number)
 AddRefuses part text refused = HasHead text (λ head digest. IsUnlike part.head part.digest head digest refused)

@@ -44,7 +44,9 @@ pub(crate) fn counted_lines(
     lines: Vec<WideLine>,
 ) -> Result<Vec<WideLine>, Fault>
     requires { Rise lines.items }
-    ensures lines { IfOk result (λ found. lines_of found.items ≡ (if counts then map recounted_line (lines_of lines.items) else lines_of lines.items)) }
+    ensures lines { IfOk result
+        (λ found. lines_of found.items
+        ≡ (if counts then map recounted_line (lines_of lines.items) else lines_of lines.items)) }
     ensures rise { IfOk result (λ found. Rise found.items) }
     ensures only { IfErr result (λ fault. fault ≡ Fault.Memory) }
 {
@@ -80,7 +82,8 @@ fn recounted_line(line: WideLine) -> Result<WideLine, Fault>
 
 // The count, which is the first of a line's numbers.
 fn count_in(numbers: &[i128]) -> Option<i128>
-    ensures { MatchOption result (count_in (map Whole numbers.now) ≡ []) (λ count. count_in (map Whole numbers.now) ≡ Whole count ∷ []) }
+    ensures { MatchOption result (count_in (map Whole numbers.now) ≡ [])
+        (λ count. count_in (map Whole numbers.now) ≡ Whole count ∷ []) }
 {
     match numbers.split_first() {
         Some((count, _)) => Some(*count),

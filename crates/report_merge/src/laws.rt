@@ -1,5 +1,6 @@
 //! Laws of merged partial reports: each function proves the statement that its contract names, and does nothing.
-ghost use Rattle.report_merge.specs.Lawful.{CountsAreAppended, MergedTextsAreTheAnswer, MergedTextsCanBeFinished, PartialReportsAreOfOnePart, WrittenTextsCanBeMerged};
+ghost use Rattle.report_merge.specs.Lawful.{CountsAreAppended, MergedTextsAreTheAnswer, MergedTextsCanBeFinished};
+ghost use Rattle.report_merge.specs.Lawful.{PartialReportsAreOfOnePart, WrittenTextsCanBeMerged};
 
 use answer_merge::{
     answers_merge, partial_answers_can_be_finished, partial_answers_suffice, reports_read_back,

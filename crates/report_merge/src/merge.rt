@@ -92,11 +92,13 @@ impl Merge {
 
     /// With one more partial report.
     ///
-    /// `At` where the text is no partial report; `OtherWords`, `OtherParts`, `OtherDimensions` and `Twice`, in this order, where its head
-    /// is not that of one more part of the whole; or `Memory`. `Twice` has the least number that is in both.
+    /// `At` where the text is no partial report; `OtherWords`, `OtherParts`, `OtherDimensions` and `Twice`, in this
+    /// order, where its head is not that of one more part of the whole; or `Memory`. `Twice` has the least number that
+    /// is in both.
     pub fn add(self, alloc: Global, text: &[u8]) -> Result<Merge, Refused>
         ensures ok { IfOk result (Adds self text.now) }
-        ensures complete { (other : Part) → IsPartialReport text.now other → AreOfOne self other → AreApart self.head.numbers other.head.numbers
+        ensures complete { (other : Part) → IsPartialReport text.now other → AreOfOne self other
+            → AreApart self.head.numbers other.head.numbers
             → UnlessMemory result (IsMergeOf self other) }
         ensures refused { IfErr result (AddRefuses self text.now) }
     {
@@ -168,7 +170,8 @@ impl Merge {
         ensures asked { IfOk result (λ done. done.0 ≡ asked_for layout self.query) }
         ensures answer { IfOk result (λ done. done.1 ≡ finished_for layout self.query self.answer) }
         ensures complete { CanBeFinished self.answer → IfErr result (λ fault. fault ≡ Fault.Memory) }
-        ensures refused { IfErr result (FinishRefuses (query_for layout self.query).aggregates (partial_for layout self.query self.answer).lines) }
+        ensures refused { IfErr result
+            (FinishRefuses (query_for layout self.query).aggregates (partial_for layout self.query self.answer).lines) }
     {
         let Merge {
             head: _,

@@ -46,7 +46,8 @@ fn compare_lines(order: Order, left: &Line, right: &Line) -> Ordering
 
 // Compares members: none is ALL.
 fn compare_members(left: Option<&[u8]>, right: Option<&[u8]>) -> Ordering
-    ensures { result ≡ member_cmp (text_member (option_map (λ text. text.now) left.entry)) (text_member (option_map (λ text. text.now) right.entry)) }
+    ensures { result ≡ member_cmp (text_member (option_map (λ text. text.now) left.entry))
+        (text_member (option_map (λ text. text.now) right.entry)) }
 {
     match (left, right) {
         (Some(left), Some(right)) => left.cmp(&right),

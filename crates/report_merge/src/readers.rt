@@ -13,11 +13,13 @@ use std::io::Read;
 
 /// Reads partial reports, one after the other, each to its end, and merges them.
 ///
-/// A refusal has the place of the reader that it is of. Of no reader it is `Input`. Where the texts are partial reports of parts
-/// of one whole and no number is in two of them, there is no refusal but `Memory` and `Input`.
+/// A refusal has the place of the reader that it is of. Of no reader it is `Input`. Where the texts are partial reports
+/// of parts of one whole and no number is in two of them, there is no refusal but `Memory` and `Input`.
 pub fn merge_readers<R: Read + Drop>(alloc: Global, readers: Vec<R>) -> Result<Merge, Unmerged>
-    ensures ok { IfOk result (λ merge. (texts : List (List ℕ)) → map R.remaining readers.items ≡ map Some texts → IsMerged texts merge) }
-    ensures complete { (texts : List (List ℕ)) → map R.remaining readers.items ≡ map Some texts → CanMerge texts → IfErr result (λ unmerged. IsOutside unmerged.refused) }
+    ensures ok { IfOk result (λ merge. (texts : List (List ℕ)) → map R.remaining readers.items ≡ map Some texts
+        → IsMerged texts merge) }
+    ensures complete { (texts : List (List ℕ)) → map R.remaining readers.items ≡ map Some texts → CanMerge texts
+        → IfErr result (λ unmerged. IsOutside unmerged.refused) }
 {
     partial_reports_are_of_one_part();
     let mut readers = readers;
@@ -38,8 +40,10 @@ fn add_all<R: Read + Drop>(
     merge: Merge,
     readers: Vec<R>,
 ) -> Result<Merge, Unmerged>
-    ensures ok { IfOk result (λ whole. (texts : List (List ℕ)) → map R.remaining readers.items ≡ map Some texts → Merges merge texts whole) }
-    ensures complete { (texts : List (List ℕ)) → map R.remaining readers.items ≡ map Some texts → CanAdd merge texts → IfErr result (λ unmerged. IsOutside unmerged.refused) }
+    ensures ok { IfOk result (λ whole. (texts : List (List ℕ)) → map R.remaining readers.items ≡ map Some texts
+        → Merges merge texts whole) }
+    ensures complete { (texts : List (List ℕ)) → map R.remaining readers.items ≡ map Some texts → CanAdd merge texts
+        → IfErr result (λ unmerged. IsOutside unmerged.refused) }
 {
     partial_reports_are_of_one_part();
     let mut readers = readers;
@@ -55,7 +59,8 @@ fn add_all<R: Read + Drop>(
 
 fn first_of<R: Read + Drop>(alloc: Global, reader: R) -> Result<Merge, Refused>
     ensures ok { IfOk result (λ merge. (text : List ℕ) → R.remaining reader ≡ Some text → IsPartialReport text merge) }
-    ensures complete { (text : List ℕ) (part : Part) → R.remaining reader ≡ Some text → IsPartialReport text part → IfErr result IsOutside }
+    ensures complete { (text : List ℕ) (part : Part) → R.remaining reader ≡ Some text → IsPartialReport text part
+        → IfErr result IsOutside }
 {
     let text = text_of(alloc, reader)?;
     Merge::new(alloc, text.as_slice())
@@ -63,7 +68,8 @@ fn first_of<R: Read + Drop>(alloc: Global, reader: R) -> Result<Merge, Refused>
 
 fn add_one<R: Read + Drop>(alloc: Global, merge: Merge, reader: R) -> Result<Merge, Refused>
     ensures ok { IfOk result (λ next. (text : List ℕ) → R.remaining reader ≡ Some text → Adds merge text next) }
-    ensures complete { (text : List ℕ) (other : Part) → R.remaining reader ≡ Some text → IsPartialReport text other → AreOfOne merge other
+    ensures complete { (text : List ℕ) (other : Part) → R.remaining reader ≡ Some text → IsPartialReport text other
+        → AreOfOne merge other
         → AreApart merge.head.numbers other.head.numbers → IfErr result IsOutside }
 {
     let text = text_of(alloc, reader)?;

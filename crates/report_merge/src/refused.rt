@@ -86,8 +86,8 @@ impl From<Fault> for Refused {
 
     ghost from_gives = { λ _ refused. refused ≡ Memory };
 
-    // No other fault than `Memory` comes here: values that were read are whole numbers of 64 bits, and sums of those of 1,024 parts
-    // have fewer than 128.
+    // No other fault than `Memory` comes here: values that were read are whole numbers of 64 bits, and sums of those of
+    // 1,024 parts have fewer than 128.
     fn from(_fault: Fault) -> Refused {
         Refused::Memory
     }

@@ -1,5 +1,6 @@
 //! The query that the words of a head spell.
-ghost use Rattle.std.specs.Prelude.{◌≡◌, ◌⊎◌, ◌↔◌, ◌++◌, ℕ, List, map, IfErr, IfOk, IsOkAnd, IsTrue, Option, Some, None};
+ghost use Rattle.std.specs.Prelude.{◌≡◌, ◌⊎◌, ◌↔◌, ◌++◌, ℕ, List, map, IfErr, IfOk, IsOkAnd, IsTrue, Option, Some};
+ghost use Rattle.std.specs.Prelude.{None};
 ghost use Rattle.std.specs.Option.{option_map};
 ghost use Rattle.cube_model.specs.declared.query.Query.{Query};
 ghost use Rattle.answer_merge.specs.Parts.{partial_query};
@@ -59,7 +60,8 @@ fn query_of(alloc: Global, words: &[Word]) -> Result<Query, Refused>
 
 // The text of the first word where it is of a kind, and the words after it.
 fn take_word(kind: WordKind, words: &[Word]) -> Result<(Option<&str>, &[Word]), Refused>
-    ensures ok { IfOk result (λ taken. words.now ≡ word_if_any kind (option_map (λ text. text.now) taken.0) ++ taken.1.now) }
+    ensures ok { IfOk result (λ taken. words.now ≡ word_if_any kind (option_map (λ text. text.now) taken.0)
+        ++ taken.1.now) }
     ensures utf8 { IfOk result (λ taken. AreUtf8 taken.1.now → AreUtf8 words.now) }
     ensures complete { (text : Option (List ℕ)) (others : List Word) → IsNextGiven kind words.now text others
         → IsOkAnd result (λ taken. (option_map (λ text. text.now) taken.0 ≡ text) × (taken.1.now ≡ others)) }
@@ -77,7 +79,8 @@ fn take_word(kind: WordKind, words: &[Word]) -> Result<(Option<&str>, &[Word]), 
 
 // The texts of words that are conditions.
 fn conditions_in(alloc: Global, words: &[Word]) -> Result<Vec<&str>, Refused>
-    ensures ok { IfOk result (λ texts. words.now ≡ map (λ text. record { kind = If; text = text }) (map (λ text. text.now) texts.items)) }
+    ensures ok { IfOk result
+        (λ texts. words.now ≡ map (λ text. record { kind = If; text = text }) (map (λ text. text.now) texts.items)) }
     ensures utf8 { IfOk result (λ texts. AreUtf8 words.now) }
     ensures complete { AreConditions words.now → UnlessMemory result (λ texts. Unit {0}) }
     ensures only { IfErr result (λ refused. (refused ≡ Memory) ⊎ (refused ≡ no_query)) }

@@ -24,7 +24,8 @@ benchmark_words number = record { q = word_in number; set = None; by = None; agg
 
 -- the words of a cube query
 abbrev pub cube_words : List ℕ → List ℕ → List ℕ → List ℕ → Words
-cube_words set by agg conditions = record { q = None; set = word_in set; by = word_in by; agg = word_in agg; conditions = lines_in conditions }
+cube_words set by agg conditions =
+    record { q = None; set = word_in set; by = word_in by; agg = word_in agg; conditions = lines_in conditions }
 
 -- the report of the query that words spell
 abbrev pub IsReportOf : Words → Layout → Asked → Type 0

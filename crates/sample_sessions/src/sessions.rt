@@ -92,8 +92,8 @@ pub fn loaded(alloc: Global, batches: u32) -> Result<Session<MemDisk>, Fault> {
     Ok(session)
 }
 
-/// The status of a warehouse of so many batches with so many rows together, which took a commit for each. Nothing was added to
-/// its dimensions.
+/// The status of a warehouse of so many batches with so many rows together, which took a commit for each. Nothing was
+/// added to its dimensions.
 pub fn status(batches: u32, rows: u64) -> Status {
     Status {
         batches,

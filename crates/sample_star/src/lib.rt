@@ -1,5 +1,5 @@
-//! The sample star of the tests: small tables as texts and as values, queries, random choices, readers and writers that cut
-//! and fail, and a device that does not keep its word.
+//! The sample star of the tests: small tables as texts and as values, queries, random choices, readers and writers that
+//! cut and fail, and a device that does not keep its word.
 #![tactic(auto)]
 
 mod draw;

@@ -69,8 +69,9 @@ fn parts(alloc: Global) -> Result<Items<PartRow>, Fault>
     Ok(rows)
 }
 
-/// 513 customers, each in a city of its own, and 513 parts, each of a brand of its own, with keys from 0, besides the sample
-/// suppliers and days: 263,169 pairs of a city and a brand, where a cuboid has at most 262,144 cells. Only memory can fail.
+/// 513 customers, each in a city of its own, and 513 parts, each of a brand of its own, with keys from 0, besides the
+/// sample suppliers and days: 263,169 pairs of a city and a brand, where a cuboid has at most 262,144 cells. Only
+/// memory can fail.
 pub fn rows_of_pairs(alloc: Global) -> Result<DimRows, Fault>
     ensures { IfOk result HaveShortTexts }
 {
@@ -83,8 +84,8 @@ pub fn rows_of_pairs(alloc: Global) -> Result<DimRows, Fault>
     })
 }
 
-/// So many fact rows over these, each the first sample row but for its customer and part: those of the pairs from a number on,
-/// of which the first 513 have the first customer. Only memory can fail.
+/// So many fact rows over these, each the first sample row but for its customer and part: those of the pairs from a
+/// number on, of which the first 513 have the first customer. Only memory can fail.
 pub fn pairs(alloc: Global, first: u32, count: u32) -> Result<Vec<LineOrder>, Fault> {
     let mut rows = Vec::with_capacity(alloc, count as usize)?;
     for place in 0..count {

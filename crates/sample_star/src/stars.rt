@@ -1,7 +1,8 @@
 //! Dimension rows, as constants can hold them.
 ghost use Rattle.std.specs.Prelude.{◌≡◌, ◌≤◌, IfOk, length};
 ghost use Rattle.cube_model.specs.Limits.{longest_text};
-ghost use Rattle.cube_model.specs.Validity.{AreShort, HaveShortTexts, HasShortTexts, customer_rules, supplier_rules, part_rules, date_rules};
+ghost use Rattle.cube_model.specs.Validity.{AreShort, HaveShortTexts, HasShortTexts, customer_rules, supplier_rules};
+ghost use Rattle.cube_model.specs.Validity.{part_rules, date_rules};
 
 use cube_model::limits::LONGEST_TEXT;
 use cube_model::{CustomerRow, DateRow, DimRows, Fault, Items, PartRow, SupplierRow, Text};

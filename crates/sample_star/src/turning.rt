@@ -4,8 +4,8 @@ ghost use Rattle.sector_device.specs.Device.{CountsFailure};
 
 use sector_device::{DeviceError, MemDisk, Sectors};
 
-/// A device of 64 sectors that is a memory disk for so many calls. Then it gives other bytes at each read, and each other
-/// call fails.
+/// A device of 64 sectors that is a memory disk for so many calls. Then it gives other bytes at each read, and each
+/// other call fails.
 #[derive(Drop)]
 pub struct Turning {
     inner: Option<MemDisk>,
@@ -49,7 +49,13 @@ impl Turning {
 }
 
 impl Sectors for Turning {
-    ghost state = { λ d. record { size = 64; reads = λ i. []; may_hold = λ i b. ⊥; moment = 0; left_since = λ t image. ⊥ } };
+    ghost state = { λ d. record {
+      size = 64;
+      reads = λ i. [];
+      may_hold = λ i b. ⊥;
+      moment = 0;
+      left_since = λ t image. ⊥;
+    } };
 
     ghost keeps_word = { λ d. ⊥ };
 

@@ -1,4 +1,5 @@
-//! Sample tables of the benchmark: 360 fact rows near the constants of its thirteen queries, so that each of these answers with a line.
+//! Sample tables of the benchmark: 360 fact rows near the constants of its thirteen queries, so that each of these
+//! answers with a line.
 #![tactic(auto)]
 
 mod facts;

@@ -31,7 +31,8 @@ module _ {D : Type 0} {G : sectors.Ghosts D} where
   room_of c = c.kept.cap
 
   -- the bytes came from the cache, and the device under it was not asked
-  pub record IsServed (bytes : List ℕ) (result : Result (Unit {0}) DeviceError) (to : List ℕ) (old new : Cached D G) : Type 0 where
+  pub record IsServed (bytes : List ℕ) (result : Result (Unit {0}) DeviceError) (to : List ℕ)
+      (old new : Cached D G) : Type 0 where
     pub ok : result ≡ Ok tt
     pub value : to ≡ bytes
     pub unasked : inner_of new ≡ inner_of old

@@ -1,5 +1,6 @@
 // A device with a cache of some of its sectors.
-ghost use Rattle.std.specs.Prelude.{◌≡◌, ◌+◌, ◌-◌, ◌/◌, ◌%◌, ◌^◌, ◌<◌, ◌≤◌, ℕ, List, length, min, Some, None, IsSome, OnOk, OnErr, IfOk, IfErr};
+ghost use Rattle.std.specs.Prelude.{◌≡◌, ◌+◌, ◌-◌, ◌/◌, ◌%◌, ◌^◌, ◌<◌, ◌≤◌, ℕ, List, length, min, Some, None, IsSome};
+ghost use Rattle.std.specs.Prelude.{OnOk, OnErr, IfOk, IfErr};
 ghost use Rattle.sector_device.specs.Device.{CountsFailure, HasRun, IsInRun, Stays, Writes, WritesWithin};
 ghost use Rattle.sector_cache.specs.Kept.{Agrees};
 
@@ -94,7 +95,8 @@ impl<D: Sectors> Sectors for Cached<D> {
         ensures bytes { OnOk result (KeepsWord self.new → to.new ≡ (state_of self.old).reads i) }
         ensures stays { KeepsWord self.new → Stays (state_of self.old) (state_of self.new) }
 
-        ensures served { (bytes : List ℕ) → kept_in self.old i ≡ Some bytes → IsServed bytes result to.new self.old self.new }
+        ensures served { (bytes : List ℕ) → kept_in self.old i ≡ Some bytes
+            → IsServed bytes result to.new self.old self.new }
     {
         if copy_kept(&mut self.kept, i, to) {
             return Ok(());
@@ -149,7 +151,8 @@ impl<D: Sectors> Sectors for Cached<D> {
         ensures word { KeepsWord self.new → KeepsWord self.old }
         ensures goes_on { D.Sectors.always_keeps → KeepsWord self.old → KeepsWord self.new }
         ensures written { OnOk result (KeepsWord self.new → HasRun (state_of self.new).reads first from.now) }
-        ensures within { KeepsWord self.new → WritesWithin (IsInRun first (length from.now / 512)) (state_of self.old) (state_of self.new) }
+        ensures within { KeepsWord self.new
+            → WritesWithin (IsInRun first (length from.now / 512)) (state_of self.old) (state_of self.new) }
 
         ensures dropped { (i : ℕ) → IsInRun first (length from.now / 512) i → kept_in self.new i ≡ None }
     {

@@ -1,5 +1,6 @@
 -- A device as its candidates, and the images that a crash at each moment may leave. Our own model of a disk.
-use Rattle.std.specs.Prelude.{◌≡◌, ◌≢◌, ◌⊎◌, ℕ, ◌+◌, ◌-◌, ◌*◌, ◌/◌, ◌^◌, ◌≤◌, ◌<◌, min, List, length, take, drop, Result, MatchResult}
+use Rattle.std.specs.Prelude.{◌≡◌, ◌≢◌, ◌⊎◌, ℕ, ◌+◌, ◌-◌, ◌*◌, ◌/◌, ◌^◌, ◌≤◌, ◌<◌, min, List, length, take, drop}
+use Rattle.std.specs.Prelude.{Result, MatchResult}
 
 -- what is in each sector: a list of 512 bytes for each number of a sector
 abbrev pub Image : Type 0
@@ -25,7 +26,8 @@ IsImage s image = (i : ℕ) → s.may_hold i (image i)
 -- time goes on: a crash since t might have left what it might have left before, or an image of now
 pub record Elapses (old new : DeviceState) : Type 0 where
   pub later : old.moment ≤ new.moment
-  pub nothing_else : (t : ℕ) (image : Image) → t ≤ old.moment → new.left_since t image → old.left_since t image ⊎ IsImage new image
+  pub nothing_else : (t : ℕ) (image : Image) → t ≤ old.moment → new.left_since t image → old.left_since t image
+      ⊎ IsImage new image
   pub keeps : (t : ℕ) (image : Image) → t ≤ old.moment → old.left_since t image → new.left_since t image
 
 -- reads and candidates stay

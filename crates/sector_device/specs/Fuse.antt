@@ -46,7 +46,8 @@ pub record Burns {D : Type 0} (result : Result (Unit {0}) DeviceError) (old new 
   pub plan : plan_of new ≡ plan_of old
   pub fails : IsTrue (blows old) → IsErr result
 
--- the inner device was asked to write these bytes there, and gave some answer of a device: it holds them, or it counts a failure
+-- the inner device was asked to write these bytes there, and gave some answer of a device: it holds them, or it counts
+-- a failure
 pub record AsksInner {D : Type 0} (G : sectors.Ghosts D) (at : ℕ) (bytes : List ℕ) (old new : Fuse D) : Type 0 where
   pub answer : Result (Unit {0}) DeviceError
   pub holds : OnOk answer (KeepsWord G new → (state_of G new).reads at ≡ bytes)

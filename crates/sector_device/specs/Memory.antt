@@ -1,5 +1,6 @@
 -- A disk in memory: what is in it, and what each write and sync since it began took away, the newest first. Our own.
-use Rattle.std.specs.Prelude.{◌≡◌, ◌⊎◌, ℕ, zero, suc, ◌-◌, ◌<◌, ◌==◌, if◌then◌else◌, List, [], ◌∷◌, length, slice_index_or, slice_set, Contains}
+use Rattle.std.specs.Prelude.{◌≡◌, ◌⊎◌, ℕ, zero, suc, ◌-◌, ◌<◌, ◌==◌, if◌then◌else◌, List, [], ◌∷◌, length}
+use Rattle.std.specs.Prelude.{slice_index_or, slice_set, Contains}
 use Rattle.sector_device.specs.Device.{Image, DeviceState}
 use Rattle.sector_device.specs.declared.change.Change.{Change}
 use Rattle.sector_device.specs.declared.change.Change.TheVariants.{Replaced, Synced}

@@ -1,5 +1,6 @@
 -- Which candidate of each sector a list of picks names. Our own.
-use Rattle.std.specs.Prelude.{ℕ, zero, suc, ◌+◌, ◌%◌, nat_lt, if◌then◌else◌, List, [], length, slice_index, slice_index_or}
+use Rattle.std.specs.Prelude.{ℕ, zero, suc, ◌+◌, ◌%◌, nat_lt, if◌then◌else◌, List, [], length, slice_index}
+use Rattle.std.specs.Prelude.{slice_index_or}
 use Rattle.sector_device.specs.Device.{Image}
 
 -- how many of the sectors below one have several candidates, where this is the number of each

@@ -1,5 +1,6 @@
 // Which candidate of each sector a crash leaves. Each step goes over the log or the sectors once.
-ghost use Rattle.std.specs.Prelude.{ℕ, ◌≡◌, ◌<◌, ◌≤◌, ◌+◌, ◌-◌, ◌%◌, ◌^◌, reverse, length, slice_index, slice_index_or, []};
+ghost use Rattle.std.specs.Prelude.{ℕ, ◌≡◌, ◌<◌, ◌≤◌, ◌+◌, ◌-◌, ◌%◌, ◌^◌, reverse, length, slice_index, slice_index_or};
+ghost use Rattle.std.specs.Prelude.{[]};
 ghost use Rattle.sector_device.specs.Memory.{content, replaced, candidates, MayHold};
 ghost use Rattle.sector_device.specs.Picks.{several_below, named};
 
@@ -14,7 +15,8 @@ pub(crate) fn take_picks(
 )
     requires { length room.old ≡ length sectors.old }
     ensures image { (i : ℕ) → MayHold sectors.old (reverse log.now) i (content sectors.new i) }
-    ensures named { (i : ℕ) → i < length sectors.old → content sectors.new i ≡ named (λ k. reverse (candidates sectors.old (reverse log.now) k)) picks.now i }
+    ensures named { (i : ℕ) → i < length sectors.old
+        → content sectors.new i ≡ named (λ k. reverse (candidates sectors.old (reverse log.now) k)) picks.now i }
 {
     count_replaced(room, log);
     count_undone(room, picks);
@@ -44,7 +46,9 @@ fn count_replaced(counts: &mut [usize], log: &[Change])
 // From how many older candidates each sector has to how many of its writes are undone.
 fn count_undone(counts: &mut [usize], picks: &[u32])
     requires { (i : ℕ) → i < length counts.old → slice_index counts.old i < 2 ^ 63 }
-    ensures { (i : ℕ) → i < length counts.old → slice_index counts.new i ≡ slice_index counts.old i - slice_index picks.now (several_below (λ k. slice_index counts.old k + 1) i) % (slice_index counts.old i + 1) }
+    ensures { (i : ℕ) → i < length counts.old
+        → slice_index counts.new i ≡ slice_index counts.old i - slice_index picks.now
+        (several_below (λ k. slice_index counts.old k + 1) i) % (slice_index counts.old i + 1) }
 {
     let mut several: usize = 0;
     for i in 0..counts.len() {
@@ -64,7 +68,9 @@ fn count_undone(counts: &mut [usize], picks: &[u32])
 fn undo_writes(sectors: &mut [[u8; 512]], left: &mut [usize], log: &[Change])
     requires room { length left.old ≡ length sectors.old }
     requires enough { (i : ℕ) → i < length left.old → slice_index left.old i ≤ length (replaced (reverse log.now) i) }
-    ensures { (i : ℕ) → i < length sectors.old → content sectors.new i ≡ slice_index_or (candidates sectors.old (reverse log.now) i) (slice_index left.old i) [] }
+    ensures { (i : ℕ) → i < length sectors.old
+        → content sectors.new i ≡ slice_index_or (candidates sectors.old (reverse log.now) i) (slice_index left.old i)
+        [] }
 {
     let mut rest = log;
     while let Some((last, earlier)) = rest.split_last() {

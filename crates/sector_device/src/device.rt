@@ -1,6 +1,7 @@
 // What generic code knows of a device. What is said of its contents holds where it keeps its word.
 ghost use Rattle.std.specs.Prelude.{◌≡◌, ◌+◌, ◌/◌, ◌%◌, ◌^◌, ◌≤◌, ◌<◌, List, ℕ, length, OnOk, OnErr};
-ghost use Rattle.sector_device.specs.Device.{DeviceState, Image, IsImage, IsSettled, Stays, Writes, WritesWithin, HasRun, IsInRun, Syncs, CountsFailure};
+ghost use Rattle.sector_device.specs.Device.{DeviceState, Image, IsImage, IsSettled, Stays, Writes, WritesWithin};
+ghost use Rattle.sector_device.specs.Device.{HasRun, IsInRun, Syncs, CountsFailure};
 
 use crate::run::{put_sector, sector_at};
 
@@ -73,8 +74,8 @@ pub trait Sectors {
         Ok(())
     }
 
-    /// Writes neighbouring sectors, from a first one on, whose bytes are given end to end. After an error each may have been
-    /// written or not.
+    /// Writes neighbouring sectors, from a first one on, whose bytes are given end to end. After an error each may have
+    /// been written or not.
     fn write_run(&mut self, first: u32, from: &[u8]) -> Result<(), DeviceError>
         requires whole { length from.now % 512 ≡ 0 }
         requires in_range { first + length from.now / 512 ≤ (state self.old).size }
@@ -84,7 +85,8 @@ pub trait Sectors {
         ensures word { keeps_word self.new → keeps_word self.old }
         ensures goes_on { always_keeps → keeps_word self.old → keeps_word self.new }
         ensures written { OnOk result (keeps_word self.new → HasRun (state self.new).reads first from.now) }
-        ensures within { keeps_word self.new → WritesWithin (IsInRun first (length from.now / 512)) (state self.old) (state self.new) }
+        ensures within { keeps_word self.new
+            → WritesWithin (IsInRun first (length from.now / 512)) (state self.old) (state self.new) }
     {
         for k in 0..from.len() / 512 {
             self.write(first + k as u32, sector_at(from, k))?;
@@ -106,11 +108,14 @@ pub trait Sectors {
     ghost read_may_stay: { (d : Self) (i : ℕ) → keeps_word d → (state d).may_hold i ((state d).reads i) };
 
     /// A sector has 512 bytes.
-    ghost whole: { (d : Self) (i : ℕ) (b : List ℕ) → keeps_word d → i < (state d).size → (state d).may_hold i b → length b ≡ 512 };
+    ghost whole: { (d : Self) (i : ℕ) (b : List ℕ) → keeps_word d → i < (state d).size → (state d).may_hold i b
+        → length b ≡ 512 };
 
     /// This moment is one of those since an earlier one.
-    ghost counts_now: { (d : Self) (t : ℕ) (image : Image) → keeps_word d → t ≤ (state d).moment → IsImage (state d) image → (state d).left_since t image };
+    ghost counts_now: { (d : Self) (t : ℕ) (image : Image) → keeps_word d → t ≤ (state d).moment
+        → IsImage (state d) image → (state d).left_since t image };
 
     /// Since this moment there is no other.
-    ghost only_now: { (d : Self) (image : Image) → keeps_word d → (state d).left_since (state d).moment image → IsImage (state d) image };
+    ghost only_now: { (d : Self) (image : Image) → keeps_word d → (state d).left_since (state d).moment image
+        → IsImage (state d) image };
 }

@@ -1,5 +1,6 @@
 // A device of which chosen calls fail.
-ghost use Rattle.std.specs.Prelude.{◌≡◌, ◌+◌, ◌-◌, ◌^◌, ◌<◌, ◌&&◌, ◌||◌, min, not, ℕ, false, nat_eq, nat_lt, IsTrue, IsErr, OnOk, OnErr};
+ghost use Rattle.std.specs.Prelude.{◌≡◌, ◌+◌, ◌-◌, ◌^◌, ◌<◌, ◌&&◌, ◌||◌, min, not, ℕ, false, nat_eq, nat_lt, IsTrue};
+ghost use Rattle.std.specs.Prelude.{IsErr, OnOk, OnErr};
 ghost use Rattle.sector_device.specs.Plan.{fails_at};
 ghost use Rattle.sector_device.specs.Device.{CountsFailure, IsSettled, Stays, Writes, Syncs};
 
@@ -82,7 +83,8 @@ fn counted(outcome: Result<(), DeviceError>, failures: &mut u64) -> Result<(), D
 }
 
 impl<D: Sectors> Sectors for Fuse<D> {
-    ghost use Rattle.sector_device.specs.Fuse.{inner_of, state_of, KeepsWord, inner_failures, failures_of, plan_of, blows, AsksInner, Burns};
+    ghost use Rattle.sector_device.specs.Fuse.{inner_of, state_of, KeepsWord, inner_failures, failures_of, plan_of};
+    ghost use Rattle.sector_device.specs.Fuse.{blows, AsksInner, Burns};
 
     ghost state = { λ f. D.Sectors.state f.inner };
 
@@ -115,10 +117,12 @@ impl<D: Sectors> Sectors for Fuse<D> {
         ensures word { KeepsWord D.Sectors self.new → KeepsWord D.Sectors self.old }
         ensures goes_on { D.Sectors.always_keeps → KeepsWord D.Sectors self.old → KeepsWord D.Sectors self.new }
         ensures bytes { OnOk result (KeepsWord D.Sectors self.new → to.new ≡ (state_of D.Sectors self.old).reads i) }
-        ensures stays { KeepsWord D.Sectors self.new → Stays (state_of D.Sectors self.old) (state_of D.Sectors self.new) }
+        ensures stays { KeepsWord D.Sectors self.new
+            → Stays (state_of D.Sectors self.old) (state_of D.Sectors self.new) }
 
         ensures burns { Burns result self.old self.new }
-        ensures passes { blows self.old ≡ false → CountsFailure result (inner_failures D.Sectors self.old) (inner_failures D.Sectors self.new) }
+        ensures passes { blows self.old ≡ false
+            → CountsFailure result (inner_failures D.Sectors self.old) (inner_failures D.Sectors self.new) }
         ensures spared { IsTrue (blows self.old) → inner_of self.new ≡ inner_of self.old }
     {
         if burn(&mut self.calls, self.plan) {
@@ -133,13 +137,18 @@ impl<D: Sectors> Sectors for Fuse<D> {
         ensures failures { CountsFailure result (failures_of self.old) (failures_of self.new) }
         ensures word { KeepsWord D.Sectors self.new → KeepsWord D.Sectors self.old }
         ensures goes_on { D.Sectors.always_keeps → KeepsWord D.Sectors self.old → KeepsWord D.Sectors self.new }
-        ensures written { OnOk result (KeepsWord D.Sectors self.new → (state_of D.Sectors self.new).reads i ≡ from.now) }
-        ensures writes { KeepsWord D.Sectors self.new → Writes i from.now (state_of D.Sectors self.old) (state_of D.Sectors self.new) }
+        ensures written { OnOk result
+            (KeepsWord D.Sectors self.new → (state_of D.Sectors self.new).reads i ≡ from.now) }
+        ensures writes { KeepsWord D.Sectors self.new
+            → Writes i from.now (state_of D.Sectors self.old) (state_of D.Sectors self.new) }
 
         ensures burns { Burns result self.old self.new }
-        ensures passes { blows self.old ≡ false → CountsFailure result (inner_failures D.Sectors self.old) (inner_failures D.Sectors self.new) }
-        ensures spared { IsTrue (blows self.old) → (plan_of self.old).reaches ≡ false → inner_of self.new ≡ inner_of self.old }
-        ensures reached { IsTrue (blows self.old) → IsTrue (plan_of self.old).reaches → AsksInner D.Sectors i from.now self.old self.new }
+        ensures passes { blows self.old ≡ false
+            → CountsFailure result (inner_failures D.Sectors self.old) (inner_failures D.Sectors self.new) }
+        ensures spared { IsTrue (blows self.old) → (plan_of self.old).reaches ≡ false
+            → inner_of self.new ≡ inner_of self.old }
+        ensures reached { IsTrue (blows self.old) → IsTrue (plan_of self.old).reaches
+            → AsksInner D.Sectors i from.now self.old self.new }
     {
         if burn(&mut self.calls, self.plan) {
             if self.plan.reaches {
@@ -156,11 +165,14 @@ impl<D: Sectors> Sectors for Fuse<D> {
         ensures word { KeepsWord D.Sectors self.new → KeepsWord D.Sectors self.old }
         ensures goes_on { D.Sectors.always_keeps → KeepsWord D.Sectors self.old → KeepsWord D.Sectors self.new }
         ensures settled { OnOk result (KeepsWord D.Sectors self.new → IsSettled (state_of D.Sectors self.new)) }
-        ensures syncs { KeepsWord D.Sectors self.new → Syncs (state_of D.Sectors self.old) (state_of D.Sectors self.new) }
-        ensures unchanged { OnErr result (KeepsWord D.Sectors self.new → Stays (state_of D.Sectors self.old) (state_of D.Sectors self.new)) }
+        ensures syncs { KeepsWord D.Sectors self.new
+            → Syncs (state_of D.Sectors self.old) (state_of D.Sectors self.new) }
+        ensures unchanged { OnErr result
+            (KeepsWord D.Sectors self.new → Stays (state_of D.Sectors self.old) (state_of D.Sectors self.new)) }
 
         ensures burns { Burns result self.old self.new }
-        ensures passes { blows self.old ≡ false → CountsFailure result (inner_failures D.Sectors self.old) (inner_failures D.Sectors self.new) }
+        ensures passes { blows self.old ≡ false
+            → CountsFailure result (inner_failures D.Sectors self.old) (inner_failures D.Sectors self.new) }
         ensures spared { IsTrue (blows self.old) → inner_of self.new ≡ inner_of self.old }
     {
         if burn(&mut self.calls, self.plan) {

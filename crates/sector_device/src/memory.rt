@@ -1,5 +1,6 @@
 // A disk in memory. It keeps what each write and sync took away, so that each earlier moment is known.
-ghost use Rattle.std.specs.Prelude.{◌≡◌, ◌+◌, ◌-◌, ◌^◌, ◌<◌, ℕ, [], ◌∷◌, length, min, replicate, reverse, IsOk, IfOk, IfErr, OnOk, OnErr};
+ghost use Rattle.std.specs.Prelude.{◌≡◌, ◌+◌, ◌-◌, ◌^◌, ◌<◌, ℕ, [], ◌∷◌, length, min, replicate, reverse, IsOk, IfOk};
+ghost use Rattle.std.specs.Prelude.{IfErr, OnOk, OnErr};
 ghost use Rattle.sector_device.specs.Device.{IsImage, IsSettled, Stays, Writes, Syncs, CountsFailure};
 ghost use Rattle.sector_device.specs.Memory.{AreWhole};
 ghost use Rattle.sector_device.specs.Picks.{named};
@@ -53,7 +54,8 @@ impl MemDisk {
     pub fn crash(self, picks: &[u32]) -> MemDisk
         ensures size { (state_of result).size ≡ (state_of self).size }
         ensures image { IsImage (state_of self) (state_of result).reads }
-        ensures named { (i : ℕ) → i < (state_of self).size → (state_of result).reads i ≡ named (oldest_first self) picks.now i }
+        ensures named { (i : ℕ) → i < (state_of self).size
+            → (state_of result).reads i ≡ named (oldest_first self) picks.now i }
         ensures settled { IsSettled (state_of result) }
         ensures counts { (reads_of result ≡ reads_of self) × (failures_of result ≡ failures_of self) }
     {

@@ -21,11 +21,12 @@ const SEED: u64 = 42;
 /// The sequence of the generator.
 const STREAM: u64 = 54;
 
-/// Crashes a warehouse on a disk in memory at each call of the disk in turn, in four ways, and then at random calls until so many seconds
-/// have passed. After each crash it opens what the disk has kept: there have to be the batches that were acknowledged, or these and the one
-/// that was being added; `check` has to find nothing; and the thirteen queries have to answer as one pass over the rows of these batches
-/// does. It writes one line, which it flushes, and answers whether nothing was wrong: `ok: 456 stops opened`, or the first crash after which
-/// something was wrong, and what.
+/// Crashes a warehouse on a disk in memory at each call of the disk in turn, in four ways, and then at random calls
+/// until so many seconds have passed. After each crash it opens what the disk has kept: there have to be the batches
+/// that were acknowledged, or these and the one that was being added; `check` has to find nothing; and the thirteen
+/// queries have to answer as one pass over the rows of these batches does. It writes one line, which it flushes, and
+/// answers whether nothing was wrong: `ok: 456 stops opened`, or the first crash after which something was wrong, and
+/// what.
 ///
 /// With 0 seconds, or where there is no clock, it makes no random crash, and the line is always the same.
 pub fn test_crashes<R: Clock, W: Write>(
@@ -35,7 +36,9 @@ pub fn test_crashes<R: Clock, W: Write>(
     out: &mut W,
 ) -> Result<bool, Fault>
     // Yes is written with the number of crashes.
-    ensures yes { IfOk result (λ sound. sound ≡ true → (crashes : ℕ) × Appends (W.contents out.old) (W.contents out.new) (sound_line crashes)) }
+    ensures yes { IfOk result
+        (λ sound. sound ≡ true
+        → (crashes : ℕ) × Appends (W.contents out.old) (W.contents out.new) (sound_line crashes)) }
     ensures only { IfErr result (λ fault. (fault ≡ Memory) ⊎ (fault ≡ Output)) }
 {
     let outcome = crashed(rt, alloc, seconds)?;

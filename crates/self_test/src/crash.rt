@@ -9,15 +9,16 @@ const PICKS: usize = 16;
 /// How many ways there are to keep writes at a call.
 pub(crate) const WAYS: u64 = 4;
 
-/// A crash: the call of the disk from which on each fails, counted from 1, and which of its contents the disk has kept of each sector that
-/// was written since the last sync: 0 for the oldest.
+/// A crash: the call of the disk from which on each fails, counted from 1, and which of its contents the disk has kept
+/// of each sector that was written since the last sync: 0 for the oldest.
 #[derive(Clone, Copy)]
 pub(crate) struct Crash {
     pub(crate) call: u64,
     pub(crate) picks: [u32; PICKS],
 }
 
-/// Of the sectors that were written since the last sync none was kept, each was, every second one was, or each other one.
+/// Of the sectors that were written since the last sync none was kept, each was, every second one was, or each other
+/// one.
 static KEPT: [[u32; PICKS]; 4] = [
     [0; PICKS],
     [1; PICKS],

@@ -1,5 +1,5 @@
-//! A test of the program by itself: a warehouse on a disk in memory crashes at each call of the disk in turn, and then at random ones,
-//! and what the disk has kept is opened, checked and asked.
+//! A test of the program by itself: a warehouse on a disk in memory crashes at each call of the disk in turn, and then
+//! at random ones, and what the disk has kept is opened, checked and asked.
 #![tactic(auto)]
 
 mod campaign;

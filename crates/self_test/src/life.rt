@@ -16,7 +16,8 @@ const VIEWS: u8 = 3;
 /// The queries that are asked in a life: one that no cuboid serves, and one for each cuboid.
 static ASKED: [QNumber; 3] = [QNumber::Q11, QNumber::Q21, QNumber::Q31];
 
-/// How far a life came: whether the creation was acknowledged, how many batches were, and whether one more was being added.
+/// How far a life came: whether the creation was acknowledged, how many batches were, and whether one more was being
+/// added.
 #[derive(Clone, Copy)]
 pub(crate) struct Reached {
     pub(crate) created: bool,
@@ -39,7 +40,8 @@ pub(crate) struct Life {
     pub(crate) disk: MemDisk,
 }
 
-/// The life of a warehouse on a new disk, of which each call fails from this one on. A write that fails may have reached the disk.
+/// The life of a warehouse on a new disk, of which each call fails from this one on. A write that fails may have
+/// reached the disk.
 pub(crate) fn life_until(alloc: Global, sample: &Sample, call: u64) -> Result<Life, Fault> {
     let disk = MemDisk::new(alloc, SECTORS)?;
     let dims = sample_dims(alloc)?;

@@ -8,8 +8,8 @@ use ssb_reports::QNumber;
 use std::alloc::Global;
 use warehouse::{Session, open};
 
-/// Opens the warehouse of a disk, and finds the first thing that is wrong with it after a life that came so far, if any. There may be no
-/// warehouse where the creation was not acknowledged.
+/// Opens the warehouse of a disk, and finds the first thing that is wrong with it after a life that came so far, if
+/// any. There may be no warehouse where the creation was not acknowledged.
 pub(crate) fn first_wrong(
     alloc: Global,
     disk: MemDisk,

@@ -86,7 +86,8 @@ fn left_on(alloc: Global, disk: MemDisk, reached: Reached, sample: &Sample) -> R
 
 /// Writes what became of the crashes, flushes it, and answers whether nothing was wrong.
 pub(crate) fn write_outcome<W: Write>(out: &mut W, outcome: &Outcome) -> Result<bool, Fault>
-    ensures yes { IfOk result (λ sound. sound ≡ true → Appends (W.contents out.old) (W.contents out.new) (sound_line outcome.now.crashes)) }
+    ensures yes { IfOk result
+        (λ sound. sound ≡ true → Appends (W.contents out.old) (W.contents out.new) (sound_line outcome.now.crashes)) }
     ensures only { IfErr result (λ fault. fault ≡ Output) }
 {
     match &outcome.wrong {

@@ -1,5 +1,6 @@
-//! The tables of the test: so few members that two cuboids are worth storing after the first batch, and fact rows near the constants of
-//! the thirteen queries, so that all but 2.2 and 3.1 answer with a line, and otherwise after the second batch.
+//! The tables of the test: so few members that two cuboids are worth storing after the first batch, and fact rows near
+//! the constants of the thirteen queries, so that all but 2.2 and 3.1 answer with a line, and otherwise after the
+//! second batch.
 
 /// The customer table: 3 rows.
 pub(crate) static CUSTOMER: &str = "\

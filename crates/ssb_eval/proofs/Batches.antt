@@ -1,5 +1,6 @@
 -- The batches of a text, one after the other.
-use Rattle.std.proofs.Common.{◌≡◌, ℕ, zero, suc, ◌+◌, ◌-◌, ◌≤◌, List, [], ◌∷◌, ◌++◌, length, take, drop, Option, Some, None, Result, Ok, Err, refl, sym, ap, ◌∙◌, arith, ◌⊎◌, inl, inr, IfOk, IfErr}
+use Rattle.std.proofs.Common.{◌≡◌, ℕ, zero, suc, ◌+◌, ◌-◌, ◌≤◌, List, [], ◌∷◌, ◌++◌, length, take, drop, Option, Some}
+use Rattle.std.proofs.Common.{None, Result, Ok, Err, refl, sym, ap, ◌∙◌, arith, ◌⊎◌, inl, inr, IfOk, IfErr}
 use Rattle.std.proofs.lemmas.List.{length-drop, length-append, length_push}
 use Rattle.batch_loader.specs.Lines.{lines_of}
 use Rattle.batch_loader.specs.Outcomes.{and_then, unless}
@@ -27,67 +28,94 @@ use Rattle.batch_admission.proofs.CallerLemmas.{all_rows-last, in_range, known_b
 
 -- parts of a list
 
-enough : {A : Type 0} (steps more size : ℕ) (items : List A) → 1 ≤ size → length items ≤ steps → length items ≤ more → parts_in steps size items ≡ parts_in more size items
+enough : {A : Type 0} (steps more size : ℕ) (items : List A) → 1 ≤ size → length items ≤ steps → length items ≤ more
+    → parts_in steps size items ≡ parts_in more size items
 enough steps more size [] some one two = refl
 enough zero more size (item ∷ items) some one two = absurd (omega arith)
 enough (suc steps) zero size (item ∷ items) some one two = absurd (omega arith)
 enough (suc steps) (suc more) size (item ∷ items) some one two =
     let shorter : length (drop size (item ∷ items)) ≡ suc (length items) - size = length-drop size (item ∷ items) in
-    ap (λ parts. take size (item ∷ items) ∷ parts) (enough steps more size (drop size (item ∷ items)) some (omega arith) (omega arith))
+    ap (λ parts. take size (item ∷ items) ∷ parts)
+    (enough steps more size (drop size (item ∷ items)) some (omega arith) (omega arith))
 
 -- the first part, and those of what is left
-pub parts_of-first : {A : Type 0} (size : ℕ) (item : A) (items : List A) → 1 ≤ size → parts_of size (item ∷ items) ≡ take size (item ∷ items) ∷ parts_of size (drop size (item ∷ items))
+pub parts_of-first : {A : Type 0} (size : ℕ) (item : A) (items : List A) → 1 ≤ size
+    → parts_of size (item ∷ items) ≡ take size (item ∷ items) ∷ parts_of size (drop size (item ∷ items))
 parts_of-first size item items some =
     let shorter : length (drop size (item ∷ items)) ≡ suc (length items) - size = length-drop size (item ∷ items) in
-    ap (λ parts. take size (item ∷ items) ∷ parts) (enough (length items) (length (drop size (item ∷ items))) size (drop size (item ∷ items)) some (omega arith) (omega arith))
+    ap (λ parts. take size (item ∷ items) ∷ parts)
+    (enough (length items) (length (drop size (item ∷ items))) size (drop size (item ∷ items)) some (omega arith)
+    (omega arith))
 
 -- numbers of lines
 
-pub next_number-after : (count number : ℕ) → next_number (number_after count number) ≡ number_after count (next_number number)
+pub next_number-after : (count number : ℕ)
+    → next_number (number_after count number) ≡ number_after count (next_number number)
 next_number-after zero number = refl
 next_number-after (suc count) number = next_number-after count (next_number number)
 
 -- rows of lines
 
-no_row : {Row : Type 0} (first : Result Row Fault) (others : Result (List Row) Fault) → row_before first others ≡ Ok [] → ⊥
+no_row : {Row : Type 0} (first : Result Row Fault) (others : Result (List Row) Fault) → row_before first others ≡ Ok []
+    → ⊥
 no_row (Err fault) others e = cc
 no_row (Ok row) (Err fault) e = cc
 no_row (Ok row) (Ok rows) e = cc
 
-pub no_lines : {Row : Type 0} (row : ℕ → List ℕ → Result Row Fault) (number : ℕ) (lines : List (List ℕ)) → rows_of row number lines ≡ Ok [] → lines ≡ []
+pub no_lines : {Row : Type 0} (row : ℕ → List ℕ → Result Row Fault) (number : ℕ) (lines : List (List ℕ))
+    → rows_of row number lines ≡ Ok [] → lines ≡ []
 no_lines row number [] e = refl
 no_lines row number (line ∷ lines) e = absurd (no_row (row number line) (rows_of row (next_number number) lines) e)
 
 -- The outcome of the next batch: the end where it has no row
-pub facts-end : (dimensions : DimRows) (batches : List (List LineOrder)) (number : ℕ) (lines : List (List ℕ)) → rows_of lineorder_row number (take most_batch_rows lines) ≡ Ok [] → facts_after dimensions batches number (parts_of most_batch_rows lines) ≡ Ok (all_rows batches)
+pub facts-end : (dimensions : DimRows) (batches : List (List LineOrder)) (number : ℕ) (lines : List (List ℕ))
+    → rows_of lineorder_row number (take most_batch_rows lines) ≡ Ok []
+    → facts_after dimensions batches number (parts_of most_batch_rows lines) ≡ Ok (all_rows batches)
 facts-end dimensions batches number [] e = refl
-facts-end dimensions batches number (line ∷ lines) e = absurd (no_row (lineorder_row number line) (rows_of lineorder_row (next_number number) (take 65535 lines)) e)
+facts-end dimensions batches number (line ∷ lines) e =
+    absurd (no_row (lineorder_row number line) (rows_of lineorder_row (next_number number) (take 65535 lines)) e)
 
 -- the fault of its lines
-pub facts-fault : (dimensions : DimRows) (batches : List (List LineOrder)) (number : ℕ) (lines : List (List ℕ)) (fault : Fault) → rows_of lineorder_row number (take most_batch_rows lines) ≡ Err fault → facts_after dimensions batches number (parts_of most_batch_rows lines) ≡ Err fault
+pub facts-fault : (dimensions : DimRows) (batches : List (List LineOrder)) (number : ℕ) (lines : List (List ℕ))
+    (fault : Fault) → rows_of lineorder_row number (take most_batch_rows lines) ≡ Err fault
+    → facts_after dimensions batches number (parts_of most_batch_rows lines) ≡ Err fault
 facts-fault dimensions batches number [] fault e = cc
 facts-fault dimensions batches number (line ∷ lines) fault e =
     ap (facts_after dimensions batches number) (parts_of-first most_batch_rows line lines (omega arith))
-    ∙ ap (λ read. and_then read (λ rows. unless (refusal dimensions batches (length batches + 1) rows) (facts_after dimensions (batches ++ rows ∷ []) (number_after (length rows) number) (parts_of most_batch_rows (drop most_batch_rows (line ∷ lines)))))) e
+    ∙ ap (λ read. and_then read
+    (λ rows. unless (refusal dimensions batches (length batches + 1) rows)
+    (facts_after dimensions (batches ++ rows ∷ []) (number_after (length rows) number)
+    (parts_of most_batch_rows (drop most_batch_rows (line ∷ lines)))))) e
 
 -- and else its check
-pub facts-more : (dimensions : DimRows) (batches : List (List LineOrder)) (number : ℕ) (lines : List (List ℕ)) (rows : List LineOrder) → 1 ≤ length rows → rows_of lineorder_row number (take most_batch_rows lines) ≡ Ok rows
-    → facts_after dimensions batches number (parts_of most_batch_rows lines) ≡ unless (refusal dimensions batches (length batches + 1) rows) (facts_after dimensions (batches ++ rows ∷ []) (number_after (length rows) number) (parts_of most_batch_rows (drop most_batch_rows lines)))
+pub facts-more : (dimensions : DimRows) (batches : List (List LineOrder)) (number : ℕ) (lines : List (List ℕ))
+    (rows : List LineOrder) → 1 ≤ length rows → rows_of lineorder_row number (take most_batch_rows lines) ≡ Ok rows
+    → facts_after dimensions batches number (parts_of most_batch_rows lines)
+    ≡ unless (refusal dimensions batches (length batches + 1) rows)
+    (facts_after dimensions (batches ++ rows ∷ []) (number_after (length rows) number)
+    (parts_of most_batch_rows (drop most_batch_rows lines)))
 facts-more dimensions batches number [] [] some e = absurd (omega arith)
 facts-more dimensions batches number [] (row ∷ rows) some e = cc
 facts-more dimensions batches number (line ∷ lines) rows some e =
     ap (facts_after dimensions batches number) (parts_of-first most_batch_rows line lines (omega arith))
-    ∙ ap (λ read. and_then read (λ rows. unless (refusal dimensions batches (length batches + 1) rows) (facts_after dimensions (batches ++ rows ∷ []) (number_after (length rows) number) (parts_of most_batch_rows (drop most_batch_rows (line ∷ lines)))))) e
+    ∙ ap (λ read. and_then read
+    (λ rows. unless (refusal dimensions batches (length batches + 1) rows)
+    (facts_after dimensions (batches ++ rows ∷ []) (number_after (length rows) number)
+    (parts_of most_batch_rows (drop most_batch_rows (line ∷ lines)))))) e
 
 -- a batch in which nothing was found is among those that were taken, once it is accepted
-pub taken_more : (dimensions : DimRows) (query : Query) (accepted next : Accepted) (fold more : FoldState) (batches : List (List LineOrder)) (rows : List LineOrder) (found : Found)
-    → AreTaken dimensions query accepted fold batches → refusal dimensions batches (length batches + 1) rows ≡ None → HasAccepted next (batches ++ rows ∷ [])
-    → IsBegun dimensions query (all_rows batches) rows found more → AreTaken dimensions query next more (batches ++ rows ∷ [])
+pub taken_more : (dimensions : DimRows) (query : Query) (accepted next : Accepted) (fold more : FoldState)
+    (batches : List (List LineOrder)) (rows : List LineOrder) (found : Found)
+    → AreTaken dimensions query accepted fold batches → refusal dimensions batches (length batches + 1) rows ≡ None
+    → HasAccepted next (batches ++ rows ∷ [])
+    → IsBegun dimensions query (all_rows batches) rows found more
+    → AreTaken dimensions query next more (batches ++ rows ∷ [])
 taken_more dimensions query accepted next fold more batches rows found taken passed represents begun =
     let pass = passes dimensions batches (length batches + 1) rows passed in
     let nothing = passes-found dimensions batches (length batches + 1) rows passed in
     let joined : all_rows (batches ++ rows ∷ []) ≡ all_rows batches ++ rows = all_rows-last batches rows in
-    let longer : length (all_rows batches ++ rows) ≡ length (all_rows batches) + length rows = length-append (all_rows batches) rows in
+    let longer : length (all_rows batches ++ rows) ≡ length (all_rows batches) + length rows =
+    length-append (all_rows batches) rows in
     let one_more : length (batches ++ rows ∷ []) ≡ length batches + 1 = length_push batches rows in
     let clean : cause_of found ≡ None = ap cause_of begun.found_is ∙ nothing in
     record {
@@ -103,56 +131,95 @@ taken_more dimensions query accepted next fold more batches rows found taken pas
     }
 
 -- what is left once a batch was accepted
-pub leaves_more : (dimensions : DimRows) (text : List ℕ) (batches : List (List LineOrder)) (number next : ℕ) (left rest : List ℕ) (rows : List LineOrder) → 1 ≤ length rows
-    → facts_of dimensions text ≡ facts_after dimensions batches (next_number number) (parts_of most_batch_rows (lines_of left))
-    → (rows_of lineorder_row (next_number number) (take most_batch_rows (lines_of left)) ≡ Ok rows) × (lines_of rest ≡ drop most_batch_rows (lines_of left))
+pub leaves_more : (dimensions : DimRows) (text : List ℕ) (batches : List (List LineOrder)) (number next : ℕ)
+    (left rest : List ℕ) (rows : List LineOrder) → 1 ≤ length rows
+    → facts_of dimensions text ≡ facts_after dimensions batches (next_number number)
+    (parts_of most_batch_rows (lines_of left))
+    → (rows_of lineorder_row (next_number number) (take most_batch_rows (lines_of left)) ≡ Ok rows)
+    × (lines_of rest ≡ drop most_batch_rows (lines_of left))
     → next ≡ number_after (length rows) number
     → refusal dimensions batches (length batches + 1) rows ≡ None
-    → facts_of dimensions text ≡ facts_after dimensions (batches ++ rows ∷ []) (next_number next) (parts_of most_batch_rows (lines_of rest))
+    → facts_of dimensions text ≡ facts_after dimensions (batches ++ rows ∷ []) (next_number next)
+    (parts_of most_batch_rows (lines_of rest))
 leaves_more dimensions text batches number next left rest rows some before (read, others) counted accepted =
     before ∙ facts-more dimensions batches (next_number number) (lines_of left) rows some read
-    ∙ ap (λ cause. unless cause (facts_after dimensions (batches ++ rows ∷ []) (number_after (length rows) (next_number number)) (parts_of most_batch_rows (drop most_batch_rows (lines_of left))))) accepted
-    ∙ ap (λ n. facts_after dimensions (batches ++ rows ∷ []) n (parts_of most_batch_rows (drop most_batch_rows (lines_of left)))) (sym (next_number-after (length rows) number) ∙ ap next_number (sym counted))
-    ∙ ap (λ lines. facts_after dimensions (batches ++ rows ∷ []) (next_number next) (parts_of most_batch_rows lines)) (sym others)
+    ∙ ap (λ cause. unless cause
+    (facts_after dimensions (batches ++ rows ∷ []) (number_after (length rows) (next_number number))
+    (parts_of most_batch_rows (drop most_batch_rows (lines_of left))))) accepted
+    ∙ ap (λ n. facts_after dimensions (batches ++ rows ∷ []) n
+    (parts_of most_batch_rows (drop most_batch_rows (lines_of left)))) (sym (next_number-after (length rows) number)
+    ∙ ap next_number (sym counted))
+    ∙ ap (λ lines. facts_after dimensions (batches ++ rows ∷ []) (next_number next) (parts_of most_batch_rows lines))
+    (sym others)
 
 -- the same, where the bytes may be unknown
-pub leaves_on : (dimensions : DimRows) (text : List ℕ) (batches : List (List LineOrder)) (number next : ℕ) (left rest : Option (List ℕ)) (rows : List LineOrder) → 1 ≤ length rows → LeavesFacts dimensions text batches number left → TakesRows lineorder_row most_batch_rows number left rest rows → next ≡ number_after (length rows) number → refusal dimensions batches (length batches + 1) rows ≡ None → LeavesFacts dimensions text (batches ++ rows ∷ []) next rest
+pub leaves_on : (dimensions : DimRows) (text : List ℕ) (batches : List (List LineOrder)) (number next : ℕ)
+    (left rest : Option (List ℕ)) (rows : List LineOrder) → 1 ≤ length rows
+    → LeavesFacts dimensions text batches number left → TakesRows lineorder_row most_batch_rows number left rest rows
+    → next ≡ number_after (length rows) number → refusal dimensions batches (length batches + 1) rows ≡ None
+    → LeavesFacts dimensions text (batches ++ rows ∷ []) next rest
 leaves_on dimensions text batches number next None rest rows some before taken counted accepted = absurd before
 leaves_on dimensions text batches number next (Some left) None rows some before taken counted accepted = absurd taken
-leaves_on dimensions text batches number next (Some left) (Some rest) rows some before taken counted accepted = leaves_more dimensions text batches number next left rest rows some before taken counted accepted
+leaves_on dimensions text batches number next (Some left) (Some rest) rows some before taken counted accepted =
+    leaves_more dimensions text batches number next left rest rows some before taken counted accepted
 
 -- The end of a fold over batches: a batch that cannot be read
-pub gives-unread : (query : Query) (dimensions : DimRows) (text : List ℕ) (batches : List (List LineOrder)) (number : ℕ) (left : Option (List ℕ)) (fault : Fault) (result : Result Answer Fault) → LeavesFacts dimensions text batches number left → (fault ≡ Memory) ⊎ ((fault ≡ Input) ⊎ IsFirstFault lineorder_row most_batch_rows number left fault) → (y : Fault) × (result ≡ Err y) × (y ≡ fault) → Gives (answer_of query dimensions text) result
+pub gives-unread : (query : Query) (dimensions : DimRows) (text : List ℕ) (batches : List (List LineOrder)) (number : ℕ)
+    (left : Option (List ℕ)) (fault : Fault) (result : Result Answer Fault)
+    → LeavesFacts dimensions text batches number left → (fault ≡ Memory)
+    ⊎ ((fault ≡ Input) ⊎ IsFirstFault lineorder_row most_batch_rows number left fault) → (y : Fault) × (result ≡ Err y)
+    × (y ≡ fault) → Gives (answer_of query dimensions text) result
 gives-unread query dimensions text batches number None fault result before why stop = absurd before
-gives-unread query dimensions text batches number (Some left) fault result before (inl memory) stop = rw (stop.1, stop.2) (inl memory)
-gives-unread query dimensions text batches number (Some left) fault result before (inr (inl input)) stop = rw (stop.1, stop.2) (inr (inl input))
+gives-unread query dimensions text batches number (Some left) fault result before (inl memory) stop =
+    rw (stop.1, stop.2) (inl memory)
+gives-unread query dimensions text batches number (Some left) fault result before (inr (inl input)) stop =
+    rw (stop.1, stop.2) (inr (inl input))
 gives-unread query dimensions text batches number (Some left) fault result before (inr (inr refused)) stop =
-    let found : facts_of dimensions text ≡ Err fault = before ∙ facts-fault dimensions batches (next_number number) (lines_of left) fault refused in
+    let found : facts_of dimensions text ≡ Err fault = before
+    ∙ facts-fault dimensions batches (next_number number) (lines_of left) fault refused in
     rw (stop.1, stop.2) (inr (inr (ap (λ facts. and_then facts (λ rows. Ok (answer query dimensions rows))) found)))
 
 -- one that is refused
-pub gives-refused : (query : Query) (dimensions : DimRows) (text : List ℕ) (batches : List (List LineOrder)) (number place : ℕ) (left rest : Option (List ℕ)) (rows : List LineOrder) (fault : Fault) (result : Result Answer Fault) → LeavesFacts dimensions text batches number left → TakesRows lineorder_row most_batch_rows number left rest rows → 1 ≤ length rows → place ≡ length batches + 1 → Some fault ≡ refusal dimensions batches place rows → (y : Fault) × (result ≡ Err y) × (y ≡ fault) → Gives (answer_of query dimensions text) result
-gives-refused query dimensions text batches number place None rest rows fault result before taken some next refused stop = absurd before
-gives-refused query dimensions text batches number place (Some left) None rows fault result before taken some next refused stop = absurd taken
-gives-refused query dimensions text batches number place (Some left) (Some rest) rows fault result before (read, others) some next refused stop =
-    let cause : refusal dimensions batches (length batches + 1) rows ≡ Some fault = ap (λ n. refusal dimensions batches n rows) (sym next) ∙ sym refused in
+pub gives-refused : (query : Query) (dimensions : DimRows) (text : List ℕ) (batches : List (List LineOrder))
+    (number place : ℕ) (left rest : Option (List ℕ)) (rows : List LineOrder) (fault : Fault)
+    (result : Result Answer Fault) → LeavesFacts dimensions text batches number left
+    → TakesRows lineorder_row most_batch_rows number left rest rows → 1 ≤ length rows → place ≡ length batches + 1
+    → Some fault ≡ refusal dimensions batches place rows → (y : Fault) × (result ≡ Err y) × (y ≡ fault)
+    → Gives (answer_of query dimensions text) result
+gives-refused query dimensions text batches number place None rest rows fault result before taken some next refused
+    stop = absurd before
+gives-refused query dimensions text batches number place (Some left) None rows fault result before taken some next
+    refused stop = absurd taken
+gives-refused query dimensions text batches number place (Some left) (Some rest) rows fault result before (read, others)
+    some next refused stop =
+    let cause : refusal dimensions batches (length batches + 1) rows ≡ Some fault =
+    ap (λ n. refusal dimensions batches n rows) (sym next) ∙ sym refused in
     let found : facts_of dimensions text ≡ Err fault =
     before ∙ facts-more dimensions batches (next_number number) (lines_of left) rows some read
-    ∙ ap (λ one. unless one (facts_after dimensions (batches ++ rows ∷ []) (number_after (length rows) (next_number number)) (parts_of most_batch_rows (drop most_batch_rows (lines_of left))))) cause in
+    ∙ ap (λ one. unless one
+    (facts_after dimensions (batches ++ rows ∷ []) (number_after (length rows) (next_number number))
+    (parts_of most_batch_rows (drop most_batch_rows (lines_of left))))) cause in
     rw (stop.1, stop.2) (inr (inr (ap (λ facts. and_then facts (λ rows. Ok (answer query dimensions rows))) found)))
 
 -- and the end of the text
-pub facts-done : (dimensions : DimRows) (text : List ℕ) (batches : List (List LineOrder)) (number : ℕ) (left rest : Option (List ℕ)) → LeavesFacts dimensions text batches number left → TakesRows lineorder_row most_batch_rows number left rest [] → facts_of dimensions text ≡ Ok (all_rows batches)
+pub facts-done : (dimensions : DimRows) (text : List ℕ) (batches : List (List LineOrder)) (number : ℕ)
+    (left rest : Option (List ℕ)) → LeavesFacts dimensions text batches number left
+    → TakesRows lineorder_row most_batch_rows number left rest [] → facts_of dimensions text ≡ Ok (all_rows batches)
 facts-done dimensions text batches number None rest before takes = absurd before
 facts-done dimensions text batches number (Some left) None before takes = absurd takes
-facts-done dimensions text batches number (Some left) (Some rest) before takes = before ∙ facts-end dimensions batches (next_number number) (lines_of left) takes.0
+facts-done dimensions text batches number (Some left) (Some rest) before takes = before
+    ∙ facts-end dimensions batches (next_number number) (lines_of left) takes.0
 
-pub folds-stopped : (query : Query) (dimensions : DimRows) (text : List ℕ) (fold : FoldState) (fault : Fault) (result : Result Unit Fault) → (y : Fault) × (result ≡ Err y) × (y ≡ fault) → Gives (answer_of query dimensions text) (Err fault) → FoldsFacts query dimensions text fold result
+pub folds-stopped : (query : Query) (dimensions : DimRows) (text : List ℕ) (fold : FoldState) (fault : Fault)
+    (result : Result Unit Fault) → (y : Fault) × (result ≡ Err y) × (y ≡ fault)
+    → Gives (answer_of query dimensions text) (Err fault) → FoldsFacts query dimensions text fold result
 folds-stopped query dimensions text fold fault result stop gives = rw (stop.1, stop.2) gives
 
 -- the groups of a fold give the answer over the facts that it took
-pub gives-groups : (query : Query) (dimensions : DimRows) (text : List ℕ) (fold : FoldState) (result : Result Groups Fault) → fold.query ≡ query → FoldsFacts query dimensions text fold (Ok tt)
-    → IfOk result (λ groups. (rows : List LineOrder) → RepresentsRows dimensions fold rows → answer_over dimensions groups ≡ answer fold.query dimensions rows) → IfErr result (λ fault. fault ≡ Memory)
+pub gives-groups : (query : Query) (dimensions : DimRows) (text : List ℕ) (fold : FoldState)
+    (result : Result Groups Fault) → fold.query ≡ query → FoldsFacts query dimensions text fold (Ok tt)
+    → IfOk result (λ groups. (rows : List LineOrder) → RepresentsRows dimensions fold rows
+    → answer_over dimensions groups ≡ answer fold.query dimensions rows) → IfErr result (λ fault. fault ≡ Memory)
     → Gives (answer_of query dimensions text) (answer_in dimensions result)
 gives-groups query dimensions text fold (Err fault) same folded answers only = inl only
 gives-groups query dimensions text fold (Ok groups) same folded answers only =
@@ -161,5 +228,8 @@ gives-groups query dimensions text fold (Ok groups) same folded answers only =
     ap (λ facts. and_then facts (λ rows. Ok (answer query dimensions rows))) folded.1 ∙ ap Ok (sym found)
 
 -- nothing was folded, and there are no groups
-pub gives-no_groups : (query : Query) (dimensions : DimRows) (text : List ℕ) (fault : Fault) (result : Result Groups Fault) → (y : Fault) × (result ≡ Err y) × (y ≡ fault) → Gives (answer_of query dimensions text) (Err fault) → Gives (answer_of query dimensions text) (answer_in dimensions result)
+pub gives-no_groups : (query : Query) (dimensions : DimRows) (text : List ℕ) (fault : Fault)
+    (result : Result Groups Fault) → (y : Fault) × (result ≡ Err y) × (y ≡ fault)
+    → Gives (answer_of query dimensions text) (Err fault)
+    → Gives (answer_of query dimensions text) (answer_in dimensions result)
 gives-no_groups query dimensions text fault result stop gives = rw (stop.1, stop.2) gives

@@ -9,13 +9,16 @@ use Rattle.cube_model.specs.declared.rows.DimRows.{DimRows}
 use Rattle.ssb_eval.specs.declared.star.Evaluated.{Evaluated}
 use Rattle.ssb_eval.specs.declared.unknown.UnknownKey.{UnknownKey}
 use Rattle.ssb_eval.specs.Evaluation.{Evaluates, Gives, Texts, answer_of, dimensions_of}
-use Rattle.ssb_eval.specs.Tables.{IsFresh, IsInNoRow, IsUnread, KeepLines, KeepsBroken, KeepsCause, KeepsLine, StarLines}
+use Rattle.ssb_eval.specs.Tables.{IsFresh, IsInNoRow, IsUnread, KeepLines, KeepsBroken, KeepsCause, KeepsLine}
+use Rattle.ssb_eval.specs.Tables.{StarLines}
 
 -- nothing is kept where nothing was refused
-pub keeps-fresh : {Row : Type 0} (row : ℕ → List ℕ → Result Row Fault) (lines : Unread) → lines.fault ≡ None → KeepsLine row lines
+pub keeps-fresh : {Row : Type 0} (row : ℕ → List ℕ → Result Row Fault) (lines : Unread) → lines.fault ≡ None
+    → KeepsLine row lines
 keeps-fresh row lines fresh = rw fresh tt
 
-keeps-whole : {A : Type 0} (broken : Option DimRows) (result : Result A Fault) → broken ≡ None → IfErr result (KeepsBroken broken)
+keeps-whole : {A : Type 0} (broken : Option DimRows) (result : Result A Fault) → broken ≡ None
+    → IfErr result (KeepsBroken broken)
 keeps-whole broken (Ok value) none = tt
 keeps-whole broken (Err fault) none = rw none tt
 
@@ -44,12 +47,14 @@ keeps-nothing new result fresh =
 
 -- the same refusal of another call
 pub keeps-refused : {A B : Type 0} (new : StarLines) (fault : Fault) (result : Result B Fault)
-    → (other : Fault) × (result ≡ Err other) × (other ≡ fault) → KeepsCause {A = A} new (Err fault) → KeepsCause new result
+    → (other : Fault) × (result ≡ Err other) × (other ≡ fault) → KeepsCause {A = A} new (Err fault)
+    → KeepsCause new result
 keeps-refused new fault result is kept =
     record { dimensions = kept.dimensions; lineorder = kept.lineorder; broken = rw (is.1, is.2) kept.broken }
 
 -- the facts are refused
-pub evaluates-no_answer : (query : Query) (texts : Texts) (dimensions : DimRows) (fault : Fault) (result : Result Evaluated Fault)
+pub evaluates-no_answer : (query : Query) (texts : Texts) (dimensions : DimRows) (fault : Fault)
+    (result : Result Evaluated Fault)
     → (other : Fault) × (result ≡ Err other) × (other ≡ fault) → dimensions_of texts ≡ Ok dimensions
     → Gives (answer_of query dimensions texts.lineorder) (Err fault) → Evaluates query texts result
 evaluates-no_answer query texts dimensions fault result is dims gives = rw (is.1, is.2) (inr (dimensions, dims, gives))
@@ -63,7 +68,8 @@ pub no_key : (dimensions : DimRows) (old : Option UnknownKey) → old ≡ None �
 no_key dimensions old none = rw none tt
 
 -- a key that is kept is in no row of the dimensions of the texts
-pub keeps-unknown : (texts : Texts) (dimensions : DimRows) (unknown : Option UnknownKey) → dimensions_of texts ≡ Ok dimensions → IfSome unknown (IsInNoRow dimensions)
+pub keeps-unknown : (texts : Texts) (dimensions : DimRows) (unknown : Option UnknownKey)
+    → dimensions_of texts ≡ Ok dimensions → IfSome unknown (IsInNoRow dimensions)
     → IfSome unknown (λ one. (x : DimRows) × (dimensions_of texts ≡ Ok x) × IsInNoRow x one)
 keeps-unknown texts dimensions None is kept = tt
 keeps-unknown texts dimensions (Some one) is kept = (dimensions, is, kept)

@@ -16,30 +16,36 @@ abbrev text_if_plain : PartAsked → DimRows → Answer → Result (List ℕ) Fa
 text_if_plain asked dimensions found = unless (member_cause found) (Ok (partial_text asked dimensions found))
 
 abbrev text_over : PartAsked → Texts → DimRows → Result (List ℕ) Fault
-text_over asked texts dimensions = and_then (answer_of asked.query dimensions texts.lineorder) (text_if_plain asked dimensions)
+text_over asked texts dimensions =
+    and_then (answer_of asked.query dimensions texts.lineorder) (text_if_plain asked dimensions)
 
 -- the dimensions were refused
 partial-no_dims : (asked : PartAsked) (texts : Texts) (fault : Fault)
     → Gives (dimensions_of texts) (Err fault) → Gives (partial_of asked texts) (Err fault)
-partial-no_dims asked texts fault gives = gives-stop (dimensions_of texts) (text_over asked texts) fault (Err fault) (fault, refl, refl) gives
+partial-no_dims asked texts fault gives =
+    gives-stop (dimensions_of texts) (text_over asked texts) fault (Err fault) (fault, refl, refl) gives
 
 -- the facts were refused
 partial-no_answer : (asked : PartAsked) (texts : Texts) (dimensions : DimRows) (fault : Fault)
-    → dimensions_of texts ≡ Ok dimensions → Gives (answer_of asked.query dimensions texts.lineorder) (Err fault) → Gives (partial_of asked texts) (Err fault)
+    → dimensions_of texts ≡ Ok dimensions → Gives (answer_of asked.query dimensions texts.lineorder) (Err fault)
+    → Gives (partial_of asked texts) (Err fault)
 partial-no_answer asked texts dimensions fault is gives =
     gives-on (dimensions_of texts) (text_over asked texts) dimensions (Err fault) is
-    (gives-stop (answer_of asked.query dimensions texts.lineorder) (text_if_plain asked dimensions) fault (Err fault) (fault, refl, refl) gives)
+    (gives-stop (answer_of asked.query dimensions texts.lineorder) (text_if_plain asked dimensions) fault (Err fault)
+    (fault, refl, refl) gives)
 
 not_plain : (asked : PartAsked) (dimensions : DimRows) (found : Answer) (fault : Fault)
     → (fault ≡ Memory) ⊎ (member_cause found ≡ Some fault) → Gives (text_if_plain asked dimensions found) (Err fault)
 not_plain asked dimensions found fault (inl memory) = inl memory
-not_plain asked dimensions found fault (inr cause) = inr (inr (ap (λ one. unless one (Ok (partial_text asked dimensions found))) cause))
+not_plain asked dimensions found fault (inr cause) =
+    inr (inr (ap (λ one. unless one (Ok (partial_text asked dimensions found))) cause))
 
 -- the dimensions or the facts were refused
 pub partial-refused : (asked : PartAsked) (texts : Texts) (fault : Fault)
     → Evaluates asked.query texts (Err fault) → Gives (partial_of asked texts) (Err fault)
 partial-refused asked texts fault (inl dims) = partial-no_dims asked texts fault dims
-partial-refused asked texts fault (inr (dimensions, is, facts)) = partial-no_answer asked texts dimensions fault is facts
+partial-refused asked texts fault (inr (dimensions, is, facts)) =
+    partial-no_answer asked texts dimensions fault is facts
 
 -- a member cannot be read back
 pub partial-not_plain : (asked : PartAsked) (texts : Texts) (dimensions : DimRows) (found : Answer) (fault : Fault)
@@ -47,7 +53,8 @@ pub partial-not_plain : (asked : PartAsked) (texts : Texts) (dimensions : DimRow
     → (fault ≡ Memory) ⊎ (member_cause found ≡ Some fault) → Gives (partial_of asked texts) (Err fault)
 partial-not_plain asked texts dimensions found fault is answered why =
     gives-on (dimensions_of texts) (text_over asked texts) dimensions (Err fault) is
-    (gives-on (answer_of asked.query dimensions texts.lineorder) (text_if_plain asked dimensions) found (Err fault) answered
+    (gives-on (answer_of asked.query dimensions texts.lineorder) (text_if_plain asked dimensions) found (Err fault)
+    answered
     (not_plain asked dimensions found fault why))
 
 -- the text is that of the answer
@@ -56,5 +63,6 @@ pub partial-is : (asked : PartAsked) (texts : Texts) (dimensions : DimRows) (fou
     → member_cause found ≡ None → bytes ≡ partial_text asked dimensions found → partial_of asked texts ≡ Ok bytes
 partial-is asked texts dimensions found bytes is answered plain spelled =
     gives-on (dimensions_of texts) (text_over asked texts) dimensions (Ok bytes) is
-    (gives-on (answer_of asked.query dimensions texts.lineorder) (text_if_plain asked dimensions) found (Ok bytes) answered
+    (gives-on (answer_of asked.query dimensions texts.lineorder) (text_if_plain asked dimensions) found (Ok bytes)
+    answered
     (rw (plain, spelled) refl))

@@ -1,5 +1,6 @@
 -- What holds between two batches of an evaluation. Our own.
-use Rattle.std.specs.Prelude.{◌≡◌, ◌⊎◌, ℕ, ◌+◌, ◌*◌, ◌≤◌, Bool, true, false, None, Some, Option, List, [], ◌∷◌, ◌++◌, length, Result, Ok, Err}
+use Rattle.std.specs.Prelude.{◌≡◌, ◌⊎◌, ℕ, ◌+◌, ◌*◌, ◌≤◌, Bool, true, false, None, Some, Option, List, [], ◌∷◌, ◌++◌}
+use Rattle.std.specs.Prelude.{length, Result, Ok, Err}
 use Rattle.batch_loader.specs.Lines.{lines_of}
 use Rattle.batch_loader.specs.Parts.{parts_of}
 use Rattle.batch_loader.specs.Reading.{TakesBatch, RefusesBatch, IsFirstFault}
@@ -21,7 +22,8 @@ use Rattle.batch_admission.specs.Totals.{totals_of}
 use Rattle.ssb_eval.specs.Evaluation.{Gives, answer_of, facts_of, facts_after}
 
 -- batches were accepted, and their rows were folded
-pub record AreTaken (dimensions : DimRows) (query : Query) (accepted : Accepted) (fold : FoldState) (batches : List (List LineOrder)) : Type 0 where
+pub record AreTaken (dimensions : DimRows) (query : Query) (accepted : Accepted) (fold : FoldState)
+    (batches : List (List LineOrder)) : Type 0 where
   pub represents : HasAccepted accepted batches
   pub query_is : fold.query ≡ query
   pub folded : RepresentsRows dimensions fold (all_rows batches)
@@ -31,15 +33,19 @@ pub record AreTaken (dimensions : DimRows) (query : Query) (accepted : Accepted)
 -- what is left of a text decides the rest
 abbrev pub LeavesFacts : DimRows → List ℕ → List (List LineOrder) → ℕ → Option (List ℕ) → Type 0
 LeavesFacts dimensions text batches number None = ⊥
-LeavesFacts dimensions text batches number (Some left) = facts_of dimensions text ≡ facts_after dimensions batches (next_number number) (parts_of most_batch_rows (lines_of left))
+LeavesFacts dimensions text batches number (Some left) =
+    facts_of dimensions text ≡ facts_after dimensions batches (next_number number)
+    (parts_of most_batch_rows (lines_of left))
 
 -- some batches were taken, and others may follow
 abbrev pub CanGoOn : DimRows → Accepted → FoldState → Type 0
-CanGoOn dimensions accepted fold = (batches : List (List LineOrder)) × AreTaken dimensions fold.query accepted fold batches
+CanGoOn dimensions accepted fold = (batches : List (List LineOrder))
+    × AreTaken dimensions fold.query accepted fold batches
 
 -- The first rows of a batch were looked at after those of accepted batches, and folded unless something was found in
 -- them. The totals found are those of all these rows
-pub record IsBegun (dimensions : DimRows) (query : Query) (before earlier : List LineOrder) (found : Found) (fold : FoldState) : Type 0 where
+pub record IsBegun (dimensions : DimRows) (query : Query) (before earlier : List LineOrder) (found : Found)
+    (fold : FoldState) : Type 0 where
   pub found_is : found ≡ found_in dimensions (totals_of before) earlier
   pub query_is : fold.query ≡ query
   pub folded : cause_of found ≡ None → RepresentsRows dimensions fold (before ++ earlier)
@@ -49,38 +55,49 @@ pub record IsBegun (dimensions : DimRows) (query : Query) (before earlier : List
 
 -- some rows of a batch were looked at, and others may follow
 abbrev pub IsUnderWay : DimRows → Found → FoldState → Type 0
-IsUnderWay dimensions found fold = (before : List LineOrder) × ((earlier : List LineOrder) × IsBegun dimensions fold.query before earlier found fold)
+IsUnderWay dimensions found fold = (before : List LineOrder)
+    × ((earlier : List LineOrder) × IsBegun dimensions fold.query before earlier found fold)
 
 -- the rows of the next batch of a text were read, looked at, and folded unless something was found in them
-pub record IsLookedAt (dimensions : DimRows) (query : Query) (before : List LineOrder) (old new : Unread) (found : Found) (fold : FoldState) (rows : List LineOrder) : Type 0 where
+pub record IsLookedAt (dimensions : DimRows) (query : Query) (before : List LineOrder) (old new : Unread)
+    (found : Found) (fold : FoldState) (rows : List LineOrder) : Type 0 where
   pub read : TakesBatch lineorder_row most_batch_rows old new rows
   pub begun : IsBegun dimensions query before rows found fold
 
 -- they were; or memory was refused, a read failed, or one of its lines is refused
 abbrev pub LooksAtNext : DimRows → Query → List LineOrder → Unread → Unread → FoldState → Result Found Fault → Type 0
-LooksAtNext dimensions query before old new fold (Ok found) = (rows : List LineOrder) × IsLookedAt dimensions query before old new found fold rows
+LooksAtNext dimensions query before old new fold (Ok found) = (rows : List LineOrder)
+    × IsLookedAt dimensions query before old new found fold rows
 LooksAtNext dimensions query before old new fold (Err fault) = RefusesBatch lineorder_row most_batch_rows old fault
 
 -- the next batch of a text, with a row or more, was read, accepted and folded
-pub record IsNextBatch (dimensions : DimRows) (query : Query) (batches : List (List LineOrder)) (old new : Unread) (accepted : Accepted) (fold : FoldState) (rows : List LineOrder) : Type 0 where
+pub record IsNextBatch (dimensions : DimRows) (query : Query) (batches : List (List LineOrder)) (old new : Unread)
+    (accepted : Accepted) (fold : FoldState) (rows : List LineOrder) : Type 0 where
   pub some : 1 ≤ length rows
   pub read : TakesBatch lineorder_row most_batch_rows old new rows
   pub passes : refusal dimensions batches (length batches + 1) rows ≡ None
   pub taken : AreTaken dimensions query accepted fold (batches ++ rows ∷ [])
 
 -- the next batch of a text, with a row or more, was read and is refused
-pub record IsRefusedBatch (dimensions : DimRows) (batches : List (List LineOrder)) (old new : Unread) (fault : Fault) (rows : List LineOrder) : Type 0 where
+pub record IsRefusedBatch (dimensions : DimRows) (batches : List (List LineOrder)) (old new : Unread) (fault : Fault)
+    (rows : List LineOrder) : Type 0 where
   pub some : 1 ≤ length rows
   pub read : TakesBatch lineorder_row most_batch_rows old new rows
   pub refused : refusal dimensions batches (length batches + 1) rows ≡ Some fault
 
--- The next batch was taken, or no row was left. Or memory was refused, a read failed, one of its lines is refused, or it is refused itself
-abbrev pub TakesNextBatch : DimRows → Query → List (List LineOrder) → Unread → Unread → Accepted → FoldState → Result Bool Fault → Type 0
-TakesNextBatch dimensions query batches old new accepted fold (Ok true) = (rows : List LineOrder) × IsNextBatch dimensions query batches old new accepted fold rows
+-- The next batch was taken, or no row was left. Or memory was refused, a read failed, one of its lines is refused, or
+-- it is refused itself
+abbrev pub TakesNextBatch : DimRows → Query → List (List LineOrder) → Unread → Unread → Accepted → FoldState
+    → Result Bool Fault → Type 0
+TakesNextBatch dimensions query batches old new accepted fold (Ok true) = (rows : List LineOrder)
+    × IsNextBatch dimensions query batches old new accepted fold rows
 TakesNextBatch dimensions query batches old new accepted fold (Ok false) =
     TakesBatch lineorder_row most_batch_rows old new [] × AreTaken dimensions query accepted fold batches
 TakesNextBatch dimensions query batches old new accepted fold (Err fault) =
-    (fault ≡ Memory) ⊎ ((fault ≡ Input) ⊎ (IsFirstFault lineorder_row most_batch_rows old.number old.left fault ⊎ ((rows : List LineOrder) × IsRefusedBatch dimensions batches old new fault rows)))
+    (fault ≡ Memory)
+    ⊎ ((fault ≡ Input)
+    ⊎ (IsFirstFault lineorder_row most_batch_rows old.number old.left fault
+    ⊎ ((rows : List LineOrder) × IsRefusedBatch dimensions batches old new fault rows)))
 
 -- a fold that took all fact rows that it was to take: it represents some that may be folded
 pub record IsDone (dimensions : DimRows) (query : Query) (fold : FoldState) : Type 0 where
@@ -91,5 +108,6 @@ pub record IsDone (dimensions : DimRows) (query : Query) (fold : FoldState) : Ty
 
 -- All fact rows of a text were folded. Or memory was refused, a read failed, or the rows are refused
 abbrev pub FoldsFacts : Query → DimRows → List ℕ → FoldState → Result Unit Fault → Type 0
-FoldsFacts query dimensions text fold (Ok done) = (rows : List LineOrder) × (facts_of dimensions text ≡ Ok rows) × RepresentsRows dimensions fold rows
+FoldsFacts query dimensions text fold (Ok done) = (rows : List LineOrder) × (facts_of dimensions text ≡ Ok rows)
+    × RepresentsRows dimensions fold rows
 FoldsFacts query dimensions text fold (Err fault) = Gives (answer_of query dimensions text) (Err fault)

@@ -53,8 +53,8 @@ tables_of texts =
 abbrev pub dimensions_of : Texts → Result DimRows Fault
 dimensions_of texts = and_then (tables_of texts) valid_rows
 
--- the fact rows of the lines of batches, after batches that were accepted: the lines of a batch are read, and then it is
--- admitted. The number is that of the next line
+-- the fact rows of the lines of batches, after batches that were accepted: the lines of a batch are read, and then it
+-- is admitted. The number is that of the next line
 abbrev pub facts_after : DimRows → List (List LineOrder) → ℕ → List (List (List ℕ)) → Result (List LineOrder) Fault
 facts_after dimensions batches number [] = Ok (all_rows batches)
 facts_after dimensions batches number (lines ∷ others) =
@@ -68,7 +68,8 @@ facts_of dimensions text = facts_after dimensions [] 1 (parts_of most_batch_rows
 
 -- where no batch of a text is refused, their rows put end to end are the rows of all its lines
 abbrev pub FactsAreRows : Type 0
-FactsAreRows = (dimensions : DimRows) (text : List ℕ) (rows : List LineOrder) → facts_of dimensions text ≡ Ok rows → table_rows lineorder_row text ≡ Ok rows
+FactsAreRows = (dimensions : DimRows) (text : List ℕ) (rows : List LineOrder) → facts_of dimensions text ≡ Ok rows
+    → table_rows lineorder_row text ≡ Ok rows
 
 -- the answer over them
 abbrev pub answer_of : Query → DimRows → List ℕ → Result Answer Fault
@@ -99,12 +100,15 @@ abbrev pub Gives : {A : Type 0} → Result A Fault → Result A Fault → Type 0
 Gives outcome (Ok value) = outcome ≡ Ok value
 Gives outcome (Err fault) = (fault ≡ Memory) ⊎ ((fault ≡ Input) ⊎ (outcome ≡ Err fault))
 
--- the dimensions and the groups of a query, which are those of texts, or the first refusal; or memory was refused, or a reader failed
+-- the dimensions and the groups of a query, which are those of texts, or the first refusal; or memory was refused, or a
+-- reader failed
 abbrev pub Evaluates : Query → Texts → Result Evaluated Fault → Type 0
-Evaluates query texts (Ok found) = (dimensions_of texts ≡ Ok found.dims) × (answer_of query found.dims texts.lineorder ≡ Ok (answer_over found.dims found.groups))
+Evaluates query texts (Ok found) = (dimensions_of texts ≡ Ok found.dims)
+    × (answer_of query found.dims texts.lineorder ≡ Ok (answer_over found.dims found.groups))
 Evaluates query texts (Err fault) =
     Gives (dimensions_of texts) (Err fault)
-    ⊎ ((dimensions : DimRows) × (dimensions_of texts ≡ Ok dimensions) × Gives (answer_of query dimensions texts.lineorder) (Err fault))
+    ⊎ ((dimensions : DimRows) × (dimensions_of texts ≡ Ok dimensions)
+    × Gives (answer_of query dimensions texts.lineorder) (Err fault))
 
 -- readers have the bytes of texts left
 pub record HaveTexts (customer supplier part date lineorder : Option (List ℕ)) (texts : Texts) : Type 0 where

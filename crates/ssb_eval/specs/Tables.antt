@@ -1,9 +1,11 @@
 -- The five tables while they are read, and what is kept of a refusal. Our own.
-use Rattle.std.specs.Prelude.{◌≡◌, ◌≢◌, ◌⊎◌, ◌-◌, ℕ, true, List, Option, Some, None, IfErr, IfSome, Result, Ok, length, slice_get}
+use Rattle.std.specs.Prelude.{◌≡◌, ◌≢◌, ◌⊎◌, ◌-◌, ℕ, true, List, Option, Some, None, IfErr, IfSome, Result, Ok, length}
+use Rattle.std.specs.Prelude.{slice_get}
 use Rattle.cube_model.specs.declared.attr.Axis.{Axis}
 use Rattle.cube_model.specs.declared.attr.Axis.TheVariants.{Customer, Supplier, Part, Date}
 use Rattle.cube_model.specs.declared.fault.Fault.{Fault}
-use Rattle.cube_model.specs.declared.fault.Fault.TheVariants.{Memory, UnknownCustomer, UnknownSupplier, UnknownPart, UnknownDate}
+use Rattle.cube_model.specs.declared.fault.Fault.TheVariants.{Memory, UnknownCustomer, UnknownSupplier, UnknownPart}
+use Rattle.cube_model.specs.declared.fault.Fault.TheVariants.{UnknownDate}
 use Rattle.cube_model.specs.declared.rows.DimRows.{DimRows}
 use Rattle.cube_model.specs.declared.rows.LineOrder.{LineOrder}
 use Rattle.cube_model.specs.Attributes.{key_on}
@@ -29,8 +31,8 @@ lines_on Supplier lines = lines.supplier
 lines_on Part lines = lines.part
 lines_on Date lines = lines.date
 
--- what is known of the five tables, and what is kept of a refusal: the dimension rows that break a rule, and a key of the fact table
--- that no row of its dimension has
+-- what is known of the five tables, and what is kept of a refusal: the dimension rows that break a rule, and a key of
+-- the fact table that no row of its dimension has
 pub record StarLines : Type 0 where
   pub dimensions : DimensionLines
   pub lineorder : Unread
@@ -92,8 +94,10 @@ unknown_on fault = None
 abbrev pub IsInNoRow : DimRows → UnknownKey → Type 0
 IsInNoRow dimensions unknown = lacks dimensions unknown.axis unknown.key ≡ true
 
--- a key of some fact rows that no row of its dimension has, and its line. The last of the rows is that of a line with a number
-pub record IsUnknownIn (dimensions : DimRows) (axis : Axis) (rows : List LineOrder) (last : ℕ) (unknown : UnknownKey) : Type 0 where
+-- a key of some fact rows that no row of its dimension has, and its line. The last of the rows is that of a line with a
+-- number
+pub record IsUnknownIn (dimensions : DimRows) (axis : Axis) (rows : List LineOrder) (last : ℕ)
+    (unknown : UnknownKey) : Type 0 where
   pub axis_is : unknown.axis ≡ axis
   pub place : ℕ
   pub row : LineOrder
@@ -117,4 +121,6 @@ pub record KeepsCause {A : Type 0} (new : StarLines) (result : Result A Fault) :
 
 -- and of the fact table a key that is in no row of its dimension
 abbrev pub KeepsUnknown : Texts → StarLines → Type 0
-KeepsUnknown texts new = IfSome new.unknown (λ unknown. (dimensions : DimRows) × (dimensions_of texts ≡ Ok dimensions) × IsInNoRow dimensions unknown)
+KeepsUnknown texts new =
+    IfSome new.unknown (λ unknown. (dimensions : DimRows) × (dimensions_of texts ≡ Ok dimensions)
+    × IsInNoRow dimensions unknown)

@@ -34,11 +34,13 @@ pub fn eval_texts<
 ) -> Result<(), Fault>
     // Of a proper query the outcome is that of the texts.
     ensures proper { IsProper query.now → (texts : Texts)
-        → HaveTexts (C.remaining customer) (S.remaining supplier) (P.remaining part) (D.remaining date) (L.remaining lineorder) texts
+        → HaveTexts (C.remaining customer) (S.remaining supplier) (P.remaining part) (D.remaining date)
+        (L.remaining lineorder) texts
         → Reports (W.contents out.old) (W.contents out.new) (eval_of query.now texts) result }
 
     // Any other query is refused before a text is read.
-    ensures improper { (IsProper query.now → ⊥) → (result ≡ Err Fault.BadQuery) × Keeps (W.contents out.old) (W.contents out.new) }
+    ensures improper { (IsProper query.now → ⊥) → (result ≡ Err Fault.BadQuery)
+        × Keeps (W.contents out.old) (W.contents out.new) }
 {
     query.check()?;
     let mut tables = Tables::new(alloc, customer, supplier, part, date, lineorder)?;

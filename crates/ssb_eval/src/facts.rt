@@ -8,7 +8,8 @@ ghost use Rattle.cube_model.specs.Limits.{most_batch_rows};
 ghost use Rattle.cube_query.specs.GroupLines.{AreGroupsOver};
 ghost use Rattle.cube_query.specs.Groups.{Begins};
 ghost use Rattle.ssb_eval.specs.Evaluation.{Gives, answer_in, answer_of};
-ghost use Rattle.ssb_eval.specs.BatchLoop.{AreTaken, CanGoOn, FoldsFacts, IsDone, IsBegun, IsUnderWay, LooksAtNext, TakesNextBatch};
+ghost use Rattle.ssb_eval.specs.BatchLoop.{AreTaken, CanGoOn, FoldsFacts, IsDone, IsBegun, IsUnderWay, LooksAtNext};
+ghost use Rattle.ssb_eval.specs.BatchLoop.{TakesNextBatch};
 ghost use Rattle.ssb_eval.specs.Tables.{IsInNoRow, IsUnread, KeepsLine};
 
 use crate::unknown::{UnknownKey, keep_unknown};
@@ -27,8 +28,8 @@ const PIECE_ROWS: usize = 4096;
 // The pieces of a whole batch.
 const BATCH_PIECES: usize = MOST_BATCH_ROWS / PIECE_ROWS;
 
-/// Reads the fact rows batch by batch, checks each batch, and folds it: the groups of the answer. Memory does not grow with
-/// the rows. The key for which a batch is refused is kept.
+/// Reads the fact rows batch by batch, checks each batch, and folds it: the groups of the answer. Memory does not grow
+/// with the rows. The key for which a batch is refused is kept.
 pub fn group_facts<R: Read>(
     alloc: Global,
     dims: &Dims,
@@ -38,7 +39,8 @@ pub fn group_facts<R: Read>(
 ) -> Result<Groups, Fault>
     requires proper { IsProper query.now }
     ensures over { IfOk result (AreGroupsOver dims.now) }
-    ensures answer { (text : List ℕ) → IsUnread lines.old text → Gives (answer_of query.now dims.now text) (answer_in dims.now result) }
+    ensures answer { (text : List ℕ) → IsUnread lines.old text
+        → Gives (answer_of query.now dims.now text) (answer_in dims.now result) }
     ensures unknown { IfSome unknown.old (IsInNoRow dims.now) → IfSome unknown.new (IsInNoRow dims.now) }
     ensures line { lines.old.fault ≡ None → KeepsLine lineorder_row lines.new }
 {
@@ -61,7 +63,8 @@ fn fold_lines<R: Read>(
     requires begins { Begins dims.now fold.old.query fold.old }
     requires fault { lines.old.fault ≡ None }
     ensures folded { OnOk result (IsDone dims.now fold.old.query fold.new) }
-    ensures facts { (text : List ℕ) → IsUnread lines.old text → FoldsFacts fold.old.query dims.now text fold.new result }
+    ensures facts { (text : List ℕ) → IsUnread lines.old text
+        → FoldsFacts fold.old.query dims.now text fold.new result }
     ensures unknown { IfSome unknown.old (IsInNoRow dims.now) → IfSome unknown.new (IsInNoRow dims.now) }
     ensures line { KeepsLine lineorder_row lines.new }
 {

@@ -12,8 +12,8 @@ use report_formats::{Asked, write_formatted};
 use std::alloc::Global;
 use std::io::{Read, Write};
 
-/// Writes the report that is asked for as `eval_texts` writes one with bars, over tables of which nothing was read yet, and returns the
-/// dimensions.
+/// Writes the report that is asked for as `eval_texts` writes one with bars, over tables of which nothing was read yet,
+/// and returns the dimensions.
 pub fn eval_formatted<
     C: Read + Drop,
     S: Read + Drop,
@@ -32,10 +32,12 @@ pub fn eval_formatted<
         → Reports (W.contents out.old) (W.contents out.new) (formatted_of asked.now texts) result }
 
     // The dimensions are those of the texts.
-    ensures dims { (texts : Texts) → IsUnreadStar tables.old texts → IfOk result (λ dims. dimensions_of texts ≡ Ok dims) }
+    ensures dims { (texts : Texts) → IsUnreadStar tables.old texts
+        → IfOk result (λ dims. dimensions_of texts ≡ Ok dims) }
 
     // Any other query is refused before a text is read.
-    ensures improper { (IsProper asked.now.query → ⊥) → (result ≡ Err Fault.BadQuery) × Keeps (W.contents out.old) (W.contents out.new) }
+    ensures improper { (IsProper asked.now.query → ⊥) → (result ≡ Err Fault.BadQuery)
+        × Keeps (W.contents out.old) (W.contents out.new) }
 
     // After a refusal the tables have what was refused.
     ensures cause { IsFresh tables.old → KeepsCause tables.new result }

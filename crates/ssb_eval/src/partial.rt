@@ -13,8 +13,8 @@ use partial_reports::{PartAsked, begin_partial, write_partial};
 use std::alloc::Global;
 use std::io::{Read, Write};
 
-/// Writes the partial report that is asked for as `eval_formatted` writes a whole one, and returns the dimensions. `BadLayout` comes
-/// last, where a member has a bar or a line feed or is the text ALL, and then nothing is written.
+/// Writes the partial report that is asked for as `eval_formatted` writes a whole one, and returns the dimensions.
+/// `BadLayout` comes last, where a member has a bar or a line feed or is the text ALL, and then nothing is written.
 pub fn eval_partial<
     C: Read + Drop,
     S: Read + Drop,
@@ -33,10 +33,12 @@ pub fn eval_partial<
         → Reports (W.contents out.old) (W.contents out.new) (partial_of asked.now texts) result }
 
     // The dimensions are those of the texts.
-    ensures dims { (texts : Texts) → IsUnreadStar tables.old texts → IfOk result (λ dims. dimensions_of texts ≡ Ok dims) }
+    ensures dims { (texts : Texts) → IsUnreadStar tables.old texts
+        → IfOk result (λ dims. dimensions_of texts ≡ Ok dims) }
 
     // Any other query is refused before a text is read.
-    ensures improper { (IsProper asked.now.query → ⊥) → (result ≡ Err Fault.BadQuery) × Keeps (W.contents out.old) (W.contents out.new) }
+    ensures improper { (IsProper asked.now.query → ⊥) → (result ≡ Err Fault.BadQuery)
+        × Keeps (W.contents out.old) (W.contents out.new) }
 
     // After a refusal the tables have what was refused.
     ensures cause { IsFresh tables.old → KeepsCause tables.new result }

@@ -3,7 +3,8 @@ ghost use Rattle.std.specs.Prelude.{◌≡◌, None, Some, IfErr, IfNone, IfOk, 
 ghost use Rattle.cube_model.specs.Proper.{IsProper};
 ghost use Rattle.cube_query.specs.GroupLines.{AreGroupsOver};
 ghost use Rattle.ssb_eval.specs.Evaluation.{Evaluates, Gives, HaveTexts, Texts, dimensions_of};
-ghost use Rattle.ssb_eval.specs.Tables.{AreFresh, AreUnread, IsFresh, IsRefusedFor, IsUnreadStar, KeepLines, KeepsBroken, KeepsCause, KeepsUnknown};
+ghost use Rattle.ssb_eval.specs.Tables.{AreFresh, AreUnread, IsFresh, IsRefusedFor, IsUnreadStar, KeepLines};
+ghost use Rattle.ssb_eval.specs.Tables.{KeepsBroken, KeepsCause, KeepsUnknown};
 
 use crate::facts::group_facts;
 use crate::tables::{DimensionTables, RefusedLine};
@@ -63,7 +64,8 @@ impl<C: Read + Drop, S: Read + Drop, P: Read + Drop, D: Read + Drop, L: Read + D
         lineorder: L,
     ) -> Result<Self, Fault>
         ensures unread { IfOk result (λ tables. (texts : Texts)
-            → HaveTexts (C.remaining customer) (S.remaining supplier) (P.remaining part) (D.remaining date) (L.remaining lineorder) texts
+            → HaveTexts (C.remaining customer) (S.remaining supplier) (P.remaining part) (D.remaining date)
+            (L.remaining lineorder) texts
             → IsUnreadStar tables texts) }
         ensures fresh { IfOk result IsFresh }
         ensures err { IfErr result (λ fault. fault ≡ Fault.Memory) }
@@ -76,8 +78,8 @@ impl<C: Read + Drop, S: Read + Drop, P: Read + Drop, D: Read + Drop, L: Read + D
         })
     }
 
-    /// Reads the four tables of the dimensions, and then checks their rows; checks the fact rows batch by batch, and folds them. The
-    /// first refusal decides.
+    /// Reads the four tables of the dimensions, and then checks their rows; checks the fact rows batch by batch, and
+    /// folds them. The first refusal decides.
     pub(crate) fn evaluate(&mut self, alloc: Global, query: &Query) -> Result<Evaluated, Fault>
         requires proper { IsProper query.now }
         ensures over { IfOk result (λ found. AreGroupsOver found.dims found.groups) }
@@ -122,8 +124,8 @@ impl<C: Read + Drop, S: Read + Drop, P: Read + Drop, D: Read + Drop, L: Read + D
         self.dimensions.refused()
     }
 
-    /// The line of the fact table that was read last. Where the table is refused, it is the line that is, except where that is too long
-    /// or a read failed.
+    /// The line of the fact table that was read last. Where the table is refused, it is the line that is, except where
+    /// that is too long or a read failed.
     pub fn fact_line(&self) -> &[u8]
         ensures { result.now ≡ self.now.lineorder.line }
     {

@@ -46,7 +46,8 @@ impl<C: Read + Drop, S: Read + Drop, P: Read + Drop, D: Read + Drop> Model
 impl<C: Read + Drop, S: Read + Drop, P: Read + Drop, D: Read + Drop> DimensionTables<C, S, P, D> {
     /// The tables that four readers give. It can only fail when out of memory.
     pub fn new(alloc: Global, customer: C, supplier: S, part: P, date: D) -> Result<Self, Fault>
-        ensures unread { IfOk result (λ tables. (texts : Texts) → C.remaining customer ≡ Some texts.customer → S.remaining supplier ≡ Some texts.supplier
+        ensures unread { IfOk result (λ tables. (texts : Texts) → C.remaining customer ≡ Some texts.customer
+            → S.remaining supplier ≡ Some texts.supplier
             → P.remaining part ≡ Some texts.part → D.remaining date ≡ Some texts.date → AreUnread tables texts) }
         ensures fresh { IfOk result AreFresh }
         ensures err { IfErr result (λ fault. fault ≡ Fault.Memory) }
@@ -59,8 +60,8 @@ impl<C: Read + Drop, S: Read + Drop, P: Read + Drop, D: Read + Drop> DimensionTa
         })
     }
 
-    /// The rows of the four tables, whether they keep the rules of dimensions or not. The tables are read in this order, each to its
-    /// end. That a text is too long is never found here: its table refuses it.
+    /// The rows of the four tables, whether they keep the rules of dimensions or not. The tables are read in this
+    /// order, each to its end. That a text is too long is never found here: its table refuses it.
     pub fn rows(&mut self, alloc: Global) -> Result<DimRows, Fault>
         ensures tables { (texts : Texts) → AreUnread self.old texts → Gives (tables_of texts) result }
         ensures short { IfOk result HaveShortTexts }

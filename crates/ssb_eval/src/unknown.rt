@@ -15,8 +15,8 @@ pub struct UnknownKey {
     pub line: u64,
 }
 
-/// Keeps the unknown key for which a batch is refused, where none is kept yet. The cause that was found in the batch so far and its
-/// last rows are given, and the number of the line of the last one.
+/// Keeps the unknown key for which a batch is refused, where none is kept yet. The cause that was found in the batch so
+/// far and its last rows are given, and the number of the line of the last one.
 pub fn keep_unknown(
     dims: &Dims,
     cause: Option<Fault>,

@@ -2,7 +2,10 @@
 -- Where copies of the benchmark differ in a constant, ours is one of theirs.
 use Rattle.std.specs.Prelude.{ℕ, List, [], ◌∷◌, None, Some, codes}
 use Rattle.cube_model.specs.declared.attr.Attr.{Attr}
-use Rattle.cube_model.specs.declared.attr.Attr.TheVariants.{CustomerCity, CustomerNation, CustomerRegion, SupplierCity, SupplierNation, SupplierRegion, PartBrand1, PartCategory, PartMfgr, DateYearmonthnum, DateYear, DateYearmonth, DateWeeknuminyear}
+use Rattle.cube_model.specs.declared.attr.Attr.TheVariants.{CustomerCity, CustomerNation, CustomerRegion, SupplierCity}
+use Rattle.cube_model.specs.declared.attr.Attr.TheVariants.{SupplierNation, SupplierRegion, PartBrand1, PartCategory}
+use Rattle.cube_model.specs.declared.attr.Attr.TheVariants.{PartMfgr, DateYearmonthnum, DateYear, DateYearmonth}
+use Rattle.cube_model.specs.declared.attr.Attr.TheVariants.{DateWeeknuminyear}
 use Rattle.cube_model.specs.declared.measure.Agg.TheVariants.{Sum}
 use Rattle.cube_model.specs.declared.measure.Measure.{Measure}
 use Rattle.cube_model.specs.declared.measure.Measure.TheVariants.{Revenue, Discounted, Profit}
@@ -11,7 +14,8 @@ use Rattle.cube_model.specs.declared.query.Cond.TheVariants.{OneOf, Between, Qua
 use Rattle.cube_model.specs.declared.query.Kind.TheVariants.{Plain}
 use Rattle.cube_model.specs.declared.query.Query.{Query}
 use Rattle.ssb_reports.specs.declared.number.QNumber.{QNumber}
-use Rattle.ssb_reports.specs.declared.number.QNumber.TheVariants.{Q11, Q12, Q13, Q21, Q22, Q23, Q31, Q32, Q33, Q34, Q41, Q42, Q43}
+use Rattle.ssb_reports.specs.declared.number.QNumber.TheVariants.{Q11, Q12, Q13, Q21, Q22, Q23, Q31, Q32, Q33, Q34, Q41}
+use Rattle.ssb_reports.specs.declared.number.QNumber.TheVariants.{Q42, Q43}
 
 -- the number of a query, as words and the benchmark name it
 abbrev pub number_text : QNumber → List ℕ
@@ -64,14 +68,42 @@ in_two_cities attr = is_either attr (codes "UNITED KI1") (codes "UNITED KI5")
 abbrev pub benchmark_query : QNumber → Query
 benchmark_query Q11 = sum_of Discounted [] (is DateYear (codes "1993") ∷ Discount 1 3 ∷ Quantity 0 24 ∷ [])
 benchmark_query Q12 = sum_of Discounted [] (is DateYearmonthnum (codes "199401") ∷ Discount 4 6 ∷ Quantity 26 35 ∷ [])
-benchmark_query Q13 = sum_of Discounted [] (is DateWeeknuminyear (codes "6") ∷ is DateYear (codes "1994") ∷ Discount 5 7 ∷ Quantity 26 35 ∷ [])
-benchmark_query Q21 = sum_of Revenue (DateYear ∷ PartBrand1 ∷ []) (is PartCategory (codes "MFGR#12") ∷ is SupplierRegion (codes "AMERICA") ∷ [])
-benchmark_query Q22 = sum_of Revenue (DateYear ∷ PartBrand1 ∷ []) (Between PartBrand1 (codes "MFGR#2221") (codes "MFGR#2228") ∷ is SupplierRegion (codes "ASIA") ∷ [])
-benchmark_query Q23 = sum_of Revenue (DateYear ∷ PartBrand1 ∷ []) (is PartBrand1 (codes "MFGR#2239") ∷ is SupplierRegion (codes "EUROPE") ∷ [])
-benchmark_query Q31 = by_year_and_sum (sum_of Revenue (CustomerNation ∷ SupplierNation ∷ DateYear ∷ []) (is CustomerRegion (codes "ASIA") ∷ is SupplierRegion (codes "ASIA") ∷ from_1992_to_1997 ∷ []))
-benchmark_query Q32 = by_year_and_sum (sum_of Revenue cities (is CustomerNation (codes "UNITED STATES") ∷ is SupplierNation (codes "UNITED STATES") ∷ from_1992_to_1997 ∷ []))
-benchmark_query Q33 = by_year_and_sum (sum_of Revenue cities (in_two_cities CustomerCity ∷ in_two_cities SupplierCity ∷ from_1992_to_1997 ∷ []))
-benchmark_query Q34 = by_year_and_sum (sum_of Revenue cities (in_two_cities CustomerCity ∷ in_two_cities SupplierCity ∷ is DateYearmonth (codes "Dec1997") ∷ []))
-benchmark_query Q41 = sum_of Profit (DateYear ∷ CustomerNation ∷ []) (is CustomerRegion (codes "AMERICA") ∷ is SupplierRegion (codes "AMERICA") ∷ is_either PartMfgr (codes "MFGR#1") (codes "MFGR#2") ∷ [])
-benchmark_query Q42 = sum_of Profit (DateYear ∷ SupplierNation ∷ PartCategory ∷ []) (is CustomerRegion (codes "AMERICA") ∷ is SupplierRegion (codes "AMERICA") ∷ is_either PartMfgr (codes "MFGR#1") (codes "MFGR#2") ∷ is_either DateYear (codes "1997") (codes "1998") ∷ [])
-benchmark_query Q43 = sum_of Profit (DateYear ∷ SupplierCity ∷ PartBrand1 ∷ []) (is CustomerRegion (codes "AMERICA") ∷ is SupplierNation (codes "UNITED STATES") ∷ is_either DateYear (codes "1997") (codes "1998") ∷ is PartCategory (codes "MFGR#14") ∷ [])
+benchmark_query Q13 =
+    sum_of Discounted [] (is DateWeeknuminyear (codes "6") ∷ is DateYear (codes "1994") ∷ Discount 5 7 ∷ Quantity 26 35
+    ∷ [])
+benchmark_query Q21 =
+    sum_of Revenue (DateYear ∷ PartBrand1 ∷ []) (is PartCategory (codes "MFGR#12") ∷ is SupplierRegion (codes "AMERICA")
+    ∷ [])
+benchmark_query Q22 =
+    sum_of Revenue (DateYear ∷ PartBrand1 ∷ [])
+    (Between PartBrand1 (codes "MFGR#2221") (codes "MFGR#2228") ∷ is SupplierRegion (codes "ASIA") ∷ [])
+benchmark_query Q23 =
+    sum_of Revenue (DateYear ∷ PartBrand1 ∷ []) (is PartBrand1 (codes "MFGR#2239") ∷ is SupplierRegion (codes "EUROPE")
+    ∷ [])
+benchmark_query Q31 =
+    by_year_and_sum
+    (sum_of Revenue (CustomerNation ∷ SupplierNation ∷ DateYear ∷ [])
+    (is CustomerRegion (codes "ASIA") ∷ is SupplierRegion (codes "ASIA") ∷ from_1992_to_1997 ∷ []))
+benchmark_query Q32 =
+    by_year_and_sum
+    (sum_of Revenue cities (is CustomerNation (codes "UNITED STATES") ∷ is SupplierNation (codes "UNITED STATES")
+    ∷ from_1992_to_1997 ∷ []))
+benchmark_query Q33 =
+    by_year_and_sum
+    (sum_of Revenue cities (in_two_cities CustomerCity ∷ in_two_cities SupplierCity ∷ from_1992_to_1997 ∷ []))
+benchmark_query Q34 =
+    by_year_and_sum
+    (sum_of Revenue cities (in_two_cities CustomerCity ∷ in_two_cities SupplierCity ∷ is DateYearmonth (codes "Dec1997")
+    ∷ []))
+benchmark_query Q41 =
+    sum_of Profit (DateYear ∷ CustomerNation ∷ [])
+    (is CustomerRegion (codes "AMERICA") ∷ is SupplierRegion (codes "AMERICA")
+    ∷ is_either PartMfgr (codes "MFGR#1") (codes "MFGR#2") ∷ [])
+benchmark_query Q42 =
+    sum_of Profit (DateYear ∷ SupplierNation ∷ PartCategory ∷ [])
+    (is CustomerRegion (codes "AMERICA") ∷ is SupplierRegion (codes "AMERICA")
+    ∷ is_either PartMfgr (codes "MFGR#1") (codes "MFGR#2") ∷ is_either DateYear (codes "1997") (codes "1998") ∷ [])
+benchmark_query Q43 =
+    sum_of Profit (DateYear ∷ SupplierCity ∷ PartBrand1 ∷ [])
+    (is CustomerRegion (codes "AMERICA") ∷ is SupplierNation (codes "UNITED STATES")
+    ∷ is_either DateYear (codes "1997") (codes "1998") ∷ is PartCategory (codes "MFGR#14") ∷ [])

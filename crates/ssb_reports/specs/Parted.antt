@@ -7,6 +7,6 @@ parted bar lead [] = []
 parted bar lead (field ∷ fields) = lead ++ (field ++ parted bar bar fields)
 
 -- what leads the next field after some others: a bar, and nothing where there are none
-abbrev pub lead_behind : {A : Type 0} → List ℕ → List A → List ℕ
-lead_behind bar [] = []
-lead_behind bar (first ∷ others) = bar
+abbrev pub lead_after : {A : Type 0} → List ℕ → List A → List ℕ
+lead_after bar [] = []
+lead_after bar (first ∷ others) = bar

@@ -63,7 +63,8 @@ impl Field for Value {
 }
 
 fn write_aggregate<W: Write>(out: &mut W, opening: &[u8], measure: Measure) -> Result<(), Fault>
-    ensures { Writes (W.contents out.old) (W.contents out.new) result (opening.now ++ (measure_name measure ++ codes ")")) }
+    ensures { Writes (W.contents out.old) (W.contents out.new) result
+        (opening.now ++ (measure_name measure ++ codes ")")) }
 {
     write_bytes(out, opening)?;
     write_bytes(out, measure.name().as_bytes())?;

@@ -25,7 +25,8 @@ pub trait Lines {
     /// Hands a writer the text of a line. It takes no memory.
     fn write_line<W: Write>(&self, place: usize, out: &mut W) -> Result<(), Fault>
         requires { place < length (lines self.now) }
-        ensures { Writes (W.contents out.old) (W.contents out.new) result (line_text (line_at (lines self.now) place)) };
+        ensures { Writes (W.contents out.old) (W.contents out.new) result
+            (line_text (line_at (lines self.now) place)) };
 
     /// How many columns a line has.
     fn columns(&self, place: usize) -> usize
@@ -36,7 +37,8 @@ pub trait Lines {
     fn text(&self, place: usize, column: usize) -> Option<&[u8]>
         requires line { place < length (lines self.now) }
         requires column { column < length (line_at (lines self.now) place).key }
-        ensures text { IfSome result (λ text. slice_index_or (line_at (lines self.now) place).key column All ≡ Text text.now) }
+        ensures text { IfSome result
+            (λ text. slice_index_or (line_at (lines self.now) place).key column All ≡ Text text.now) }
         ensures all { IfNone result (slice_index_or (line_at (lines self.now) place).key column All ≡ All) };
 
     /// How many values a line has.

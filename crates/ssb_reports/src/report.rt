@@ -1,7 +1,7 @@
 //! The report of an answer.
 ghost use Rattle.std.specs.Prelude.{◌≡◌, ◌++◌, ◌≤◌, drop, length};
 ghost use Rattle.std.specs.List.{flat_map, join_with_byte};
-ghost use Rattle.ssb_reports.specs.Parted.{parted, lead_behind};
+ghost use Rattle.ssb_reports.specs.Parted.{parted, lead_after};
 ghost use Rattle.ssb_reports.specs.Report.{report_of, row_text, line_text, count_text};
 ghost use Rattle.ssb_reports.specs.Writing.{Writes};
 
@@ -55,7 +55,8 @@ pub(crate) fn write_row<W: Write, F: Fields, G: Fields>(
     fields: &F,
     others: &G,
 ) -> Result<(), Fault>
-    ensures { Writes (W.contents out.old) (W.contents out.new) result (row_text (F.texts fields.now ++ G.texts others.now)) }
+    ensures { Writes (W.contents out.old) (W.contents out.new) result
+        (row_text (F.texts fields.now ++ G.texts others.now)) }
 {
     write_joined(out, b'|', fields, others)?;
     write_bytes(out, b"\n")
@@ -68,11 +69,12 @@ pub fn write_joined<W: Write, F: Fields, G: Fields>(
     fields: &F,
     others: &G,
 ) -> Result<(), Fault>
-    ensures { Writes (W.contents out.old) (W.contents out.new) result (join_with_byte separator (F.texts fields.now ++ G.texts others.now)) }
+    ensures { Writes (W.contents out.old) (W.contents out.new) result
+        (join_with_byte separator (F.texts fields.now ++ G.texts others.now)) }
 {
     let bar = [separator];
     write_fields(out, &bar, b"", fields, 0)?;
-    write_fields(out, &bar, lead_behind(&bar, fields), others, 0)
+    write_fields(out, &bar, lead_after(&bar, fields), others, 0)
 }
 
 // Writes the fields from a place on with a bar between each two, and a lead in front of the first.
@@ -84,7 +86,8 @@ fn write_fields<W: Write, F: Fields>(
     place: usize,
 ) -> Result<(), Fault>
     requires { place ≤ length (F.texts fields.now) }
-    ensures { Writes (W.contents out.old) (W.contents out.new) result (parted bar.now lead.now (drop place (F.texts fields.now))) }
+    ensures { Writes (W.contents out.old) (W.contents out.new) result
+        (parted bar.now lead.now (drop place (F.texts fields.now))) }
 {
     if place == fields.count() {
         return Ok(());
@@ -95,8 +98,8 @@ fn write_fields<W: Write, F: Fields>(
 }
 
 // What leads the next field.
-fn lead_behind<'b, F: Fields>(bar: &'b [u8], fields: &F) -> &'b [u8]
-    ensures { result.now ≡ lead_behind bar.now (F.texts fields.now) }
+fn lead_after<'b, F: Fields>(bar: &'b [u8], fields: &F) -> &'b [u8]
+    ensures { result.now ≡ lead_after bar.now (F.texts fields.now) }
 {
     if fields.count() == 0 { b"" } else { bar }
 }

@@ -16,7 +16,8 @@ use Rattle.stored_cuboids.specs.declared.reading.Progress.{Progress}
 
 -- an object of a content is counted into a fold: its header goes on where the runs so far end, and where it is a run,
 -- the fold takes the rows that the cells of the run represent
-pub record CountsRun (content : Content) (id : ℕ) (view : View) (at : Progress) (dimensions : DimRows) (old new : FoldState) (next : Progress) : Type 0 where
+pub record CountsRun (content : Content) (id : ℕ) (view : View) (at : Progress) (dimensions : DimRows)
+    (old new : FoldState) (next : Progress) : Type 0 where
   pub head : RunHead
   pub goes_on : GoesOn view at head next
   pub takes : (span : Span) (cells : PlainCells) → HasRun content id span cells
@@ -24,6 +25,7 @@ pub record CountsRun (content : Content) (id : ℕ) (view : View) (at : Progress
       × ((rows : List LineOrder) → RepresentRows dimensions [] rows cells → Takes dimensions old rows new)
 
 -- so many runs of a cuboid are read, and a fold represents the rows of their batches
-pub record AreCounted (w : Warehouse) (cuboid : Cuboid) (dimensions : DimRows) (count : ℕ) (fold : FoldState) (at : Progress) : Type 0 where
+pub record AreCounted (w : Warehouse) (cuboid : Cuboid) (dimensions : DimRows) (count : ℕ) (fold : FoldState)
+    (at : Progress) : Type 0 where
   pub read : AreRead cuboid count at
   pub represents : RepresentsRows dimensions fold (all_rows (take at.end w.batches))

@@ -7,11 +7,13 @@ use Rattle.cuboid_cells.specs.Steps.{cells_of}
 use Rattle.cuboid_upkeep.specs.Grouping.{RepresentRows}
 use Rattle.warehouse_objects.specs.Warehouse.{Cuboid, StoredRun, Warehouse, modes_of}
 
--- cells with those of runs merged in, one run after another. Each merge keeps the rules of cells: no number exceeds its type
+-- cells with those of runs merged in, one run after another. Each merge keeps the rules of cells: no number exceeds its
+-- type
 abbrev pub AreMergedWith : PlainCells → List StoredRun → PlainCells → Type 0
 AreMergedWith cells [] new = new ≡ cells
 AreMergedWith cells (run ∷ runs) new =
-    (next : PlainCells) × IsMergeOf cells (cells_of cells.view run.cells) next × AreProper next × AreMergedWith next runs new
+    (next : PlainCells) × IsMergeOf cells (cells_of cells.view run.cells) next × AreProper next
+    × AreMergedWith next runs new
 
 -- the runs of a cuboid as one list of cells
 abbrev pub HasMerge : Cuboid → PlainCells → Type 0

@@ -30,13 +30,15 @@ pub record GoesOn (view : View) (at : Progress) (head : RunHead) (next : Progres
   pub left : next.left + head.count ≡ at.left
 
 -- an object of a content is the run that goes on where the runs so far end
-pub record IsNextRun (content : Content) (id : ℕ) (view : View) (at : Progress) (cells : PlainCells) (next : Progress) : Type 0 where
+pub record IsNextRun (content : Content) (id : ℕ) (view : View) (at : Progress) (cells : PlainCells)
+    (next : Progress) : Type 0 where
   pub span : Span
   pub there : HasRun content id span cells
   pub goes_on : GoesOn view at (head_of span cells) next
 
 -- a run of a content is merged into the cells of those before it
-pub record TakesRun (content : Content) (id : ℕ) (old : PlainCells) (at : Progress) (new : PlainCells) (next : Progress) : Type 0 where
+pub record TakesRun (content : Content) (id : ℕ) (old : PlainCells) (at : Progress) (new : PlainCells)
+    (next : Progress) : Type 0 where
   pub cells : PlainCells
   pub read : IsNextRun content id old.view at cells next
   pub merge : IsMergeOf old cells new

@@ -2,10 +2,10 @@
 ghost use Rattle.std.specs.Prelude.{◌≡◌, ◌≤◌, ◌⊎◌, ◌↔◌, Some, false, length, take, All, IfErr, IfOk, IsErrOf, IsTrue};
 ghost use Rattle.cube_model.specs.declared.fault.Fault.TheVariants.{BadLayout, Device, Memory};
 ghost use Rattle.cube_model.specs.Admission.{all_rows};
-ghost use Rattle.object_store.specs.Disk.{Leaves};
-ghost use Rattle.object_store.specs.Store.{Breaks, IsStill, content_of, device_of, disk_of, has_failed};
+ghost use Rattle.object_store.specs.Store.{content_of, device_of, has_failed};
 ghost use Rattle.cuboid_upkeep.specs.Grouping.{RepresentRows};
 ghost use Rattle.warehouse_objects.specs.Warehouse.{Cuboid, Warehouse, cuboid_at, modes_of};
+ghost use Rattle.warehouse_objects.specs.Reads.{ReadsOnly};
 ghost use Rattle.warehouse_objects.specs.Represents.{IsLaidOut, root_of, said_of};
 ghost use Rattle.stored_cuboids.specs.Merged.{IsSound};
 
@@ -20,8 +20,8 @@ use sector_device::Sectors;
 use std::alloc::Global;
 use warehouse_root::{Root, StoredCuboid};
 
-/// Whether each stored cuboid is the grouping of the batches up to its mark. Each is worked out anew from the fact rows and
-/// compared, one at a time.
+/// Whether each stored cuboid is the grouping of the batches up to its mark. Each is worked out anew from the fact rows
+/// and compared, one at a time.
 ///
 /// `BadLayout` where a batch is not as the root says. It can also run out of memory, or fail because the device does.
 pub fn audited<D: Sectors>(
@@ -31,15 +31,15 @@ pub fn audited<D: Sectors>(
     dims: &Dims,
 ) -> Result<bool, Fault>
     requires fine { has_failed store.old ≡ false }
-    ensures answer { IfOk result (λ yes. D.keeps_word (device_of store.new) → (w : Warehouse) → IsLaidOut (content_of D.Sectors store.old) w
+    ensures answer { IfOk result (λ yes. D.keeps_word (device_of store.new) → (w : Warehouse)
+        → IsLaidOut (content_of D.Sectors store.old) w
         → root.now ≡ root_of w → dims.now ≡ w.rows → IsTrue yes ↔ All (IsSound w) w.cuboids) }
-    ensures refused { IsErrOf result BadLayout → D.keeps_word (device_of store.new) → (w : Warehouse) → IsLaidOut (content_of D.Sectors store.old) w
+    ensures refused { IsErrOf result BadLayout → D.keeps_word (device_of store.new) → (w : Warehouse)
+        → IsLaidOut (content_of D.Sectors store.old) w
         → root.now ≡ root_of w → dims.now ≡ w.rows → ⊥ }
 
     // The content stays, at each moment.
-    ensures leaves { Leaves (disk_of D.Sectors store.old) (disk_of D.Sectors store.new) (λ c. c ≡ content_of D.Sectors store.old) }
-    ensures stays { (IsErrOf result Device → ⊥) → IsStill D.Sectors store.old store.new }
-    ensures device { IsErrOf result Device → Breaks D.Sectors store.old store.new }
+    ensures reads { ReadsOnly D.Sectors store.old store.new result }
     ensures causes { IfErr result (λ fault. (fault ≡ Memory) ⊎ ((fault ≡ Device) ⊎ (fault ≡ BadLayout))) }
 {
     let _usable = store.is_broken();
@@ -65,13 +65,15 @@ pub fn is_sound<D: Sectors>(
 ) -> Result<bool, Fault>
     requires fine { has_failed store.old ≡ false }
     requires within { cuboid.mark ≤ length root.now.batches }
-    ensures answer { IfOk result (λ yes. D.keeps_word (device_of store.new) → (w : Warehouse) (stored : Cuboid) → IsLaidOut (content_of D.Sectors store.old) w
-        → root.now ≡ root_of w → dims.now ≡ w.rows → cuboid_at cuboid.view w.cuboids ≡ Some stored → said_of stored ≡ cuboid → IsTrue yes ↔ IsSound w stored) }
-    ensures refused { IsErrOf result BadLayout → D.keeps_word (device_of store.new) → (w : Warehouse) (stored : Cuboid) → IsLaidOut (content_of D.Sectors store.old) w
-        → root.now ≡ root_of w → dims.now ≡ w.rows → cuboid_at cuboid.view w.cuboids ≡ Some stored → said_of stored ≡ cuboid → ⊥ }
-    ensures leaves { Leaves (disk_of D.Sectors store.old) (disk_of D.Sectors store.new) (λ c. c ≡ content_of D.Sectors store.old) }
-    ensures stays { (IsErrOf result Device → ⊥) → IsStill D.Sectors store.old store.new }
-    ensures device { IsErrOf result Device → Breaks D.Sectors store.old store.new }
+    ensures answer { IfOk result (λ yes. D.keeps_word (device_of store.new) → (w : Warehouse) (stored : Cuboid)
+        → IsLaidOut (content_of D.Sectors store.old) w
+        → root.now ≡ root_of w → dims.now ≡ w.rows → cuboid_at cuboid.view w.cuboids ≡ Some stored
+        → said_of stored ≡ cuboid → IsTrue yes ↔ IsSound w stored) }
+    ensures refused { IsErrOf result BadLayout → D.keeps_word (device_of store.new) → (w : Warehouse) (stored : Cuboid)
+        → IsLaidOut (content_of D.Sectors store.old) w
+        → root.now ≡ root_of w → dims.now ≡ w.rows → cuboid_at cuboid.view w.cuboids ≡ Some stored
+        → said_of stored ≡ cuboid → ⊥ }
+    ensures reads { ReadsOnly D.Sectors store.old store.new result }
     ensures causes { IfErr result (λ fault. (fault ≡ Memory) ⊎ ((fault ≡ Device) ⊎ (fault ≡ BadLayout))) }
 {
     match merged_runs(alloc, store, cuboid) {
@@ -92,14 +94,14 @@ fn are_grouping<D: Sectors>(
 ) -> Result<bool, Fault>
     requires fine { has_failed store.old ≡ false }
     requires within { mark ≤ length root.now.batches }
-    ensures answer { IfOk result (λ yes. D.keeps_word (device_of store.new) → (w : Warehouse) → IsLaidOut (content_of D.Sectors store.old) w
+    ensures answer { IfOk result (λ yes. D.keeps_word (device_of store.new) → (w : Warehouse)
+        → IsLaidOut (content_of D.Sectors store.old) w
         → root.now ≡ root_of w → dims.now ≡ w.rows → cells.now.view.ship_mode ≡ false
         → IsTrue yes ↔ RepresentRows w.rows (modes_of w) (all_rows (take mark w.batches)) cells.now) }
-    ensures refused { IsErrOf result BadLayout → D.keeps_word (device_of store.new) → (w : Warehouse) → IsLaidOut (content_of D.Sectors store.old) w
+    ensures refused { IsErrOf result BadLayout → D.keeps_word (device_of store.new) → (w : Warehouse)
+        → IsLaidOut (content_of D.Sectors store.old) w
         → root.now ≡ root_of w → dims.now ≡ w.rows → cells.now.view.ship_mode ≡ false → ⊥ }
-    ensures leaves { Leaves (disk_of D.Sectors store.old) (disk_of D.Sectors store.new) (λ c. c ≡ content_of D.Sectors store.old) }
-    ensures stays { (IsErrOf result Device → ⊥) → IsStill D.Sectors store.old store.new }
-    ensures device { IsErrOf result Device → Breaks D.Sectors store.old store.new }
+    ensures reads { ReadsOnly D.Sectors store.old store.new result }
     ensures causes { IfErr result (λ fault. (fault ≡ Memory) ⊎ ((fault ≡ Device) ⊎ (fault ≡ BadLayout))) }
 {
     cells_are_the_one();

@@ -1,11 +1,10 @@
 //! The runs of a stored cuboid, counted into a fold.
-ghost use Rattle.std.specs.Prelude.{◌≡◌, ◌⊎◌, ℕ, [], List, Some, false, take, IfErr, IfOk, IsErrOf, OnOk};
+ghost use Rattle.std.specs.Prelude.{◌≡◌, ◌⊎◌, [], List, Some, false, take, IfErr, IfOk, IsErrOf, OnOk};
 ghost use Rattle.cube_model.specs.declared.fault.Fault.TheVariants.{BadLayout, Device, Memory};
 ghost use Rattle.cube_model.specs.declared.rows.LineOrder.{LineOrder};
 ghost use Rattle.cube_model.specs.Admission.{all_rows};
-ghost use Rattle.object_store.specs.Disk.{Leaves};
 ghost use Rattle.object_store.specs.Content.{bytes_of};
-ghost use Rattle.object_store.specs.Store.{Breaks, IsStill, content_of, device_of, disk_of, has_failed, size_in};
+ghost use Rattle.object_store.specs.Store.{content_of, device_of, has_failed, size_in};
 ghost use Rattle.lattice.specs.Determined.{Serves};
 ghost use Rattle.lattice.specs.Views.{index_of};
 ghost use Rattle.cuboid_cells.specs.Cells.{PlainCells};
@@ -16,6 +15,7 @@ ghost use Rattle.cuboid_upkeep.specs.Grouping.{RepresentRows};
 ghost use Rattle.cube_query.specs.CellRuns.{TakesRun};
 ghost use Rattle.cube_query.specs.Groups.{CanTake, IsOver, RepresentsRows};
 ghost use Rattle.warehouse_objects.specs.Warehouse.{Cuboid, Warehouse, cuboid_at};
+ghost use Rattle.warehouse_objects.specs.Reads.{ReadsOnly};
 ghost use Rattle.warehouse_objects.specs.Represents.{Represents, said_of};
 ghost use Rattle.stored_cuboids.specs.Counted.{CountsRun};
 ghost use Rattle.stored_cuboids.specs.Steps.{IsNextRun};
@@ -32,8 +32,8 @@ use sector_device::Sectors;
 use std::alloc::Global;
 use warehouse_root::{StoredCuboid, run_id};
 
-/// Counts the cells of the stored cuboid of a view into a fold that represents no row yet: its runs, one after another, each piece by
-/// piece as it is read. Cells that have no rows that are selected are not all read.
+/// Counts the cells of the stored cuboid of a view into a fold that represents no row yet: its runs, one after another,
+/// each piece by piece as it is read. Cells that have no rows that are selected are not all read.
 ///
 /// `BadLayout` where a run is missing or its header is none of this view, where the runs do not follow each other from
 /// the first batch to the mark or have another count of cells than the root says, and where a part that is read is none
@@ -53,18 +53,18 @@ pub fn fold_runs<D: Sectors>(
     requires view { index_of view ≡ cuboid.view }
 
     // Then it represents the rows of the batches up to the mark.
-    ensures ok { OnOk result (D.keeps_word (device_of store.new) → (w : Warehouse) (stored : Cuboid) → Represents (content_of D.Sectors store.old) w
+    ensures ok { OnOk result (D.keeps_word (device_of store.new) → (w : Warehouse) (stored : Cuboid)
+        → Represents (content_of D.Sectors store.old) w
         → dims.now ≡ w.rows → cuboid_at cuboid.view w.cuboids ≡ Some stored → said_of stored ≡ cuboid
         → RepresentsRows dims.now fold.new (all_rows (take cuboid.mark w.batches))) }
     ensures over { IsOver dims.now fold.new }
     ensures query { fold.new.query ≡ fold.old.query }
-    ensures refused { IsErrOf result BadLayout → D.keeps_word (device_of store.new) → (w : Warehouse) (stored : Cuboid) → Represents (content_of D.Sectors store.old) w
+    ensures refused { IsErrOf result BadLayout → D.keeps_word (device_of store.new) → (w : Warehouse) (stored : Cuboid)
+        → Represents (content_of D.Sectors store.old) w
         → dims.now ≡ w.rows → cuboid_at cuboid.view w.cuboids ≡ Some stored → said_of stored ≡ cuboid → ⊥ }
 
     // The content stays, at each moment.
-    ensures leaves { Leaves (disk_of D.Sectors store.old) (disk_of D.Sectors store.new) (λ c. c ≡ content_of D.Sectors store.old) }
-    ensures stays { (IsErrOf result Device → ⊥) → IsStill D.Sectors store.old store.new }
-    ensures device { IsErrOf result Device → Breaks D.Sectors store.old store.new }
+    ensures reads { ReadsOnly D.Sectors store.old store.new result }
     ensures causes { IfErr result (λ fault. (fault ≡ Memory) ⊎ ((fault ≡ Device) ⊎ (fault ≡ BadLayout))) }
 {
     let _usable = store.is_broken();
@@ -98,11 +98,11 @@ fn fold_run<D: Sectors>(
         → CountsRun (content_of D.Sectors store.old) id view at dims.now fold.old fold.new next) }
     ensures over { IsOver dims.now fold.new }
     ensures query { fold.new.query ≡ fold.old.query }
-    ensures refused { IsErrOf result BadLayout → D.keeps_word (device_of store.new) → (cells : PlainCells) (next : Progress) (rows : List LineOrder)
-        → IsNextRun (content_of D.Sectors store.old) id view at cells next → RepresentRows dims.now [] rows cells → CanTake dims.now fold.old rows → ⊥ }
-    ensures leaves { Leaves (disk_of D.Sectors store.old) (disk_of D.Sectors store.new) (λ c. c ≡ content_of D.Sectors store.old) }
-    ensures stays { (IsErrOf result Device → ⊥) → IsStill D.Sectors store.old store.new }
-    ensures device { IsErrOf result Device → Breaks D.Sectors store.old store.new }
+    ensures refused { IsErrOf result BadLayout → D.keeps_word (device_of store.new)
+        → (cells : PlainCells) (next : Progress) (rows : List LineOrder)
+        → IsNextRun (content_of D.Sectors store.old) id view at cells next → RepresentRows dims.now [] rows cells
+        → CanTake dims.now fold.old rows → ⊥ }
+    ensures reads { ReadsOnly D.Sectors store.old store.new result }
     ensures causes { IfErr result (λ fault. (fault ≡ Memory) ⊎ ((fault ≡ Device) ⊎ (fault ≡ BadLayout))) }
 {
     let (mut reader, next) = open_next(alloc, store, view, at, id)?;
@@ -129,9 +129,7 @@ fn fold_cells<D: Sectors>(
         → (cells : List Cell) → AreLeft (bytes_of (content_of D.Sectors store.old) run.old.id) run.old cells
         → (rows : List LineOrder) → RepresentRows dims.now [] rows (cells_of run.old.head.view cells)
         → CanTake dims.now fold.old rows → ⊥ }
-    ensures leaves { Leaves (disk_of D.Sectors store.old) (disk_of D.Sectors store.new) (λ c. c ≡ content_of D.Sectors store.old) }
-    ensures stays { (IsErrOf result Device → ⊥) → IsStill D.Sectors store.old store.new }
-    ensures device { IsErrOf result Device → Breaks D.Sectors store.old store.new }
+    ensures reads { ReadsOnly D.Sectors store.old store.new result }
     ensures causes { IfErr result (λ fault. (fault ≡ Memory) ⊎ ((fault ≡ Device) ⊎ (fault ≡ BadLayout))) }
 {
     fold.add_run(dims, store, run, None)

@@ -1,14 +1,14 @@
 //! Reading the runs of a stored cuboid, one after another.
 ghost use Rattle.std.specs.Prelude.{◌≡◌, ◌⊎◌, ◌↔◌, Some, false, IfErr, IfNone, IfOk, IfSome, IsErrOf, IsTrue};
 ghost use Rattle.cube_model.specs.declared.fault.Fault.TheVariants.{BadLayout, Device, Memory};
-ghost use Rattle.object_store.specs.Disk.{Leaves};
 ghost use Rattle.object_store.specs.Content.{bytes_of};
-ghost use Rattle.object_store.specs.Store.{Breaks, IsStill, content_of, device_of, disk_of, has_failed, size_in};
+ghost use Rattle.object_store.specs.Store.{content_of, device_of, has_failed, size_in};
 ghost use Rattle.cuboid_cells.specs.Cells.{PlainCells};
 ghost use Rattle.cuboid_cells.specs.Pieces.{IsAtFirst, size_of_run};
 ghost use Rattle.cuboid_cells.specs.declared.span.Span.{Span};
 ghost use Rattle.stored_cuboids.specs.Steps.{GoesOn, HasRun, IsNextRun, head_of};
 ghost use Rattle.stored_cuboids.specs.declared.reading.Progress.{Progress};
+ghost use Rattle.warehouse_objects.specs.Reads.{ReadsOnly};
 
 use cube_model::Fault;
 use cuboid_cells::{Cells, RunHead, RunReader, Span, decode_from};
@@ -38,8 +38,8 @@ impl Progress {
 
 // The cells of the run of a view that an object has, and how far the runs are read with it.
 //
-// `BadLayout` where there is no run, and where it is none of this view, does not begin where the others end, or has more cells than
-// are left.
+// `BadLayout` where there is no run, and where it is none of this view, does not begin where the others end, or has
+// more cells than are left.
 pub(crate) fn read_next<D: Sectors>(
     alloc: Global,
     store: &mut Store<D>,
@@ -48,13 +48,13 @@ pub(crate) fn read_next<D: Sectors>(
     id: u32,
 ) -> Result<(Cells, Progress), Fault>
     requires fine { has_failed store.old ≡ false }
-    ensures ok { IfOk result (λ run. D.keeps_word (device_of store.new) → IsNextRun (content_of D.Sectors store.old) id view at run.0 run.1) }
+    ensures ok { IfOk result (λ run. D.keeps_word (device_of store.new)
+        → IsNextRun (content_of D.Sectors store.old) id view at run.0 run.1) }
     ensures view { IfOk result (λ run. run.0.view ≡ view) }
-    ensures refused { IsErrOf result BadLayout → D.keeps_word (device_of store.new) → (cells : PlainCells) (next : Progress)
+    ensures refused { IsErrOf result BadLayout → D.keeps_word (device_of store.new)
+        → (cells : PlainCells) (next : Progress)
         → IsNextRun (content_of D.Sectors store.old) id view at cells next → ⊥ }
-    ensures leaves { Leaves (disk_of D.Sectors store.old) (disk_of D.Sectors store.new) (λ c. c ≡ content_of D.Sectors store.old) }
-    ensures stays { (IsErrOf result Device → ⊥) → IsStill D.Sectors store.old store.new }
-    ensures device { IsErrOf result Device → Breaks D.Sectors store.old store.new }
+    ensures reads { ReadsOnly D.Sectors store.old store.new result }
     ensures causes { IfErr result (λ fault. (fault ≡ Memory) ⊎ ((fault ≡ Device) ⊎ (fault ≡ BadLayout))) }
 {
     let (span, cells) = read_run(alloc, store, id)?;
@@ -80,11 +80,10 @@ pub(crate) fn open_next<D: Sectors>(
     ensures ok { IfOk result (λ both. D.keeps_word (device_of store.new)
         → IsAtFirst (bytes_of (content_of D.Sectors store.old) id) both.0) }
     ensures goes_on { IfOk result (λ both. GoesOn view at both.0.head both.1) }
-    ensures refused { IsErrOf result BadLayout → D.keeps_word (device_of store.new) → (cells : PlainCells) (next : Progress)
+    ensures refused { IsErrOf result BadLayout → D.keeps_word (device_of store.new)
+        → (cells : PlainCells) (next : Progress)
         → IsNextRun (content_of D.Sectors store.old) id view at cells next → ⊥ }
-    ensures leaves { Leaves (disk_of D.Sectors store.old) (disk_of D.Sectors store.new) (λ c. c ≡ content_of D.Sectors store.old) }
-    ensures stays { (IsErrOf result Device → ⊥) → IsStill D.Sectors store.old store.new }
-    ensures device { IsErrOf result Device → Breaks D.Sectors store.old store.new }
+    ensures reads { ReadsOnly D.Sectors store.old store.new result }
     ensures causes { IfErr result (λ fault. (fault ≡ Memory) ⊎ ((fault ≡ Device) ⊎ (fault ≡ BadLayout))) }
 {
     let reader = open_run(alloc, store, id)?;
@@ -103,9 +102,7 @@ fn open_run<D: Sectors>(alloc: Global, store: &mut Store<D>, id: u32) -> Result<
         → IsAtFirst (bytes_of (content_of D.Sectors store.old) id) run) }
     ensures refused { IsErrOf result BadLayout → D.keeps_word (device_of store.new) → (span : Span) (cells : PlainCells)
         → HasRun (content_of D.Sectors store.old) id span cells → ⊥ }
-    ensures leaves { Leaves (disk_of D.Sectors store.old) (disk_of D.Sectors store.new) (λ c. c ≡ content_of D.Sectors store.old) }
-    ensures stays { (IsErrOf result Device → ⊥) → IsStill D.Sectors store.old store.new }
-    ensures device { IsErrOf result Device → Breaks D.Sectors store.old store.new }
+    ensures reads { ReadsOnly D.Sectors store.old store.new result }
     ensures causes { IfErr result (λ fault. (fault ≡ Memory) ⊎ ((fault ≡ Device) ⊎ (fault ≡ BadLayout))) }
 {
     RunReader::open(alloc, store, id)
@@ -118,19 +115,18 @@ fn read_run<D: Sectors>(
     id: u32,
 ) -> Result<(Span, Cells), Fault>
     requires fine { has_failed store.old ≡ false }
-    ensures ok { IfOk result (λ run. D.keeps_word (device_of store.new) → HasRun (content_of D.Sectors store.old) id run.0 run.1) }
+    ensures ok { IfOk result (λ run. D.keeps_word (device_of store.new)
+        → HasRun (content_of D.Sectors store.old) id run.0 run.1) }
     ensures refused { IsErrOf result BadLayout → D.keeps_word (device_of store.new) → (span : Span) (cells : PlainCells)
         → HasRun (content_of D.Sectors store.old) id span cells → ⊥ }
-    ensures leaves { Leaves (disk_of D.Sectors store.old) (disk_of D.Sectors store.new) (λ c. c ≡ content_of D.Sectors store.old) }
-    ensures stays { (IsErrOf result Device → ⊥) → IsStill D.Sectors store.old store.new }
-    ensures device { IsErrOf result Device → Breaks D.Sectors store.old store.new }
+    ensures reads { ReadsOnly D.Sectors store.old store.new result }
     ensures causes { IfErr result (λ fault. (fault ≡ Memory) ⊎ ((fault ≡ Device) ⊎ (fault ≡ BadLayout))) }
 {
     decode_from(alloc, store, id)
 }
 
-// How far the runs are read with one more. Nothing where its header says that it is none of this view, does not begin where the
-// others end, or has more cells than are left.
+// How far the runs are read with one more. Nothing where its header says that it is none of this view, does not begin
+// where the others end, or has more cells than are left.
 fn go_on(view: View, at: Progress, head: RunHead) -> Option<Progress>
     ensures some { IfSome result (GoesOn view at head) }
     ensures none { IfNone result ((next : Progress) → GoesOn view at head next → ⊥) }

@@ -2,13 +2,13 @@
 ghost use Rattle.std.specs.Prelude.{◌≡◌, ◌⊎◌, Some, false, take, IfErr, IfOk, IsErrOf, OnOk};
 ghost use Rattle.cube_model.specs.declared.fault.Fault.TheVariants.{BadLayout, Device, Memory};
 ghost use Rattle.cube_model.specs.Admission.{all_rows};
-ghost use Rattle.object_store.specs.Disk.{Leaves};
-ghost use Rattle.object_store.specs.Store.{Breaks, IsStill, content_of, device_of, disk_of, has_failed};
+ghost use Rattle.object_store.specs.Store.{content_of, device_of, has_failed};
 ghost use Rattle.lattice.specs.Views.{index_of};
 ghost use Rattle.cuboid_cells.specs.Merges.{IsMergeOf};
 ghost use Rattle.cuboid_cells.specs.Cells.{AreProper, PlainCells};
 ghost use Rattle.cuboid_upkeep.specs.Grouping.{RepresentRows};
 ghost use Rattle.warehouse_objects.specs.Warehouse.{Cuboid, Warehouse, cuboid_at, modes_of};
+ghost use Rattle.warehouse_objects.specs.Reads.{ReadsOnly};
 ghost use Rattle.warehouse_objects.specs.Represents.{IsLaidOut, Represents, said_of};
 ghost use Rattle.stored_cuboids.specs.Merged.{HasMerge, IsSound};
 ghost use Rattle.stored_cuboids.specs.Steps.{TakesRun};
@@ -27,31 +27,35 @@ use warehouse_root::{StoredCuboid, run_id};
 
 /// The cells of a stored cuboid: its runs, merged one after another. One run is in memory at a time, and the cells.
 ///
-/// `BadLayout` where a run is missing or is none of this view, where the runs do not follow each other from the first batch to
-/// the mark or have another count of cells than the root says, and where a number of the merge would exceed its type or the merge
-/// the cells that a cuboid can have. It can also run out of memory, or fail because the device does.
+/// `BadLayout` where a run is missing or is none of this view, where the runs do not follow each other from the first
+/// batch to the mark or have another count of cells than the root says, and where a number of the merge would exceed
+/// its type or the merge the cells that a cuboid can have. It can also run out of memory, or fail because the device
+/// does.
 pub fn merged_runs<D: Sectors>(
     alloc: Global,
     store: &mut Store<D>,
     cuboid: StoredCuboid,
 ) -> Result<Cells, Fault>
     requires fine { has_failed store.old ≡ false }
-    ensures ok { IfOk result (λ cells. D.keeps_word (device_of store.new) → (w : Warehouse) (stored : Cuboid) → IsLaidOut (content_of D.Sectors store.old) w
+    ensures ok { IfOk result (λ cells. D.keeps_word (device_of store.new) → (w : Warehouse) (stored : Cuboid)
+        → IsLaidOut (content_of D.Sectors store.old) w
         → cuboid_at cuboid.view w.cuboids ≡ Some stored → said_of stored ≡ cuboid → HasMerge stored cells) }
     ensures view { IfOk result (λ cells. index_of cells.view ≡ cuboid.view) }
 
     // Then they are the grouping of the batches up to the mark.
-    ensures grouping { IfOk result (λ cells. D.keeps_word (device_of store.new) → (w : Warehouse) (stored : Cuboid) → Represents (content_of D.Sectors store.old) w
-        → cuboid_at cuboid.view w.cuboids ≡ Some stored → said_of stored ≡ cuboid → RepresentRows w.rows (modes_of w) (all_rows (take cuboid.mark w.batches)) cells) }
-    ensures unsound { IsErrOf result BadLayout → D.keeps_word (device_of store.new) → (w : Warehouse) (stored : Cuboid) → IsLaidOut (content_of D.Sectors store.old) w
+    ensures grouping { IfOk result (λ cells. D.keeps_word (device_of store.new) → (w : Warehouse) (stored : Cuboid)
+        → Represents (content_of D.Sectors store.old) w
+        → cuboid_at cuboid.view w.cuboids ≡ Some stored → said_of stored ≡ cuboid
+        → RepresentRows w.rows (modes_of w) (all_rows (take cuboid.mark w.batches)) cells) }
+    ensures unsound { IsErrOf result BadLayout → D.keeps_word (device_of store.new) → (w : Warehouse) (stored : Cuboid)
+        → IsLaidOut (content_of D.Sectors store.old) w
         → cuboid_at cuboid.view w.cuboids ≡ Some stored → said_of stored ≡ cuboid → IsSound w stored → ⊥ }
-    ensures refused { IsErrOf result BadLayout → D.keeps_word (device_of store.new) → (w : Warehouse) (stored : Cuboid) → Represents (content_of D.Sectors store.old) w
+    ensures refused { IsErrOf result BadLayout → D.keeps_word (device_of store.new) → (w : Warehouse) (stored : Cuboid)
+        → Represents (content_of D.Sectors store.old) w
         → cuboid_at cuboid.view w.cuboids ≡ Some stored → said_of stored ≡ cuboid → ⊥ }
 
     // The content stays, at each moment.
-    ensures leaves { Leaves (disk_of D.Sectors store.old) (disk_of D.Sectors store.new) (λ c. c ≡ content_of D.Sectors store.old) }
-    ensures stays { (IsErrOf result Device → ⊥) → IsStill D.Sectors store.old store.new }
-    ensures device { IsErrOf result Device → Breaks D.Sectors store.old store.new }
+    ensures reads { ReadsOnly D.Sectors store.old store.new result }
     ensures causes { IfErr result (λ fault. (fault ≡ Memory) ⊎ ((fault ≡ Device) ⊎ (fault ≡ BadLayout))) }
 {
     merges_represent_both();
@@ -72,14 +76,14 @@ fn merge_all<D: Sectors>(
 ) -> Result<Cells, Fault>
     requires fine { has_failed store.old ≡ false }
     requires view { index_of view ≡ cuboid.view }
-    ensures ok { IfOk result (λ cells. D.keeps_word (device_of store.new) → (w : Warehouse) (stored : Cuboid) → IsLaidOut (content_of D.Sectors store.old) w
+    ensures ok { IfOk result (λ cells. D.keeps_word (device_of store.new) → (w : Warehouse) (stored : Cuboid)
+        → IsLaidOut (content_of D.Sectors store.old) w
         → cuboid_at cuboid.view w.cuboids ≡ Some stored → said_of stored ≡ cuboid → HasMerge stored cells) }
     ensures view { IfOk result (λ cells. cells.view ≡ view) }
-    ensures unsound { IsErrOf result BadLayout → D.keeps_word (device_of store.new) → (w : Warehouse) (stored : Cuboid) → IsLaidOut (content_of D.Sectors store.old) w
+    ensures unsound { IsErrOf result BadLayout → D.keeps_word (device_of store.new) → (w : Warehouse) (stored : Cuboid)
+        → IsLaidOut (content_of D.Sectors store.old) w
         → cuboid_at cuboid.view w.cuboids ≡ Some stored → said_of stored ≡ cuboid → IsSound w stored → ⊥ }
-    ensures leaves { Leaves (disk_of D.Sectors store.old) (disk_of D.Sectors store.new) (λ c. c ≡ content_of D.Sectors store.old) }
-    ensures stays { (IsErrOf result Device → ⊥) → IsStill D.Sectors store.old store.new }
-    ensures device { IsErrOf result Device → Breaks D.Sectors store.old store.new }
+    ensures reads { ReadsOnly D.Sectors store.old store.new result }
     ensures causes { IfErr result (λ fault. (fault ≡ Memory) ⊎ ((fault ≡ Device) ⊎ (fault ≡ BadLayout))) }
 {
     let _usable = store.is_broken();
@@ -106,13 +110,13 @@ fn merge_run<D: Sectors>(
     id: u32,
 ) -> Result<Progress, Fault>
     requires fine { has_failed store.old ≡ false }
-    ensures ok { IfOk result (λ next. D.keeps_word (device_of store.new) → TakesRun (content_of D.Sectors store.old) id cells.old at cells.new next) }
+    ensures ok { IfOk result (λ next. D.keeps_word (device_of store.new)
+        → TakesRun (content_of D.Sectors store.old) id cells.old at cells.new next) }
     ensures view { cells.new.view ≡ cells.old.view }
-    ensures refused { IsErrOf result BadLayout → D.keeps_word (device_of store.new) → (new : PlainCells) (next : Progress)
+    ensures refused { IsErrOf result BadLayout → D.keeps_word (device_of store.new)
+        → (new : PlainCells) (next : Progress)
         → TakesRun (content_of D.Sectors store.old) id cells.old at new next → ⊥ }
-    ensures leaves { Leaves (disk_of D.Sectors store.old) (disk_of D.Sectors store.new) (λ c. c ≡ content_of D.Sectors store.old) }
-    ensures stays { (IsErrOf result Device → ⊥) → IsStill D.Sectors store.old store.new }
-    ensures device { IsErrOf result Device → Breaks D.Sectors store.old store.new }
+    ensures reads { ReadsOnly D.Sectors store.old store.new result }
     ensures causes { IfErr result (λ fault. (fault ≡ Memory) ⊎ ((fault ≡ Device) ⊎ (fault ≡ BadLayout))) }
 {
     let (read, next) = read_next(alloc, store, cells.view(), at, id)?;
@@ -120,7 +124,8 @@ fn merge_run<D: Sectors>(
     Ok(next)
 }
 
-// Merges cells into others of their view. `BadLayout` where a number would exceed its type, or the cells would be too many.
+// Merges cells into others of their view. `BadLayout` where a number would exceed its type, or the cells would be too
+// many.
 fn merge_in(alloc: Global, cells: &mut Cells, read: &Cells) -> Result<(), Fault>
     requires view { read.now.view ≡ cells.old.view }
     ensures ok { OnOk result (IsMergeOf cells.old read.now cells.new) }

@@ -1,5 +1,6 @@
 -- The places of the fields in a sector, over any fields of these lengths.
-use Rattle.std.proofs.Common.{◌≡◌, ℕ, ◌+◌, List, [], ◌++◌, length, drop, replicate, refl, sym, ap, ◌∙◌, arith, append_assoc, length-append, codes}
+use Rattle.std.proofs.Common.{◌≡◌, ℕ, ◌+◌, List, [], ◌++◌, length, drop, replicate, refl, sym, ap, ◌∙◌, arith}
+use Rattle.std.proofs.Common.{append_assoc, length-append, codes}
 use Rattle.std.proofs.Math.Seq.{drop-append_seam}
 use Rattle.wire.specs.Spelling.{spelling}
 use Rattle.wire.specs.Writing.{with_field}
@@ -47,14 +48,18 @@ fields_put a b c d e f s1 s2 s3 s4 s5 s6 la lb lc ld le lf p1 p2 p3 p4 p5 p6 =
 -- of two equal texts that begin with as many bytes, the rests are equal
 rests_same : (a b xs ys : List ℕ) → length a ≡ length b → a ++ xs ≡ b ++ ys → xs ≡ ys
 rests_same a b xs ys as_long same =
-    sym (drop-append_seam a xs) ∙ ap (λ (n : ℕ). drop n (a ++ xs)) as_long ∙ ap (drop (length b)) same ∙ drop-append_seam b ys
+    sym (drop-append_seam a xs) ∙ ap (λ (n : ℕ). drop n (a ++ xs)) as_long ∙ ap (drop (length b)) same
+    ∙ drop-append_seam b ys
 
 -- what was read from the places of the fields of a proper superblock is that superblock
 pub said_is : (s : Super) (sector part l0 r0 r1 r2 r3 r4 : List ℕ) (layout sectors generation catalogue bytes : ℕ)
-    → TakesBytes 8 sector l0 part → ReadsNumber 4 l0 r0 layout → ReadsNumber 4 r0 r1 sectors → ReadsNumber 8 r1 r2 generation
+    → TakesBytes 8 sector l0 part → ReadsNumber 4 l0 r0 layout → ReadsNumber 4 r0 r1 sectors
+    → ReadsNumber 8 r1 r2 generation
     → ReadsNumber 4 r2 r3 catalogue → ReadsNumber 4 r3 r4 bytes → IsProper s → sector ≡ sector_of s
-    → ◌≡◌ {A = Super} (record { layout = layout; sectors = sectors; generation = generation; catalogue = catalogue; bytes = bytes }) s
-said_is s sector part l0 r0 r1 r2 r3 r4 layout sectors generation catalogue bytes taken zeroth one two three four proper is =
+    → ◌≡◌ {A = Super}
+    (record { layout = layout; sectors = sectors; generation = generation; catalogue = catalogue; bytes = bytes }) s
+said_is s sector part l0 r0 r1 r2 r3 r4 layout sectors generation catalogue bytes taken zeroth one two three four proper
+    is =
     let name : List ℕ = codes "SSBCUBE1" in
     let rest4 : List ℕ = replicate 480 0 in
     let rest3 : List ℕ = spelling 4 s.bytes ++ rest4 in
@@ -62,8 +67,8 @@ said_is s sector part l0 r0 r1 r2 r3 r4 layout sectors generation catalogue byte
     let rest1 : List ℕ = spelling 8 s.generation ++ rest2 in
     let rest0 : List ℕ = spelling 4 s.sectors ++ rest1 in
     let before : List ℕ = spelling 4 s.layout ++ rest0 in
-    let behind : l0 ≡ before = rests_same part name l0 before taken.many (sym taken.spelled ∙ is) in
-    let number = zeroth.reads_back s.layout rest0 (layout_fits s proper) behind in
+    let after : l0 ≡ before = rests_same part name l0 before taken.many (sym taken.spelled ∙ is) in
+    let number = zeroth.reads_back s.layout rest0 (layout_fits s proper) after in
     let first = one.reads_back s.sectors rest1 proper.sectors_fit number.1 in
     let second = two.reads_back s.generation rest2 proper.generation_fits first.1 in
     let third = three.reads_back s.catalogue rest3 (catalogue_fits s proper) second.1 in

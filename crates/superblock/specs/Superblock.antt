@@ -26,7 +26,7 @@ pub record IsProper (s : Super) : Type 0 where
   -- generations count from 1
   pub first_generation : 1 ≤ s.generation
   -- the catalogue lies after the two superblocks, and ends where the device ends at the latest
-  pub behind : 2 ≤ s.catalogue
+  pub after : 2 ≤ s.catalogue
   pub within : s.catalogue + sectors_of s.bytes ≤ s.sectors
   pub least_bytes : 12 ≤ s.bytes
   pub most_bytes : s.bytes ≤ most_object_bytes

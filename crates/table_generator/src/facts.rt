@@ -47,8 +47,8 @@ impl Price {
     }
 }
 
-/// Writes the table of fact rows: one to seven lines of each order. An order has one customer, day and priority, and is committed 30 to
-/// 90 days after its day.
+/// Writes the table of fact rows: one to seven lines of each order. An order has one customer, day and priority, and is
+/// committed 30 to 90 days after its day.
 pub fn write_lineorders<W: Write>(
     out: &mut W,
     random: &mut Random,

@@ -1,5 +1,6 @@
-//! The five tables of the Star Schema Benchmark as text, by the benchmark's rules (O'Neil, O'Neil, Chen): its domains, its formulas, and
-//! as many rows as a scale asks for. The random numbers are not those of the benchmark's own generator.
+//! The five tables of the Star Schema Benchmark as text, by the benchmark's rules (O'Neil, O'Neil, Chen): its domains,
+//! its formulas, and as many rows as a scale asks for. The random numbers are not those of the benchmark's own
+//! generator.
 #![tactic(auto)]
 
 mod calendar;

@@ -22,7 +22,8 @@ pub fn write_suppliers<W: Write>(out: &mut W, random: &mut Random, scale: Scale)
     Ok(())
 }
 
-// Writes a key, a name, a street, a city, its nation and region, and a phone. A city is nine letters of its nation and a digit.
+// Writes a key, a name, a street, a city, its nation and region, and a phone. A city is nine letters of its nation and
+// a digit.
 fn write_member<W: Write>(
     out: &mut W,
     random: &mut Random,
@@ -52,7 +53,8 @@ pub fn write_parts<W: Write>(out: &mut W, random: &mut Random, scale: Scale) -> 
     Ok(())
 }
 
-// A manufacturer has five categories, and a category forty brands. A category is two digits, of which the first is the manufacturer's.
+// A manufacturer has five categories, and a category forty brands. A category is two digits, of which the first is the
+// manufacturer's.
 fn write_part<W: Write>(out: &mut W, random: &mut Random, key: u64) -> io::Result<()> {
     let maker = random.between(1, 5);
     let category = 10 * maker + random.between(1, 5);

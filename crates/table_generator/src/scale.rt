@@ -34,7 +34,8 @@ impl Scale {
         }
     }
 
-    /// The scale that a text gives: a number from 0.01 to 100 with at most two digits after the point, such as `1`, `0.1` or `0.25`.
+    /// The scale that a text gives: a number from 0.01 to 100 with at most two digits after the point, such as `1`,
+    /// `0.1` or `0.25`.
     pub fn of_text(text: &str) -> Option<Scale> {
         let (whole, part) = text.split_once('.').unwrap_or((text, "00"));
         let units = number(whole)?;

@@ -1,7 +1,8 @@
 -- The tables by name, and the dimension of each. The names are those of the benchmark.
 use Rattle.std.specs.Prelude.{ℕ, List, codes}
 use Rattle.cube_model.specs.declared.attr.Axis.{Axis}
-use Rattle.cube_model.specs.declared.attr.Axis.TheVariants.{Customer as customers, Supplier as suppliers, Part as parts, Date as dates}
+use Rattle.cube_model.specs.declared.attr.Axis.TheVariants.{Customer as customers, Supplier as suppliers, Part as parts}
+use Rattle.cube_model.specs.declared.attr.Axis.TheVariants.{Date as dates}
 use Rattle.table_hints.specs.declared.files.Table.{Table}
 use Rattle.table_hints.specs.declared.files.Table.TheVariants.{Customer, Supplier, Part, Date, Lineorder}
 

@@ -11,8 +11,8 @@ static BEGINNINGS: [(&[u8], &str); 7] = [
     (b"\xfe\xff", "; the file is UTF-16"),
 ];
 
-/// What the first line of a file says of the file, to be put after what is wrong with the line. It is empty where the line may be
-/// one of a table.
+/// What the first line of a file says of the file, to be put after what is wrong with the line. It is empty where the
+/// line may be one of a table.
 pub fn beginning_hint(line: &[u8]) -> &'static str {
     for (beginning, said) in BEGINNINGS {
         if line.starts_with(beginning) {

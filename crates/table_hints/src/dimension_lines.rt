@@ -6,9 +6,9 @@ use dimensions::Dims;
 use std::alloc::Global;
 use std::fmt;
 
-/// The rule that dimension rows break, as one line without its end: of which line, and what is wrong there. The rows are those of the
-/// file of the fault's dimension, of which the name is given, and come after those of a warehouse, if there is one. Nothing where the
-/// fault is none of such rows. It fails only when out of memory.
+/// The rule that dimension rows break, as one line without its end: of which line, and what is wrong there. The rows
+/// are those of the file of the fault's dimension, of which the name is given, and come after those of a warehouse, if
+/// there is one. Nothing where the fault is none of such rows. It fails only when out of memory.
 pub fn rows_hint(
     alloc: Global,
     path: &str,

@@ -1,4 +1,5 @@
-//! The cause of a refusal of the five tables: which line of which file, and which text or key, from what was kept of it.
+//! The cause of a refusal of the five tables: which line of which file, and which text or key, from what was kept of
+//! it.
 #![tactic(auto)]
 
 mod beginnings;

@@ -22,8 +22,8 @@ pub struct KeyAt<'a> {
     pub line: u64,
 }
 
-/// What is said of a key that is in no row of a dimension table, which has a name, as one line without its end. It fails only when out
-/// of memory.
+/// What is said of a key that is in no row of a dimension table, which has a name, as one line without its end. It
+/// fails only when out of memory.
 pub fn key_hint(alloc: Global, at: KeyAt<'_>, table: &str) -> Result<String, Fault> {
     let KeyAt {
         axis,
@@ -59,8 +59,8 @@ fn batch_of(line: u64) -> u64
     line.saturating_sub(1) / MOST_BATCH_ROWS as u64 + 1
 }
 
-/// What is said of the number of a batch that a load begins with, where the warehouse has so many batches. Nothing where the fault is
-/// none of a number. It fails only when out of memory.
+/// What is said of the number of a batch that a load begins with, where the warehouse has so many batches. Nothing
+/// where the fault is none of a number. It fails only when out of memory.
 pub fn number_hint(
     alloc: Global,
     fault: Fault,

@@ -32,7 +32,8 @@ pub struct Needs {
 }
 
 impl Needs {
-    /// What a load needs of a file of so many rows, where the warehouse has so many batches. Batches that are stored are skipped.
+    /// What a load needs of a file of so many rows, where the warehouse has so many batches. Batches that are stored
+    /// are skipped.
     pub fn of(cut: Cut, rows: u64, batches: u32) -> Needs {
         let size = u64::from(cut.rows).max(1);
         let stored = u64::from(batches.saturating_add(1).saturating_sub(cut.first));

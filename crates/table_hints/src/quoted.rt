@@ -4,7 +4,8 @@ use std::fmt;
 /// The most bytes of a text that are shown.
 const SHOWN: usize = 40;
 
-/// A text between quotation marks, with signs in place of bytes that cannot be printed, and cut after its first 40 bytes.
+/// A text between quotation marks, with signs in place of bytes that cannot be printed, and cut after its first 40
+/// bytes.
 #[derive(Clone, Copy, Debug)]
 pub struct Quoted<'a>(pub &'a [u8]);
 

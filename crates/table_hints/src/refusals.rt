@@ -3,8 +3,8 @@ use cube_model::limits::{MOST_DAYS, MOST_DIMENSION_ROWS};
 use cube_model::{Fault, Measure};
 use std::alloc::Global;
 
-/// The limit that the rows of a fact table exceed, as one line without its end, where the table has a name. Nothing where the fault is
-/// none of these. It fails only when out of memory.
+/// The limit that the rows of a fact table exceed, as one line without its end, where the table has a name. Nothing
+/// where the fault is none of these. It fails only when out of memory.
 pub fn limit_hint(alloc: Global, path: &str, fault: Fault) -> Result<Option<String>, Fault> {
     match fault {
         Fault::SumRange { measure } => sum_limit(alloc, path, measure),

@@ -8,8 +8,8 @@ use cube_model::limits::{LONGEST_LINE, LONGEST_TEXT};
 use cube_model::{Fault, Place};
 use std::alloc::Global;
 
-/// What is wrong with a line of a table for which the table is refused, as one line without its end. Nothing where the fault is none
-/// of a line. It fails only when out of memory.
+/// What is wrong with a line of a table for which the table is refused, as one line without its end. Nothing where the
+/// fault is none of a line. It fails only when out of memory.
 pub fn line_hint(
     alloc: Global,
     path: &str,

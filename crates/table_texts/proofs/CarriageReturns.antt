@@ -1,5 +1,6 @@
 -- Lines that do not end with a carriage return.
-use Rattle.std.proofs.Common.{◌≡◌, ◌∙◌, sym, ap, refl, ℕ, ◌-◌, Bool, true, false, cond, List, [], ◌∷◌, ◌++◌, length, take, arith}
+use Rattle.std.proofs.Common.{◌≡◌, ◌∙◌, sym, ap, refl, ℕ, ◌-◌, Bool, true, false, cond, List, [], ◌∷◌, ◌++◌, length}
+use Rattle.std.proofs.Common.{take, arith}
 use Rattle.std.specs.Prelude.{suc, nat_lt, ◌&&◌, ◌==◌, slice_index}
 use Rattle.std.specs.List.{join_with_byte}
 use Rattle.std.proofs.lemmas.Bool.Decides.{nat_tests}
@@ -36,14 +37,17 @@ after-front [] rest none = after-bar rest none
 after-front (byte ∷ []) rest none = after-bar rest none
 after-front (byte ∷ next ∷ front) rest none = after-front (next ∷ front) rest none
 
-joined-no_cr : (fields : List (List ℕ)) (last : List ℕ) → last_is_cr last ≡ false → last_is_cr (join_with_byte 124 (fields ++ last ∷ [])) ≡ false
+joined-no_cr : (fields : List (List ℕ)) (last : List ℕ) → last_is_cr last ≡ false
+    → last_is_cr (join_with_byte 124 (fields ++ last ∷ [])) ≡ false
 joined-no_cr [] last none = none
 joined-no_cr (field ∷ []) last none = after-front field last none
-joined-no_cr (field ∷ next ∷ fields) last none = after-front field (join_with_byte 124 (next ∷ (fields ++ last ∷ []))) (joined-no_cr (next ∷ fields) last none)
+joined-no_cr (field ∷ next ∷ fields) last none =
+    after-front field (join_with_byte 124 (next ∷ (fields ++ last ∷ []))) (joined-no_cr (next ∷ fields) last none)
 
 -- fields whose last one does not end with a carriage return are whole as a line
 pub no_cr-joined : (fields : List (List ℕ)) (last : List ℕ) → ends_in_cr last ≡ false
     → without_cr (join_with_byte 124 (fields ++ last ∷ [])) ≡ join_with_byte 124 (fields ++ last ∷ [])
 no_cr-joined fields last none =
     let line = join_with_byte 124 (fields ++ last ∷ []) in
-    ap (λ b. cond b (take (length line - 1) line) line) (cr-is line ∙ joined-no_cr fields last (sym (cr-is last) ∙ none))
+    ap (λ b. cond b (take (length line - 1) line) line)
+    (cr-is line ∙ joined-no_cr fields last (sym (cr-is last) ∙ none))

@@ -9,9 +9,11 @@ use Rattle.cube_model.specs.declared.rows.PartRow.{PartRow}
 use Rattle.cube_model.specs.declared.rows.DateRow.{DateRow}
 use Rattle.batch_loader.specs.Grammar.{FieldsAreSpelled, LinesAreSpelled}
 use Rattle.batch_loader.specs.Numbers.{spells_number, value_of}
-use Rattle.batch_loader.specs.Tables.{customer_columns, customer_of_fields, supplier_columns, supplier_of_fields, part_columns, part_of_fields, date_columns, date_of_fields}
+use Rattle.batch_loader.specs.Tables.{customer_columns, customer_of_fields, supplier_columns, supplier_of_fields}
+use Rattle.batch_loader.specs.Tables.{part_columns, part_of_fields, date_columns, date_of_fields}
 use Rattle.table_texts.specs.Lawful.{DimensionsReadBack}
-use Rattle.table_texts.specs.Spellable.{is_spellable_customer, is_spellable_supplier, is_spellable_part, is_spellable_date}
+use Rattle.table_texts.specs.Spellable.{is_spellable_customer, is_spellable_supplier, is_spellable_part}
+use Rattle.table_texts.specs.Spellable.{is_spellable_date}
 use Rattle.table_texts.specs.Texts.{customer_fields, supplier_fields, part_fields, date_fields}
 use Rattle.table_texts.proofs.CarriageReturns.{no_cr-joined}
 use Rattle.table_texts.proofs.Decimals.{field-decimal, spells-decimal, value-decimal}
@@ -30,7 +32,8 @@ module _ (n : ℕ) (in_range : nat_lt n (2 ^ 32) ≡ true) where
   key-value : value_of (decimal n) ≡ n
   key-value = value-decimal n (omega (arith, below))
 
-customer-spelled : (row : CustomerRow) → is_spellable_customer row ≡ true → IsSpelled customer_columns customer_of_fields row (customer_fields row)
+customer-spelled : (row : CustomerRow) → is_spellable_customer row ≡ true
+    → IsSpelled customer_columns customer_of_fields row (customer_fields row)
 customer-spelled row is =
     let a = and-true _ _ is in
     let b = and-true _ _ a.1 in
@@ -42,11 +45,15 @@ customer-spelled row is =
       few = omega arith;
       texts = (key-text row.key a.0, (refl, (refl, (b.0, (d.0, (e.0, (refl, (refl, tt))))))));
       no_cr = no_cr-joined (decimal row.key ∷ [] ∷ [] ∷ row.city ∷ row.nation ∷ row.region ∷ [] ∷ []) [] refl;
-      fit = (key-fits row.key a.0, (tt, (tt, (short_of row.city b.0, (short_of row.nation d.0, (short_of row.region e.0, (tt, (tt, tt))))))));
+      fit = (
+        key-fits row.key a.0,
+        (tt, (tt, (short_of row.city b.0, (short_of row.nation d.0, (short_of row.region e.0, (tt, (tt, tt))))))),
+      );
       back = λ i. record { key = key-value row.key a.0 i; city = row.city; nation = row.nation; region = row.region };
     }
 
-supplier-spelled : (row : SupplierRow) → is_spellable_supplier row ≡ true → IsSpelled supplier_columns supplier_of_fields row (supplier_fields row)
+supplier-spelled : (row : SupplierRow) → is_spellable_supplier row ≡ true
+    → IsSpelled supplier_columns supplier_of_fields row (supplier_fields row)
 supplier-spelled row is =
     let a = and-true _ _ is in
     let b = and-true _ _ a.1 in
@@ -58,11 +65,15 @@ supplier-spelled row is =
       few = omega arith;
       texts = (key-text row.key a.0, (refl, (refl, (b.0, (d.0, (e.0, (refl, tt)))))));
       no_cr = no_cr-joined (decimal row.key ∷ [] ∷ [] ∷ row.city ∷ row.nation ∷ row.region ∷ []) [] refl;
-      fit = (key-fits row.key a.0, (tt, (tt, (short_of row.city b.0, (short_of row.nation d.0, (short_of row.region e.0, (tt, tt)))))));
+      fit = (
+        key-fits row.key a.0,
+        (tt, (tt, (short_of row.city b.0, (short_of row.nation d.0, (short_of row.region e.0, (tt, tt)))))),
+      );
       back = λ i. record { key = key-value row.key a.0 i; city = row.city; nation = row.nation; region = row.region };
     }
 
-part-spelled : (row : PartRow) → is_spellable_part row ≡ true → IsSpelled part_columns part_of_fields row (part_fields row)
+part-spelled : (row : PartRow) → is_spellable_part row ≡ true
+    → IsSpelled part_columns part_of_fields row (part_fields row)
 part-spelled row is =
     let a = and-true _ _ is in
     let b = and-true _ _ a.1 in
@@ -74,12 +85,26 @@ part-spelled row is =
       few = omega arith;
       texts = (key-text row.key a.0, (refl, (e.0, (d.0, (b.0, (refl, (refl, (refl, (refl, tt)))))))));
       no_cr = no_cr-joined (decimal row.key ∷ [] ∷ row.mfgr ∷ row.category ∷ row.brand1 ∷ [] ∷ [] ∷ [] ∷ []) [] refl;
-      fit =
-          (key-fits row.key a.0, (tt, (short_of row.mfgr e.0, (short_of row.category d.0, (short_of row.brand1 b.0, (tt, (tt, (tt, (tt, tt)))))))));
-      back = λ i. record { key = key-value row.key a.0 i; brand1 = row.brand1; category = row.category; mfgr = row.mfgr };
+      fit = (
+        key-fits row.key a.0,
+        (
+          tt,
+          (
+            short_of row.mfgr e.0,
+            (short_of row.category d.0, (short_of row.brand1 b.0, (tt, (tt, (tt, (tt, tt)))))),
+          ),
+        ),
+      );
+      back = λ i. record {
+        key = key-value row.key a.0 i;
+        brand1 = row.brand1;
+        category = row.category;
+        mfgr = row.mfgr;
+      };
     }
 
-date-spelled : (row : DateRow) → is_spellable_date row ≡ true → IsSpelled date_columns date_of_fields row (date_fields row)
+date-spelled : (row : DateRow) → is_spellable_date row ≡ true
+    → IsSpelled date_columns date_of_fields row (date_fields row)
 date-spelled row is =
     let a = and-true _ _ is in
     let b = and-true _ _ a.1 in
@@ -124,7 +149,8 @@ date-spelled row is =
           ),
         ),
       );
-      no_cr = no_cr-joined (decimal row.key ∷ [] ∷ [] ∷ [] ∷ row.year ∷ row.yearmonthnum ∷ row.yearmonth ∷ [] ∷ [] ∷ [] ∷ []
+      no_cr = no_cr-joined (decimal row.key ∷ [] ∷ [] ∷ [] ∷ row.year ∷ row.yearmonthnum ∷ row.yearmonth ∷ [] ∷ [] ∷ []
+          ∷ []
           ∷ row.weeknuminyear ∷ [] ∷ [] ∷ [] ∷ [] ∷ []) [] refl;
       fit = (
         key-fits row.key a.0,
@@ -159,8 +185,10 @@ date-spelled row is =
 
 pub dimensions-read_back : LinesAreSpelled → FieldsAreSpelled → DimensionsReadBack
 dimensions-read_back lines_law fields_law = record {
-  customers = table-back customer_columns customer_of_fields fields_law customer_fields is_spellable_customer customer-spelled lines_law;
-  suppliers = table-back supplier_columns supplier_of_fields fields_law supplier_fields is_spellable_supplier supplier-spelled lines_law;
+  customers = table-back customer_columns customer_of_fields fields_law customer_fields is_spellable_customer
+      customer-spelled lines_law;
+  suppliers = table-back supplier_columns supplier_of_fields fields_law supplier_fields is_spellable_supplier
+      supplier-spelled lines_law;
   parts = table-back part_columns part_of_fields fields_law part_fields is_spellable_part part-spelled lines_law;
   dates = table-back date_columns date_of_fields fields_law date_fields is_spellable_date date-spelled lines_law;
 }

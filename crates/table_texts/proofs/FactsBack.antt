@@ -8,7 +8,8 @@ use Rattle.batch_loader.specs.Grammar.{FieldsAreSpelled, LinesAreSpelled}
 use Rattle.batch_loader.specs.Numbers.{spells_number}
 use Rattle.batch_loader.specs.Tables.{lineorder_columns, lineorder_of_fields}
 use Rattle.table_texts.specs.Lawful.{FactsReadBack}
-use Rattle.table_texts.specs.Spellable.{ends_in_cr, has_field_texts, has_figures_in_range, has_keys_in_range, is_spellable}
+use Rattle.table_texts.specs.Spellable.{ends_in_cr, has_field_texts, has_figures_in_range, has_keys_in_range}
+use Rattle.table_texts.specs.Spellable.{is_spellable}
 use Rattle.table_texts.specs.Texts.{fact_fields}
 use Rattle.table_texts.proofs.CarriageReturns.{no_cr-joined}
 use Rattle.table_texts.proofs.Decimals.{field-decimal, spells-decimal, value-decimal}
@@ -199,7 +200,13 @@ module _ (row : LineOrder) (keys : HasKeys row) (figures : HasFigures row) (text
                               amount-fits row.revenue figures.revenue,
                               (
                                 amount-fits row.supplycost figures.supplycost,
-                                (small-fits row.tax figures.tax, (short_of row.commitdate texts.commitdate, (short_of row.shipmode texts.shipmode, tt))),
+                                (
+                                  small-fits row.tax figures.tax,
+                                  (
+                                    short_of row.commitdate texts.commitdate,
+                                    (short_of row.shipmode texts.shipmode, tt),
+                                  ),
+                                ),
                               ),
                             ),
                           ),
@@ -235,11 +242,13 @@ module _ (row : LineOrder) (keys : HasKeys row) (figures : HasFigures row) (text
     };
   }
 
-row-spelled : (row : LineOrder) → is_spellable row ≡ true → IsSpelled lineorder_columns lineorder_of_fields row (fact_fields row)
+row-spelled : (row : LineOrder) → is_spellable row ≡ true
+    → IsSpelled lineorder_columns lineorder_of_fields row (fact_fields row)
 row-spelled row is =
     let a = and-true _ _ is in
     let b = and-true _ _ a.1 in
     fact-texts row (keys-in_range row a.0) (figures-in_range row b.0) (texts-plain row b.1)
 
 pub facts-read_back : LinesAreSpelled → FieldsAreSpelled → FactsReadBack
-facts-read_back lines_law fields_law = table-back lineorder_columns lineorder_of_fields fields_law fact_fields is_spellable row-spelled lines_law
+facts-read_back lines_law fields_law =
+    table-back lineorder_columns lineorder_of_fields fields_law fact_fields is_spellable row-spelled lines_law

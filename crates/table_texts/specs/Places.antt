@@ -2,14 +2,18 @@
 use Rattle.std.specs.Prelude.{ℕ, ◌^◌, ◌&&◌, nat_lt, Bool, List, [], ◌∷◌, map, slice_index_or, take}
 use Rattle.std.specs.Fmt.{decimal}
 use Rattle.std.specs.List.{list_all}
-use Rattle.cube_model.specs.declared.attr.Attr.TheVariants.{CustomerCity, CustomerNation, CustomerRegion, SupplierCity, SupplierNation, SupplierRegion, PartBrand1, PartCategory, PartMfgr, DateYearmonthnum, DateYear, DateYearmonth, DateWeeknuminyear}
+use Rattle.cube_model.specs.declared.attr.Attr.TheVariants.{CustomerCity, CustomerNation, CustomerRegion, SupplierCity}
+use Rattle.cube_model.specs.declared.attr.Attr.TheVariants.{SupplierNation, SupplierRegion, PartBrand1, PartCategory}
+use Rattle.cube_model.specs.declared.attr.Attr.TheVariants.{PartMfgr, DateYearmonthnum, DateYear, DateYearmonth}
+use Rattle.cube_model.specs.declared.attr.Attr.TheVariants.{DateWeeknuminyear}
 use Rattle.cube_model.specs.declared.attr.Axis.{Axis}
 use Rattle.cube_model.specs.declared.attr.Axis.TheVariants.{Customer, Supplier, Part, Date}
 use Rattle.cube_model.specs.declared.rows.DimRows.{DimRows}
 use Rattle.cube_model.specs.Places.{text_at}
 use Rattle.dimensions.specs.Shown.{rows_on}
 use Rattle.table_texts.specs.declared.dimension.KeptTexts.{KeptTexts}
-use Rattle.table_texts.specs.Spellable.{is_field_text, is_spellable_customer, is_spellable_supplier, is_spellable_part, is_spellable_date}
+use Rattle.table_texts.specs.Spellable.{is_field_text, is_spellable_customer, is_spellable_supplier, is_spellable_part}
+use Rattle.table_texts.specs.Spellable.{is_spellable_date}
 use Rattle.table_texts.specs.Texts.{table_text, customer_fields, supplier_fields, part_fields, date_fields}
 
 -- the key of the row at a place

@@ -1,5 +1,6 @@
 -- The rows that the lines of a table can spell.
-use Rattle.std.specs.Prelude.{◌≡◌, ℕ, ◌-◌, ◌^◌, ◌==◌, ◌&&◌, not, nat_le, nat_lt, Bool, true, false, List, [], ◌∷◌, Option, length, slice_index, Result, Err}
+use Rattle.std.specs.Prelude.{◌≡◌, ℕ, ◌-◌, ◌^◌, ◌==◌, ◌&&◌, not, nat_le, nat_lt, Bool, true, false, List, [], ◌∷◌}
+use Rattle.std.specs.Prelude.{Option, length, slice_index, Result, Err}
 use Rattle.std.specs.List.{list_all}
 use Rattle.std.specs.Io.KnownBytes.{Keeps}
 use Rattle.cube_model.specs.declared.fault.Fault.{Fault}
@@ -37,7 +38,8 @@ has_keys_in_range row =
 abbrev pub has_figures_in_range : LineOrder → Bool
 has_figures_in_range row =
     nat_lt row.quantity (2 ^ 8) && (nat_lt row.extendedprice (2 ^ 63) && (nat_lt row.ordtotalprice (2 ^ 63)
-    && (nat_lt row.discount (2 ^ 8) && (nat_lt row.revenue (2 ^ 63) && (nat_lt row.supplycost (2 ^ 63) && nat_lt row.tax (2 ^ 8))))))
+    && (nat_lt row.discount (2 ^ 8) &&
+    (nat_lt row.revenue (2 ^ 63) && (nat_lt row.supplycost (2 ^ 63) && nat_lt row.tax (2 ^ 8))))))
 
 -- a line can spell the texts of a fact row, of which the ship mode is the last field
 abbrev pub has_field_texts : LineOrder → Bool

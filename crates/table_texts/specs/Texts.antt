@@ -1,4 +1,5 @@
--- The five tables as texts: a line for each row, its fields separated by bars. A column that is not kept is an empty field.
+-- The five tables as texts: a line for each row, its fields separated by bars. A column that is not kept is an empty
+-- field.
 use Rattle.std.specs.Prelude.{ℕ, List, [], ◌∷◌, ◌++◌}
 use Rattle.std.specs.Fmt.{decimal}
 use Rattle.std.specs.List.{flat_map}
@@ -18,7 +19,8 @@ key_fields row =
     decimal row.orderkey ∷ decimal row.linenumber ∷ decimal row.custkey ∷ decimal row.partkey ∷ decimal row.suppkey
     ∷ decimal row.orderdate ∷ []
 
--- orderpriority, shippriority, quantity, extendedprice, ordtotalprice, discount, revenue, supplycost, tax, commitdate, shipmode
+-- orderpriority, shippriority, quantity, extendedprice, ordtotalprice, discount, revenue, supplycost, tax, commitdate,
+-- shipmode
 abbrev pub other_fields : LineOrder → List (List ℕ)
 other_fields row =
     row.orderpriority ∷ row.shippriority ∷ decimal row.quantity ∷ decimal row.extendedprice ∷ decimal row.ordtotalprice
@@ -41,7 +43,8 @@ supplier_fields row = decimal row.key ∷ [] ∷ [] ∷ row.city ∷ row.nation 
 abbrev pub part_fields : PartRow → List (List ℕ)
 part_fields row = decimal row.key ∷ [] ∷ row.mfgr ∷ row.category ∷ row.brand1 ∷ [] ∷ [] ∷ [] ∷ [] ∷ []
 
--- datekey, date, dayofweek, month, year, yearmonthnum, yearmonth, four that are not kept, weeknuminyear, five that are not kept
+-- datekey, date, dayofweek, month, year, yearmonthnum, yearmonth, four that are not kept, weeknuminyear, five that are
+-- not kept
 abbrev pub date_fields : DateRow → List (List ℕ)
 date_fields row =
     decimal row.key ∷ [] ∷ [] ∷ [] ∷ row.year ∷ row.yearmonthnum ∷ row.yearmonth ∷ [] ∷ [] ∷ [] ∷ []

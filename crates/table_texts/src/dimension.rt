@@ -26,8 +26,8 @@ struct KeptTexts<'d> {
     fourth: &'d [u8],
 }
 
-/// Hands a writer a line for each row of a dimension, in which columns that are not kept are empty. Where one of the rows
-/// has a text that no line can hold, it answers `BadLayout` and writes nothing.
+/// Hands a writer a line for each row of a dimension, in which columns that are not kept are empty. Where one of the
+/// rows has a text that no line can hold, it answers `BadLayout` and writes nothing.
 ///
 /// It takes no memory, and does not flush.
 pub fn write_dimension<W: Write>(dims: &Dims, axis: Axis, out: &mut W) -> Result<(), Fault>
@@ -151,7 +151,8 @@ fn three_texts(dims: &Dims, first: Attr, second: Attr, third: Attr, place: usize
     requires first { place < row_count_of dims.now (axis_of first) }
     requires second { place < row_count_of dims.now (axis_of second) }
     requires third { place < row_count_of dims.now (axis_of third) }
-    ensures { listed result ≡ text_at dims.now first place ∷ text_at dims.now second place ∷ text_at dims.now third place
+    ensures { listed result ≡ text_at dims.now first place ∷ text_at dims.now second place
+        ∷ text_at dims.now third place
         ∷ [] ∷ [] }
 {
     KeptTexts {

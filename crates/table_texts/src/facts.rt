@@ -12,8 +12,8 @@ use crate::spellable::are_spellable;
 use cube_model::{Fault, LineOrder};
 use std::io::Write;
 
-/// Hands a writer a line for each fact row. Where one of the rows has a text that no line can hold, it answers `BadLayout`
-/// and writes nothing.
+/// Hands a writer a line for each fact row. Where one of the rows has a text that no line can hold, it answers
+/// `BadLayout` and writes nothing.
 ///
 /// It takes no memory, and does not flush.
 pub fn write_facts<W: Write>(rows: &[LineOrder], out: &mut W) -> Result<(), Fault>

@@ -1,7 +1,8 @@
 //! The rows that lines can spell.
 ghost use Rattle.std.specs.Prelude.{◌≡◌, true};
 ghost use Rattle.std.specs.List.{list_all};
-ghost use Rattle.table_texts.specs.Spellable.{ends_in_cr, has_field_texts, has_figures_in_range, has_keys_in_range, is_field_text, is_plain_byte, is_spellable};
+ghost use Rattle.table_texts.specs.Spellable.{ends_in_cr, has_field_texts, has_figures_in_range, has_keys_in_range};
+ghost use Rattle.table_texts.specs.Spellable.{is_field_text, is_plain_byte, is_spellable};
 
 use cube_model::LineOrder;
 use cube_model::limits::LONGEST_TEXT;

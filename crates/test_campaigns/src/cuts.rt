@@ -35,8 +35,8 @@ struct Failing {
     reaches: bool,
 }
 
-/// What comes after the failure: the disk is taken further as it is, or a crash leaves the oldest bytes of each sector, the newest, or
-/// both in turn.
+/// What comes after the failure: the disk is taken further as it is, or a crash leaves the oldest bytes of each sector,
+/// the newest, or both in turn.
 #[derive(Clone, Copy, Debug)]
 enum After {
     Nothing,
@@ -84,7 +84,8 @@ const ALL_REACH: Failing = Failing {
     reaches: true,
 };
 
-/// What was acknowledged of a life that is cut off at a call of its device, whether there is no such call, and the disk.
+/// What was acknowledged of a life that is cut off at a call of its device, whether there is no such call, and the
+/// disk.
 fn cut(
     alloc: Global,
     call: u64,
@@ -173,8 +174,8 @@ fn cut_each_call(
     Ok(outcome)
 }
 
-/// The least number of device calls of a life: 11 of the creation, 5 of each batch and of the addition, 4 of the choice and 22 of each
-/// upkeep. Those of the queries are more.
+/// The least number of device calls of a life: 11 of the creation, 5 of each batch and of the addition, 4 of the choice
+/// and 22 of each upkeep. Those of the queries are more.
 const LEAST_CALLS: u64 = 79;
 
 fn outcome_of_way(alloc: Global, way: &(Failing, After)) -> Result<Outcome, Fault> {
@@ -193,8 +194,8 @@ fn a_life_that_is_cut_off_goes_on(rt: HostRuntime) {
     }
 }
 
-/// Cuts the opening of the disk of a cut-off life off after so many calls in turn, with a crash after each. Whether each cut leads to the
-/// same in the end, and whether there was a call at which the life was cut off.
+/// Cuts the opening of the disk of a cut-off life off after so many calls in turn, with a crash after each. Whether
+/// each cut leads to the same in the end, and whether there was a call at which the life was cut off.
 fn cut_openings(
     alloc: Global,
     call: u64,

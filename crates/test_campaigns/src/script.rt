@@ -15,7 +15,8 @@ const ROWS: [u64; 4] = [0, 3, 4, 4];
 /// The views of the choice.
 const VIEWS: [u16; 3] = [59, 203, 248];
 
-/// What was acknowledged: the creation, batches, the choice, how many batches the cuboids hold, and whether a customer was added.
+/// What was acknowledged: the creation, batches, the choice, how many batches the cuboids hold, and whether a customer
+/// was added.
 #[derive(Clone, Copy, Debug, PartialEq, Eq)]
 pub(crate) struct Reached {
     pub(crate) created: bool,
@@ -33,8 +34,8 @@ pub(crate) const NOTHING: Reached = Reached {
     added: false,
 };
 
-/// What a warehouse lacks next. The cuboids are brought to the first batch, and to the second, which has a row of the customer that is
-/// added between the two.
+/// What a warehouse lacks next. The cuboids are brought to the first batch, and to the second, which has a row of the
+/// customer that is added between the two.
 #[derive(Clone, Copy, Debug, PartialEq, Eq)]
 enum Lacks {
     Batch(u32),
@@ -123,7 +124,8 @@ pub(crate) fn live<D: Sectors>(
     Ok(())
 }
 
-/// What the thirteen queries answer over the first batches, by one pass over their rows and the dimensions with the third customer.
+/// What the thirteen queries answer over the first batches, by one pass over their rows and the dimensions with the
+/// third customer.
 pub(crate) type Wanted = [Vec<Answer>; 4];
 
 /// Adds fact rows to others.
@@ -182,8 +184,8 @@ fn answers_right<D: Sectors>(
     Ok(true)
 }
 
-/// Whether cuboids are those of the choice, each holding at least so many batches and no more than there are; or, before the choice was
-/// acknowledged, none.
+/// Whether cuboids are those of the choice, each holding at least so many batches and no more than there are; or,
+/// before the choice was acknowledged, none.
 fn are_allowed(status: &Status, reached: &Reached) -> bool {
     let marks = reached.mark..=status.batches;
     let chosen = VIEWS;
@@ -199,8 +201,8 @@ fn are_allowed(status: &Status, reached: &Reached) -> bool {
     }
 }
 
-/// Whether there is one addition or none as there may be: one if it was acknowledged or the second batch is there, and none before the
-/// cuboids hold the first.
+/// Whether there is one addition or none as there may be: one if it was acknowledged or the second batch is there, and
+/// none before the cuboids hold the first.
 fn is_addition_allowed(status: &Status, reached: &Reached) -> bool {
     match status.additions {
         0 => !reached.added && status.batches < 2,
@@ -209,7 +211,8 @@ fn is_addition_allowed(status: &Status, reached: &Reached) -> bool {
     }
 }
 
-/// Whether a status is one that may be found once so much was acknowledged: the batches, and at most the one that was being added.
+/// Whether a status is one that may be found once so much was acknowledged: the batches, and at most the one that was
+/// being added.
 fn is_allowed(status: &Status, reached: &Reached) -> bool {
     let batches = reached.batches..=reached.batches.saturating_add(1);
     batches.contains(&status.batches)
@@ -218,7 +221,8 @@ fn is_allowed(status: &Status, reached: &Reached) -> bool {
         && is_addition_allowed(status, reached)
 }
 
-/// Whether a session is at a warehouse that may be found once so much was acknowledged, and answers and audits as it should.
+/// Whether a session is at a warehouse that may be found once so much was acknowledged, and answers and audits as it
+/// should.
 pub(crate) fn is_promised<D: Sectors>(
     alloc: Global,
     session: &mut Session<D>,

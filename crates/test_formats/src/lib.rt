@@ -1,4 +1,5 @@
-//! Tests of `report_formats`: reports of an answer that was made by hand in each format, and what other readers read of them.
+//! Tests of `report_formats`: reports of an answer that was made by hand in each format, and what other readers read of
+//! them.
 #![tactic(auto)]
 
 #[cfg(test)]

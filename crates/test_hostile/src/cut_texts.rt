@@ -7,8 +7,8 @@ use std::alloc::Global;
 /// The rows of a text, or its first fault.
 type Wanted = Result<&'static [Fact<'static>], Fault>;
 
-/// Texts, and what they come to: with a last bar in each line and in none, with CR LF, without a last LF, with leading zeros and the
-/// greatest numbers, and with a fault in the last line after which further ones follow.
+/// Texts, and what they come to: with a last bar in each line and in none, with CR LF, without a last LF, with leading
+/// zeros and the greatest numbers, and with a fault in the last line after which further ones follow.
 static TEXTS: [(&[u8], Wanted); 9] = [
     (b"", Ok(&[])),
     (

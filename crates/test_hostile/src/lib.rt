@@ -1,6 +1,6 @@
-//! Tests of what is hostile: readers and writers that fail at each call under the thirteen reports, texts that are cut at each place,
-//! devices that give other bytes than were written, images that break each rule of the layout in turn, and a life in which objects are
-//! dropped, cut off at each device call.
+//! Tests of what is hostile: readers and writers that fail at each call under the thirteen reports, texts that are cut
+//! at each place, devices that give other bytes than were written, images that break each rule of the layout in turn,
+//! and a life in which objects are dropped, cut off at each device call.
 #![tactic(auto)]
 
 #[cfg(test)]

@@ -11,8 +11,8 @@ use std::alloc::Global;
 use std::test::Fail;
 use warehouse::{Session, create, open};
 
-/// A memory disk of 64 sectors for so many calls. Then each read gives a sector with another byte in it, at another place each time, and
-/// each call of a number that some number divides fails, if that is not 0.
+/// A memory disk of 64 sectors for so many calls. Then each read gives a sector with another byte in it, at another
+/// place each time, and each call of a number that some number divides fails, if that is not 0.
 #[derive(Drop)]
 struct Lying {
     inner: MemDisk,
@@ -40,7 +40,13 @@ impl Lying {
 }
 
 impl Sectors for Lying {
-    ghost state = { λ d. record { size = 64; reads = λ i. []; may_hold = λ i b. ⊥; moment = 0; left_since = λ t image. ⊥ } };
+    ghost state = { λ d. record {
+      size = 64;
+      reads = λ i. [];
+      may_hold = λ i b. ⊥;
+      moment = 0;
+      left_since = λ t image. ⊥;
+    } };
 
     ghost keeps_word = { λ d. ⊥ };
 
@@ -140,7 +146,8 @@ fn refusal<D: Sectors>(alloc: Global, session: &mut Session<D>, call: Call) -> O
     }
 }
 
-/// Whether a call answers `Failed` exactly where the device failed before, and `Device` exactly where it failed in the call.
+/// Whether a call answers `Failed` exactly where the device failed before, and `Device` exactly where it failed in the
+/// call.
 fn is_allowed<D: Sectors>(alloc: Global, session: &mut Session<D>, call: Call) -> bool {
     let before = session.device().failures();
     let was_broken = session.is_broken();

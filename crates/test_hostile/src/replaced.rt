@@ -16,8 +16,8 @@ enum Step {
     Upkeep,
 }
 
-/// The steps after a warehouse of one batch of the sample rows that the cuboid of manufacturers and days holds. The third drops both of
-/// its runs.
+/// The steps after a warehouse of one batch of the sample rows that the cuboid of manufacturers and days holds. The
+/// third drops both of its runs.
 static STEPS: [Step; 5] = [
     Step::Submit(2),
     Step::Upkeep,
@@ -162,8 +162,8 @@ fn cut(alloc: Global, call: u64) -> Result<(usize, bool, MemDisk), Fault> {
     }
 }
 
-/// The first call of a life after which a crash leaves something else, if there is one, and the last call that was tried, which is the first
-/// that a whole life does not make.
+/// The first call of a life after which a crash leaves something else, if there is one, and the last call that was
+/// tried, which is the first that a whole life does not make.
 fn first_wrong(alloc: Global, picks: &[u32]) -> Result<(Option<u64>, u64), Fault> {
     for call in 1..1_000 {
         let (taken, is_whole, disk) = cut(alloc, call)?;
@@ -181,7 +181,8 @@ fn first_wrong(alloc: Global, picks: &[u32]) -> Result<(Option<u64>, u64), Fault
 /// What a crash leaves of the sectors that were written: the oldest bytes and the newest in turn.
 static PICKS: [&[u32]; 2] = [&[0, 1, 0, 1, 0, 1, 0, 1], &[1, 0, 1, 0, 1, 0, 1, 0]];
 
-/// One more than the calls of an opening, which are 8, of two batches, 5 each, of the upkeeps, 10 and 11, and of the choice, 4.
+/// One more than the calls of an opening, which are 8, of two batches, 5 each, of the upkeeps, 10 and 11, and of the
+/// choice, 4.
 const CALLS: u64 = 44;
 
 #[test]

@@ -6,8 +6,9 @@ use sector_device::MemDisk;
 use std::alloc::Global;
 use warehouse::Session;
 
-/// The sectors of a warehouse of one batch of the sample rows whose three cuboids hold it: the superblock of generation 7, the dimensions,
-/// the segment, the runs of the views 59, 203 and 248, and the catalogue. Sector 0 has the superblock of generation 6.
+/// The sectors of a warehouse of one batch of the sample rows whose three cuboids hold it: the superblock of generation
+/// 7, the dimensions, the segment, the runs of the views 59, 203 and 248, and the catalogue. Sector 0 has the
+/// superblock of generation 6.
 const SUPERBLOCK: u32 = 1;
 
 const CUSTOMERS: u32 = 2;
@@ -28,7 +29,8 @@ const RUN: u32 = 9;
 
 const CATALOGUE: u32 = 11;
 
-/// Those that are new after the addition of a third customer: the superblock of generation 8, the customers, and the catalogue.
+/// Those that are new after the addition of a third customer: the superblock of generation 8, the customers, and the
+/// catalogue.
 const ADDED_SUPERBLOCK: u32 = 0;
 
 const ADDED_CUSTOMERS: u32 = 10;
@@ -40,8 +42,8 @@ const ADDED_CATALOGUE: u32 = 12;
 enum Found {
     /// How the opening is refused.
     Refused(Fault),
-    /// The generation that is opened, how the revenue by year is refused, and what an audit answers. The first is read from the run of
-    /// view 248, the second from the batch and all runs.
+    /// The generation that is opened, how the revenue by year is refused, and what an audit answers. The first is read
+    /// from the run of view 248, the second from the batch and all runs.
     Opened(u64, Option<Fault>, Result<bool, Fault>),
 }
 
@@ -213,7 +215,8 @@ static OF_CATALOGUES: [Rule; 36] = [
     ("of a byte more", &[(CATALOGUE, 132, b"\x55")], BAD_RUN),
 ];
 
-/// The root begins at byte 140 of the catalogue, its totals at 156, the rows of the batch at 204, and the cuboid of view 248 at 232.
+/// The root begins at byte 140 of the catalogue, its totals at 156, the rows of the batch at 204, and the cuboid of
+/// view 248 at 232.
 static OF_ROOTS: [Rule; 35] = [
     ("a batch less", &[(CATALOGUE, 140, b"\x00")], BAD),
     ("a batch more", &[(CATALOGUE, 140, b"\x02")], BAD),
@@ -298,8 +301,9 @@ static OF_ROOTS: [Rule; 35] = [
     ),
 ];
 
-/// Of customers the texts of cities begin at byte 12, of nations at 38, of regions at 71, the codes of nations at 90, of regions at 94, the
-/// keys at 98, the codes of cities at 106. Suppliers are alike. Of parts these are 12, 35, 55, 66, 70, 74, 82.
+/// Of customers the texts of cities begin at byte 12, of nations at 38, of regions at 71, the codes of nations at 90,
+/// of regions at 94, the keys at 98, the codes of cities at 106. Suppliers are alike. Of parts these are 12, 35, 55,
+/// 66, 70, 74, 82.
 static OF_PLACES: [Rule; 45] = [
     ("the name", &[(CUSTOMERS, 0, b"d")], BAD),
     ("the axis of customers", &[(CUSTOMERS, 4, b"\x01")], BAD),
@@ -401,8 +405,8 @@ static OF_PLACES: [Rule; 45] = [
     ("the brand of a part", &[(PARTS, 84, b"\x02")], BAD),
 ];
 
-/// Of days the texts of months begin at byte 12, of yearmonths at 30, of years at 50, of weeks at 64, the codes of yearmonths at 73, of years
-/// at 77, the keys at 81, the codes of months at 89, of weeks at 93.
+/// Of days the texts of months begin at byte 12, of yearmonths at 30, of years at 50, of weeks at 64, the codes of
+/// yearmonths at 73, of years at 77, the keys at 81, the codes of months at 89, of weeks at 93.
 static OF_DAYS: [Rule; 27] = [
     ("the name", &[(DATES, 3, b"2")], BAD),
     ("the axis of days", &[(DATES, 4, b"\x02")], BAD),
@@ -453,7 +457,8 @@ static OF_DAYS: [Rule; 27] = [
     ("in two bytes", &[(DATES, 96, b"\x01")], BAD),
 ];
 
-/// Of the segment the texts begin at byte 201 (orderpriority), 226, 238 and 266, and the codes at 220, 232, 260 and 279.
+/// Of the segment the texts begin at byte 201 (orderpriority), 226, 238 and 266, and the codes at 220, 232, 260 and
+/// 279.
 static OF_SEGMENTS: [Rule; 38] = [
     ("the name", &[(SEGMENT, 0, b"s")], BAD_BATCH),
     ("the batch's number", &[(SEGMENT, 4, b"\x02")], BAD_BATCH),
@@ -619,8 +624,9 @@ static OF_RUNS: [Rule; 28] = [
     ),
 ];
 
-/// Changes after the addition. The root begins at byte 140 of the catalogue. Of three customers the texts of cities begin at byte 12, of
-/// nations at 49, of regions at 82, the codes of nations at 101, of regions at 107, the keys at 111, the codes of cities at 123.
+/// Changes after the addition. The root begins at byte 140 of the catalogue. Of three customers the texts of cities
+/// begin at byte 12, of nations at 49, of regions at 82, the codes of nations at 101, of regions at 107, the keys at
+/// 111, the codes of cities at 123.
 static OF_ADDITIONS: [Rule; 24] = [
     (
         "the name of the newest superblock",

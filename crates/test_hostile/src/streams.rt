@@ -54,8 +54,8 @@ static WRITERS: [(usize, WhenFull); 6] = [
     (1, WhenFull::TakesNone),
 ];
 
-/// What comes of a report of so many bytes where a writer takes so many. With just their room a flush fails, or there is none to
-/// fail.
+/// What comes of a report of so many bytes where a writer takes so many. With just their room a flush fails, or there
+/// is none to fail.
 fn end_of(bytes: usize, room: usize, when_full: WhenFull) -> Result<(), Fault> {
     if room > bytes || (room == bytes && when_full == WhenFull::TakesNone) {
         Ok(())
@@ -142,8 +142,8 @@ fn each_write_of_a_report_fails_in_turn(rt: HostRuntime) {
     );
 }
 
-/// What a query answers over the sample tables that are read byte by byte, where the one at a place fails at a read, counted from
-/// 1; at 0 none does.
+/// What a query answers over the sample tables that are read byte by byte, where the one at a place fails at a read,
+/// counted from 1; at 0 none does.
 fn evaluate(
     alloc: Global,
     query: &Query,

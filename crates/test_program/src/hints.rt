@@ -1,15 +1,14 @@
 //! What is said after a refusal that no page shows, and the names that hints know.
 use cube_model::{Axis, Fault};
-use query_words::{Known, QueryWords, read_query};
+use query_words::{Known, QueryWords, nearest, read_query};
 use sample_sessions::sample_dims;
 use sample_star::{STAR, dim_rows};
 use std::alloc::Global;
 use std::test::Fail;
 use table_hints::{Cut, KeyAt, limit_hint, loaded_key_hint, number_hint, rows_hint};
-use word_hints::nearest;
 
-/// A fault of the sample's dimension rows, the name of their file, and what is said, first of the rows alone and then of rows that are
-/// added to a warehouse that has them.
+/// A fault of the sample's dimension rows, the name of their file, and what is said, first of the rows alone and then
+/// of rows that are added to a warehouse that has them.
 type RowsCase = (Fault, &'static str, &'static str, &'static str);
 
 static ROWS: [RowsCase; 6] = [

@@ -523,7 +523,7 @@ fn are_answered(
 }
 
 // The answer of a fold that begins, over rows and the offers after them. None where an offer is answered otherwise.
-fn answer_behind(
+fn answer_after(
     alloc: Global,
     dims: &Dims,
     sample: &Segment,
@@ -551,7 +551,7 @@ fn answer_of(
 ) -> Result<Option<Answer>, Fault> {
     let query = query(alloc, &case.asked)?;
     let mut fold = Fold::new(alloc, dims, &query)?;
-    answer_behind(alloc, dims, sample, &query, &mut fold, case)
+    answer_after(alloc, dims, sample, &query, &mut fold, case)
 }
 
 // Whether the answer is the one that was worked out.

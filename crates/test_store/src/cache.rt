@@ -5,10 +5,10 @@ use sector_cache::Cached;
 use sector_device::{DeviceError, Fuse, MemDisk, Sectors};
 use std::test::Fail;
 
-type Behind = Cached<Fuse<MemDisk>>;
+type After = Cached<Fuse<MemDisk>>;
 
 // A cache of so many sectors before a new disk of 256, of which the n-th call fails.
-fn cached(rt: &HostRuntime, room: u32, n: u64, reaches: bool) -> Result<Behind, Fault> {
+fn cached(rt: &HostRuntime, room: u32, n: u64, reaches: bool) -> Result<After, Fault> {
     let disk = MemDisk::new(rt.alloc(), 256)?;
     if room == 0 {
         return Err(Fault::DeviceSize);
@@ -20,7 +20,7 @@ fn cached(rt: &HostRuntime, room: u32, n: u64, reaches: bool) -> Result<Behind, 
 }
 
 // How often the disk was read.
-fn reads(cached: Behind) -> u64 {
+fn reads(cached: After) -> u64 {
     cached.close().close().reads()
 }
 
@@ -38,7 +38,7 @@ static LOOPS: [(u32, u32, u32, u64); 10] = [
     (256, 200, 3, 200),
 ];
 
-fn read_round(disk: &mut Behind, sectors: u32) -> Result<(), DeviceError> {
+fn read_round(disk: &mut After, sectors: u32) -> Result<(), DeviceError> {
     for i in 0..sectors {
         get(disk, i)?;
     }

@@ -1,6 +1,6 @@
 //! A catalogue that was written down by hand.
-use catalogue::{Entry, encode};
 use cube_model::Fault;
+use object_store::catalogue::{Entry, encode};
 use std::alloc::Global;
 
 // Four objects in the sectors after the superblocks, and a root of 64 bytes that are zero.

@@ -92,7 +92,8 @@ fn unsynced(alloc: Global) -> Result<Store<Fuse<MemDisk>>, Fault> {
     }
 }
 
-// How it refuses a read, what is found of object 1 where its device is opened again, and what a crash leaves of it then.
+// How it refuses a read, what is found of object 1 where its device is opened again, and what a crash leaves of it
+// then.
 type Found = (Option<Fault>, Option<[u8; 5]>, Option<[u8; 5]>);
 
 fn found_again(alloc: Global) -> Result<Found, Fault> {

@@ -1,6 +1,6 @@
-//! Tests of `sector_device`, `sector_cache` and `file_device`: the memory disk, the cache, and the device over a file. And of
-//! `superblock`, `catalogue`, `extents` and `object_store`: bytes written down by hand, where the store puts what, crashes at each
-//! call, hostile images, and each refusal.
+//! Tests of `sector_device`, `sector_cache` and `file_device`: the memory disk, the cache, and the device over a file.
+//! And of `superblock`, `extents` and `object_store`: bytes written down by hand, where the store puts what, crashes at
+//! each call, hostile images, and each refusal.
 #![tactic(auto)]
 
 #[cfg(test)]

@@ -123,7 +123,8 @@ fn opens_regular_files_alone(rt: HostRuntime) -> Result<(), Fail> {
     Ok(fs::remove_dir_all(&rt, "kinds")?)
 }
 
-// What a device that is only read gives of a sector, whether a sync, a write and a read after it succeed, and the failures.
+// What a device that is only read gives of a sector, whether a sync, a write and a read after it succeed, and the
+// failures.
 fn read_only(rt: &HostRuntime, path: &str) -> Result<(Option<u8>, [bool; 3], u64), Fail> {
     marked(rt, path, 5)?;
     let mut disk = Disk::open_to_read(rt, path)?;

@@ -1,6 +1,6 @@
 // Disks on which a superblock and a catalogue were written by hand.
-use catalogue::Entry;
 use cube_model::Fault;
+use object_store::catalogue::{self, Entry};
 use sector_device::{MemDisk, Sectors};
 use std::alloc::Global;
 use superblock::Super;

@@ -7,7 +7,9 @@ use Rattle.cube_model.specs.declared.answer.Member.TheVariants.{All, Text}
 use Rattle.cube_model.specs.declared.answer.Value.{Value}
 use Rattle.cube_model.specs.declared.answer.Value.TheVariants.{Whole, Ratio}
 use Rattle.cube_model.specs.declared.attr.Attr.{Attr}
-use Rattle.cube_model.specs.declared.attr.Attr.TheVariants.{CustomerCity, CustomerRegion, SupplierCity, SupplierNation, PartBrand1, PartCategory, DateYear, DateYearmonthnum, DateYearmonth}
+use Rattle.cube_model.specs.declared.attr.Attr.TheVariants.{CustomerCity, CustomerRegion, SupplierCity, SupplierNation}
+use Rattle.cube_model.specs.declared.attr.Attr.TheVariants.{PartBrand1, PartCategory, DateYear, DateYearmonthnum}
+use Rattle.cube_model.specs.declared.attr.Attr.TheVariants.{DateYearmonth}
 use Rattle.cube_model.specs.declared.measure.Agg.{Agg}
 use Rattle.cube_model.specs.declared.measure.Agg.TheVariants.{Count, Sum, Avg}
 use Rattle.cube_model.specs.declared.measure.Measure.TheVariants.{Revenue, Discounted, Profit}
@@ -94,7 +96,8 @@ text bytes = Text bytes
 
 -- the discounted sum of 1993, at discounts 1 to 3 and quantities 0 to 24
 abbrev pub discounted_query : Query
-discounted_query = asks Plain [] (OneOf DateYear (codes "1993" ∷ []) ∷ Discount 1 3 ∷ Quantity 0 24 ∷ []) (Sum Discounted ∷ [])
+discounted_query = asks Plain [] (OneOf DateYear (codes "1993" ∷ []) ∷ Discount 1 3 ∷ Quantity 0 24 ∷ [])
+    (Sum Discounted ∷ [])
 
 abbrev pub discounted_lines : List Line
 discounted_lines = line [] (whole 2000 ∷ []) ∷ []
@@ -102,20 +105,25 @@ discounted_lines = line [] (whole 2000 ∷ []) ∷ []
 -- the revenue between two cities in December 1997
 abbrev pub cities_query : Query
 cities_query = asks Plain (CustomerCity ∷ SupplierCity ∷ DateYear ∷ [])
-    (OneOf CustomerCity (codes "UNITED KI1" ∷ codes "UNITED KI5" ∷ []) ∷ OneOf SupplierCity (codes "UNITED KI1" ∷ codes "UNITED KI5" ∷ []) ∷ OneOf DateYearmonth (codes "Dec1997" ∷ []) ∷ [])
+    (OneOf CustomerCity (codes "UNITED KI1" ∷ codes "UNITED KI5" ∷ [])
+    ∷ OneOf SupplierCity (codes "UNITED KI1" ∷ codes "UNITED KI5" ∷ []) ∷ OneOf DateYearmonth (codes "Dec1997" ∷ [])
+    ∷ [])
     (Sum Revenue ∷ [])
 
 abbrev pub cities_lines : List Line
-cities_lines = line (text (codes "UNITED KI1") ∷ text (codes "UNITED KI5") ∷ text (codes "1997") ∷ []) (whole 495 ∷ []) ∷ []
+cities_lines = line (text (codes "UNITED KI1") ∷ text (codes "UNITED KI5") ∷ text (codes "1997") ∷ []) (whole 495 ∷ [])
+    ∷ []
 
 -- the profit of a category's brands with the suppliers of a nation
 abbrev pub profit_query : Query
 profit_query = asks Plain (DateYear ∷ SupplierCity ∷ PartBrand1 ∷ [])
-    (OneOf CustomerRegion (codes "AMERICA" ∷ []) ∷ OneOf SupplierNation (codes "UNITED STATES" ∷ []) ∷ OneOf DateYear (codes "1997" ∷ codes "1998" ∷ []) ∷ OneOf PartCategory (codes "MFGR#14" ∷ []) ∷ [])
+    (OneOf CustomerRegion (codes "AMERICA" ∷ []) ∷ OneOf SupplierNation (codes "UNITED STATES" ∷ [])
+    ∷ OneOf DateYear (codes "1997" ∷ codes "1998" ∷ []) ∷ OneOf PartCategory (codes "MFGR#14" ∷ []) ∷ [])
     (Sum Profit ∷ [])
 
 abbrev pub profit_lines : List Line
-profit_lines = line (text (codes "1997") ∷ text (codes "UNITED ST0") ∷ text (codes "MFGR#142") ∷ []) (Whole (negsuc 59) ∷ []) ∷ []
+profit_lines = line (text (codes "1997") ∷ text (codes "UNITED ST0") ∷ text (codes "MFGR#142") ∷ [])
+    (Whole (negsuc 59) ∷ []) ∷ []
 
 -- a cube by region and year, with an average
 abbrev pub cube_query : Query

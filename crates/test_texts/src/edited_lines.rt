@@ -65,9 +65,9 @@ pub static GOOD_LINES: [GoodLine; 5] = [
 ];
 
 /// Numbers at the limits of each column and one past them, and what is no number. Like those below these are patterns,
-/// separated by LF, of a line with an edit at one field: `<` is for the fields in front of it and `>` for those after it,
-/// with their bars, `*` for the field as it was, `$` for a LF, `?` for each byte in turn, `%` for 300 zeros, `#` for 254
-/// times the letter y, and `~` for what a long line is filled with. Other bytes are for themselves.
+/// separated by LF, of a line with an edit at one field: `<` is for the fields in front of it and `>` for those after
+/// it, with their bars, `*` for the field as it was, `$` for a LF, `?` for each byte in turn, `%` for 300 zeros, `#`
+/// for 254 times the letter y, and `~` for what a long line is filled with. Other bytes are for themselves.
 static NUMBERS: &[u8] = b"<|>$\n<0|>$\n<00|>$\n<7|>$\n<254|>$\n<255|>$\n<256|>$\n<2550|>$\n\
 <4294967294|>$\n<4294967295|>$\n<4294967296|>$\n<42949672950|>$\n\
 <9223372036854775806|>$\n<9223372036854775807|>$\n<9223372036854775808|>$\n<92233720368547758070|>$\n\
@@ -193,14 +193,15 @@ pub fn edited(
     Ok(text)
 }
 
-/// Whether a long line is cut at each byte that it is filled with: one of the longest lines that are read, or of a byte more.
+/// Whether a long line is cut at each byte that it is filled with: one of the longest lines that are read, or of a byte
+/// more.
 fn is_cut_everywhere(line: &GoodLine, edit: &Edit<'_>) -> bool {
     let (byte, count) = edit.fill;
     byte == b'y' && (8_192..=8_193).contains(&line.text.len().saturating_add(count))
 }
 
-/// From how many bytes on a text is cut: those in front of the edit are left out, where the cuts are those of the good line,
-/// and of most long lines all but the last 20 that they are filled with.
+/// From how many bytes on a text is cut: those in front of the edit are left out, where the cuts are those of the good
+/// line, and of most long lines all but the last 20 that they are filled with.
 pub fn first_cut(line: &GoodLine, place: usize, edit: &Edit<'_>) -> usize {
     if edit.pattern.first() != Some(&b'<') {
         return 0;

@@ -2,7 +2,12 @@
 ghost use Rattle.std.specs.Prelude.{◌≡◌, [], ◌∷◌, codes};
 ghost use Rattle.cube_model.specs.Admission.{refusal};
 ghost use Rattle.cube_model.specs.Answers.{answer, answer_as_of};
-ghost use Rattle.test_texts.specs.Examples.{star, facts, fact, money, customer, day, kingdom_customer, with_customers, with_dates, long_shipmode, discounted_query, discounted_lines, cities_query, cities_lines, profit_query, profit_lines, cube_query, cube_lines, rollup_query, rollup_lines, average_query, average_lines, range_query, range_lines, empty_query, ordered_query, tied_lines, falling_lines};
+ghost use Rattle.test_texts.specs.Examples.{star, facts, fact, money, customer, day, kingdom_customer, with_customers};
+ghost use Rattle.test_texts.specs.Examples.{with_dates, long_shipmode, discounted_query, discounted_lines};
+ghost use Rattle.test_texts.specs.Examples.{cities_query, cities_lines, profit_query, profit_lines, cube_query};
+ghost use Rattle.test_texts.specs.Examples.{cube_lines, rollup_query, rollup_lines, average_query, average_lines};
+ghost use Rattle.test_texts.specs.Examples.{range_query, range_lines, empty_query, ordered_query, tied_lines};
+ghost use Rattle.test_texts.specs.Examples.{falling_lines};
 ghost use Rattle.cube_model.specs.Validity.{invalid_cause};
 
 use cube_model::{Agg, Axis, Fault, Measure, Place};
@@ -74,27 +79,38 @@ fn valid_example()
 
 /// A nation ALL is refused at its row.
 fn reserved_example()
-    ensures { invalid_cause (with_customers (kingdom_customer 1 ∷ customer 2 (codes "X") (codes "ALL") (codes "EUROPE") ∷ [])) ≡ Some (Fault.ReservedMember Axis.Customer 2) }
+    ensures { invalid_cause
+        (with_customers (kingdom_customer 1 ∷ customer 2 (codes "X") (codes "ALL") (codes "EUROPE") ∷ []))
+        ≡ Some (Fault.ReservedMember Axis.Customer 2) }
 {}
 
 /// A city of two nations is refused at the second.
 fn two_nations_example()
-    ensures { invalid_cause (with_customers (kingdom_customer 1 ∷ customer 2 (codes "UNITED KI1") (codes "FRANCE") (codes "EUROPE") ∷ [])) ≡ Some (Fault.HierarchyBroken Axis.Customer 2) }
+    ensures { invalid_cause
+        (with_customers (kingdom_customer 1 ∷ customer 2 (codes "UNITED KI1") (codes "FRANCE") (codes "EUROPE") ∷ []))
+        ≡ Some (Fault.HierarchyBroken Axis.Customer 2) }
 {}
 
 /// A key that was seen is refused before any other cause of the row.
 fn repeated_key_example()
-    ensures { invalid_cause (with_customers (kingdom_customer 7 ∷ customer 7 (codes "ALL") (codes "FRANCE") (codes "EUROPE") ∷ [])) ≡ Some (Fault.DuplicateKey Axis.Customer 2) }
+    ensures { invalid_cause
+        (with_customers (kingdom_customer 7 ∷ customer 7 (codes "ALL") (codes "FRANCE") (codes "EUROPE") ∷ []))
+        ≡ Some (Fault.DuplicateKey Axis.Customer 2) }
 {}
 
 /// A month has one yearmonth.
 fn two_yearmonths_example()
-    ensures { invalid_cause (with_dates (day 19930105 (codes "1993") (codes "199301") (codes "Jan1993") (codes "1") ∷ day 19930106 (codes "1993") (codes "199301") (codes "January") (codes "1") ∷ [])) ≡ Some (Fault.HierarchyBroken Axis.Date 2) }
+    ensures { invalid_cause
+        (with_dates (day 19930105 (codes "1993") (codes "199301") (codes "Jan1993") (codes "1")
+        ∷ day 19930106 (codes "1993") (codes "199301") (codes "January") (codes "1") ∷ []))
+        ≡ Some (Fault.HierarchyBroken Axis.Date 2) }
 {}
 
 /// A month may have several weeks.
 fn two_weeks_example()
-    ensures { invalid_cause (with_dates (day 19930105 (codes "1993") (codes "199301") (codes "Jan1993") (codes "1") ∷ day 19930125 (codes "1993") (codes "199301") (codes "Jan1993") (codes "4") ∷ [])) ≡ None }
+    ensures { invalid_cause
+        (with_dates (day 19930105 (codes "1993") (codes "199301") (codes "Jan1993") (codes "1")
+        ∷ day 19930125 (codes "1993") (codes "199301") (codes "Jan1993") (codes "4") ∷ [])) ≡ None }
 {}
 
 /// A batch that is there already.
@@ -114,7 +130,8 @@ fn admissible_example()
 
 /// A key that no customer has, in the second row.
 fn unknown_customer_example()
-    ensures { refusal star [] 1 (fact 1 1 1 1 19930105 17 1000 2 980 600 ∷ fact 2 3 2 2 19971202 24 2000 3 1940 2000 ∷ []) ≡ Some (Fault.UnknownCustomer 2) }
+    ensures { refusal star [] 1 (fact 1 1 1 1 19930105 17 1000 2 980 600 ∷ fact 2 3 2 2 19971202 24 2000 3 1940 2000
+        ∷ []) ≡ Some (Fault.UnknownCustomer 2) }
 {}
 
 /// In one row the supplier comes before the part and the day.
@@ -124,7 +141,8 @@ fn unknown_supplier_example()
 
 /// A text of 256 bytes is refused before an unknown key of an earlier row.
 fn long_text_example()
-    ensures { refusal star [] 1 (fact 2 3 2 2 19971202 24 2000 3 1940 2000 ∷ long_shipmode 256 ∷ []) ≡ Some (Fault.FieldTooLong (Place.Row 2) 17) }
+    ensures { refusal star [] 1 (fact 2 3 2 2 19971202 24 2000 3 1940 2000 ∷ long_shipmode 256 ∷ [])
+        ≡ Some (Fault.FieldTooLong (Place.Row 2) 17) }
 {}
 
 /// A text of 255 bytes is admissible.
@@ -139,12 +157,14 @@ fn greatest_sum_example()
 
 /// Absolute values are added up over all batches: the profit passes its limit, the revenue does not.
 fn sum_range_example()
-    ensures { refusal star ((money 0 9223372036854775807 0 ∷ []) ∷ []) 2 (money 0 0 1 ∷ []) ≡ Some (Fault.SumRange Measure.Profit) }
+    ensures { refusal star ((money 0 9223372036854775807 0 ∷ []) ∷ []) 2 (money 0 0 1 ∷ [])
+        ≡ Some (Fault.SumRange Measure.Profit) }
 {}
 
 /// The plain sum of these profits is 0, that of their absolute values is not.
 fn absolute_sum_example()
-    ensures { refusal star [] 1 (money 0 4611686018427387904 0 ∷ money 0 0 4611686018427387904 ∷ []) ≡ Some (Fault.SumRange Measure.Profit) }
+    ensures { refusal star [] 1 (money 0 4611686018427387904 0 ∷ money 0 0 4611686018427387904 ∷ [])
+        ≡ Some (Fault.SumRange Measure.Profit) }
 {}
 
 /// One less is admissible.

@@ -1,6 +1,6 @@
-//! Tests of `cube_model`: the definitions at outside examples, as theorems that compute, printed faults, and each call at its limits.
-//! And of `wire`, `batch_loader` and `table_generator`: numbers as bytes, and the texts of the tables: what is read, what is refused,
-//! readers that cut and fail, and tables that are generated.
+//! Tests of `cube_model`: the definitions at outside examples, as theorems that compute, printed faults, and each call
+//! at its limits. And of `wire`, `batch_loader` and `table_generator`: numbers as bytes, and the texts of the tables:
+//! what is read, what is refused, readers that cut and fail, and tables that are generated.
 #![tactic(auto)]
 
 #[cfg(test)]

@@ -7,8 +7,8 @@ use warehouse::{Finding, Status};
 /// The sector of the cells of days and manufacturers, once three cuboids hold one batch of the sample rows.
 const RUN: u32 = 9;
 
-/// Changes of its first cell, that of the first sample row alone, and whether an audit answers yes then: none; two rows in
-/// place of one; 18 pieces in place of 17.
+/// Changes of its first cell, that of the first sample row alone, and whether an audit answers yes then: none; two rows
+/// in place of one; 18 pieces in place of 17.
 static CHANGES: [(Change, bool); 4] = [
     ((RUN, 0, b"CEL1\xf8\x00\x00\x00"), true),
     ((RUN, 28, b"\x01"), true),

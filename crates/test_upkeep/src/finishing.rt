@@ -78,12 +78,12 @@ fn an_opening_finishes_an_upkeep(rt: HostRuntime) {
     );
 }
 
-/// The calls of that opening. Each cuboid has six: the segment is read, and its commit writes the cells, the catalogue, a sync,
-/// the superblock, a sync.
+/// The calls of that opening. Each cuboid has six: the segment is read, and its commit writes the cells, the catalogue,
+/// a sync, the superblock, a sync.
 const FINISHING: u64 = OPENING + 18;
 
-/// How that opening is refused that crashes after so many calls, if it is, how many batches are left then, the status after
-/// another opening, and what an audit answers.
+/// How that opening is refused that crashes after so many calls, if it is, how many batches are left then, the status
+/// after another opening, and what an audit answers.
 type Outcome = (Option<Fault>, u32, Status, bool);
 
 fn outcome(alloc: Global, calls: u64, picks: &[u32]) -> Result<Outcome, Fault> {

@@ -1,5 +1,6 @@
 //! Tests of stored cuboids: runs of commands that choose, fill and audit them, random calls against plain counting,
-//! openings that finish an upkeep, and random queries, by plans and step by step, with additions to the dimensions between them.
+//! openings that finish an upkeep, and random queries, by plans and step by step, with additions to the dimensions
+//! between them.
 #![tactic(auto)]
 
 #[cfg(test)]

@@ -63,8 +63,8 @@ fn outcomes(alloc: Global) -> Result<[Kept; 3], Fault> {
     Ok([four, five, kept_up(alloc, &mut session)?])
 }
 
-/// The status of so many batches with so many rows at a generation, with the cuboid of cities and brands at a mark, all its
-/// cells in one run.
+/// The status of so many batches with so many rows at a generation, with the cuboid of cities and brands at a mark, all
+/// its cells in one run.
 fn full(batches: u32, rows: u64, generation: u64, mark: u32) -> Status {
     let plain = Status {
         target: batches,

@@ -102,8 +102,8 @@ fn store(alloc: Global, run: &mut Run) -> Result<(), Fault> {
     Ok(())
 }
 
-/// A cuboid once it holds the first batches, so many of them: a run more with the groups of what it did not hold, or one run
-/// with all groups where there are eight.
+/// A cuboid once it holds the first batches, so many of them: a run more with the groups of what it did not hold, or
+/// one run with all groups where there are eight.
 fn brought_to(
     alloc: Global,
     rows: &[Row],
@@ -148,8 +148,8 @@ fn brought_on(
     Ok((cuboids, brought))
 }
 
-/// Brings each stored cuboid to all batches: one commit sets the target, and one more is made for each cuboid. An audit then
-/// answers yes.
+/// Brings each stored cuboid to all batches: one commit sets the target, and one more is made for each cuboid. An audit
+/// then answers yes.
 fn keep_up(alloc: Global, run: &mut Run) -> Result<(), Fault> {
     run.session.upkeep(alloc)?;
     let (cuboids, brought) = brought_on(alloc, run.rows.as_slice(), &run.status)?;

@@ -22,7 +22,8 @@ struct Walker {
     wanted: Answer,
 }
 
-/// A session with running queries, the dimensions that it began with, how many additions and batches there are, and the rows of these.
+/// A session with running queries, the dimensions that it began with, how many additions and batches there are, and the
+/// rows of these.
 #[derive(Drop)]
 struct Run {
     draw: Draw,
@@ -90,7 +91,8 @@ fn rows_of(alloc: Global, rows: &[Row], after: u32, last: u32) -> Result<Vec<Lin
     Ok(found)
 }
 
-/// Rows that are added to the dimensions, with members before, between and after those that there are. No fact row has one of them.
+/// Rows that are added to the dimensions, with members before, between and after those that there are. No fact row has
+/// one of them.
 static LATER: [Star<'static>; 3] = [
     Star {
         customers: &[Location {

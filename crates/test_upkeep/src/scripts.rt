@@ -1,5 +1,5 @@
-//! Runs of commands: choices of cuboids, their upkeep and audits, queries that run step by step, and additions to the dimensions
-//! between all these.
+//! Runs of commands: choices of cuboids, their upkeep and audits, queries that run step by step, and additions to the
+//! dimensions between all these.
 use cube_model::{Agg, Attr, Fault, Measure};
 use sample_sessions::{Expected, Given, Lines, Numbers, THREE, TWO_CELLS, first_other_reply};
 use sample_star::{

@@ -40,8 +40,8 @@ fn is_of_one_batch(status: &Status) -> bool {
     status.batches == 1 && status.rows == 3
 }
 
-/// A session after a call. One that answers `Memory` is made again, and after `Device` the disk is opened again: it could
-/// not note a write.
+/// A session after a call. One that answers `Memory` is made again, and after `Device` the disk is opened again: it
+/// could not note a write.
 fn after(
     alloc: Global,
     mut session: Session<MemDisk>,
@@ -77,8 +77,8 @@ fn audited(alloc: Global, session: &mut Session<MemDisk>) -> Result<bool, Fault>
     }
 }
 
-/// The status after a choice of three cuboids, an upkeep and an addition, at the generation of one commit for each, and what an
-/// audit answers.
+/// The status after a choice of three cuboids, an upkeep and an addition, at the generation of one commit for each, and
+/// what an audit answers.
 fn found_at_last(alloc: Global) -> Result<(Status, bool), Fault> {
     let session = match loaded(alloc, 1) {
         Ok(session) => session,

@@ -78,7 +78,8 @@ const ADDED: Numbers = Numbers {
 /// How many rows the customers of each city have, of one batch of the third customer and the first.
 const TWO_CITIES: Lines = &[(&["UNITED KI1"], 1), (&["UNITED ST1"], 1)];
 
-/// A customer is added and has a row then. Refused additions change nothing, and leave their number to the next, which is empty.
+/// A customer is added and has a row then. Refused additions change nothing, and leave their number to the next, which
+/// is empty.
 static ONE_CUSTOMER_MORE: [(Given, Expected); 22] = [
     (
         Given::Submit(1, &[STRANGER, FIRST_FACT]),
@@ -217,7 +218,8 @@ const BY_SUPPLIER: Asked<'static> = Asked {
     ..EVERY_ROW
 };
 
-/// One addition of a row to each dimension, of which no key was known. The nation of the new supplier is before those that there were.
+/// One addition of a row to each dimension, of which no key was known. The nation of the new supplier is before those
+/// that there were.
 static A_ROW_OF_EACH: [(Given, Expected); 9] = [
     (
         Given::Submit(

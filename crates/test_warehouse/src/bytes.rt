@@ -108,8 +108,8 @@ const ADDED_SUPERBLOCK: &[u8] =
     b"SSBCUBE1\x01\x00\x00\x00\x40\x00\x00\x00\x02\x00\x00\x00\x00\x00\x00\x00\
 \x08\x00\x00\x00\x8c\x00\x00\x00";
 
-/// The customers with a third one, 129 bytes: the cities, nations and regions, the nations of the cities, the regions of the
-/// nations, the keys, and the cities of the rows.
+/// The customers with a third one, 129 bytes: the cities, nations and regions, the nations of the cities, the regions
+/// of the nations, the keys, and the cities of the rows.
 const THREE_CUSTOMERS: &[u8] = b"DIM1\x00\x00\x00\x00\x03\x00\x00\x00\
 \x03\x00\x00\x00\x0aUNITED KI1\
 \x0aUNITED ST3\

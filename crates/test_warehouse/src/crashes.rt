@@ -6,8 +6,8 @@ use sector_device::{Fuse, MemDisk};
 use std::alloc::Global;
 use warehouse::{Session, Status};
 
-/// The submit of a second batch, or the addition of a customer, which has as many device calls: the customers, the catalogue, a
-/// sync, the superblock, a sync.
+/// The submit of a second batch, or the addition of a customer, which has as many device calls: the customers, the
+/// catalogue, a sync, the superblock, a sync.
 #[derive(Clone, Copy)]
 enum Call {
     Submit,

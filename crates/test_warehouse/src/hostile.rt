@@ -21,11 +21,11 @@ const BY_REGION: Asked<'static> = Asked {
     ..EVERY_ROW
 };
 
-/// How many batches there are, a change after which nothing is opened, and the refusal: of the superblock of no batch, and of the
-/// catalogue and an object of one.
+/// How many batches there are, a change after which nothing is opened, and the refusal: of the superblock of no batch,
+/// and of the catalogue and an object of one.
 static UNOPENED: [(u32, Change, Fault); 19] = [
-    // The name, the layout, another number of sectors, an even generation in the odd slot, generation 0, a catalogue in a superblock,
-    // and one that is too short.
+    // The name, the layout, another number of sectors, an even generation in the odd slot, generation 0, a catalogue in
+    // a superblock, and one that is too short.
     (0, (1, 0, b"\x00"), Fault::NotFormatted),
     (0, (1, 8, b"\x00"), Fault::NotFormatted),
     (0, (1, 12, b"\x41"), Fault::DeviceSize),
@@ -132,8 +132,8 @@ fn an_opened_segment_is_refused_where_it_is_read(rt: HostRuntime) {
     }
 }
 
-/// Changes of the segment and of what the root tells of it, and what a check finds then: nothing where no byte is changed, and where an order
-/// key, a text or its code is another one.
+/// Changes of the segment and of what the root tells of it, and what a check finds then: nothing where no byte is
+/// changed, and where an order key, a text or its code is another one.
 static CHECKED: [(Change, Option<Finding>); 13] = [
     ((SEGMENT, 0, b"SEG1"), None),
     ((SEGMENT, 0, b"seg1"), Some(Finding::Segment { batch: 1 })),

@@ -73,7 +73,8 @@ fn reads_what_is_spelled(rt: HostRuntime) -> Result<(), Fail> {
     Ok(())
 }
 
-// A place, the byte that is put there, and whether what is there then is refused, in the first layout and in the second.
+// A place, the byte that is put there, and whether what is there then is refused, in the first layout and in the
+// second.
 const CHANGES: [(usize, u8, bool, bool); 37] = [
     // One batch less and one more, one cuboid less and one more.
     (0, 1, true, true),

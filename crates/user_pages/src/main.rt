@@ -1,5 +1,5 @@
-//! Runs the commands of each page of its folder as they are printed there, and says where one prints other than the page. After a
-//! page the files that it made are removed.
+//! Runs the commands of each page of its folder as they are printed there, and says where one prints other than the
+//! page. After a page the files that it made are removed.
 #![tactic(auto)]
 
 mod kept;
@@ -51,7 +51,8 @@ fn push_name(alloc: Global, names: &mut Vec<String>, name: &str) -> io::Result<(
     Ok(())
 }
 
-// Removes the files that are not among some names: those that a page made, so that the next one finds the folder as it was.
+// Removes the files that are not among some names: those that a page made, so that the next one finds the folder as it
+// was.
 fn remove_others(rt: &HostRuntime, names: &[String]) -> io::Result<()> {
     let found = files(rt)?;
     for name in found.as_slice() {
@@ -62,8 +63,8 @@ fn remove_others(rt: &HostRuntime, names: &[String]) -> io::Result<()> {
     Ok(())
 }
 
-// Runs the commands of a page, and prints how many there are and how many of them print other than the page. It says whether there are
-// some, and each prints what the page says.
+// Runs the commands of a page, and prints how many there are and how many of them print other than the page. It says
+// whether there are some, and each prints what the page says.
 fn is_alike<R: Files + AllocGlobal + Print + Clock + CpuClock + Input>(
     rt: &R,
     page: &str,

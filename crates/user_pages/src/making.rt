@@ -13,8 +13,8 @@ enum Place {
     Octal { digits: u8, value: u8 },
 }
 
-/// What `printf` prints of a text: its bytes, and a byte for each escape. An escape is a backslash with `n`, `r` or three octal
-/// digits after it.
+/// What `printf` prints of a text: its bytes, and a byte for each escape. An escape is a backslash with `n`, `r` or
+/// three octal digits after it.
 pub fn unescaped(alloc: Global, text: &str) -> Result<Vec<u8>, AllocError> {
     let mut bytes = Vec::new(alloc);
     let mut place = Place::Text;

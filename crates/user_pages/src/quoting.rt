@@ -10,8 +10,8 @@ struct Reading {
     is_quoted: bool,
 }
 
-/// The words of a command, separated by blanks. Between single quotes a blank is a character like any other, and a word of two quotes
-/// alone is an empty one.
+/// The words of a command, separated by blanks. Between single quotes a blank is a character like any other, and a word
+/// of two quotes alone is an empty one.
 pub fn words(alloc: Global, command: &str) -> Result<Vec<String>, AllocError> {
     let mut words = Vec::new(alloc);
     let mut reading = Reading {

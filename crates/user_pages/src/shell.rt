@@ -34,9 +34,10 @@ impl Shell {
 
     /// What a command prints, on either stream.
     ///
-    /// It knows `ssbcube`, `alias ssb='..'`, `ssb`, `cat` with one file, `echo $?`, and two commands that write a file, or with `>>`
-    /// the end of one: `printf 'TEXT' > FILE` and `seq A B | sed 's/.*/TEXT/' > FILE`. Of a command with ` 2>&1 | head -1` after it the first
-    /// line is kept, and with ` | tr -d '\r'` after it what is no carriage return. The tables are not copied: they are in the folder already.
+    /// It knows `ssbcube`, `alias ssb='..'`, `ssb`, `cat` with one file, `echo $?`, and two commands that write a file,
+    /// or with `>>` the end of one: `printf 'TEXT' > FILE` and `seq A B | sed 's/.*/TEXT/' > FILE`. Of a command with `
+    /// 2>&1 | head -1` after it the first line is kept, and with ` | tr -d '\r'` after it what is no carriage return.
+    /// The tables are not copied: they are in the folder already.
     pub fn run<R: Files + AllocGlobal + Clock + CpuClock + Input>(
         &mut self,
         rt: &R,

@@ -1,5 +1,6 @@
 -- That there is a greedy list for each k: under each choice either no candidate has a benefit, or one is the best.
-use Rattle.std.proofs.Common.{◌≡◌, ◌⊎◌, inl, inr, refl, subst, ℕ, zero, suc, ◌<◌, ◌≤◌, List, [], ◌∷◌, ◌++◌, length, get_or, arith, ⊎_elim}
+use Rattle.std.proofs.Common.{◌≡◌, ◌⊎◌, inl, inr, refl, subst, ℕ, zero, suc, ◌<◌, ◌≤◌, List, [], ◌∷◌, ◌++◌, length}
+use Rattle.std.proofs.Common.{get_or, arith, ⊎_elim}
 use Rattle.std.specs.List.{Contains}
 use Rattle.std.proofs.lemmas.Bool.{cases_lt}
 use Rattle.std.proofs.lemmas.List.{length_push}
@@ -7,7 +8,8 @@ use Rattle.view_choice.specs.Choice.{Lattice, benefit, IsBest, NoneGains, IsGree
 use Rattle.view_choice.proofs.Steps.{best_more}
 
 -- what a list contains is its first item or is in the rest
-first_or_rest : {V : Type 0} (x other : V) (views : List V) (k : ℕ) → k < length (x ∷ views) → get_or (x ∷ views) k other ≡ other
+first_or_rest : {V : Type 0} (x other : V) (views : List V) (k : ℕ) → k < length (x ∷ views)
+    → get_or (x ∷ views) k other ≡ other
     → (x ≡ other) ⊎ Contains views other
 first_or_rest x other views zero inside here = inl here
 first_or_rest x other views (suc k) inside here = inr (k, omega (arith, inside), here)
@@ -31,7 +33,8 @@ module _ {V : Type 0} (lattice : Lattice V) (chosen : List V) where
 
   -- no view of the list that may be stored has a benefit
   abbrev pub NoneOf : List V → Type 0
-  NoneOf views = (other : V) → Contains views other → lattice.size other ≤ lattice.most_cells → benefit lattice chosen other ≡ 0
+  NoneOf views = (other : V) → Contains views other → lattice.size other ≤ lattice.most_cells
+      → benefit lattice chosen other ≡ 0
 
   same_no_better : (view : V) → IsNoBetter view view
   same_no_better view = record { gain = λ small. omega arith; tie = λ small same. omega arith }
@@ -43,7 +46,8 @@ module _ {V : Type 0} (lattice : Lattice V) (chosen : List V) where
     has = (0, omega arith, refl);
     small = small;
     gains = gains;
-    others = λ other has. ⊎_elim (λ (same : x ≡ other). subst (IsNoBetter x) same (same_no_better x)) (λ rest. others other rest)
+    others = λ other has. ⊎_elim (λ (same : x ≡ other). subst (IsNoBetter x) same (same_no_better x))
+        (λ rest. others other rest)
         (first_or_rest x other views has.0 has.1 has.2);
   }
 
@@ -53,16 +57,21 @@ module _ {V : Type 0} (lattice : Lattice V) (chosen : List V) where
     has = in_rest x view views best.has;
     small = best.small;
     gains = best.gains;
-    others = λ other has. ⊎_elim (λ (same : x ≡ other). subst (IsNoBetter view) same no_better) (λ rest. best.others other rest)
+    others = λ other has. ⊎_elim (λ (same : x ≡ other). subst (IsNoBetter view) same no_better)
+        (λ rest. best.others other rest)
         (first_or_rest x other views has.0 has.1 has.2);
   }
 
   -- a first view that gains, against the best of the rest
-  first_against : (x view : V) (views : List V) → lattice.size x ≤ lattice.most_cells → 0 < benefit lattice chosen x → IsBestOf views view
+  first_against : (x view : V) (views : List V) → lattice.size x ≤ lattice.most_cells → 0 < benefit lattice chosen x
+      → IsBestOf views view
       → (v : V) × IsBestOf (x ∷ views) v
   first_against x view views small gains best = ⊎_elim
-      (λ (less : benefit lattice chosen x < benefit lattice chosen view).
-      (view, keeps_rest x view views best (record { gain = λ s. omega (arith, less); tie = λ s same. absurd (omega (arith, less, same)) })))
+      (λ (less : benefit lattice chosen x < benefit lattice chosen view). (
+        view,
+        keeps_rest x view views best
+            (record { gain = λ s. omega (arith, less); tie = λ s same. absurd (omega (arith, less, same)) }),
+      ))
       (λ (more : benefit lattice chosen view ≤ benefit lattice chosen x). ⊎_elim
       (λ (truly : benefit lattice chosen view < benefit lattice chosen x). (
         x,
@@ -79,7 +88,8 @@ module _ {V : Type 0} (lattice : Lattice V) (chosen : List V) where
         takes_first x views small gains (λ other has. record {
           gain = λ s. omega (arith, more, (best.others other has).gain s);
           tie = λ s same.
-              let ties : benefit lattice chosen other ≡ benefit lattice chosen view = omega (arith, more, no_more, same) in
+              let ties : benefit lattice chosen other ≡ benefit lattice chosen view =
+              omega (arith, more, no_more, same) in
               omega (arith, earlier, (best.others other has).tie s ties);
         }),
       ))
@@ -92,7 +102,8 @@ module _ {V : Type 0} (lattice : Lattice V) (chosen : List V) where
       → (NoneOf views ⊎ ((v : V) × IsBestOf views v)) → NoneOf (x ∷ views) ⊎ ((v : V) × IsBestOf (x ∷ views) v)
   passes_over x views nothing rest = ⊎_elim
       (λ (none : NoneOf views). inl (λ other has small. ⊎_elim
-      (λ (same : x ≡ other). subst (λ v. lattice.size v ≤ lattice.most_cells → benefit lattice chosen v ≡ 0) same nothing small)
+      (λ (same : x ≡ other). subst (λ v. lattice.size v ≤ lattice.most_cells → benefit lattice chosen v ≡ 0) same
+      nothing small)
       (λ inside. none other inside small)
       (first_or_rest x other views has.0 has.1 has.2)))
       (λ (best : (v : V) × IsBestOf views v). inr (
@@ -121,7 +132,8 @@ module _ {V : Type 0} (lattice : Lattice V) (chosen : List V) where
   best_or_none : (views : List V) → NoneOf views ⊎ ((v : V) × IsBestOf views v)
   best_or_none [] = inl (λ other has small. absurd (omega (arith, has.1)))
   best_or_none (x ∷ views) = ⊎_elim
-      (λ (large : lattice.most_cells < lattice.size x). passes_over x views (λ small. absurd (omega (arith, large, small))) (best_or_none views))
+      (λ (large : lattice.most_cells < lattice.size x). passes_over x views
+      (λ small. absurd (omega (arith, large, small))) (best_or_none views))
       (λ (small : lattice.size x ≤ lattice.most_cells). ⊎_elim
       (λ (gains : 0 < benefit lattice chosen x). counts_in x views small gains (best_or_none views))
       (λ (none : benefit lattice chosen x ≤ 0). passes_over x views (λ s. omega (arith, none)) (best_or_none views))
@@ -138,14 +150,16 @@ module _ {V : Type 0} (lattice : Lattice V) (chosen : List V) where
   }
 
   pub none_or_best : NoneGains lattice chosen ⊎ ((view : V) × IsBest lattice chosen view)
-  none_or_best = ⊎_elim (λ (none : NoneOf lattice.views). inl (λ other candidate. none other candidate.known candidate.small))
+  none_or_best =
+      ⊎_elim (λ (none : NoneOf lattice.views). inl (λ other candidate. none other candidate.known candidate.small))
       (λ (best : (v : V) × IsBestOf lattice.views v). inr (best.0, is_best best.0 best.1)) (best_or_none lattice.views)
 
 -- a full list goes on, or has come to its end
 one_more : {V : Type 0} (lattice : Lattice V) (k : ℕ) (chosen : List V) → IsGreedy lattice k chosen → k ≤ length chosen
     → (more : List V) × IsGreedy lattice (suc k) more
 one_more {V} lattice k chosen greedy full = ⊎_elim
-    (λ (none : NoneGains lattice chosen). (chosen, record { at_most = omega (arith, greedy.at_most); each = greedy.each; ends = λ short. none }))
+    (λ (none : NoneGains lattice chosen).
+    (chosen, record { at_most = omega (arith, greedy.at_most); each = greedy.each; ends = λ short. none }))
     (λ (best : (view : V) × IsBest lattice chosen view). (
       chosen ++ best.0 ∷ [],
       record {
@@ -158,10 +172,24 @@ one_more {V} lattice k chosen greedy full = ⊎_elim
 
 -- there is a greedy list for each k
 pub greedy_list : {V : Type 0} (lattice : Lattice V) (k : ℕ) → (chosen : List V) × IsGreedy lattice k chosen
-greedy_list lattice zero = ([], record { at_most = omega arith; each = λ i inside. absurd (omega (arith, inside)); ends = λ short. absurd (omega (arith, short)) })
+greedy_list lattice zero = (
+  [],
+  record {
+    at_most = omega arith;
+    each = λ i inside. absurd (omega (arith, inside));
+    ends = λ short. absurd (omega (arith, short));
+  },
+)
 greedy_list {V} lattice (suc k) =
     let before = greedy_list lattice k in
     ⊎_elim
-    (λ (short : length before.0 < k). (before.0, record { at_most = omega (arith, short); each = before.1.each; ends = λ shorter. before.1.ends short }))
+    (λ (short : length before.0 < k). (
+      before.0,
+      record {
+        at_most = omega (arith, short);
+        each = before.1.each;
+        ends = λ shorter. before.1.ends short;
+      },
+    ))
     (λ (full : k ≤ length before.0). one_more lattice k before.0 before.1 full)
     (cases_lt (length before.0) k)

@@ -4,9 +4,9 @@
 use Rattle.std.specs.Prelude.{◌≡◌, ℕ, ◌-◌, ◌<◌, ◌≤◌, min, Bool, List, [], ◌∷◌, ◌++◌, map, length, take, slice_index_or}
 use Rattle.std.specs.List.{fold, sum_by, filter, Contains}
 
--- what a choice is made from: the fact rows, the views, those that are asked for, each as often as it is, the numbers and
--- sizes in cells of views, which view answers which (its cells suffice to work out those of the other), and the most cells
--- that a stored view may have
+-- what a choice is made from: the fact rows, the views, those that are asked for, each as often as it is, the numbers
+-- and sizes in cells of views, which view answers which (its cells suffice to work out those of the other), and the
+-- most cells that a stored view may have
 pub record Lattice (V : Type 0) : Type 0 where
   pub rows : ℕ
   pub views : List V

@@ -1,5 +1,6 @@
 -- The sizes of views and the costs of those that are asked for under a choice, as the code keeps them.
-use Rattle.std.specs.Prelude.{◌≡◌, ℕ, ◌-◌, ◌<◌, ◌≤◌, min, cond, nat_le, List, map, length, Option, Some, None, slice_index_or}
+use Rattle.std.specs.Prelude.{◌≡◌, ℕ, ◌-◌, ◌<◌, ◌≤◌, min, cond, nat_le, List, map, length, Option, Some, None}
+use Rattle.std.specs.Prelude.{slice_index_or}
 use Rattle.std.specs.List.{sum_by, All}
 use Rattle.lattice.specs.declared.view.View.{View}
 use Rattle.lattice.specs.Views.{answers}

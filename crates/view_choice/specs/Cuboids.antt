@@ -47,7 +47,7 @@ cuboids_by ties rows counts demanded = record {
 abbrev pub cuboids : ℕ → Counts → Lattice View
 cuboids rows counts = cuboids_by ToLeast rows counts (lattice_of counts)
 
--- where only some are. A view has a greater number than each that answers it, so at a tie a coarser view is taken before a
--- finer one
+-- where only some are. A view has a greater number than each that answers it, so at a tie a coarser view is taken
+-- before a finer one
 abbrev pub cuboids_for : ℕ → Counts → List View → Lattice View
 cuboids_for rows counts demanded = cuboids_by ToGreatest rows counts demanded

@@ -27,9 +27,9 @@ pub fn greedy(alloc: Global, rows: u64, counts: &Counts, k: u8) -> Result<Vec<Vi
     choose_best(alloc, rows, counts, demanded.as_slice(), Ties::ToLeast, k)
 }
 
-/// The greedy list of k views where only some views are asked for, as often as each is among them: the benefit of a view is
-/// by how much it lowers the costs of these. At a tie it takes the view of greatest index, so of two that answer the same of
-/// these alike the coarser one. It has the guarantee of `greedy` of this benefit.
+/// The greedy list of k views where only some views are asked for, as often as each is among them: the benefit of a
+/// view is by how much it lowers the costs of these. At a tie it takes the view of greatest index, so of two that
+/// answer the same of these alike the coarser one. It has the guarantee of `greedy` of this benefit.
 pub fn greedy_for(
     alloc: Global,
     rows: u64,
@@ -40,7 +40,8 @@ pub fn greedy_for(
     requires rows { rows ≤ most_fact_rows }
     requires few { length demanded.now ≤ most_demanded }
     ensures ok { IfOk result (λ chosen. IsGreedy (cuboids_for rows counts.now demanded.now) k chosen.items) }
-    ensures guarantee { 1 ≤ k → IfOk result (λ chosen. HasGuarantee (cuboids_for rows counts.now demanded.now) k chosen.items) }
+    ensures guarantee { 1 ≤ k
+        → IfOk result (λ chosen. HasGuarantee (cuboids_for rows counts.now demanded.now) k chosen.items) }
     ensures err { IfErr result (λ fault. fault ≡ Fault.Memory) }
 {
     choose_best(alloc, rows, counts, demanded, Ties::ToGreatest, k)

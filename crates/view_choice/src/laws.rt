@@ -1,6 +1,7 @@
 //! Laws of the choice, most of them over views of any kind: each function proves the statement that its contract names,
 //! and does nothing.
-ghost use Rattle.view_choice.specs.Lawful.{GreedyGuarantee, SomeGreedyList, OneGreedyList, OneGreedyChoice, OneGreedyChoiceFor, GreedyMembers, BenefitsAddUp, BenefitsFall};
+ghost use Rattle.view_choice.specs.Lawful.{GreedyGuarantee, SomeGreedyList, OneGreedyList, OneGreedyChoice};
+ghost use Rattle.view_choice.specs.Lawful.{OneGreedyChoiceFor, GreedyMembers, BenefitsAddUp, BenefitsFall};
 ghost use Rattle.view_choice.specs.Example.{PaperExample};
 
 /// A greedy list for k has at least `1 - ((k - 1) / k) ^ k` of the benefit of any choice of as many candidates.

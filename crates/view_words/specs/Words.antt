@@ -17,7 +17,8 @@ pub record IsNumber (word : List ℕ) (number : ℕ) : Type 0 where
 -- the names of the levels of a view
 abbrev pub level_names : View → List (List ℕ)
 level_names view =
-    level_name Customer view.customer ∷ level_name Supplier view.supplier ∷ level_name Part view.part ∷ level_name Date view.date ∷ []
+    level_name Customer view.customer ∷ level_name Supplier view.supplier ∷ level_name Part view.part
+    ∷ level_name Date view.date ∷ []
 
 -- the parts of a word between commas (44)
 abbrev pub parts_of : List ℕ → List (List ℕ)

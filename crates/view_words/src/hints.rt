@@ -1,8 +1,8 @@
 //! What is wrong with a word that names no view.
 use cube_model::Axis;
 use lattice::Level;
+use query_words::nearest;
 use std::alloc::{AllocError, Global};
-use word_hints::nearest;
 
 /// The dimensions in the order of the levels of a view.
 static AXES: [Axis; 4] = [Axis::Customer, Axis::Supplier, Axis::Part, Axis::Date];

@@ -11,9 +11,11 @@ use std::alloc::{AllocError, Global};
 /// How many views there are without ship mode. They have the numbers below it.
 const VIEWS: u16 = 256;
 
-/// The view that a word names: by its number, such as `59`, or by its levels, such as `city,ALL,mfgr,ALL`. It fails only when out of memory.
+/// The view that a word names: by its number, such as `59`, or by its levels, such as `city,ALL,mfgr,ALL`. It fails
+/// only when out of memory.
 pub(crate) fn read_view(alloc: Global, word: &str) -> Result<Option<View>, AllocError>
-    ensures { IfOk result (λ found. MatchOption found ((view : View) → Names word.now view → ⊥) (λ view. Names word.now view)) }
+    ensures { IfOk result
+        (λ found. MatchOption found ((view : View) → Names word.now view → ⊥) (λ view. Names word.now view)) }
 {
     match number(word) {
         Some(number) => Ok(View::new(u16::from(number))),
@@ -36,7 +38,8 @@ fn number(word: &str) -> Option<u8>
 
 // The view whose levels a word names.
 fn view_of_levels(alloc: Global, word: &str) -> Result<Option<View>, AllocError>
-    ensures { IfOk result (λ found. MatchOption found ((view : View) → index_of view < 256 → parts_of word.now ≡ level_names view → ⊥)
+    ensures { IfOk result
+        (λ found. MatchOption found ((view : View) → index_of view < 256 → parts_of word.now ≡ level_names view → ⊥)
         (λ view. (index_of view < 256) × (parts_of word.now ≡ level_names view))) }
 {
     let parts = parts(alloc, word)?;
@@ -52,7 +55,8 @@ fn parts(alloc: Global, word: &str) -> Result<Vec<&str>, AllocError>
 
 // The view of the names of its levels.
 fn view_of_parts(parts: &[&str]) -> Option<View>
-    ensures { MatchOption result ((view : View) → index_of view < 256 → map (λ part. part.now) parts.now ≡ level_names view → ⊥)
+    ensures { MatchOption result ((view : View) → index_of view < 256
+        → map (λ part. part.now) parts.now ≡ level_names view → ⊥)
         (λ view. (index_of view < 256) × (map (λ part. part.now) parts.now ≡ level_names view)) }
 {
     indexes_name_views();

@@ -15,16 +15,21 @@ use Rattle.warehouse.specs.Upkeep.{IsLaidAt}
 module _ {D : Type 0} (g : Ghosts D) (w : Warehouse) where
   -- what `kept_is_represented` says of a session
   abbrev pub Tells : Session D g → Type 0
-  Tells session = (c : Content) (v : Warehouse) → IsLoaded c session.dims.value session.root → Represents c v → Agrees v session.dims.value session.root
+  Tells session = (c : Content) (v : Warehouse) → IsLoaded c session.dims.value session.root → Represents c v
+      → Agrees v session.dims.value session.root
 
-  pub agrees : (session : Session D g) → IsAt g session w → Tells session → (disk_of g session).keeps_word → Agrees w session.dims.value session.root
+  pub agrees : (session : Session D g) → IsAt g session w → Tells session → (disk_of g session).keeps_word
+      → Agrees w session.dims.value session.root
   agrees session at tells k = tells (content_of g session) w (session.loaded at.fine k) (at.represents k)
 
   -- its store, with the root in memory
-  pub kept_at : (session : Session D g) → IsAt g session w → Tells session → keeping.StoreAt g session.store session.root w
-  kept_at session at tells = record { fine = at.fine; represents = at.represents; root_is = λ k. (agrees session at tells k).root_is }
+  pub kept_at : (session : Session D g) → IsAt g session w → Tells session
+      → keeping.StoreAt g session.store session.root w
+  kept_at session at tells =
+      record { fine = at.fine; represents = at.represents; root_is = λ k. (agrees session at tells k).root_is }
 
-  pub dims_are : (session : Session D g) → IsAt g session w → Tells session → (disk_of g session).keeps_word → session.dims.value ≡ w.rows
+  pub dims_are : (session : Session D g) → IsAt g session w → Tells session → (disk_of g session).keeps_word
+      → session.dims.value ≡ w.rows
   dims_are session at tells k = sym (agrees session at tells k).rows_are
 
   pub laid_at : (session : Session D g) → IsAt g session w → IsLaidAt g session w

@@ -27,18 +27,31 @@ since_then start c w shown represents = record {
 }
 
 -- each image then
-pub images_since : (start : Disk) (facts : Facts) (last : Option Change) → AllShow start (MayRepresent facts last) → AllShow start (MayRepresentSince start facts last)
+pub images_since : (start : Disk) (facts : Facts) (last : Option Change) → AllShow start (MayRepresent facts last)
+    → AllShow start (MayRepresentSince start facts last)
 images_since start facts last all k image is =
     let shown = all k image is in
-    let may = shown.2 in
-    (shown.0, shown.1, (may.0, may.1, since_then start shown.0 may.0 (record { image = image; is = is; shows = shown.1 }) may.2, may.2))
+    let may = shown.2 in (
+      shown.0,
+      shown.1,
+      (
+        may.0,
+        may.1,
+        since_then start shown.0 may.0 (record { image = image; is = is; shows = shown.1 }) may.2,
+        may.2,
+      ),
+    )
 
 -- where nothing but reads was done
-pub only_since : (start now : Disk) (facts : Facts) (last : Option Change) → AllShow start (MayRepresent facts last) → OnlyImagesOf start now → Leaves start now (MayRepresentSince start facts last)
-only_since start now facts last all only = only_images (ShowsSome (MayRepresentSince start facts last)) start now only (images_since start facts last all)
+pub only_since : (start now : Disk) (facts : Facts) (last : Option Change) → AllShow start (MayRepresent facts last)
+    → OnlyImagesOf start now → Leaves start now (MayRepresentSince start facts last)
+only_since start now facts last all only =
+    only_images (ShowsSome (MayRepresentSince start facts last)) start now only (images_since start facts last all)
 
-module _ {D : Type 0} (g : Ghosts D) (device : D) (store : Store D g) (facts : Facts) (last : Option Change) (all : AllShow (disk g device) (MayRepresent facts last))
-    (only : OnlyImagesOf (disk g device) (stores.disk_of g store)) (found : (stores.disk_of g store).keeps_word → IsShown (disk g device) (stores.content_of g store)) where
+module _ {D : Type 0} (g : Ghosts D) (device : D) (store : Store D g) (facts : Facts) (last : Option Change)
+    (all : AllShow (disk g device) (MayRepresent facts last))
+    (only : OnlyImagesOf (disk g device) (stores.disk_of g store)) (found : (stores.disk_of g store).keeps_word
+    → IsShown (disk g device) (stores.content_of g store)) where
   abbrev Since : Content → Type 0
   Since = MayRepresentSince (disk g device) facts last
 
@@ -49,21 +62,31 @@ module _ {D : Type 0} (g : Ghosts D) (device : D) (store : Store D g) (facts : F
   content_may k = shown_has Since (disk g device) (stores.content_of g store) (only.word k) all_since (found k)
 
   -- the store was opened, and then read
-  pub read_leaves : (now : Disk) → Leaves (stores.disk_of g store) now (λ c. c ≡ stores.content_of g store) → Leaves (disk g device) now Since
+  pub read_leaves : (now : Disk) → Leaves (stores.disk_of g store) now (λ c. c ≡ stores.content_of g store)
+      → Leaves (disk g device) now Since
   read_leaves now reads =
-      leaves_then Since (disk g device) (stores.disk_of g store) now (only_images (ShowsSome Since) (disk g device) (stores.disk_of g store) only all_since)
-      (leaves_weaker (λ (c : Content). c ≡ stores.content_of g store) Since (stores.disk_of g store) now (λ k c e. subst Since (sym e) (content_may k)) reads)
+      leaves_then Since (disk g device) (stores.disk_of g store) now
+      (only_images (ShowsSome Since) (disk g device) (stores.disk_of g store) only all_since)
+      (leaves_weaker (λ (c : Content). c ≡ stores.content_of g store) Since (stores.disk_of g store) now
+      (λ k c e. subst Since (sym e) (content_may k)) reads)
 
   -- the session is at what was found
-  pub session_may : (session : Session D g) → has_failed session ≡ false → ((disk_of g session).keeps_word → content_of g session ≡ stores.content_of g store)
+  pub session_may : (session : Session D g) → has_failed session ≡ false
+      → ((disk_of g session).keeps_word → content_of g session ≡ stores.content_of g store)
       → Leaves (stores.disk_of g store) (disk_of g session) (λ c. c ≡ stores.content_of g store)
-      → (disk_of g session).keeps_word → (w : Warehouse) × MayBeFound facts last w × IsSince (disk g device) w × IsAt g session w
+      → (disk_of g session).keeps_word → (w : Warehouse) × MayBeFound facts last w × IsSince (disk g device) w
+      × IsAt g session w
   session_may session fine same reads k =
-      let may = content_may (reads.word k) in
-      (may.0, may.1, may.2, is_at g session may.0 fine (λ j. subst (λ (c : Content). Represents c may.0) (sym (same j)) may.3))
+      let may = content_may (reads.word k) in (
+        may.0,
+        may.1,
+        may.2,
+        is_at g session may.0 fine (λ j. subst (λ (c : Content). Represents c may.0) (sym (same j)) may.3),
+      )
 
   -- what was found represents something
-  pub never_loaded : (now : Disk) → Leaves (stores.disk_of g store) now (λ c. c ≡ stores.content_of g store) → now.keeps_word → ((w : Warehouse) → Represents (stores.content_of g store) w → ⊥) → ⊥
+  pub never_loaded : (now : Disk) → Leaves (stores.disk_of g store) now (λ c. c ≡ stores.content_of g store)
+      → now.keeps_word → ((w : Warehouse) → Represents (stores.content_of g store) w → ⊥) → ⊥
   never_loaded now reads k none = let may = content_may (reads.word k) in none may.0 may.3
 
 -- where all images show something, none shows nothing

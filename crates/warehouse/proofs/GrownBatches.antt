@@ -1,5 +1,6 @@
 -- A batch that grows.
-use Rattle.std.proofs.Common.{◌≡◌, ◌≤◌, arith, ℕ, true, false, List, [], ◌∷◌, ◌++◌, All, map, length, Option, Some, None, is_some, refl, sym, ap, ◌∙◌, inr}
+use Rattle.std.proofs.Common.{◌≡◌, ◌≤◌, arith, ℕ, true, false, List, [], ◌∷◌, ◌++◌, All, map, length, Option, Some}
+use Rattle.std.proofs.Common.{None, is_some, refl, sym, ap, ◌∙◌, inr}
 use Rattle.std.specs.Prelude.{Result, Ok, Err, IfOk, IfErr}
 use Rattle.std.specs.List.{AllByRecursion}
 use Rattle.std.proofs.lemmas.List.{map-append}
@@ -36,8 +37,10 @@ no_row_fits (column ∷ columns) = (All-nil (FitsColumn column), no_row_fits col
 pub fits-none : FitColumns []
 fits-none = no_row_fits number_columns
 
-both_fit : (columns : List Column) (before rows : List LineOrder) → AllByRecursion (λ column. All (FitsColumn column) before) columns
-    → AllByRecursion (λ column. All (FitsColumn column) rows) columns → AllByRecursion (λ column. All (FitsColumn column) (before ++ rows)) columns
+both_fit : (columns : List Column) (before rows : List LineOrder)
+    → AllByRecursion (λ column. All (FitsColumn column) before) columns
+    → AllByRecursion (λ column. All (FitsColumn column) rows) columns
+    → AllByRecursion (λ column. All (FitsColumn column) (before ++ rows)) columns
 both_fit [] before rows fit also = tt
 both_fit (column ∷ columns) before rows fit also =
     (All-append (FitsColumn column) before rows fit.0 also.0, both_fit columns before rows fit.1 also.1)
@@ -55,15 +58,18 @@ some_long : (long : Option Fault) → is_some long ≡ true → long ≡ None �
 some_long None some none = cc
 some_long (Some fault) some none = cc
 
-module _ (dimensions : DimRows) (root : PlainRoot) (before rows : List LineOrder) (batch : GrowingBatch) (more : Found) (grown : IsGrown dimensions root before batch)
+module _ (dimensions : DimRows) (root : PlainRoot) (before rows : List LineOrder) (batch : GrowingBatch) (more : Found)
+    (grown : IsGrown dimensions root before batch)
     (looked : more ≡ found_in dimensions (totals_in root) (before ++ rows)) where
   -- where no text of all of them is too long, none of the first is
   pub had_columns : is_some more.long_text ≡ false → HaveRows before batch.columns
   had_columns none =
-      grown.columns (ap (λ (f : Found). f.long_text) grown.found ∙ long_before 1 before rows (sym (ap (λ (f : Found). f.long_text) looked) ∙ no_long more.long_text none))
+      grown.columns (ap (λ (f : Found). f.long_text) grown.found
+      ∙ long_before 1 before rows (sym (ap (λ (f : Found). f.long_text) looked) ∙ no_long more.long_text none))
 
   -- and then these have columns too
-  pub grown-more : (columns : BatchColumns) → is_some more.long_text ≡ false → FitColumns rows → (HaveRows before batch.columns → HaveRows (before ++ rows) columns)
+  pub grown-more : (columns : BatchColumns) → is_some more.long_text ≡ false → FitColumns rows
+      → (HaveRows before batch.columns → HaveRows (before ++ rows) columns)
       → IsGrown dimensions root (before ++ rows) (record { found = more; columns = columns })
   grown-more columns none fits push = record {
     found = looked;
@@ -72,7 +78,8 @@ module _ (dimensions : DimRows) (root : PlainRoot) (before rows : List LineOrder
   }
 
   -- where one is, no columns are asked for
-  pub grown-long : is_some more.long_text ≡ true → FitColumns rows → IsGrown dimensions root (before ++ rows) (record { found = more; columns = batch.columns })
+  pub grown-long : is_some more.long_text ≡ true → FitColumns rows
+      → IsGrown dimensions root (before ++ rows) (record { found = more; columns = batch.columns })
   grown-long some fits = record {
     found = looked;
     fits = fits-both before rows grown.fits fits;
@@ -81,24 +88,31 @@ module _ (dimensions : DimRows) (root : PlainRoot) (before rows : List LineOrder
 
 -- ---- its bytes
 
-module _ (dimensions : DimRows) (root : PlainRoot) (rows : List LineOrder) (batch : GrowingBatch) (grown : IsGrown dimensions root rows batch) (short : is_some batch.found.long_text ≡ false) where
+module _ (dimensions : DimRows) (root : PlainRoot) (rows : List LineOrder) (batch : GrowingBatch)
+    (grown : IsGrown dimensions root rows batch) (short : is_some batch.found.long_text ≡ false) where
   pub grown-columns : HaveRows rows batch.columns
   grown-columns = grown.columns (no_long batch.found.long_text short)
 
   pub grown-batch : batch.found.row_count ≤ most_batch_rows → IsBatch rows
   grown-batch few =
       let many : batch.found.row_count ≡ length rows = ap (λ (f : Found). f.row_count) grown.found in
-      batch_of rows (omega (arith, few, many)) (sym (ap (λ (f : Found). f.long_text) grown.found) ∙ no_long batch.found.long_text short)
+      batch_of rows (omega (arith, few, many)) (sym (ap (λ (f : Found). f.long_text) grown.found)
+      ∙ no_long batch.found.long_text short)
 
-pub grown-too_long : (dimensions : DimRows) (root : PlainRoot) (rows : List LineOrder) (batch : GrowingBatch) → IsGrown dimensions root rows batch → is_some batch.found.long_text ≡ true → long_text 1 rows ≡ None → ⊥
-grown-too_long dimensions root rows batch grown some none = some_long batch.found.long_text some (ap (λ (f : Found). f.long_text) grown.found ∙ none)
+pub grown-too_long : (dimensions : DimRows) (root : PlainRoot) (rows : List LineOrder) (batch : GrowingBatch)
+    → IsGrown dimensions root rows batch → is_some batch.found.long_text ≡ true → long_text 1 rows ≡ None → ⊥
+grown-too_long dimensions root rows batch grown some none =
+    some_long batch.found.long_text some (ap (λ (f : Found). f.long_text) grown.found ∙ none)
 
 -- ---- the root with the batch
 
-root-more : (w : Warehouse) (rows : List LineOrder) (root after : PlainRoot) (count : ℕ) (totals : StoredTotals) → root_of w ≡ root → count ≡ length rows
-    → totals ≡ stored (totals_of (all_rows (w.batches ++ rows ∷ []))) → after ≡ with_batch count totals root → after ≡ root_of (loaded w rows)
+root-more : (w : Warehouse) (rows : List LineOrder) (root after : PlainRoot) (count : ℕ) (totals : StoredTotals)
+    → root_of w ≡ root → count ≡ length rows
+    → totals ≡ stored (totals_of (all_rows (w.batches ++ rows ∷ []))) → after ≡ with_batch count totals root
+    → after ≡ root_of (loaded w rows)
 root-more w rows root after count totals is many sums made =
-    let counts : map length w.batches ++ count ∷ [] ≡ map length (w.batches ++ rows ∷ []) = ap (λ n. map length w.batches ++ n ∷ []) many ∙ sym (map-append length w.batches (rows ∷ [])) in
+    let counts : map length w.batches ++ count ∷ [] ≡ map length (w.batches ++ rows ∷ []) =
+    ap (λ n. map length w.batches ++ n ∷ []) many ∙ sym (map-append length w.batches (rows ∷ [])) in
     made ∙ ap (with_batch count totals) (sym is) ∙ (λ i. record {
       layout = w.layout;
       batches = counts i;
@@ -108,7 +122,10 @@ root-more w rows root after count totals is many sums made =
       cuboids = map said_of w.cuboids;
     })
 
-pub prepares-with : (w : Warehouse) (number : ℕ) (rows : List LineOrder) (root : PlainRoot) (count : ℕ) (totals : StoredTotals) (result : Result Prepared Fault) → root_of w ≡ root → count ≡ length rows
-    → Admitted w number rows (Ok totals) → IfOk result (λ p. p.root ≡ with_batch count totals root) → IfErr result (λ fault. fault ≡ Memory) → Prepares w number rows result
-prepares-with w number rows root count totals (Ok p) is many admitted made memory = (admitted.0, root-more w rows root p.root count totals is many admitted.1 made)
+pub prepares-with : (w : Warehouse) (number : ℕ) (rows : List LineOrder) (root : PlainRoot) (count : ℕ)
+    (totals : StoredTotals) (result : Result Prepared Fault) → root_of w ≡ root → count ≡ length rows
+    → Admitted w number rows (Ok totals) → IfOk result (λ p. p.root ≡ with_batch count totals root)
+    → IfErr result (λ fault. fault ≡ Memory) → Prepares w number rows result
+prepares-with w number rows root count totals (Ok p) is many admitted made memory =
+    (admitted.0, root-more w rows root p.root count totals is many admitted.1 made)
 prepares-with w number rows root count totals (Err fault) is many admitted made memory = inr (admitted.0, memory)

@@ -1,5 +1,6 @@
 -- What is found after a run that was stopped.
-use Rattle.std.proofs.Common.{◌≡◌, ⊎_elim, inl, inr, ◌≤◌, ℕ, zero, suc, Some, None, Option, List, [], ◌∷◌, length, take, slice_get, refl, sym, subst, arith}
+use Rattle.std.proofs.Common.{◌≡◌, ⊎_elim, inl, inr, ◌≤◌, ℕ, zero, suc, Some, None, Option, List, [], ◌∷◌, length, take}
+use Rattle.std.proofs.Common.{slice_get, refl, sym, subst, arith}
 use Rattle.sector_device.specs.declared.device.Sectors.{Ghosts}
 use Rattle.sector_device.specs.Device.{Image, IsImage}
 use Rattle.cube_model.specs.Admission.{IsAdmissible}
@@ -14,7 +15,8 @@ use Rattle.warehouse_objects.specs.Warehouse.{Warehouse, loaded, with_views}
 use Rattle.warehouse_objects.specs.Represents.{Represents}
 use Rattle.warehouse_objects.proofs.CallerLemmas.{next_number}
 use Rattle.warehouse.specs.declared.command.Command.{Command}
-use Rattle.warehouse.specs.declared.command.Command.TheVariants.{Submit, Query, Status, Choose, Upkeep, Audit, Add, Start, Step}
+use Rattle.warehouse.specs.declared.command.Command.TheVariants.{Submit, Query, Status, Choose, Upkeep, Audit, Add}
+use Rattle.warehouse.specs.declared.command.Command.TheVariants.{Start, Step}
 use Rattle.warehouse.specs.declared.command.Reply.{Reply}
 use Rattle.warehouse.specs.declared.session.Session.{Session}
 use Rattle.warehouse.specs.Found.{MayBeFound, MayRepresent}
@@ -29,12 +31,15 @@ as_it_is : (w : Warehouse) (last : Option Change) → MayBeFound (facts_in w) la
 as_it_is w last = inl refl
 
 -- in a command
-in_command : (w : Warehouse) (command : Command) (c : Content) → During w command c → MayRepresent (facts_in w) (submitted (Some command)) c
+in_command : (w : Warehouse) (command : Command) (c : Content) → During w command c
+    → MayRepresent (facts_in w) (submitted (Some command)) c
 in_command w (Submit number batch) c during =
     ⊎_elim {C = MayRepresent (facts_in w) (Some (a_batch batch)) c}
     (λ represents. (w, as_it_is w (Some (a_batch batch)), represents))
     (λ more.
-    let admissible = subst (λ (n : ℕ). IsAdmissible w.rows w.batches n batch) (next_number w.rows w.batches number batch more.0) more.0 in
+    let admissible =
+    subst (λ (n : ℕ). IsAdmissible w.rows w.batches n batch) (next_number w.rows w.batches number batch more.0)
+    more.0 in
     (loaded w batch, inr (a_batch batch, refl, (admissible, refl)), more.1)) during
 in_command w (Query as_of query) c represents = (w, as_it_is w None, represents)
 in_command w Status c represents = (w, as_it_is w None, represents)
@@ -48,7 +53,9 @@ in_command w (Add number more) c during =
     ⊎_elim {C = MayRepresent (facts_in w) (Some (some_rows more)) c}
     (λ represents. (w, as_it_is w (Some (some_rows more)), represents))
     (λ wider.
-    let admitted = subst (λ (n : ℕ). addition_refusal w.rows w.additions n more ≡ None) (addition_number w number more wider.0) wider.0 in
+    let admitted =
+    subst (λ (n : ℕ). addition_refusal w.rows w.additions n more ≡ None) (addition_number w number more wider.0)
+    wider.0 in
     (widened w more, inr (some_rows more, refl, (admitted, refl)), wider.1)) during
 in_command w (Start slot as_of query) c represents = (w, as_it_is w None, represents)
 in_command w (Step slot) c represents = (w, as_it_is w None, represents)
@@ -57,10 +64,13 @@ in_command w (Step slot) c represents = (w, as_it_is w None, represents)
 record IsStopped (w : Warehouse) (commands : List Command) (replies : List Reply) (c : Content) : Type 0 where
   done : ℕ
   within : done ≤ length commands
-  found : MayRepresent (acknowledged_all (facts_in w) (take done commands) (take done replies)) (submitted (slice_get commands done)) c
+  found : MayRepresent (acknowledged_all (facts_in w) (take done commands) (take done replies))
+      (submitted (slice_get commands done)) c
 
-stopped : (w : Warehouse) (commands : List Command) (replies : List Reply) (c : Content) → FoundIn w commands replies c → IsStopped w commands replies c
-stopped w [] replies c represents = record { done = zero; within = omega arith; found = (w, as_it_is w None, represents) }
+stopped : (w : Warehouse) (commands : List Command) (replies : List Reply) (c : Content) → FoundIn w commands replies c
+    → IsStopped w commands replies c
+stopped w [] replies c represents =
+    record { done = zero; within = omega arith; found = (w, as_it_is w None, represents) }
 stopped w (command ∷ commands) [] c none = absurd none
 stopped w (command ∷ commands) (reply ∷ replies) c found =
     ⊎_elim {C = IsStopped w (command ∷ commands) (reply ∷ replies) c}
@@ -71,19 +81,25 @@ stopped w (command ∷ commands) (reply ∷ replies) c found =
     let last = submitted (slice_get commands rest.done) in record {
       done = suc rest.done;
       within = omega (arith, rest.within);
-      found = subst (λ (facts : Facts). MayRepresent (acknowledged_all facts (take rest.done commands) (take rest.done replies)) last c) same rest.found;
+      found = subst
+          (λ (facts : Facts). MayRepresent (acknowledged_all facts (take rest.done commands) (take rest.done replies))
+          last c) same rest.found;
     }) found
 
 -- where an image shows a content, the restarted device shows it
-pub restarted_shows : {D : Type 0} (g : Ghosts D) (size : ℕ) (image : Image) (device : D) (c : Content) → IsRestarted g size image device → Shows size image c
+pub restarted_shows : {D : Type 0} (g : Ghosts D) (size : ℕ) (image : Image) (device : D) (c : Content)
+    → IsRestarted g size image device → Shows size image c
     → (other : Image) → IsImage (g.state device) other → Shows (g.state device).size other c
 restarted_shows g size image device c restarted shows other is =
     subst (λ (n : ℕ). Shows n other c) (sym restarted.same_size)
     (shows.0, shows.1, shows_same size image other c shows.0 shows.1 shows.2 (λ i _. sym (restarted.one other is i)))
 
 -- whatever runs in the slots
-pub stopped_amid : {D : Type 0} (g : Ghosts D) → ((d : D) (image : Image) → g.keeps_word d → (g.state d).left_since (g.state d).moment image → IsImage (g.state d) image)
-    → (old new : Session D g) (w : Warehouse) (slots : Slots) (commands : List Command) (replies : List Reply) (after : Phase)
+pub stopped_amid : {D : Type 0} (g : Ghosts D)
+    → ((d : D) (image : Image) → g.keeps_word d → (g.state d).left_since (g.state d).moment image
+    → IsImage (g.state d) image)
+    → (old new : Session D g) (w : Warehouse) (slots : Slots) (commands : List Command) (replies : List Reply)
+    (after : Phase)
     → IsAt g old w → RanAll g old (amid w slots) commands replies new after → (disk_of g new).keeps_word
     → (image : Image) → (g.state (device_of new)).left_since (g.state (device_of old)).moment image
     → (device : D) → IsRestarted g (g.state (device_of old)).size image device
@@ -104,5 +120,7 @@ stopped_amid g only old new w slots commands replies after is ran word image lef
       );
     }
 
-pub stopped_run : {D : Type 0} (g : Ghosts D) → ((d : D) (image : Image) → g.keeps_word d → (g.state d).left_since (g.state d).moment image → IsImage (g.state d) image) → CrashedRunIsFound g
+pub stopped_run : {D : Type 0} (g : Ghosts D)
+    → ((d : D) (image : Image) → g.keeps_word d → (g.state d).left_since (g.state d).moment image
+    → IsImage (g.state d) image) → CrashedRunIsFound g
 stopped_run g only old new w commands replies after = stopped_amid g only old new w none_running commands replies after

@@ -1,5 +1,6 @@
 -- Making a warehouse.
-use Rattle.std.proofs.Common.{◌≡◌, ◌≢◌, ◌⊎◌, ◌+◌, ◌-◌, ◌^◌, ◌<◌, min, ⊎_elim, inl, inr, ℕ, false, List, [], ◌∷◌, length, Result, Ok, Err, IfErr, IfOk, refl, sym, ◌∙◌, ap, subst, arith}
+use Rattle.std.proofs.Common.{◌≡◌, ◌≢◌, ◌⊎◌, ◌+◌, ◌-◌, ◌^◌, ◌<◌, min, ⊎_elim, inl, inr, ℕ, false, List, [], ◌∷◌, length}
+use Rattle.std.proofs.Common.{Result, Ok, Err, IfErr, IfOk, refl, sym, ◌∙◌, ap, subst, arith}
 use Rattle.cube_model.specs.declared.fault.Fault.{Fault}
 use Rattle.cube_model.specs.declared.fault.Fault.TheVariants.{AlreadyFormatted, Device, DeviceSize, Full, Memory}
 use Rattle.sector_device.specs.declared.device.Sectors.{Ghosts}
@@ -27,16 +28,21 @@ use Rattle.warehouse_objects.specs.Loaded.{IsLoaded}
 use Rattle.warehouse_objects.proofs.CallerLemmas.{represents_created}
 
 -- the four that are put
-pub puts_are : (rows : DimRows) (customers suppliers parts dates : List ℕ) → customers ≡ dimension_of rows Customer → suppliers ≡ dimension_of rows Supplier → parts ≡ dimension_of rows Part → dates ≡ dimension_of rows Date
+pub puts_are : (rows : DimRows) (customers suppliers parts dates : List ℕ) → customers ≡ dimension_of rows Customer
+    → suppliers ≡ dimension_of rows Supplier → parts ≡ dimension_of rows Part → dates ≡ dimension_of rows Date
     → (1, customers) ∷ (2, suppliers) ∷ (3, parts) ∷ (4, dates) ∷ [] ≡ dimension_puts rows
 puts_are rows customers suppliers parts dates a b c d =
     ap (λ (x : List ℕ). (1, x) ∷ (2, suppliers) ∷ (3, parts) ∷ (4, dates) ∷ []) a
     ∙ ap (λ (x : List ℕ). (1, dimension_of rows Customer) ∷ (2, x) ∷ (3, parts) ∷ (4, dates) ∷ []) b
-    ∙ ap (λ (x : List ℕ). (1, dimension_of rows Customer) ∷ (2, dimension_of rows Supplier) ∷ (3, x) ∷ (4, dates) ∷ []) c
-    ∙ ap (λ (x : List ℕ). (1, dimension_of rows Customer) ∷ (2, dimension_of rows Supplier) ∷ (3, dimension_of rows Part) ∷ (4, x) ∷ []) d
+    ∙ ap (λ (x : List ℕ). (1, dimension_of rows Customer) ∷ (2, dimension_of rows Supplier) ∷ (3, x) ∷ (4, dates) ∷ [])
+    c
+    ∙ ap (λ (x : List ℕ). (1, dimension_of rows Customer) ∷ (2, dimension_of rows Supplier)
+    ∷ (3, dimension_of rows Part) ∷ (4, x) ∷ []) d
 
-module _ (rows : DimRows) (puts : List (ℕ × List ℕ)) (bytes : List ℕ) (layout : ℕ) (root : PlainRoot) (storable : AreStorable rows)
-    (are : puts ≡ dimension_puts rows) (root_is : root ≡ roots.first_root First) (bytes_are : bytes ≡ roots.root_of root) (layout_is : layout ≡ number_of First) where
+module _ (rows : DimRows) (puts : List (ℕ × List ℕ)) (bytes : List ℕ) (layout : ℕ) (root : PlainRoot)
+    (storable : AreStorable rows)
+    (are : puts ≡ dimension_puts rows) (root_is : root ≡ roots.first_root First)
+    (bytes_are : bytes ≡ roots.root_of root) (layout_is : layout ≡ number_of First) where
   pub few_at_first : IsFew (created puts bytes layout)
   few_at_first =
       let four : length puts ≡ 4 = ap (λ (p : List (ℕ × List ℕ)). length p) are in
@@ -45,15 +51,22 @@ module _ (rows : DimRows) (puts : List (ℕ × List ℕ)) (bytes : List ℕ) (la
   pub represents_at_first : Represents (created puts bytes layout) (fresh rows)
   represents_at_first =
       subst (λ (p : List (ℕ × List ℕ)). Represents (created p bytes layout) (fresh rows)) (sym are)
-      (subst (λ (b : List ℕ). Represents (created (dimension_puts rows) b layout) (fresh rows)) (sym (bytes_are ∙ ap roots.root_of root_is))
-      (subst (λ (l : ℕ). Represents (created (dimension_puts rows) (roots.root_of (roots.first_root First)) l) (fresh rows)) (sym layout_is)
+      (subst (λ (b : List ℕ). Represents (created (dimension_puts rows) b layout) (fresh rows))
+      (sym (bytes_are ∙ ap roots.root_of root_is))
+      (subst (λ (l : ℕ). Represents (created (dimension_puts rows) (roots.root_of (roots.first_root First)) l)
+      (fresh rows)) (sym layout_is)
       (represents_created rows storable)))
 
   pub loaded_at_first : IsLoaded (created puts bytes layout) rows root
   loaded_at_first =
       let represents = represents_at_first in record {
         layout = represents.layout;
-        has_rows = record { customers = represents.objects 1; suppliers = represents.objects 2; parts = represents.objects 3; dates = represents.objects 4 };
+        has_rows = record {
+          customers = represents.objects 1;
+          suppliers = represents.objects 2;
+          parts = represents.objects 3;
+          dates = represents.objects 4;
+        };
         of_layout = ap (λ (r : PlainRoot). r.layout) root_is;
         root_bytes = represents.root.spelled ∙ ap roots.root_of (same ∙ sym root_is);
       } where
@@ -61,16 +74,24 @@ module _ (rows : DimRows) (puts : List (ℕ × List ℕ)) (bytes : List ℕ) (la
         same = refl
 
   -- until the end an image has no valid superblock, or represents the warehouse
-  pub create_leaves : (old new : Disk) → LeavesOrNone old new (λ c. c ≡ created puts bytes layout) → LeavesOrNone old new (λ c. Represents c (fresh rows))
+  pub create_leaves : (old new : Disk) → LeavesOrNone old new (λ c. c ≡ created puts bytes layout)
+      → LeavesOrNone old new (λ c. Represents c (fresh rows))
   create_leaves old new =
-      passes_also (ShowsSomeOrNone (λ (c : Content). c ≡ created puts bytes layout)) (ShowsSomeOrNone (λ (c : Content). Represents c (fresh rows))) old new
-      (λ k size image. ⊎_elim (λ none. inl none) (λ shown. inr (shown.0, shown.1, subst (λ (c : Content). Represents c (fresh rows)) (sym shown.2) represents_at_first)))
+      passes_also (ShowsSomeOrNone (λ (c : Content). c ≡ created puts bytes layout))
+      (ShowsSomeOrNone (λ (c : Content). Represents c (fresh rows))) old new
+      (λ k size image. ⊎_elim (λ none. inl none)
+      (λ shown. inr
+      (shown.0, shown.1, subst (λ (c : Content). Represents c (fresh rows)) (sym shown.2) represents_at_first)))
 
   module _ {D : Type 0} (g : Ghosts D) (device : D) where
     -- what a store was made of is the warehouse
-    pub makes_store : (result : Result (Store D g) (Fault × D)) → IfOk result (λ store. Each (disk g device) IsBlank → LeavesOrNone (disk g device) (disk_of g store) (λ c. c ≡ created puts bytes layout))
-        → IfOk result (λ store. has_failed store ≡ false) → IfOk result (λ store. (disk_of g store).keeps_word → content_of g store ≡ created puts bytes layout)
-        → IfOk result (λ store. (disk_of g store).keeps_word → HasNone (g.state device).reads) → IfOk result (MakesStore g device rows root)
+    pub makes_store : (result : Result (Store D g) (Fault × D))
+        → IfOk result (λ store. Each (disk g device) IsBlank
+        → LeavesOrNone (disk g device) (disk_of g store) (λ c. c ≡ created puts bytes layout))
+        → IfOk result (λ store. has_failed store ≡ false)
+        → IfOk result (λ store. (disk_of g store).keeps_word → content_of g store ≡ created puts bytes layout)
+        → IfOk result (λ store. (disk_of g store).keeps_word → HasNone (g.state device).reads)
+        → IfOk result (MakesStore g device rows root)
     makes_store (Ok store) leaves fine content none = record {
       leaves = λ blank. create_leaves (disk g device) (disk_of g store) (leaves blank);
       fine = fine;
@@ -81,7 +102,9 @@ module _ (rows : DimRows) (puts : List (ℕ × List ℕ)) (bytes : List ℕ) (la
     makes_store (Err e) leaves fine content none = tt
 
     -- nor was one made where there is no store of it
-    pub refuses_to_make : (result : Result (Store D g) (Fault × D)) → IfErr result (λ e. Each (disk g device) IsBlank → LeavesOrNone (disk g device) (disk g e.1) (λ c. c ≡ created puts bytes layout))
+    pub refuses_to_make : (result : Result (Store D g) (Fault × D))
+        → IfErr result (λ e. Each (disk g device) IsBlank
+        → LeavesOrNone (disk g device) (disk g e.1) (λ c. c ≡ created puts bytes layout))
         → IfErr result (λ e. e.0 ≢ Device → Each (disk g device) IsBlank → Each (disk g e.1) IsBlank)
         → IfErr result (λ e. g.keeps_word e.1 → Each (disk g device) IsBlank → e.0 ≢ AlreadyFormatted)
         → IfErr result (λ e. e.0 ≡ AlreadyFormatted → OnlyImagesOf (disk g device) (disk g e.1))
@@ -89,7 +112,8 @@ module _ (rows : DimRows) (puts : List (ℕ × List ℕ)) (bytes : List ℕ) (la
         → IfErr result (λ e. e.0 ≡ Device → g.failed e.1 ≡ min (g.failed device + 1) (2 ^ 64 - 1))
         → IfErr result (λ e. e.0 ≡ DeviceSize → (g.state device).size < 64)
         → IfErr result (λ e. e.0 ≡ Full → LacksRoom (empty_room (g.state device).size) puts [] bytes)
-        → IfErr result (λ e. (e.0 ≡ AlreadyFormatted) ⊎ ((e.0 ≡ DeviceSize) ⊎ ((e.0 ≡ Device) ⊎ ((e.0 ≡ Full) ⊎ (e.0 ≡ Memory)))))
+        → IfErr result
+        (λ e. (e.0 ≡ AlreadyFormatted) ⊎ ((e.0 ≡ DeviceSize) ⊎ ((e.0 ≡ Device) ⊎ ((e.0 ≡ Full) ⊎ (e.0 ≡ Memory)))))
         → IfErr result (λ e. RefusesToMake g device rows e.0 e.1)
     refuses_to_make (Ok store) leaves still_blank not_already only spared failures size full causes = tt
     refuses_to_make (Err e) leaves still_blank not_already only spared failures size full causes = record {
@@ -101,20 +125,25 @@ module _ (rows : DimRows) (puts : List (ℕ × List ℕ)) (bytes : List ℕ) (la
       failures = failures;
       size = size;
       full = λ is.
-          subst (λ (p : List (ℕ × List ℕ)). LacksRoom (empty_room (g.state device).size) p [] (roots.root_of (roots.first_root First))) are
-          (subst (λ (l : List ℕ). LacksRoom (empty_room (g.state device).size) puts [] l) (bytes_are ∙ ap roots.root_of root_is) (full is));
+          subst (λ (p : List (ℕ × List ℕ)). LacksRoom (empty_room (g.state device).size) p []
+          (roots.root_of (roots.first_root First))) are
+          (subst (λ (l : List ℕ). LacksRoom (empty_room (g.state device).size) puts [] l)
+          (bytes_are ∙ ap roots.root_of root_is) (full is));
       causes = causes;
     }
 
 -- there was no memory before the first device call
 pub no_memory : {D : Type 0} (g : Ghosts D) (device : D) (rows : DimRows) (fault : Fault)
-    → (g.keeps_word device → (image : Image) → (g.state device).left_since (g.state device).moment image → IsImage (g.state device) image) → fault ≡ Memory → RefusesToMake g device rows fault device
+    → (g.keeps_word device → (image : Image) → (g.state device).left_since (g.state device).moment image
+    → IsImage (g.state device) image) → fault ≡ Memory → RefusesToMake g device rows fault device
 no_memory g device rows fault now memory = record {
-  leaves = λ blank. begins (ShowsSomeOrNone (λ (c : Content). Represents c (fresh rows))) (disk g device) now (λ k image is. inl (blank k image is));
+  leaves = λ blank. begins (ShowsSomeOrNone (λ (c : Content). Represents c (fresh rows))) (disk g device) now
+      (λ k image is. inl (blank k image is));
   still_blank = λ other blank. blank;
   not_already = λ k blank already. let is : Memory ≡ AlreadyFormatted = sym memory ∙ already in absurd cc;
   only = λ already. begins (λ _ (image : Image). IsImage (g.state device) image) (disk g device) now (λ k image is. is);
-  spared = λ formatted. begins (λ _ (image : Image). IsImage (g.state device) image) (disk g device) now (λ k image is. is);
+  spared = λ formatted. begins (λ _ (image : Image). IsImage (g.state device) image) (disk g device) now
+      (λ k image is. is);
   failures = λ other. let is : Memory ≡ Device = sym memory ∙ other in absurd cc;
   size = λ other. let is : Memory ≡ DeviceSize = sym memory ∙ other in absurd cc;
   full = λ other. let is : Memory ≡ Full = sym memory ∙ other in absurd cc;
@@ -122,8 +151,12 @@ no_memory g device rows fault now memory = record {
 }
 
 -- the same of equal dimensions
-pub made_of : {D : Type 0} (g : Ghosts D) (device : D) (shared rows : DimRows) (root : PlainRoot) (store : Store D g) → shared ≡ rows → MakesStore g device shared root store → MakesStore g device rows root store
-made_of g device shared rows root store same made = subst (λ (dimensions : DimRows). MakesStore g device dimensions root store) same made
+pub made_of : {D : Type 0} (g : Ghosts D) (device : D) (shared rows : DimRows) (root : PlainRoot) (store : Store D g)
+    → shared ≡ rows → MakesStore g device shared root store → MakesStore g device rows root store
+made_of g device shared rows root store same made =
+    subst (λ (dimensions : DimRows). MakesStore g device dimensions root store) same made
 
-pub refused_of : {D : Type 0} (g : Ghosts D) (device : D) (shared rows : DimRows) (fault : Fault) (back : D) → shared ≡ rows → RefusesToMake g device shared fault back → RefusesToMake g device rows fault back
-refused_of g device shared rows fault back same refused = subst (λ (dimensions : DimRows). RefusesToMake g device dimensions fault back) same refused
+pub refused_of : {D : Type 0} (g : Ghosts D) (device : D) (shared rows : DimRows) (fault : Fault) (back : D)
+    → shared ≡ rows → RefusesToMake g device shared fault back → RefusesToMake g device rows fault back
+refused_of g device shared rows fault back same refused =
+    subst (λ (dimensions : DimRows). RefusesToMake g device dimensions fault back) same refused

@@ -17,7 +17,8 @@ use Rattle.warehouse.specs.Prepared.{MayFollow}
 use Rattle.warehouse_objects.proofs.CallerLemmas.{batch_of, is_batch, next_number}
 
 -- an admissible batch may be put
-pub follows : (rows : DimRows) (batches : List (List LineOrder)) (number : ℕ) (batch : List LineOrder) → IsAdmissible rows batches number batch → MayFollow (length batches) number batch
+pub follows : (rows : DimRows) (batches : List (List LineOrder)) (number : ℕ) (batch : List LineOrder)
+    → IsAdmissible rows batches number batch → MayFollow (length batches) number batch
 follows rows batches number batch admissible =
     let next : number ≡ length batches + 1 = next_number rows batches number batch admissible in record {
       next = next;
@@ -26,7 +27,8 @@ follows rows batches number batch admissible =
     }
 
 -- a batch that was accepted after so many may be put there
-pub can_follow : (count batches number : ℕ) (batch : List LineOrder) → CanFollow count number batch → count ≡ batches → MayFollow batches number batch
+pub can_follow : (count batches number : ℕ) (batch : List LineOrder) → CanFollow count number batch → count ≡ batches
+    → MayFollow batches number batch
 can_follow count batches number batch can is = record {
   next = can.next ∙ ap (λ n. n + 1) is;
   few = can.last;
@@ -34,7 +36,8 @@ can_follow count batches number batch can is = record {
 }
 
 -- totals that keep their limit may be stored
-pub proper_totals : (totals : Totals) (kept : StoredTotals) → kept ≡ stored totals → AreBelow sum_limit totals → AreProperTotals kept
+pub proper_totals : (totals : Totals) (kept : StoredTotals) → kept ≡ stored totals → AreBelow sum_limit totals
+    → AreProperTotals kept
 proper_totals totals kept is below = subst AreProperTotals (sym is) (record {
   quantity = omega (arith, below.quantity);
   extendedprice = omega (arith, below.extendedprice);
@@ -45,5 +48,7 @@ proper_totals totals kept is below = subst AreProperTotals (sym is) (record {
 })
 
 -- the rows of batches together
-pub rows_together : (batches : List (List LineOrder)) → sum_by (λ rows. rows) (map (λ (batch : List LineOrder). length batch) batches) ≡ length (all_rows batches)
-rows_together batches = sum-map (λ (batch : List LineOrder). length batch) batches ∙ sym (length-flat_map (λ (batch : List LineOrder). batch) batches)
+pub rows_together : (batches : List (List LineOrder))
+    → sum_by (λ rows. rows) (map (λ (batch : List LineOrder). length batch) batches) ≡ length (all_rows batches)
+rows_together batches = sum-map (λ (batch : List LineOrder). length batch) batches
+    ∙ sym (length-flat_map (λ (batch : List LineOrder). batch) batches)

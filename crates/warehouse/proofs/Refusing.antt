@@ -1,18 +1,25 @@
 -- No cause to refuse a batch, or rows of dimensions, speaks of the device.
-use Rattle.std.proofs.Common.{◌≡◌, ℕ, ◌+◌, ◌^◌, Bool, true, false, Option, Some, None, List, [], ◌∷◌, ◌++◌, is_none, nat_le, nat_lt, length, refl, subst, ◌∙◌, ◌⊎◌, inl, inr}
+use Rattle.std.proofs.Common.{◌≡◌, ℕ, ◌+◌, ◌^◌, Bool, true, false, Option, Some, None, List, [], ◌∷◌, ◌++◌, is_none}
+use Rattle.std.proofs.Common.{nat_le, nat_lt, length, refl, subst, ◌∙◌, ◌⊎◌, inl, inr}
 use Rattle.std.specs.Option.{option_map}
 use Rattle.cube_model.specs.declared.fault.Fault.{Fault}
-use Rattle.cube_model.specs.declared.fault.Fault.TheVariants.{Device, Repeated, Gap, TooManyBatches, TooManyRows, FieldTooLong, UnknownCustomer, UnknownSupplier, UnknownPart, UnknownDate, SumRange, DuplicateKey, HierarchyBroken, ReservedMember, TooManyMembers}
+use Rattle.cube_model.specs.declared.fault.Fault.TheVariants.{Device, Repeated, Gap, TooManyBatches, TooManyRows}
+use Rattle.cube_model.specs.declared.fault.Fault.TheVariants.{FieldTooLong, UnknownCustomer, UnknownSupplier}
+use Rattle.cube_model.specs.declared.fault.Fault.TheVariants.{UnknownPart, UnknownDate, SumRange, DuplicateKey}
+use Rattle.cube_model.specs.declared.fault.Fault.TheVariants.{HierarchyBroken, ReservedMember, TooManyMembers}
 use Rattle.cube_model.specs.declared.fault.Place.TheVariants.{Row}
 use Rattle.cube_model.specs.declared.measure.Measure.{Measure}
-use Rattle.cube_model.specs.declared.measure.Measure.TheVariants.{Quantity, ExtendedPrice, Revenue, SupplyCost, Discounted, Profit}
+use Rattle.cube_model.specs.declared.measure.Measure.TheVariants.{Quantity, ExtendedPrice, Revenue, SupplyCost}
+use Rattle.cube_model.specs.declared.measure.Measure.TheVariants.{Discounted, Profit}
 use Rattle.cube_model.specs.declared.rows.DimRows.{DimRows}
 use Rattle.cube_model.specs.declared.rows.LineOrder.{LineOrder}
-use Rattle.cube_model.specs.Admission.{all_rows, refusal, is_long, long_field, long_text, unknown_axis, unknown_key, sum_cause, sums_cause, absolute_total}
+use Rattle.cube_model.specs.Admission.{all_rows, refusal, is_long, long_field, long_text, unknown_axis, unknown_key}
+use Rattle.cube_model.specs.Admission.{sum_cause, sums_cause, absolute_total}
 use Rattle.cube_model.specs.Attributes.{customer_of, supplier_of, part_of, date_of}
 use Rattle.cube_model.specs.Causes.{first_cause, cause_if}
 use Rattle.cube_model.specs.Limits.{most_batch_rows, most_batches}
-use Rattle.cube_model.specs.Validity.{Rules, breaks_link, customer_rules, date_rules, dimension_cause, names_all, overflows, part_rules, repeats_key, row_cause, rows_cause, supplier_rules}
+use Rattle.cube_model.specs.Validity.{Rules, breaks_link, customer_rules, date_rules, dimension_cause, names_all}
+use Rattle.cube_model.specs.Validity.{overflows, part_rules, repeats_key, row_cause, rows_cause, supplier_rules}
 use Rattle.dimensions.specs.Added.{added_cause, addition_cause, counted_after}
 use Rattle.warehouse.specs.Refusing.{is_of_device}
 
@@ -24,7 +31,8 @@ so_if : (test : Bool) (fault : Fault) → is_of_device fault ≡ false → IsApa
 so_if true fault e = e
 so_if false fault e = tt
 
-then : (cause : Option Fault) (causes : List (Option Fault)) → IsApart cause → IsApart (first_cause causes) → IsApart (first_cause (cause ∷ causes))
+then : (cause : Option Fault) (causes : List (Option Fault)) → IsApart cause → IsApart (first_cause causes)
+    → IsApart (first_cause (cause ∷ causes))
 then None causes first rest = rest
 then (Some fault) causes first rest = first
 
@@ -37,7 +45,9 @@ row_texts number row =
 
 texts : (number : ℕ) (rows : List LineOrder) → IsApart (long_text number rows)
 texts number [] = tt
-texts number (row ∷ rows) = then (long_field number row) _ (row_texts number row) (then (long_text (number + 1) rows) [] (texts (number + 1) rows) tt)
+texts number (row ∷ rows) =
+    then (long_field number row) _ (row_texts number row)
+    (then (long_text (number + 1) rows) [] (texts (number + 1) rows) tt)
 
 row_keys : (dimensions : DimRows) (number : ℕ) (row : LineOrder) → IsApart (unknown_axis dimensions number row)
 row_keys dimensions number row =
@@ -49,7 +59,8 @@ row_keys dimensions number row =
 keys : (dimensions : DimRows) (number : ℕ) (rows : List LineOrder) → IsApart (unknown_key dimensions number rows)
 keys dimensions number [] = tt
 keys dimensions number (row ∷ rows) =
-    then (unknown_axis dimensions number row) _ (row_keys dimensions number row) (then (unknown_key dimensions (number + 1) rows) [] (keys dimensions (number + 1) rows) tt)
+    then (unknown_axis dimensions number row) _ (row_keys dimensions number row)
+    (then (unknown_key dimensions (number + 1) rows) [] (keys dimensions (number + 1) rows) tt)
 
 total : (rows : List LineOrder) (measure : Measure) → IsApart (sum_cause rows measure)
 total rows measure = so_if (nat_le (2 ^ 63) (absolute_total measure rows)) (SumRange measure) refl
@@ -59,7 +70,8 @@ totals rows =
     then _ _ (total rows Quantity) (then _ _ (total rows ExtendedPrice) (then _ _ (total rows Revenue)
     (then _ _ (total rows SupplyCost) (then _ _ (total rows Discounted) (then _ _ (total rows Profit) tt)))))
 
-refusals : (dimensions : DimRows) (batches : List (List LineOrder)) (number : ℕ) (rows : List LineOrder) → IsApart (refusal dimensions batches number rows)
+refusals : (dimensions : DimRows) (batches : List (List LineOrder)) (number : ℕ) (rows : List LineOrder)
+    → IsApart (refusal dimensions batches number rows)
 refusals dimensions batches number rows =
     then _ _ (so_if (nat_le number (length batches)) Repeated refl)
     (then _ _ (so_if (nat_lt (length batches + 1) number) Gap refl)
@@ -67,7 +79,8 @@ refusals dimensions batches number rows =
     (then _ _ (so_if (nat_lt most_batch_rows (length rows)) TooManyRows refl)
     (then _ _ (texts 1 rows) (then _ _ (keys dimensions 1 rows) (then _ _ (totals (all_rows batches ++ rows)) tt))))))
 
-pub refusal_apart : (dimensions : DimRows) (batches : List (List LineOrder)) (number : ℕ) (rows : List LineOrder) (fault : Fault) → refusal dimensions batches number rows ≡ Some fault → is_of_device fault ≡ false
+pub refusal_apart : (dimensions : DimRows) (batches : List (List LineOrder)) (number : ℕ) (rows : List LineOrder)
+    (fault : Fault) → refusal dimensions batches number rows ≡ Some fault → is_of_device fault ≡ false
 refusal_apart dimensions batches number rows fault e = subst IsApart e (refusals dimensions batches number rows)
 
 -- ---- rows of dimensions
@@ -82,10 +95,14 @@ module _ {Row : Type 0} (rules : Rules Row) where
 
   rows_apart : (earlier rows : List Row) → IsApart (rows_cause rules earlier rows)
   rows_apart earlier [] = tt
-  rows_apart earlier (row ∷ rows) = then (row_cause rules earlier row) _ (row_apart earlier row) (then (rows_cause rules (earlier ++ row ∷ []) rows) [] (rows_apart (earlier ++ row ∷ []) rows) tt)
+  rows_apart earlier (row ∷ rows) =
+      then (row_cause rules earlier row) _ (row_apart earlier row)
+      (then (rows_cause rules (earlier ++ row ∷ []) rows) [] (rows_apart (earlier ++ row ∷ []) rows) tt)
 
   dimension_apart : (rows : List Row) → IsApart (dimension_cause rules rows)
-  dimension_apart rows = then _ _ (so_if (nat_lt rules.row_limit (length rows)) TooManyRows refl) (then (rows_cause rules [] rows) [] (rows_apart [] rows) tt)
+  dimension_apart rows =
+      then _ _ (so_if (nat_lt rules.row_limit (length rows)) TooManyRows refl)
+      (then (rows_cause rules [] rows) [] (rows_apart [] rows) tt)
 
   added_apart : (old new : List Row) → IsApart (added_cause rules old new)
   added_apart old new = by (dimension_cause rules (old ++ new)) (dimension_apart (old ++ new))
@@ -101,7 +118,8 @@ module _ {Row : Type 0} (rules : Rules Row) where
       by None apart = tt
       by (Some fault) apart = counted_apart fault ∙ apart
 
-pub addition_apart : (old new : DimRows) (fault : Fault) → addition_cause old new ≡ Some fault → is_of_device fault ≡ false
+pub addition_apart : (old new : DimRows) (fault : Fault) → addition_cause old new ≡ Some fault
+    → is_of_device fault ≡ false
 addition_apart old new fault e =
     subst IsApart e
     (then _ _ (added_apart customer_rules old.customers new.customers)

@@ -32,15 +32,21 @@ module _ {D : Type 0} (g : Ghosts D) (w : Warehouse) where
   pub as_before_at : (old new : Store D g) → StoreAt old → stores.IsAsBefore g old new → StoreAt new
   as_before_at old new at same = record {
     fine = same.failed ∙ at.fine;
-    represents = λ k. subst (λ (c : Content). Represents c w) (sym same.content) (at.represents (subst (λ (d : D). g.keeps_word d) same.device k));
+    represents =
+        λ k. subst (λ (c : Content). Represents c w) (sym same.content)
+        (at.represents (subst (λ (d : D). g.keeps_word d) same.device k));
   }
 
   -- while it shows its content, it represents the warehouse
-  pub content_leaves : (old new : Disk) (content : Content) → (old.keeps_word → Represents content w) → Leaves old new (λ c. c ≡ content) → Leaves old new (λ c. Represents c w)
+  pub content_leaves : (old new : Disk) (content : Content) → (old.keeps_word → Represents content w)
+      → Leaves old new (λ c. c ≡ content) → Leaves old new (λ c. Represents c w)
   content_leaves old new content represents leaves =
-      leaves_weaker (λ (c : Content). c ≡ content) (λ (c : Content). Represents c w) old new (λ k c e. subst (λ (x : Content). Represents x w) (sym e) (represents k)) leaves
+      leaves_weaker (λ (c : Content). c ≡ content) (λ (c : Content). Represents c w) old new
+      (λ k c e. subst (λ (x : Content). Represents x w) (sym e) (represents k)) leaves
 
   -- a store that is as it was shows what it showed
   pub as_before_leaves : (old new : Store D g) → stores.IsAsBefore g old new
-      → Leaves (stores.disk_of g old) (stores.disk_of g old) (λ c. Represents c w) → Leaves (stores.disk_of g old) (stores.disk_of g new) (λ c. Represents c w)
-  as_before_leaves old new same leaves = subst (λ (d : D). Leaves (stores.disk_of g old) (disk g d) (λ c. Represents c w)) (sym same.device) leaves
+      → Leaves (stores.disk_of g old) (stores.disk_of g old) (λ c. Represents c w)
+      → Leaves (stores.disk_of g old) (stores.disk_of g new) (λ c. Represents c w)
+  as_before_leaves old new same leaves =
+      subst (λ (d : D). Leaves (stores.disk_of g old) (disk g d) (λ c. Represents c w)) (sym same.device) leaves

@@ -1,5 +1,6 @@
 -- What a restarted device shows.
-use Rattle.std.proofs.Common.{◌≡◌, ◌⊎◌, ⊎_elim, inl, inr, ◌≤◌, ℕ, None, Option, take, slice_get, List, [], ◌∷◌, length, refl, sym, ap, subst, arith}
+use Rattle.std.proofs.Common.{◌≡◌, ◌⊎◌, ⊎_elim, inl, inr, ◌≤◌, ℕ, None, Option, take, slice_get, List, [], ◌∷◌, length}
+use Rattle.std.proofs.Common.{refl, sym, ap, subst, arith}
 use Rattle.std.proofs.lemmas.List.{length-append}
 use Rattle.sector_device.specs.declared.device.Sectors.{Ghosts}
 use Rattle.sector_device.specs.Device.{Image}
@@ -16,29 +17,42 @@ use Rattle.warehouse_objects.specs.Represents.{Represents}
 use Rattle.warehouse_objects.specs.Lawful.{ContentIsOneWarehouse}
 use Rattle.warehouse.specs.declared.command.Command.{Command}
 use Rattle.warehouse.specs.declared.command.Reply.{Reply}
-use Rattle.warehouse.specs.declared.command.Command.TheVariants.{Submit, Query, Status, Choose, Upkeep, Audit, Add, Start, Step}
+use Rattle.warehouse.specs.declared.command.Command.TheVariants.{Submit, Query, Status, Choose, Upkeep, Audit, Add}
+use Rattle.warehouse.specs.declared.command.Command.TheVariants.{Start, Step}
 use Rattle.warehouse.specs.declared.command.Reply.TheVariants.{Done, More, Answer, Numbers, Chosen, Audited, Refused}
 use Rattle.warehouse.specs.Found.{MayBeFound}
-use Rattle.warehouse.specs.Headline.{FewerIsNotFound, IsRestarted, RestartedShows, CrashedCreateIsFound, CrashedOpenIsFound, acknowledged_all, submitted}
+use Rattle.warehouse.specs.Headline.{FewerIsNotFound, IsRestarted, RestartedShows, CrashedCreateIsFound}
+use Rattle.warehouse.specs.Headline.{CrashedOpenIsFound, acknowledged_all, submitted}
 use Rattle.warehouse.specs.Running.{acknowledged}
 use Rattle.warehouse.proofs.Headlining.{restarted_shows}
 
 pub shows_it : {D : Type 0} (g : Ghosts D) → RestartedShows g
-shows_it g size image device c restarted shows k other is = (c, restarted_shows g size image device c restarted shows other is, refl)
+shows_it g size image device c restarted shows k other is =
+    (c, restarted_shows g size image device c restarted shows other is, refl)
 
 pub open_again : {D : Type 0} (g : Ghosts D) → CrashedOpenIsFound g
 open_again g start end facts leaves word image left device restarted k other is =
-    let shown = (leaves.moments word).each image left in
-    (shown.0, restarted_shows g (g.state start).size image device shown.0 restarted shown.1 other is, (shown.2.0, shown.2.1, shown.2.3))
+    let shown = (leaves.moments word).each image left in (
+      shown.0,
+      restarted_shows g (g.state start).size image device shown.0 restarted shown.1 other is,
+      (shown.2.0, shown.2.1, shown.2.3),
+    )
 
-none_again : {D : Type 0} (g : Ghosts D) (size : ℕ) (image : Image) (device : D) → IsRestarted g size image device → HasNone image → Each (disk g device) IsBlank
-none_again g size image device restarted none k other is = none_same image other (λ slot less. sym (restarted.one other is slot)) none
+none_again : {D : Type 0} (g : Ghosts D) (size : ℕ) (image : Image) (device : D) → IsRestarted g size image device
+    → HasNone image → Each (disk g device) IsBlank
+none_again g size image device restarted none k other is =
+    none_same image other (λ slot less. sym (restarted.one other is slot)) none
 
 pub create_again : {D : Type 0} (g : Ghosts D) → CrashedCreateIsFound g
 create_again g start end rows leaves word image left device restarted =
     ⊎_elim {C = Each (disk g device) IsBlank ⊎ AllShow (disk g device) (λ c. Represents c (fresh rows))}
     (λ none. inl (none_again g (g.state start).size image device restarted none))
-    (λ shown. inr (λ k other is. (shown.0, restarted_shows g (g.state start).size image device shown.0 restarted shown.1 other is, shown.2)))
+    (λ shown. inr
+    (λ k other is. (
+      shown.0,
+      restarted_shows g (g.state start).size image device shown.0 restarted shown.1 other is,
+      shown.2,
+    )))
     ((leaves.moments word).each image left)
 
 -- some facts have no fewer batches and no fewer additions than others
@@ -50,10 +64,16 @@ just_as_many : (facts : Facts) → HaveNoFewer facts facts
 just_as_many facts = record { batches = omega arith; additions = omega arith }
 
 no_fewer_then : (one two three : Facts) → HaveNoFewer one two → HaveNoFewer two three → HaveNoFewer one three
-no_fewer_then one two three first second = record { batches = omega (arith, first.batches, second.batches); additions = omega (arith, first.additions, second.additions) }
+no_fewer_then one two three first second =
+    record {
+      batches = omega (arith, first.batches, second.batches);
+      additions =
+          omega (arith, first.additions, second.additions);
+    }
 
 with_batch : (facts : Facts) (batch : List LineOrder) → HaveNoFewer facts (with_next facts batch)
-with_batch facts batch = record { batches = omega (arith, length-append facts.batches (batch ∷ [])); additions = omega arith }
+with_batch facts batch =
+    record { batches = omega (arith, length-append facts.batches (batch ∷ [])); additions = omega arith }
 
 with_more : (facts : Facts) (more : DimRows) → HaveNoFewer facts (with_rows facts more)
 with_more facts more = record { batches = omega arith; additions = omega arith }
@@ -82,11 +102,13 @@ no_fewer facts Audit reply = just_as_many facts
 no_fewer facts (Start slot as_of query) reply = just_as_many facts
 no_fewer facts (Step slot) reply = just_as_many facts
 
-none_fewer : (facts : Facts) (commands : List Command) (replies : List Reply) → HaveNoFewer facts (acknowledged_all facts commands replies)
+none_fewer : (facts : Facts) (commands : List Command) (replies : List Reply)
+    → HaveNoFewer facts (acknowledged_all facts commands replies)
 none_fewer facts [] replies = just_as_many facts
 none_fewer facts (command ∷ commands) [] = just_as_many facts
 none_fewer facts (command ∷ commands) (reply ∷ replies) =
-    no_fewer_then facts (acknowledged facts command reply) (acknowledged_all (acknowledged facts command reply) commands replies) (no_fewer facts command reply)
+    no_fewer_then facts (acknowledged facts command reply)
+    (acknowledged_all (acknowledged facts command reply) commands replies) (no_fewer facts command reply)
     (none_fewer (acknowledged facts command reply) commands replies)
 
 -- facts with a change have no fewer
@@ -95,7 +117,8 @@ adds_none_fewer facts new (a_batch batch) adds = subst (HaveNoFewer facts) (sym 
 adds_none_fewer facts new (some_rows more) adds = subst (HaveNoFewer facts) (sym adds.1) (with_more facts more)
 
 -- nor has what may be found
-found_more : (facts : Facts) (last : Option Change) (found : Warehouse) → MayBeFound facts last found → HaveNoFewer facts (facts_in found)
+found_more : (facts : Facts) (last : Option Change) (found : Warehouse) → MayBeFound facts last found
+    → HaveNoFewer facts (facts_in found)
 found_more facts last found =
     ⊎_elim {C = HaveNoFewer facts (facts_in found)}
     (λ same. subst (HaveNoFewer facts) (sym same) (just_as_many facts))
@@ -111,7 +134,8 @@ fewer_not_found g one w fewer commands replies device image k is found shown les
     let batches : length fewer.batches ≡ length v.batches = ap (λ (x : Warehouse). length x.batches) same_w in
     let additions : fewer.additions ≡ v.additions = ap (λ (x : Warehouse). x.additions) same_w in
     let first = none_fewer (facts_in w) (take found.done commands) (take found.done replies) in
-    let then = found_more (acknowledged_all (facts_in w) (take found.done commands) (take found.done replies)) (submitted (slice_get commands found.done)) found.found found.may in
+    let then = found_more (acknowledged_all (facts_in w) (take found.done commands) (take found.done replies))
+    (submitted (slice_get commands found.done)) found.found found.may in
     let last = found_more (facts_in found.found) None v there.2.1 in
     ⊎_elim {C = ⊥}
     (λ few. absurd (omega (arith, few, batches, first.batches, then.batches, last.batches)))

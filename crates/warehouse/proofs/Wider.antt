@@ -25,7 +25,8 @@ use Rattle.warehouse.specs.Widening.{WidenedOrNot}
 use Rattle.warehouse.proofs.Numbering.{neither, next_of}
 
 -- the puts of an addition leave room for as many objects as a store takes
-pub few_wider : (c : Content) (rows more : DimRows) (puts : List (ℕ × List ℕ)) (bytes : List ℕ) (layout : ℕ) → puts ≡ widening_puts rows more → length c.objects + 4 ≤ 65536 → IsFew (committed puts [] bytes layout c)
+pub few_wider : (c : Content) (rows more : DimRows) (puts : List (ℕ × List ℕ)) (bytes : List ℕ) (layout : ℕ)
+    → puts ≡ widening_puts rows more → length c.objects + 4 ≤ 65536 → IsFew (committed puts [] bytes layout c)
 few_wider c rows more puts bytes layout puts_are few =
     let many : length puts ≡ length (widening_puts rows more) = ap (λ (p : List (ℕ × List ℕ)). length p) puts_are in
     omega (arith, few_after puts [] bytes layout c, many, length_of_puts rows more, few)
@@ -37,17 +38,21 @@ refusal_agrees w rows more root number agrees =
     ap (λ (r : DimRows). addition_refusal r w.additions number more) agrees.rows_are
     ∙ ap (λ (r : PlainRoot). addition_refusal rows r.additions number more) agrees.root_is
 
-pub number_agrees : (w : Warehouse) (rows : DimRows) (root : PlainRoot) (number : ℕ) → Agrees w rows root → number_refusal w.additions number ≡ number_refusal root.additions number
+pub number_agrees : (w : Warehouse) (rows : DimRows) (root : PlainRoot) (number : ℕ) → Agrees w rows root
+    → number_refusal w.additions number ≡ number_refusal root.additions number
 number_agrees w rows root number agrees = ap (λ (r : PlainRoot). number_refusal r.additions number) agrees.root_is
 
 -- what the commit of an addition puts, and a root
-module _ (c : Content) (puts : List (ℕ × List ℕ)) (bytes : List ℕ) (layout : ℕ) (rows more : DimRows) (root after : PlainRoot)
-    (puts_are : puts ≡ widening_puts rows more) (bytes_are : bytes ≡ roots.root_of after) (after_is : after ≡ with_addition root) (layout_is : layout ≡ number_of First) where
+module _ (c : Content) (puts : List (ℕ × List ℕ)) (bytes : List ℕ) (layout : ℕ) (rows more : DimRows)
+    (root after : PlainRoot)
+    (puts_are : puts ≡ widening_puts rows more) (bytes_are : bytes ≡ roots.root_of after)
+    (after_is : after ≡ with_addition root) (layout_is : layout ≡ number_of First) where
   -- what is kept in memory then
   pub loaded_wider : IsLoaded c rows root → IsLoaded (committed puts [] bytes layout c) (joined rows more) after
   loaded_wider is = record {
     layout = layout_after puts [] bytes layout c ∙ layout_is;
-    has_rows = subst (λ (p : List (ℕ × List ℕ)). HasRows (committed p [] bytes layout c) (joined rows more)) (sym puts_are) (rows_widened c rows more bytes layout is.has_rows);
+    has_rows = subst (λ (p : List (ℕ × List ℕ)). HasRows (committed p [] bytes layout c) (joined rows more))
+        (sym puts_are) (rows_widened c rows more bytes layout is.has_rows);
     of_layout = ap (λ (r : PlainRoot). r.layout) after_is ∙ is.of_layout;
     root_bytes = root_after puts [] bytes layout c ∙ bytes_are;
   }
@@ -61,25 +66,38 @@ module _ (c : Content) (puts : List (ℕ × List ℕ)) (bytes : List ℕ) (layou
     own_puts agrees = puts_are ∙ ap (λ (r : DimRows). widening_puts r more) (sym agrees.rows_are)
 
     -- what the content represents then
-    pub represents_wider : Represents c w → AdmitsRows w number more × Agrees w rows root → AreStorable (joined rows more) → Represents (committed puts [] bytes layout c) (widened w more)
+    pub represents_wider : Represents c w → AdmitsRows w number more × Agrees w rows root
+        → AreStorable (joined rows more) → Represents (committed puts [] bytes layout c) (widened w more)
     represents_wider represents model storable =
-        let few = (next_of w.additions number (neither (number_refusal w.additions number) (addition_cause w.rows more) model.0).0).1 in
-        subst (λ (p : List (ℕ × List ℕ)). Represents (committed p [] bytes layout c) (widened w more)) (sym (own_puts model.1))
-        (subst (λ (b : List ℕ). Represents (committed (widening_puts w.rows more) [] b layout c) (widened w more)) (sym (bytes_are ∙ ap roots.root_of (root_wider model.1)))
-        (subst (λ (l : ℕ). Represents (committed (widening_puts w.rows more) [] (roots.root_of (root_of (widened w more))) l c) (widened w more)) (ap number_of represents.first ∙ sym layout_is)
-        (represents_widened c w more represents (subst (λ (r : DimRows). AreStorable (joined r more)) (sym model.1.rows_are) storable) few)))
+        let few = (next_of w.additions number
+        (neither (number_refusal w.additions number) (addition_cause w.rows more) model.0).0).1 in
+        subst (λ (p : List (ℕ × List ℕ)). Represents (committed p [] bytes layout c) (widened w more))
+        (sym (own_puts model.1))
+        (subst (λ (b : List ℕ). Represents (committed (widening_puts w.rows more) [] b layout c) (widened w more))
+        (sym (bytes_are ∙ ap roots.root_of (root_wider model.1)))
+        (subst (λ (l : ℕ). Represents
+        (committed (widening_puts w.rows more) [] (roots.root_of (root_of (widened w more))) l c) (widened w more))
+        (ap number_of represents.first ∙ sym layout_is)
+        (represents_widened c w more represents
+        (subst (λ (r : DimRows). AreStorable (joined r more)) (sym model.1.rows_are) storable) few)))
 
     -- at each moment it represents the warehouse before or after
-    pub wider_leaves : (old new : Disk) → (old.keeps_word → Represents c w) → (old.keeps_word → AdmitsRows w number more × Agrees w rows root) → AreStorable (joined rows more)
+    pub wider_leaves : (old new : Disk) → (old.keeps_word → Represents c w)
+        → (old.keeps_word → AdmitsRows w number more × Agrees w rows root) → AreStorable (joined rows more)
         → Leaves old new (IsOneOf c (committed puts [] bytes layout c)) → Leaves old new (WidenedOrNot w number more)
     wider_leaves old new represents model storable leaves =
         leaves_weaker (IsOneOf c (committed puts [] bytes layout c)) (WidenedOrNot w number more) old new
         (λ k x. ⊎_elim (λ e. inl (subst (λ (y : Content). Represents y w) (sym e) (represents k)))
-        (λ e. inr ((model k).0, subst (λ (y : Content). Represents y (widened w more)) (sym e) (represents_wider (represents k) (model k) storable)))) leaves
+        (λ e. inr (
+          (model k).0,
+          subst (λ (y : Content). Represents y (widened w more)) (sym e)
+              (represents_wider (represents k) (model k) storable),
+        ))) leaves
 
     -- why the commit was refused
     pub wider_causes : (room : Room) (fault : Fault) → Agrees w rows root → Refuses c room puts [] bytes fault
         → Refuses c room (widening_puts w.rows more) [] (roots.root_of (root_of (widened w more))) fault
     wider_causes room fault agrees refuses =
-        subst (λ (b : List ℕ). Refuses c room (widening_puts w.rows more) [] b fault) (bytes_are ∙ ap roots.root_of (root_wider agrees))
+        subst (λ (b : List ℕ). Refuses c room (widening_puts w.rows more) [] b fault)
+        (bytes_are ∙ ap roots.root_of (root_wider agrees))
         (subst (λ (p : List (ℕ × List ℕ)). Refuses c room p [] bytes fault) (own_puts agrees) refuses)

@@ -2,7 +2,9 @@
 use Rattle.std.specs.Prelude.{◌≡◌, ◌⊎◌, ◌<◌, ℕ, Option, None, Some, List, [], length, map}
 use Rattle.sector_device.specs.declared.device.Sectors.{Ghosts}
 use Rattle.cube_model.specs.declared.attr.Attr.{Attr}
-use Rattle.cube_model.specs.declared.attr.Attr.TheVariants.{CustomerCity, CustomerNation, CustomerRegion, SupplierCity, SupplierNation, SupplierRegion, PartBrand1, PartCategory, PartMfgr, DateKey, DateYearmonthnum, DateYear}
+use Rattle.cube_model.specs.declared.attr.Attr.TheVariants.{CustomerCity, CustomerNation, CustomerRegion, SupplierCity}
+use Rattle.cube_model.specs.declared.attr.Attr.TheVariants.{SupplierNation, SupplierRegion, PartBrand1, PartCategory}
+use Rattle.cube_model.specs.declared.attr.Attr.TheVariants.{PartMfgr, DateKey, DateYearmonthnum, DateYear}
 use Rattle.cube_model.specs.declared.fault.Fault.{Fault}
 use Rattle.cube_model.specs.declared.fault.Fault.TheVariants.{BadQuery, Memory}
 use Rattle.cube_model.specs.declared.rows.DimRows.{DimRows}
@@ -80,16 +82,20 @@ IsChoiceFor w demanded k chosen = IsChosenFrom (choices_for w demanded) k chosen
 -- why the commit of a choice of views is refused where the device has not failed
 abbrev pub ViewsRefuse : {D : Type 0} (g : Ghosts D) → Session D g → Warehouse → List View → Fault → Type 0
 ViewsRefuse g session w views fault =
-    stores.Refuses (content_of g session) (room_of session) [] (dropped_ids w views) (roots.root_of (root_of (with_views w views))) fault
+    stores.Refuses (content_of g session) (room_of session) [] (dropped_ids w views)
+    (roots.root_of (root_of (with_views w views))) fault
 
--- Why a choice is refused where the device has not failed: too many views are asked for, or there is no memory, or its commit is refused.
+-- Why a choice is refused where the device has not failed: too many views are asked for, or there is no memory, or its
+-- commit is refused.
 abbrev pub ChooseRefuses : {D : Type 0} (g : Ghosts D) → Session D g → Warehouse → ℕ → Fault → Type 0
 ChooseRefuses g session w k fault =
     ((fault ≡ BadQuery) × (most_cuboids < k))
-    ⊎ ((fault ≡ Memory) ⊎ ((chosen : List Chosen) × IsChoice w k chosen × ViewsRefuse g session w (views_of chosen) fault))
+    ⊎ ((fault ≡ Memory)
+    ⊎ ((chosen : List Chosen) × IsChoice w k chosen × ViewsRefuse g session w (views_of chosen) fault))
 
 -- the same where some views are asked for: they may also be too many
 abbrev pub ChooseForRefuses : {D : Type 0} (g : Ghosts D) → Session D g → Warehouse → List View → ℕ → Fault → Type 0
 ChooseForRefuses g session w demanded k fault =
     ((fault ≡ BadQuery) × ((most_cuboids < k) ⊎ (most_demanded < length demanded)))
-    ⊎ ((fault ≡ Memory) ⊎ ((chosen : List Chosen) × IsChoiceFor w demanded k chosen × ViewsRefuse g session w (views_of chosen) fault))
+    ⊎ ((fault ≡ Memory)
+    ⊎ ((chosen : List Chosen) × IsChoiceFor w demanded k chosen × ViewsRefuse g session w (views_of chosen) fault))

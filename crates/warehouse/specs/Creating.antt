@@ -17,9 +17,11 @@ use Rattle.warehouse_objects.specs.Represents.{Represents}
 use Rattle.warehouse_objects.specs.Loaded.{IsLoaded}
 
 -- the store represents the warehouse of no batch, and its root is that one
-pub record MakesStore {D : Type 0} (g : Ghosts D) (device : D) (rows : DimRows) (root : PlainRoot) (store : Store D g) : Type 0 where
+pub record MakesStore {D : Type 0} (g : Ghosts D) (device : D) (rows : DimRows) (root : PlainRoot)
+    (store : Store D g) : Type 0 where
   -- until the end an image has no valid superblock, or represents it
-  pub leaves : Each (disk g device) IsBlank → LeavesOrNone (disk g device) (disk_of g store) (λ c. Represents c (fresh rows))
+  pub leaves : Each (disk g device) IsBlank
+      → LeavesOrNone (disk g device) (disk_of g store) (λ c. Represents c (fresh rows))
   pub fine : has_failed store ≡ false
   pub represents : (disk_of g store).keeps_word → Represents (content_of g store) (fresh rows)
   pub loaded : (disk_of g store).keeps_word → IsLoaded (content_of g store) rows root
@@ -27,13 +29,17 @@ pub record MakesStore {D : Type 0} (g : Ghosts D) (device : D) (rows : DimRows) 
   pub unformatted : (disk_of g store).keeps_word → HasNone (g.state device).reads
 
 -- no store was made: why, and what the device that is handed back is
-pub record RefusesToMake {D : Type 0} (g : Ghosts D) (device : D) (rows : DimRows) (fault : Fault) (back : D) : Type 0 where
-  pub leaves : Each (disk g device) IsBlank → LeavesOrNone (disk g device) (disk g back) (λ c. Represents c (fresh rows))
-  pub still_blank : fault ≢ Device → Each (disk g device) IsBlank → Each (disk g back) IsBlank
-  pub not_already : g.keeps_word back → Each (disk g device) IsBlank → fault ≢ AlreadyFormatted
-  pub only : fault ≡ AlreadyFormatted → OnlyImagesOf (disk g device) (disk g back)
-  pub spared : (HasNone (g.state device).reads → ⊥) → OnlyImagesOf (disk g device) (disk g back)
-  pub failures : fault ≡ Device → g.failed back ≡ min (g.failed device + 1) (2 ^ 64 - 1)
-  pub size : fault ≡ DeviceSize → (g.state device).size < 64
-  pub full : fault ≡ Full → LacksRoom (empty_room (g.state device).size) (dimension_puts rows) [] (root_of (first_root First))
-  pub causes : (fault ≡ AlreadyFormatted) ⊎ ((fault ≡ DeviceSize) ⊎ ((fault ≡ Device) ⊎ ((fault ≡ Full) ⊎ (fault ≡ Memory))))
+pub record RefusesToMake {D : Type 0} (g : Ghosts D) (device : D) (rows : DimRows) (fault : Fault) (back : D) : Type 0
+  where
+    pub leaves : Each (disk g device) IsBlank
+        → LeavesOrNone (disk g device) (disk g back) (λ c. Represents c (fresh rows))
+    pub still_blank : fault ≢ Device → Each (disk g device) IsBlank → Each (disk g back) IsBlank
+    pub not_already : g.keeps_word back → Each (disk g device) IsBlank → fault ≢ AlreadyFormatted
+    pub only : fault ≡ AlreadyFormatted → OnlyImagesOf (disk g device) (disk g back)
+    pub spared : (HasNone (g.state device).reads → ⊥) → OnlyImagesOf (disk g device) (disk g back)
+    pub failures : fault ≡ Device → g.failed back ≡ min (g.failed device + 1) (2 ^ 64 - 1)
+    pub size : fault ≡ DeviceSize → (g.state device).size < 64
+    pub full : fault ≡ Full
+        → LacksRoom (empty_room (g.state device).size) (dimension_puts rows) [] (root_of (first_root First))
+    pub causes : (fault ≡ AlreadyFormatted)
+        ⊎ ((fault ≡ DeviceSize) ⊎ ((fault ≡ Device) ⊎ ((fault ≡ Full) ⊎ (fault ≡ Memory))))

@@ -34,8 +34,10 @@ pub record IsSince (start : Disk) (w : Warehouse) : Type 0 where
 abbrev pub MayRepresentSince : Disk → Facts → Option Change → Content → Type 0
 MayRepresentSince start facts last c = (w : Warehouse) × MayBeFound facts last w × IsSince start w × Represents c w
 
--- Each stored cuboid holds the batches up to the target, or their grouping by its view has more cells than a cuboid can have. Or the
--- commit that brings the least of the others on is refused now, for lack of room or at the last generation.
+-- Each stored cuboid holds the batches up to the target, or their grouping by its view has more cells than a cuboid can
+-- have. Or the commit that brings the least of the others on is refused now, for lack of room or at the last
+-- generation.
 abbrev pub IsFinished : {D : Type 0} (g : Ghosts D) → Session D g → Warehouse → Type 0
 IsFinished g session w =
-    All (IsReachedOrLarge w) w.cuboids ⊎ ((fault : Fault) × ((fault ≡ Full) ⊎ (fault ≡ Worn)) × RefusesLeast g session.store w fault)
+    All (IsReachedOrLarge w) w.cuboids
+    ⊎ ((fault : Fault) × ((fault ≡ Full) ⊎ (fault ≡ Worn)) × RefusesLeast g session.store w fault)

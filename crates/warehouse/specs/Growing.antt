@@ -23,12 +23,13 @@ totals_in root = record {
   profit = root.totals.profit;
 }
 
--- What was found in the rows that a batch has so far, after the batches of a root, and the columns of these rows, unless
--- a text is too long
-pub record IsGrown (dimensions : DimRows) (root : PlainRoot) (rows : List LineOrder) (batch : GrowingBatch) : Type 0 where
-  pub found : batch.found ≡ found_in dimensions (totals_in root) rows
-  pub fits : FitColumns rows
-  pub columns : batch.found.long_text ≡ None → HaveRows rows batch.columns
+-- What was found in the rows that a batch has so far, after the batches of a root, and the columns of these rows,
+-- unless a text is too long
+pub record IsGrown (dimensions : DimRows) (root : PlainRoot) (rows : List LineOrder) (batch : GrowingBatch) : Type 0
+  where
+    pub found : batch.found ≡ found_in dimensions (totals_in root) rows
+    pub fits : FitColumns rows
+    pub columns : batch.found.long_text ≡ None → HaveRows rows batch.columns
 
 -- a batch has some rows so far, and so many more are not too many
 abbrev pub HasRoomFor : DimRows → PlainRoot → ℕ → GrowingBatch → Type 0

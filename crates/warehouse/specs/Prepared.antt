@@ -28,7 +28,8 @@ pub record IsPrepared (root : PlainRoot) (number : ℕ) (rows : List LineOrder) 
   pub of_layout : p.root.layout ≡ root.layout
   pub spelled : IsRoot p.root_bytes.items p.root
 
--- Of a batch that may follow those of a warehouse the totals with it are answered, and else the first cause to refuse it.
+-- Of a batch that may follow those of a warehouse the totals with it are answered, and else the first cause to refuse
+-- it.
 abbrev pub Admitted : Warehouse → ℕ → List LineOrder → Result StoredTotals Fault → Type 0
 Admitted w number rows (Ok totals) =
     Admits w number rows × (totals ≡ stored (totals_of (all_rows (w.batches ++ rows ∷ []))))

@@ -21,4 +21,5 @@ object_sectors c id = sectors_of_size (option_map length (bytes_of c id))
 -- how many sectors a warehouse takes in a content: the two superblocks, the catalogue, and the objects of the warehouse
 abbrev pub sectors_taken : Content → Warehouse → ℕ
 sectors_taken c w =
-    2 + (sectors_of (catalogue_bytes (length c.objects) (length c.root)) + sum_by (object_sectors c) (object_ids (root_of w)))
+    2 + (sectors_of (catalogue_bytes (length c.objects) (length c.root))
+    + sum_by (object_sectors c) (object_ids (root_of w)))

@@ -1,5 +1,6 @@
 -- What a session shows of itself, and when it represents a warehouse.
-use Rattle.std.specs.Prelude.{◌≡◌, ◌⊎◌, ℕ, ◌+◌, ◌-◌, ◌^◌, ◌<◌, ◌≤◌, min, Bool, true, false, None, Some, length, List, []}
+use Rattle.std.specs.Prelude.{◌≡◌, ◌⊎◌, ℕ, ◌+◌, ◌-◌, ◌^◌, ◌<◌, ◌≤◌, min, Bool, true, false, None, Some, length, List}
+use Rattle.std.specs.Prelude.{[]}
 use Rattle.std.proofs.Common.{sym, subst}
 use Rattle.sector_device.specs.declared.device.Sectors.{Ghosts}
 use Rattle.cube_model.specs.declared.fault.Fault.{Fault}
@@ -59,29 +60,33 @@ KeepsContent g old new = (disk_of g new).keeps_word → content_of g new ≡ con
 abbrev pub CommitsOnce : {D : Type 0} (g : Ghosts D) → Session D g → Session D g → Type 0
 CommitsOnce g old new = (disk_of g new).keeps_word → (content_of g new).generation ≡ (content_of g old).generation + 1
 
--- Why a submit is refused where the device has not failed: the first cause of the model, or one of its commit. The commit
--- puts the segment of the batch, and the root with it.
+-- Why a submit is refused where the device has not failed: the first cause of the model, or one of its commit. The
+-- commit puts the segment of the batch, and the root with it.
 abbrev pub SubmitRefuses : {D : Type 0} (g : Ghosts D) → Session D g → Warehouse → ℕ → List LineOrder → Fault → Type 0
 SubmitRefuses g session w number batch fault =
     (refusal_of w number batch ≡ Some fault)
     ⊎ (Admits w number batch
-    × stores.Refuses (content_of g session) (room_of session) (loading_puts w number batch) [] (roots.root_of (root_of (loaded w batch))) fault)
+    × stores.Refuses (content_of g session) (room_of session) (loading_puts w number batch) []
+    (roots.root_of (root_of (loaded w batch))) fault)
 
--- Why an addition of dimension rows is refused where the device has not failed: the first cause of the model, or memory in the place of one
--- that is found by building the dimensions, or a cause of its commit. The commit puts each dimension that has new rows, and the root.
+-- Why an addition of dimension rows is refused where the device has not failed: the first cause of the model, or memory
+-- in the place of one that is found by building the dimensions, or a cause of its commit. The commit puts each
+-- dimension that has new rows, and the root.
 abbrev pub AddRefuses : {D : Type 0} (g : Ghosts D) → Session D g → Warehouse → ℕ → DimRows → Fault → Type 0
 AddRefuses g session w number more fault =
     (rows_refusal_of w number more ≡ Some fault)
     ⊎ (((fault ≡ Memory) × (number_refusal w.additions number ≡ None))
     ⊎ (AdmitsRows w number more
-    × stores.Refuses (content_of g session) (room_of session) (widening_puts w.rows more) [] (roots.root_of (root_of (widened w more))) fault))
+    × stores.Refuses (content_of g session) (room_of session) (widening_puts w.rows more) []
+    (roots.root_of (root_of (widened w more))) fault))
 
 -- a query that is proper, over batches that are there
 pub record IsAsked (w : Warehouse) (as_of : ℕ) (query : Query) : Type 0 where
   pub proper : IsProper query
   pub there : as_of ≤ length w.batches
 
--- Why a query is refused where the device has not failed: it is not proper; it is, and asks for more batches than there are; or there is no memory.
+-- Why a query is refused where the device has not failed: it is not proper; it is, and asks for more batches than there
+-- are; or there is no memory.
 abbrev pub QueryRefuses : Warehouse → ℕ → Query → Fault → Type 0
 QueryRefuses w as_of query fault =
     ((fault ≡ BadQuery) × (IsProper query → ⊥))
@@ -89,9 +94,11 @@ QueryRefuses w as_of query fault =
     ⊎ ((fault ≡ Memory) × IsAsked w as_of query))
 
 -- a session that has not failed is at what its content represents
-pub is_at : {D : Type 0} (g : Ghosts D) (session : Session D g) (w : Warehouse) → has_failed session ≡ false → ((disk_of g session).keeps_word → Represents (content_of g session) w) → IsAt g session w
+pub is_at : {D : Type 0} (g : Ghosts D) (session : Session D g) (w : Warehouse) → has_failed session ≡ false
+    → ((disk_of g session).keeps_word → Represents (content_of g session) w) → IsAt g session w
 is_at g session w fine represents = record {
   fine = fine;
   represents = represents;
-  all = all_weaker (λ (c : Content). c ≡ content_of g session) (λ (c : Content). Represents c w) (disk_of g session) (λ k c e. subst (λ (x : Content). Represents x w) (sym e) (represents k)) (always_shows g session.store fine);
+  all = all_weaker (λ (c : Content). c ≡ content_of g session) (λ (c : Content). Represents c w) (disk_of g session)
+      (λ k c e. subst (λ (x : Content). Represents x w) (sym e) (represents k)) (always_shows g session.store fine);
 }

@@ -32,5 +32,7 @@ HoldsWith g session running (amid w slots) = IsAt g session w × AreRunning runn
 HoldsWith g session running broken = has_failed session ≡ true
 
 -- a command was done, and what the session and the running queries are then
-abbrev pub DoesWith : {D : Type 0} (g : Ghosts D) → Session D g → Warehouse → Slots → Command → Reply → Session D g → List (Option RunningState) → Type 0
-DoesWith g old w slots command reply new running = (after : Phase) × Ran g old (amid w slots) command reply new after × HoldsWith g new running after
+abbrev pub DoesWith : {D : Type 0} (g : Ghosts D) → Session D g → Warehouse → Slots → Command → Reply → Session D g
+    → List (Option RunningState) → Type 0
+DoesWith g old w slots command reply new running = (after : Phase) × Ran g old (amid w slots) command reply new after
+    × HoldsWith g new running after

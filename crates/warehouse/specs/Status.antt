@@ -27,4 +27,5 @@ pub record IsStatus (w : Warehouse) (generation : ℕ) (status : Status) : Type 
   pub additions : status.additions ≡ w.additions
   pub target : status.target ≡ w.target
   pub generation_is : status.generation ≡ generation
-  pub cuboids : (place : ℕ) → place < most_cuboids → IsSaidAt (slice_get w.cuboids place) (slice_index_or status.cuboids place None)
+  pub cuboids : (place : ℕ) → place < most_cuboids
+      → IsSaidAt (slice_get w.cuboids place) (slice_index_or status.cuboids place None)

@@ -12,7 +12,8 @@ refused_by (More running) = None
 refused_by (Done found) = None
 refused_by (Refused running fault) = Some fault
 
--- a step of a query that was started: one step fewer is left, or the answer comes after the last one, or it is as before
+-- a step of a query that was started: one step fewer is left, or the answer comes after the last one, or it is as
+-- before
 abbrev pub StepsTo : Started → Stepped → Type 0
 StepsTo s (More running) = (left : ℕ) × (s.left ≡ left + 1) × IsRunning running (stepped s left)
 StepsTo s (Done found) = (s.left ≡ 0) × (found ≡ answer_of s)

@@ -13,7 +13,8 @@ use Rattle.warehouse.specs.declared.prepared.Prepared.{Prepared}
 use Rattle.warehouse.specs.declared.session.Session.{Session}
 
 -- A session represents a warehouse, and an admissible batch was made ready for it. No device call was made for that
-pub record IsReady {D : Type 0} (g : Ghosts D) (session : Session D g) (w : Warehouse) (number : ℕ) (rows : List LineOrder) (prepared : Prepared) : Type 0 where
+pub record IsReady {D : Type 0} (g : Ghosts D) (session : Session D g) (w : Warehouse) (number : ℕ)
+    (rows : List LineOrder) (prepared : Prepared) : Type 0 where
   pub at : IsAt g session w
   pub prepared_is : IsPrepared session.root number rows prepared
   pub admissible : g.keeps_word (device_of session) → Admits w number rows × (prepared.root ≡ root_of (loaded w rows))

@@ -15,8 +15,8 @@ pub record IsLaidAt {D : Type 0} (g : Ghosts D) (session : Session D g) (w : War
   pub fine : has_failed session ≡ false
   pub laid : (disk_of g session).keeps_word → IsLaidOut (content_of g session) w
 
--- Why upkeep is refused where the device has not failed, by what the warehouse is then: the grouping of all batches by a view has too many
--- cells, and that is the first such view; or a commit on the way is refused.
+-- Why upkeep is refused where the device has not failed, by what the warehouse is then: the grouping of all batches by
+-- a view has too many cells, and that is the first such view; or a commit on the way is refused.
 abbrev pub UpkeepRefuses : {D : Type 0} (g : Ghosts D) → Session D g → Warehouse → Fault → Type 0
 UpkeepRefuses g session w fault =
     ((number : ℕ) × (fault ≡ TooManyCells number) × IsLeastTooLarge w number × (w.target ≡ length w.batches))

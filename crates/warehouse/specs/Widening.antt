@@ -32,10 +32,12 @@ pub record IsWidening (rows : DimRows) (root : PlainRoot) (more : DimRows) (wide
   pub puts : ArePuts (widening_puts rows more)
 
 -- A session represents a warehouse, and an admissible addition was made ready for it. No device call was made for that
-pub record IsReadyToWiden {D : Type 0} (g : Ghosts D) (session : Session D g) (w : Warehouse) (number : ℕ) (more : DimRows) (wider : Widening) : Type 0 where
+pub record IsReadyToWiden {D : Type 0} (g : Ghosts D) (session : Session D g) (w : Warehouse) (number : ℕ)
+    (more : DimRows) (wider : Widening) : Type 0 where
   pub at : IsAt g session w
   pub widening_is : IsWidening session.dims.value session.root more wider
-  pub admissible : g.keeps_word (device_of session) → AdmitsRows w number more × Agrees w session.dims.value session.root
+  pub admissible : g.keeps_word (device_of session) → AdmitsRows w number more
+      × Agrees w session.dims.value session.root
   pub still : Leaves (disk_of g session) (disk_of g session) (λ c. Represents c w)
 
 -- what a crash within its commit may leave: the warehouse as it was, or with the rows if they may be added

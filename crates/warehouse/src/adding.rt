@@ -1,5 +1,6 @@
 //! Adding rows to the dimensions of a warehouse.
-ghost use Rattle.std.specs.Prelude.{◌≡◌, ◌≢◌, ◌<◌, ◌≤◌, ◌⊎◌, ◌+◌, ◌↔◌, ℕ, true, false, Some, None, length, IfOk, IfErr, OnOk, IsErrOf};
+ghost use Rattle.std.specs.Prelude.{◌≡◌, ◌≢◌, ◌<◌, ◌≤◌, ◌⊎◌, ◌+◌, ◌↔◌, ℕ, true, false, Some, None, length, IfOk, IfErr};
+ghost use Rattle.std.specs.Prelude.{OnOk, IsErrOf};
 ghost use Rattle.std.specs.Result.{result_err};
 ghost use Rattle.cube_model.specs.declared.fault.Fault.TheVariants.{Device, Failed, Memory};
 ghost use Rattle.cube_model.specs.declared.rows.DimRows as dim_rows;
@@ -12,7 +13,8 @@ ghost use Rattle.warehouse_objects.specs.Facts.{AdmitsRows, number_refusal, rows
 ghost use Rattle.warehouse_objects.specs.Warehouse.{Warehouse};
 ghost use Rattle.warehouse_objects.specs.Represents.{Represents};
 ghost use Rattle.warehouse.specs.Refusing.{is_of_device};
-ghost use Rattle.warehouse.specs.Session.{has_failed, content_of, device_of, disk_of, IsAt, AddRefuses, Breaks, CommitsOnce, KeepsContent};
+ghost use Rattle.warehouse.specs.Session.{has_failed, content_of, device_of, disk_of, IsAt, AddRefuses, Breaks};
+ghost use Rattle.warehouse.specs.Session.{CommitsOnce, KeepsContent};
 ghost use Rattle.warehouse.specs.Widening.{IsReadyToWiden, IsWidening, WidenedOrNot};
 
 use crate::session::Session;
@@ -24,33 +26,37 @@ use warehouse_root::Layout;
 use warehouse_root::limits::MOST_ADDITIONS;
 
 impl<D: Sectors> Session<D> {
-    /// Adds rows to the dimensions under a number, or answers the first cause to refuse them. Additions are numbered from 1, apart
-    /// from batches, and may be empty. Batches, cuboids and running queries stay as they are.
+    /// Adds rows to the dimensions under a number, or answers the first cause to refuse them. Additions are numbered
+    /// from 1, apart from batches, and may be empty. Batches, cuboids and running queries stay as they are.
     ///
-    /// The causes come in this order: `Failed`, `Repeated`, `Gap`, `TooManyAdditions`, and those of `Dims::with_rows`, whose rows count
-    /// from 1 in the addition. `Memory` may come in place of one of the latter. An addition that is admissible is refused for `Worn`,
-    /// `Full`, `Memory` or `Device` alone.
+    /// The causes come in this order: `Failed`, `Repeated`, `Gap`, `TooManyAdditions`, and those of `Dims::with_rows`,
+    /// whose rows count from 1 in the addition. `Memory` may come in place of one of the latter. An addition that is
+    /// admissible is refused for `Worn`, `Full`, `Memory` or `Device` alone.
     pub fn add(&mut self, alloc: Global, number: u32, rows: &DimRows) -> Result<(), Fault>
         requires short { HaveShortTexts rows.now }
 
         // A crash at any point leaves the warehouse as it was, or with these rows if they may be added.
-        ensures leaves { (w : Warehouse) → IsAt D.Sectors self.old w → Leaves (disk_of D.Sectors self.old) (disk_of D.Sectors self.new)
+        ensures leaves { (w : Warehouse) → IsAt D.Sectors self.old w
+            → Leaves (disk_of D.Sectors self.old) (disk_of D.Sectors self.new)
             (λ c. Represents c w ⊎ (AdmitsRows w number rows.now × Represents c (widened w rows.now))) }
 
         // Then with them.
-        ensures ok { OnOk result ((w : Warehouse) → IsAt D.Sectors self.old w → IsAt D.Sectors self.new (widened w rows.now)
+        ensures ok { OnOk result ((w : Warehouse) → IsAt D.Sectors self.old w
+            → IsAt D.Sectors self.new (widened w rows.now)
             × (D.keeps_word (device_of self.new) → AdmitsRows w number rows.now)) }
 
         // After a refusal, unless the device failed, as it was at each moment.
         ensures refused { IfErr result (λ fault. fault ≢ Device → (w : Warehouse) → IsAt D.Sectors self.old w →
-            IsAt D.Sectors self.new w × Leaves (disk_of D.Sectors self.old) (disk_of D.Sectors self.new) (λ c. Represents c w)) }
+            IsAt D.Sectors self.new w
+            × Leaves (disk_of D.Sectors self.old) (disk_of D.Sectors self.new) (λ c. Represents c w)) }
 
         // One commit was made, or none.
         ensures once { OnOk result (CommitsOnce D.Sectors self.old self.new) }
         ensures kept { IfErr result (λ fault. fault ≢ Device → KeepsContent D.Sectors self.old self.new) }
 
         // When each error comes.
-        ensures causes { IfErr result (λ fault. fault ≢ Device → (w : Warehouse) → IsAt D.Sectors self.old w → D.keeps_word (device_of self.new)
+        ensures causes { IfErr result (λ fault. fault ≢ Device → (w : Warehouse) → IsAt D.Sectors self.old w
+            → D.keeps_word (device_of self.new)
             → AddRefuses D.Sectors self.old w number rows.now fault) }
         ensures failed { IsErrOf result Failed ↔ (has_failed self.old ≡ true) }
         ensures unmoved { IsErrOf result Failed → self.new ≡ self.old }
@@ -64,16 +70,19 @@ impl<D: Sectors> Session<D> {
         self.put_wider(alloc, wider)
     }
 
-    // The dimensions with rows added under a number, and what their commit puts, or the first cause to refuse them. No device call
-    // is made.
+    // The dimensions with rows added under a number, and what their commit puts, or the first cause to refuse them. No
+    // device call is made.
     fn widening(&self, alloc: Global, number: u32, rows: &DimRows) -> Result<Widening, Fault>
         requires short { HaveShortTexts rows.now }
         ensures fine { IfOk result (λ _. has_failed self.now ≡ false) }
         ensures few { IfOk result (λ _. length (content_of D.Sectors self.now).objects + 4 ≤ most_objects) }
         ensures widens { IfOk result (IsWidening self.now.dims.value self.now.root rows.now) }
-        ensures ready { IfOk result (λ wider. (w : Warehouse) → IsAt D.Sectors self.now w → IsReadyToWiden D.Sectors self.now w number rows.now wider) }
-        ensures refused { IfErr result (λ fault. (w : Warehouse) → IsAt D.Sectors self.now w → D.keeps_word (device_of self.now)
-            → (rows_refusal_of w number rows.now ≡ Some fault) ⊎ ((fault ≡ Memory) × (number_refusal w.additions number ≡ None))) }
+        ensures ready { IfOk result (λ wider. (w : Warehouse) → IsAt D.Sectors self.now w
+            → IsReadyToWiden D.Sectors self.now w number rows.now wider) }
+        ensures refused { IfErr result (λ fault. (w : Warehouse) → IsAt D.Sectors self.now w
+            → D.keeps_word (device_of self.now)
+            → (rows_refusal_of w number rows.now ≡ Some fault)
+            ⊎ ((fault ≡ Memory) × (number_refusal w.additions number ≡ None))) }
         ensures failed { IsErrOf result Failed ↔ (has_failed self.now ≡ true) }
         ensures device { IsErrOf result Device → ⊥ }
         ensures leaves { (w : Warehouse) → IsAt D.Sectors self.now w
@@ -89,15 +98,21 @@ impl<D: Sectors> Session<D> {
         requires fine { has_failed self.old ≡ false }
         requires few { length (content_of D.Sectors self.old).objects + 4 ≤ most_objects }
         requires widens { (more : dim_rows.DimRows) × IsWidening self.old.dims.value self.old.root more wider }
-        ensures leaves { (w : Warehouse) (number : ℕ) (more : dim_rows.DimRows) → IsReadyToWiden D.Sectors self.old w number more wider
+        ensures leaves { (w : Warehouse) (number : ℕ) (more : dim_rows.DimRows)
+            → IsReadyToWiden D.Sectors self.old w number more wider
             → Leaves (disk_of D.Sectors self.old) (disk_of D.Sectors self.new) (WidenedOrNot w number more) }
-        ensures ok { OnOk result ((w : Warehouse) (number : ℕ) (more : dim_rows.DimRows) → IsReadyToWiden D.Sectors self.old w number more wider
-            → IsAt D.Sectors self.new (widened w more) × (D.keeps_word (device_of self.new) → AdmitsRows w number more)) }
-        ensures refused { IfErr result (λ fault. fault ≢ Device → (w : Warehouse) (number : ℕ) (more : dim_rows.DimRows) → IsReadyToWiden D.Sectors self.old w number more wider
-            → IsAt D.Sectors self.new w × Leaves (disk_of D.Sectors self.old) (disk_of D.Sectors self.new) (λ c. Represents c w)) }
+        ensures ok { OnOk result ((w : Warehouse) (number : ℕ) (more : dim_rows.DimRows)
+            → IsReadyToWiden D.Sectors self.old w number more wider
+            → IsAt D.Sectors self.new (widened w more)
+            × (D.keeps_word (device_of self.new) → AdmitsRows w number more)) }
+        ensures refused { IfErr result (λ fault. fault ≢ Device → (w : Warehouse) (number : ℕ) (more : dim_rows.DimRows)
+            → IsReadyToWiden D.Sectors self.old w number more wider
+            → IsAt D.Sectors self.new w
+            × Leaves (disk_of D.Sectors self.old) (disk_of D.Sectors self.new) (λ c. Represents c w)) }
         ensures once { OnOk result (CommitsOnce D.Sectors self.old self.new) }
         ensures kept { IfErr result (λ fault. fault ≢ Device → KeepsContent D.Sectors self.old self.new) }
-        ensures causes { IfErr result (λ fault. fault ≢ Device → (w : Warehouse) (number : ℕ) (more : dim_rows.DimRows) → IsReadyToWiden D.Sectors self.old w number more wider
+        ensures causes { IfErr result (λ fault. fault ≢ Device → (w : Warehouse) (number : ℕ) (more : dim_rows.DimRows)
+            → IsReadyToWiden D.Sectors self.old w number more wider
             → D.keeps_word (device_of self.new) → AddRefuses D.Sectors self.old w number more fault) }
         ensures failed { IsErrOf result Failed → ⊥ }
         ensures device { IsErrOf result Device → Breaks D.Sectors self.old self.new }

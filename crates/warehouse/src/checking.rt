@@ -17,32 +17,38 @@ use std::alloc::Global;
 use warehouse_check::{Finding, checked};
 
 impl<D: Sectors> Session<D> {
-    /// The first thing that is wrong with what is stored, also where it was changed by other means than a session, or nothing. The objects
-    /// are compared with those for which the root asks, each batch is read whole and its rows are checked as those of a submit are, the
-    /// totals of the root are compared with those of the rows, and each stored cuboid is worked out anew and compared.
+    /// The first thing that is wrong with what is stored, also where it was changed by other means than a session, or
+    /// nothing. The objects are compared with those for which the root asks, each batch is read whole and its rows are
+    /// checked as those of a submit are, the totals of the root are compared with those of the rows, and each stored
+    /// cuboid is worked out anew and compared.
     ///
-    /// Where nothing is found the content has the batches that its root says; that then the runs of its cuboids follow each other by the
-    /// rules is only tested. It can fail when out of memory, and because the device does.
+    /// Where nothing is found the content has the batches that its root says; that then the runs of its cuboids follow
+    /// each other by the rules is only tested. It can fail when out of memory, and because the device does.
     pub fn check(&mut self, alloc: Global) -> Result<Option<Finding>, Fault>
         // The warehouse stays as it is, at each moment.
         ensures leaves { (w : Warehouse) → IsAt D.Sectors self.old w
             → Leaves (disk_of D.Sectors self.old) (disk_of D.Sectors self.new) (λ c. Represents c w) }
-        ensures stays { (IsErrOf result Device → ⊥) → (w : Warehouse) → IsAt D.Sectors self.old w → IsAt D.Sectors self.new w }
+        ensures stays { (IsErrOf result Device → ⊥) → (w : Warehouse) → IsAt D.Sectors self.old w
+            → IsAt D.Sectors self.new w }
         ensures reads { (IsErrOf result Device → ⊥) → KeepsContent D.Sectors self.old self.new }
 
-        // Nothing is found: then the content has its objects and batches, whatever it is, and where its cuboids are laid out by the rules,
-        // each is the grouping of its batches.
-        ensures sound { IfOk result (λ found. found ≡ None → D.keeps_word (device_of self.new) → IsChecked (content_of D.Sectors self.old)) }
-        ensures cuboids { IfOk result (λ found. found ≡ None → (w : Warehouse) → IsLaidAt D.Sectors self.old w → D.keeps_word (device_of self.new)
+        // Nothing is found: then the content has its objects and batches, whatever it is, and where its cuboids are
+        // laid out by the rules, each is the grouping of its batches.
+        ensures sound { IfOk result (λ found. found ≡ None → D.keeps_word (device_of self.new)
+            → IsChecked (content_of D.Sectors self.old)) }
+        ensures cuboids { IfOk result (λ found. found ≡ None → (w : Warehouse) → IsLaidAt D.Sectors self.old w
+            → D.keeps_word (device_of self.new)
             → All (IsSound w) w.cuboids) }
 
         // Something is found: then the content represents no warehouse. So nothing is found in a warehouse.
         ensures found { IfOk result (λ found. IsTrue (is_some found) → D.keeps_word (device_of self.new)
             → (w : Warehouse) → Represents (content_of D.Sectors self.old) w → ⊥) }
-        ensures none { IfOk result (λ found. (w : Warehouse) → IsAt D.Sectors self.old w → D.keeps_word (device_of self.new) → found ≡ None) }
+        ensures none { IfOk result (λ found. (w : Warehouse) → IsAt D.Sectors self.old w
+            → D.keeps_word (device_of self.new) → found ≡ None) }
 
         // When each error comes.
-        ensures refused { IfErr result (λ fault. fault ≢ Device → (w : Warehouse) → IsAt D.Sectors self.old w → D.keeps_word (device_of self.new) → fault ≡ Memory) }
+        ensures refused { IfErr result (λ fault. fault ≢ Device → (w : Warehouse) → IsAt D.Sectors self.old w
+            → D.keeps_word (device_of self.new) → fault ≡ Memory) }
         ensures failed { IsErrOf result Failed ↔ (has_failed self.old ≡ true) }
         ensures unmoved { IsErrOf result Failed → self.new ≡ self.old }
         ensures device { IsErrOf result Device → Breaks D.Sectors self.old self.new }

@@ -1,5 +1,6 @@
 //! Which cuboids a warehouse stores.
-ghost use Rattle.std.specs.Prelude.{◌≡◌, ◌≢◌, ◌⊎◌, ◌↔◌, ◌<◌, ◌≤◌, All, Err, List, true, false, length, map, IfErr, IfOk, IsErrOf, IsTrue, OnOk};
+ghost use Rattle.std.specs.Prelude.{◌≡◌, ◌≢◌, ◌⊎◌, ◌↔◌, ◌<◌, ◌≤◌, All, Err, List, true, false, length, map, IfErr};
+ghost use Rattle.std.specs.Prelude.{IfOk, IsErrOf, IsTrue, OnOk};
 ghost use Rattle.std.specs.Option.{option_map};
 ghost use Rattle.cube_model.specs.declared.fault.Fault.TheVariants.{BadQuery, Device, Failed, Memory};
 ghost use Rattle.lattice.specs.Views.{index_of};
@@ -9,7 +10,9 @@ ghost use Rattle.object_store.specs.Disk.{Leaves};
 ghost use Rattle.warehouse_root.specs.Limits.{most_cuboids};
 ghost use Rattle.warehouse_objects.specs.Warehouse.{Warehouse, with_views};
 ghost use Rattle.warehouse_objects.specs.Represents.{Represents};
-ghost use Rattle.warehouse.specs.Choosing.{AreTooMany, ChooseForRefuses, ChooseRefuses, IsChoice, IsChoiceFor, IsChosenFrom, ViewsRefuse, choices_asked, counts_of, lattice_asked, members_on, views_of};
+ghost use Rattle.warehouse.specs.Choosing.{AreTooMany, ChooseForRefuses, ChooseRefuses, IsChoice, IsChoiceFor};
+ghost use Rattle.warehouse.specs.Choosing.{IsChosenFrom, ViewsRefuse, choices_asked, counts_of, lattice_asked};
+ghost use Rattle.warehouse.specs.Choosing.{members_on, views_of};
 ghost use Rattle.warehouse.specs.declared.chosen.Chosen.{Chosen};
 ghost use Rattle.warehouse.specs.Session.{Breaks, CommitsOnce, IsAt, KeepsContent, device_of, disk_of, has_failed};
 
@@ -26,8 +29,9 @@ use view_choice::{MOST_DEMANDED, benefits, benefits_for, greedy, greedy_for};
 use warehouse_root::limits::MOST_CUBOIDS;
 
 impl<D: Sectors> Session<D> {
-    /// Stores the cuboids of some views, and no others, in one commit. A stored cuboid of one of them stays as it is, another
-    /// one holds no batch yet, and the target becomes 0. It always commits. At most 16 views, without ship mode.
+    /// Stores the cuboids of some views, and no others, in one commit. A stored cuboid of one of them stays as it is,
+    /// another one holds no batch yet, and the target becomes 0. It always commits. At most 16 views, without ship
+    /// mode.
     ///
     /// It can fail when out of memory or room, at the last generation, and because the device does.
     pub fn set_views(&mut self, alloc: Global, views: &[View]) -> Result<(), Fault>
@@ -35,16 +39,20 @@ impl<D: Sectors> Session<D> {
         requires known { All (λ view. index_of view < 256) views.now }
 
         // A crash leaves the cuboids as they were, or these.
-        ensures leaves { (w : Warehouse) → IsAt D.Sectors self.old w → Leaves (disk_of D.Sectors self.old) (disk_of D.Sectors self.new)
+        ensures leaves { (w : Warehouse) → IsAt D.Sectors self.old w
+            → Leaves (disk_of D.Sectors self.old) (disk_of D.Sectors self.new)
             (λ c. Represents c w ⊎ Represents c (with_views w views.now)) }
-        ensures ok { OnOk result ((w : Warehouse) → IsAt D.Sectors self.old w → IsAt D.Sectors self.new (with_views w views.now) × CommitsOnce D.Sectors self.old self.new) }
+        ensures ok { OnOk result ((w : Warehouse) → IsAt D.Sectors self.old w
+            → IsAt D.Sectors self.new (with_views w views.now) × CommitsOnce D.Sectors self.old self.new) }
 
         // After a refusal, unless the device failed, all is as it was, at each moment.
         ensures refused { IfErr result (λ fault. fault ≢ Device → (w : Warehouse) → IsAt D.Sectors self.old w →
-            IsAt D.Sectors self.new w × KeepsContent D.Sectors self.old self.new × Leaves (disk_of D.Sectors self.old) (disk_of D.Sectors self.new) (λ c. Represents c w)) }
+            IsAt D.Sectors self.new w × KeepsContent D.Sectors self.old self.new
+            × Leaves (disk_of D.Sectors self.old) (disk_of D.Sectors self.new) (λ c. Represents c w)) }
 
         // When each error comes.
-        ensures causes { IfErr result (λ fault. fault ≢ Device → (w : Warehouse) → IsAt D.Sectors self.old w → D.keeps_word (device_of self.new)
+        ensures causes { IfErr result (λ fault. fault ≢ Device → (w : Warehouse) → IsAt D.Sectors self.old w
+            → D.keeps_word (device_of self.new)
             → ViewsRefuse D.Sectors self.old w views.now fault) }
         ensures failed { IsErrOf result Failed ↔ (has_failed self.old ≡ true) }
         ensures unmoved { IsErrOf result Failed → self.new ≡ self.old }
@@ -54,24 +62,30 @@ impl<D: Sectors> Session<D> {
         self.store_views(alloc, views)
     }
 
-    /// Stores the cuboids of the greedy list of k views over the fact rows and the members of now, as `set_views` does, and
-    /// answers the list with the benefit of each view. At most 16 views.
+    /// Stores the cuboids of the greedy list of k views over the fact rows and the members of now, as `set_views` does,
+    /// and answers the list with the benefit of each view. At most 16 views.
     ///
-    /// `BadQuery` exactly where more are asked for. It can also fail when out of memory or room, at the last generation, and
-    /// because the device does.
+    /// `BadQuery` exactly where more are asked for. It can also fail when out of memory or room, at the last
+    /// generation, and because the device does.
     pub fn choose(&mut self, alloc: Global, k: u8) -> Result<Vec<Chosen>, Fault>
         // A crash leaves the cuboids as they were, or those of the choice.
-        ensures leaves { (w : Warehouse) → IsAt D.Sectors self.old w → Leaves (disk_of D.Sectors self.old) (disk_of D.Sectors self.new)
-            (λ c. Represents c w ⊎ ((chosen : List Chosen) × IsChoice w k chosen × Represents c (with_views w (views_of chosen)))) }
-        ensures ok { IfOk result (λ chosen. (w : Warehouse) → IsAt D.Sectors self.old w → IsAt D.Sectors self.new (with_views w (views_of chosen.items))
-            × CommitsOnce D.Sectors self.old self.new × (D.keeps_word (device_of self.new) → IsChoice w k chosen.items)) }
+        ensures leaves { (w : Warehouse) → IsAt D.Sectors self.old w
+            → Leaves (disk_of D.Sectors self.old) (disk_of D.Sectors self.new)
+            (λ c. Represents c w
+            ⊎ ((chosen : List Chosen) × IsChoice w k chosen × Represents c (with_views w (views_of chosen)))) }
+        ensures ok { IfOk result (λ chosen. (w : Warehouse) → IsAt D.Sectors self.old w
+            → IsAt D.Sectors self.new (with_views w (views_of chosen.items))
+            × CommitsOnce D.Sectors self.old self.new
+            × (D.keeps_word (device_of self.new) → IsChoice w k chosen.items)) }
 
         // After a refusal, unless the device failed, all is as it was, at each moment.
         ensures refused { IfErr result (λ fault. fault ≢ Device → (w : Warehouse) → IsAt D.Sectors self.old w →
-            IsAt D.Sectors self.new w × KeepsContent D.Sectors self.old self.new × Leaves (disk_of D.Sectors self.old) (disk_of D.Sectors self.new) (λ c. Represents c w)) }
+            IsAt D.Sectors self.new w × KeepsContent D.Sectors self.old self.new
+            × Leaves (disk_of D.Sectors self.old) (disk_of D.Sectors self.new) (λ c. Represents c w)) }
 
         // When each error comes.
-        ensures causes { IfErr result (λ fault. fault ≢ Device → (w : Warehouse) → IsAt D.Sectors self.old w → D.keeps_word (device_of self.new)
+        ensures causes { IfErr result (λ fault. fault ≢ Device → (w : Warehouse) → IsAt D.Sectors self.old w
+            → D.keeps_word (device_of self.new)
             → ChooseRefuses D.Sectors self.old w k fault) }
         ensures many { has_failed self.old ≡ false → most_cuboids < k → result ≡ Err BadQuery }
         ensures failed { IsErrOf result Failed ↔ (has_failed self.old ≡ true) }
@@ -89,12 +103,12 @@ impl<D: Sectors> Session<D> {
         }
     }
 
-    /// Stores the cuboids of the greedy list of k views where only some views are asked for, as often as each is among them, as
-    /// `choose` does, and answers the list with the benefit of each view: by how much it lowers the costs of these. At most 16
-    /// views, and 65,536 that are asked for.
+    /// Stores the cuboids of the greedy list of k views where only some views are asked for, as often as each is among
+    /// them, as `choose` does, and answers the list with the benefit of each view: by how much it lowers the costs of
+    /// these. At most 16 views, and 65,536 that are asked for.
     ///
-    /// `BadQuery` exactly where there are more. It can also fail when out of memory or room, at the last generation, and because
-    /// the device does.
+    /// `BadQuery` exactly where there are more. It can also fail when out of memory or room, at the last generation,
+    /// and because the device does.
     pub fn choose_for(
         &mut self,
         alloc: Global,
@@ -102,19 +116,27 @@ impl<D: Sectors> Session<D> {
         demanded: &[View],
     ) -> Result<Vec<Chosen>, Fault>
         // A crash leaves the cuboids as they were, or those of the choice.
-        ensures leaves { (w : Warehouse) → IsAt D.Sectors self.old w → Leaves (disk_of D.Sectors self.old) (disk_of D.Sectors self.new)
-            (λ c. Represents c w ⊎ ((chosen : List Chosen) × IsChoiceFor w demanded.now k chosen × Represents c (with_views w (views_of chosen)))) }
-        ensures ok { IfOk result (λ chosen. (w : Warehouse) → IsAt D.Sectors self.old w → IsAt D.Sectors self.new (with_views w (views_of chosen.items))
-            × CommitsOnce D.Sectors self.old self.new × (D.keeps_word (device_of self.new) → IsChoiceFor w demanded.now k chosen.items)) }
+        ensures leaves { (w : Warehouse) → IsAt D.Sectors self.old w
+            → Leaves (disk_of D.Sectors self.old) (disk_of D.Sectors self.new)
+            (λ c. Represents c w
+            ⊎ ((chosen : List Chosen) × IsChoiceFor w demanded.now k chosen
+            × Represents c (with_views w (views_of chosen)))) }
+        ensures ok { IfOk result (λ chosen. (w : Warehouse) → IsAt D.Sectors self.old w
+            → IsAt D.Sectors self.new (with_views w (views_of chosen.items))
+            × CommitsOnce D.Sectors self.old self.new
+            × (D.keeps_word (device_of self.new) → IsChoiceFor w demanded.now k chosen.items)) }
 
         // After a refusal, unless the device failed, all is as it was, at each moment.
         ensures refused { IfErr result (λ fault. fault ≢ Device → (w : Warehouse) → IsAt D.Sectors self.old w →
-            IsAt D.Sectors self.new w × KeepsContent D.Sectors self.old self.new × Leaves (disk_of D.Sectors self.old) (disk_of D.Sectors self.new) (λ c. Represents c w)) }
+            IsAt D.Sectors self.new w × KeepsContent D.Sectors self.old self.new
+            × Leaves (disk_of D.Sectors self.old) (disk_of D.Sectors self.new) (λ c. Represents c w)) }
 
         // When each error comes.
-        ensures causes { IfErr result (λ fault. fault ≢ Device → (w : Warehouse) → IsAt D.Sectors self.old w → D.keeps_word (device_of self.new)
+        ensures causes { IfErr result (λ fault. fault ≢ Device → (w : Warehouse) → IsAt D.Sectors self.old w
+            → D.keeps_word (device_of self.new)
             → ChooseForRefuses D.Sectors self.old w demanded.now k fault) }
-        ensures many { has_failed self.old ≡ false → (most_cuboids < k) ⊎ (most_demanded < length demanded.now) → result ≡ Err BadQuery }
+        ensures many { has_failed self.old ≡ false → (most_cuboids < k) ⊎ (most_demanded < length demanded.now)
+            → result ≡ Err BadQuery }
         ensures failed { IsErrOf result Failed ↔ (has_failed self.old ≡ true) }
         ensures unmoved { IsErrOf result Failed → self.new ≡ self.old }
         ensures device { IsErrOf result Device → Breaks D.Sectors self.old self.new }
@@ -133,12 +155,16 @@ impl<D: Sectors> Session<D> {
     // Stores the cuboids of those of some views that do not group by ship mode, and no others.
     fn store_views(&mut self, alloc: Global, views: &[View]) -> Result<(), Fault>
         requires few { length views.now ≤ most_cuboids }
-        ensures leaves { (w : Warehouse) → IsAt D.Sectors self.old w → Leaves (disk_of D.Sectors self.old) (disk_of D.Sectors self.new)
+        ensures leaves { (w : Warehouse) → IsAt D.Sectors self.old w
+            → Leaves (disk_of D.Sectors self.old) (disk_of D.Sectors self.new)
             (λ c. Represents c w ⊎ Represents c (with_views w views.now)) }
-        ensures ok { OnOk result ((w : Warehouse) → IsAt D.Sectors self.old w → IsAt D.Sectors self.new (with_views w views.now) × CommitsOnce D.Sectors self.old self.new) }
+        ensures ok { OnOk result ((w : Warehouse) → IsAt D.Sectors self.old w
+            → IsAt D.Sectors self.new (with_views w views.now) × CommitsOnce D.Sectors self.old self.new) }
         ensures refused { IfErr result (λ fault. fault ≢ Device → (w : Warehouse) → IsAt D.Sectors self.old w →
-            IsAt D.Sectors self.new w × KeepsContent D.Sectors self.old self.new × Leaves (disk_of D.Sectors self.old) (disk_of D.Sectors self.new) (λ c. Represents c w)) }
-        ensures causes { IfErr result (λ fault. fault ≢ Device → (w : Warehouse) → IsAt D.Sectors self.old w → D.keeps_word (device_of self.new)
+            IsAt D.Sectors self.new w × KeepsContent D.Sectors self.old self.new
+            × Leaves (disk_of D.Sectors self.old) (disk_of D.Sectors self.new) (λ c. Represents c w)) }
+        ensures causes { IfErr result (λ fault. fault ≢ Device → (w : Warehouse) → IsAt D.Sectors self.old w
+            → D.keeps_word (device_of self.new)
             → ViewsRefuse D.Sectors self.old w views.now fault) }
         ensures failed { IsErrOf result Failed ↔ (has_failed self.old ≡ true) }
         ensures unmoved { IsErrOf result Failed → self.new ≡ self.old }
@@ -155,19 +181,22 @@ impl<D: Sectors> Session<D> {
         }
     }
 
-    // The greedy list of k views over the fact rows and the members of now, where all views are asked for, or some. No device
-    // call is made.
+    // The greedy list of k views over the fact rows and the members of now, where all views are asked for, or some. No
+    // device call is made.
     fn choice(&self, alloc: Global, k: u8, asked: Option<&[View]>) -> Result<Choice, Fault>
-        ensures ok { IfOk result (λ choice. (w : Warehouse) → IsAt D.Sectors self.now w → D.keeps_word (device_of self.now)
+        ensures ok { IfOk result (λ choice. (w : Warehouse) → IsAt D.Sectors self.now w
+            → D.keeps_word (device_of self.now)
             → IsChosenFrom (choices_asked w (option_map (λ views. views.now) asked.entry)) k choice.chosen.items) }
         ensures views { IfOk result (λ choice. choice.views.items ≡ views_of choice.chosen.items) }
         ensures few { IfOk result (λ choice. length choice.views.items ≤ most_cuboids) }
         ensures fine { IfOk result (λ _. has_failed self.now ≡ false) }
-        ensures many { has_failed self.now ≡ false → AreTooMany k (option_map (λ views. views.now) asked.entry) → result ≡ Err BadQuery }
+        ensures many { has_failed self.now ≡ false → AreTooMany k (option_map (λ views. views.now) asked.entry)
+            → result ≡ Err BadQuery }
         ensures failed { IsErrOf result Failed ↔ (has_failed self.now ≡ true) }
         ensures causes { IfErr result (λ fault. (fault ≡ Failed)
             ⊎ (((fault ≡ BadQuery) × AreTooMany k (option_map (λ views. views.now) asked.entry)) ⊎ (fault ≡ Memory))) }
-        ensures leaves { (w : Warehouse) → IsAt D.Sectors self.now w → Leaves (disk_of D.Sectors self.now) (disk_of D.Sectors self.now) (λ c. Represents c w) }
+        ensures leaves { (w : Warehouse) → IsAt D.Sectors self.now w
+            → Leaves (disk_of D.Sectors self.now) (disk_of D.Sectors self.now) (λ c. Represents c w) }
     {
         if self.is_broken() {
             return Err(Fault::Failed);
@@ -212,9 +241,12 @@ impl Choice {
     ) -> Result<Choice, Fault>
         requires rows { rows ≤ most_fact_rows }
         requires few { AreTooMany k (option_map (λ views. views.now) asked) → ⊥ }
-        ensures greedy { IfOk result (λ choice. IsGreedy (lattice_asked rows counts.now (option_map (λ views. views.now) asked.entry)) k choice.views.items) }
+        ensures greedy { IfOk result
+            (λ choice. IsGreedy (lattice_asked rows counts.now (option_map (λ views. views.now) asked.entry)) k
+            choice.views.items) }
         ensures benefits { IfOk result (λ choice. map (λ one. one.benefit) choice.chosen.items
-            ≡ benefits (lattice_asked rows counts.now (option_map (λ views. views.now) asked.entry)) choice.views.items) }
+            ≡ benefits (lattice_asked rows counts.now (option_map (λ views. views.now) asked.entry))
+            choice.views.items) }
         ensures views { IfOk result (λ choice. choice.views.items ≡ views_of choice.chosen.items) }
         ensures memory { IfErr result (λ fault. fault ≡ Memory) }
     {
@@ -235,7 +267,9 @@ fn greedy_asked(
 ) -> Result<Vec<View>, Fault>
     requires rows { rows ≤ most_fact_rows }
     requires few { AreTooMany k (option_map (λ views. views.now) asked) → ⊥ }
-    ensures greedy { IfOk result (λ views. IsGreedy (lattice_asked rows counts.now (option_map (λ views. views.now) asked.entry)) k views.items) }
+    ensures greedy { IfOk result
+        (λ views. IsGreedy (lattice_asked rows counts.now (option_map (λ views. views.now) asked.entry)) k
+        views.items) }
     ensures memory { IfErr result (λ fault. fault ≡ Memory) }
 {
     match asked {
@@ -255,7 +289,9 @@ fn benefits_asked(
 ) -> Result<Vec<u64>, Fault>
     requires rows { rows ≤ most_fact_rows }
     requires few { AreTooMany k (option_map (λ views. views.now) asked) → ⊥ }
-    ensures benefits { IfOk result (λ found. found.items ≡ benefits (lattice_asked rows counts.now (option_map (λ views. views.now) asked.entry)) views.now) }
+    ensures benefits { IfOk result
+        (λ found. found.items ≡ benefits (lattice_asked rows counts.now (option_map (λ views. views.now) asked.entry))
+        views.now) }
     ensures memory { IfErr result (λ fault. fault ≡ Memory) }
 {
     match asked {

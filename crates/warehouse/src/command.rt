@@ -21,7 +21,8 @@ pub enum Command {
     Audit,
     /// Adds rows to the dimensions under a number.
     Add(u32, NewRows),
-    /// Starts a query in a slot from 0 to 15, over the first batches of then, so many of them. What ran there is dropped.
+    /// Starts a query in a slot from 0 to 15, over the first batches of then, so many of them. What ran there is
+    /// dropped.
     Start(u8, u32, Query),
     /// Makes the next step of the query in a slot.
     Step(u8),

@@ -1,5 +1,6 @@
 //! Comparing a batch with the one that is stored under a number.
-ghost use Rattle.std.specs.Prelude.{◌≡◌, ◌≢◌, ◌⊎◌, ◌↔◌, ◌≤◌, true, false, Some, List, length, option_map, IfErr, IfOk, IfSome, IsErrOf, IsTrue, MatchResult};
+ghost use Rattle.std.specs.Prelude.{◌≡◌, ◌≢◌, ◌⊎◌, ◌↔◌, ◌≤◌, true, false, Some, List, length, option_map, IfErr, IfOk};
+ghost use Rattle.std.specs.Prelude.{IfSome, IsErrOf, IsTrue, MatchResult};
 ghost use Rattle.cube_model.specs.declared.fault.Fault.TheVariants.{Device, Failed, Memory};
 ghost use Rattle.cube_model.specs.declared.rows.DimRows.{DimRows};
 ghost use Rattle.cube_model.specs.declared.rows.LineOrder.{LineOrder};
@@ -30,7 +31,8 @@ const PART: usize = 512;
 impl<D: Sectors> Session<D> {
     /// How many rows the stored batch of a number has. Batches are numbered from 1.
     pub fn batch_rows(&self, number: u32) -> Option<u32>
-        ensures { (w : Warehouse) → IsAt D.Sectors self.now w → D.keeps_word (device_of self.now) → result ≡ option_map length (numbered w.batches number) }
+        ensures { (w : Warehouse) → IsAt D.Sectors self.now w → D.keeps_word (device_of self.now)
+            → result ≡ option_map length (numbered w.batches number) }
     {
         kept_is_represented(&self.dims, &self.root);
         rows_of(&self.root, number)
@@ -51,18 +53,21 @@ impl<D: Sectors> Session<D> {
         // The warehouse stays as it is, at each moment.
         ensures leaves { (w : Warehouse) → IsAt D.Sectors self.old w
             → Leaves (disk_of D.Sectors self.old) (disk_of D.Sectors self.new) (λ c. Represents c w) }
-        ensures stays { (IsErrOf result Device → ⊥) → (w : Warehouse) → IsAt D.Sectors self.old w → IsAt D.Sectors self.new w }
+        ensures stays { (IsErrOf result Device → ⊥) → (w : Warehouse) → IsAt D.Sectors self.old w
+            → IsAt D.Sectors self.new w }
 
         // Nothing was put on the device, and after a failure nothing is done.
         ensures reads { (IsErrOf result Device → ⊥) → KeepsContent D.Sectors self.old self.new }
         ensures unmoved { IsErrOf result Failed → self.new ≡ self.old }
 
         // The answer is yes exactly where the batch of that number is this one.
-        ensures answer { IfOk result (λ yes. (w : Warehouse) (rows : List LineOrder) → IsAt D.Sectors self.old w → Grows self.old rows batch.now
+        ensures answer { IfOk result (λ yes. (w : Warehouse) (rows : List LineOrder) → IsAt D.Sectors self.old w
+            → Grows self.old rows batch.now
             → D.keeps_word (device_of self.new) → IsTrue yes ↔ (numbered w.batches number ≡ Some rows)) }
 
         // When each error comes.
-        ensures refused { IfErr result (λ fault. fault ≢ Device → (w : Warehouse) → IsAt D.Sectors self.old w → fault ≡ Memory) }
+        ensures refused { IfErr result (λ fault. fault ≢ Device → (w : Warehouse) → IsAt D.Sectors self.old w
+            → fault ≡ Memory) }
         ensures failed { IsErrOf result Failed ↔ (has_failed self.old ≡ true) }
         ensures device { IsErrOf result Device → Breaks D.Sectors self.old self.new }
         ensures word { D.keeps_word (device_of self.new) → D.keeps_word (device_of self.old) }
@@ -99,10 +104,13 @@ fn is_stored<D: Sectors>(
 ) -> Result<bool, Fault>
     requires fine { stores.has_failed store.old ≡ false }
     requires batch { (dimensions : DimRows) × (rows : List LineOrder) × IsGrown dimensions root.now rows batch.now }
-    ensures answer { IfOk result (λ yes. D.keeps_word (stores.device_of store.new) → (w : Warehouse) (dimensions : DimRows) (rows : List LineOrder)
-        → Represents (stores.content_of D.Sectors store.old) w → root.now ≡ root_of w → IsGrown dimensions root.now rows batch.now
+    ensures answer { IfOk result (λ yes. D.keeps_word (stores.device_of store.new)
+        → (w : Warehouse) (dimensions : DimRows) (rows : List LineOrder)
+        → Represents (stores.content_of D.Sectors store.old) w → root.now ≡ root_of w
+        → IsGrown dimensions root.now rows batch.now
         → IsTrue yes ↔ (numbered w.batches number ≡ Some rows)) }
-    ensures leaves { Leaves (stores.disk_of D.Sectors store.old) (stores.disk_of D.Sectors store.new) (λ c. c ≡ stores.content_of D.Sectors store.old) }
+    ensures leaves { Leaves (stores.disk_of D.Sectors store.old) (stores.disk_of D.Sectors store.new)
+        (λ c. c ≡ stores.content_of D.Sectors store.old) }
     ensures stays { (IsErrOf result Device → ⊥) → stores.IsStill D.Sectors store.old store.new }
     ensures device { IsErrOf result Device → stores.Breaks D.Sectors store.old store.new }
     ensures causes { IfErr result (λ fault. (fault ≡ Memory) ⊎ (fault ≡ Device)) }
@@ -122,7 +130,8 @@ fn has_object<D: Sectors>(store: &mut Store<D>, id: u32, bytes: &[u8]) -> Result
     requires fine { stores.has_failed store.old ≡ false }
     ensures same { IfOk result (λ yes. D.keeps_word (stores.device_of store.new)
         → IsTrue yes ↔ (bytes_of (stores.content_of D.Sectors store.old) id ≡ Some bytes.now)) }
-    ensures leaves { Leaves (stores.disk_of D.Sectors store.old) (stores.disk_of D.Sectors store.new) (λ c. c ≡ stores.content_of D.Sectors store.old) }
+    ensures leaves { Leaves (stores.disk_of D.Sectors store.old) (stores.disk_of D.Sectors store.new)
+        (λ c. c ≡ stores.content_of D.Sectors store.old) }
     ensures stays { (IsErrOf result Device → ⊥) → stores.IsStill D.Sectors store.old store.new }
     ensures device { IsErrOf result Device → stores.Breaks D.Sectors store.old store.new }
     ensures causes { IfErr result (λ fault. fault ≡ Device) }
@@ -132,8 +141,10 @@ fn has_object<D: Sectors>(store: &mut Store<D>, id: u32, bytes: &[u8]) -> Result
 
 // Whether the text of an id is these bytes. It is read sector by sector, up to the first one that differs.
 fn has_text<S: Source>(source: &mut S, id: u32, bytes: &[u8]) -> Result<bool, Fault>
-    ensures same { IfOk result (λ yes. S.keeps_word source.new → IsTrue yes ↔ (S.texts source.old id ≡ Some bytes.now)) }
-    ensures run { MatchResult result (λ _. HasRead S.Source source.old source.new) (λ fault. IsRefused S.Source fault source.old source.new) }
+    ensures same { IfOk result (λ yes. S.keeps_word source.new → IsTrue yes
+        ↔ (S.texts source.old id ≡ Some bytes.now)) }
+    ensures run { MatchResult result (λ _. HasRead S.Source source.old source.new)
+        (λ fault. IsRefused S.Source fault source.old source.new) }
 {
     if source.total(id) != Some(bytes.len() as u64) {
         return Ok(false);

@@ -31,22 +31,31 @@ pub fn create<D: Sectors>(alloc: Global, device: D, dims: Dims) -> Result<Sessio
         LeavesOrNone (disk D.Sectors device) (disk_of D.Sectors session) (λ c. Represents c (fresh dims))) }
     ensures leaves_err { IfErr result (λ e. Each (disk D.Sectors device) IsBlank →
         LeavesOrNone (disk D.Sectors device) (disk D.Sectors e.1) (λ c. Represents c (fresh dims))) }
-    ensures still_blank { IfErr result (λ e. e.0 ≢ Device → Each (disk D.Sectors device) IsBlank → Each (disk D.Sectors e.1) IsBlank) }
-    ensures not_already { IfErr result (λ e. D.keeps_word e.1 → Each (disk D.Sectors device) IsBlank → e.0 ≢ AlreadyFormatted) }
+    ensures still_blank { IfErr result (λ e. e.0 ≢ Device → Each (disk D.Sectors device) IsBlank
+        → Each (disk D.Sectors e.1) IsBlank) }
+    ensures not_already { IfErr result (λ e. D.keeps_word e.1 → Each (disk D.Sectors device) IsBlank
+        → e.0 ≢ AlreadyFormatted) }
 
     // Then it is at the warehouse of no batch, and every image represents it.
     ensures ok { IfOk result (λ session. IsAt D.Sectors session (fresh dims)) }
 
     // It succeeds only where reads show no valid superblock at the start. Where they show one, no sector is written.
-    ensures only { IfErr result (λ e. e.0 ≡ AlreadyFormatted → OnlyImagesOf (disk D.Sectors device) (disk D.Sectors e.1)) }
-    ensures unformatted { IfOk result (λ session. (disk_of D.Sectors session).keeps_word → HasNone (D.state device).reads) }
-    ensures spared { IfErr result (λ e. (HasNone (D.state device).reads → ⊥) → OnlyImagesOf (disk D.Sectors device) (disk D.Sectors e.1)) }
+    ensures only { IfErr result
+        (λ e. e.0 ≡ AlreadyFormatted → OnlyImagesOf (disk D.Sectors device) (disk D.Sectors e.1)) }
+    ensures unformatted { IfOk result (λ session. (disk_of D.Sectors session).keeps_word
+        → HasNone (D.state device).reads) }
+    ensures spared { IfErr result (λ e. (HasNone (D.state device).reads → ⊥)
+        → OnlyImagesOf (disk D.Sectors device) (disk D.Sectors e.1)) }
 
     // When each error comes.
     ensures device { IfErr result (λ e. e.0 ≡ Device → D.failed e.1 ≡ min (D.failed device + 1) (2 ^ 64 - 1)) }
     ensures size { IfErr result (λ e. e.0 ≡ DeviceSize → (D.state device).size < 64) }
-    ensures full { IfErr result (λ e. e.0 ≡ Full → LacksRoom (empty_room (D.state device).size) (dimension_puts dims) [] (roots.root_of (roots.first_root First))) }
-    ensures causes { IfErr result (λ e. (e.0 ≡ AlreadyFormatted) ⊎ ((e.0 ≡ DeviceSize) ⊎ ((e.0 ≡ Device) ⊎ ((e.0 ≡ Full) ⊎ (e.0 ≡ Memory))))) }
+    ensures full { IfErr result
+        (λ e. e.0 ≡ Full
+        → LacksRoom (empty_room (D.state device).size) (dimension_puts dims) []
+        (roots.root_of (roots.first_root First))) }
+    ensures causes { IfErr result
+        (λ e. (e.0 ≡ AlreadyFormatted) ⊎ ((e.0 ≡ DeviceSize) ⊎ ((e.0 ≡ Device) ⊎ ((e.0 ≡ Full) ⊎ (e.0 ≡ Memory))))) }
 {
     let beginning = match Beginning::of(alloc, &dims) {
         Ok(beginning) => beginning,

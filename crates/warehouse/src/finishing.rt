@@ -17,15 +17,18 @@ use sector_device::Sectors;
 use std::alloc::Global;
 
 impl<D: Sectors> Session<D> {
-    // Brings each stored cuboid to the target, by ascending view and in one commit each. It passes over those that would have too
-    // many cells, and ends where a commit has no room, and at the last generation.
+    // Brings each stored cuboid to the target, by ascending view and in one commit each. It passes over those that
+    // would have too many cells, and ends where a commit has no room, and at the last generation.
     pub(crate) fn finish(&mut self, alloc: Global) -> Result<(), Fault>
         requires fine { has_failed self.old ≡ false }
-        ensures leaves { (w : Warehouse) → IsAt D.Sectors self.old w → Leaves (disk_of D.Sectors self.old) (disk_of D.Sectors self.new)
+        ensures leaves { (w : Warehouse) → IsAt D.Sectors self.old w
+            → Leaves (disk_of D.Sectors self.old) (disk_of D.Sectors self.new)
             (λ c. (v : Warehouse) × IsCaughtUp w v × Represents c v) }
-        ensures ok { OnOk result ((w : Warehouse) → IsAt D.Sectors self.old w → (v : Warehouse) × IsCaughtUp w v × IsAt D.Sectors self.new v
+        ensures ok { OnOk result ((w : Warehouse) → IsAt D.Sectors self.old w → (v : Warehouse) × IsCaughtUp w v
+            × IsAt D.Sectors self.new v
             × (D.keeps_word (device_of self.new) → IsFinished D.Sectors self.new v)) }
-        ensures readable { IsErrOf result BadLayout → D.keeps_word (device_of self.new) → (w : Warehouse) → IsAt D.Sectors self.old w → ⊥ }
+        ensures readable { IsErrOf result BadLayout → D.keeps_word (device_of self.new) → (w : Warehouse)
+            → IsAt D.Sectors self.old w → ⊥ }
         ensures causes { IfErr result (λ fault. (fault ≡ Memory) ⊎ ((fault ≡ Device) ⊎ (fault ≡ BadLayout))) }
         ensures device { IsErrOf result Device → Breaks D.Sectors self.old self.new }
         ensures word { D.keeps_word (device_of self.new) → D.keeps_word (device_of self.old) }

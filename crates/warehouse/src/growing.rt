@@ -1,5 +1,6 @@
 //! A batch that grows by rows until it is submitted.
-ghost use Rattle.std.specs.Prelude.{◌≡◌, ◌≢◌, ◌≤◌, ◌<◌, ◌↔◌, ◌++◌, [], List, None, true, false, length, IfErr, IfNone, IfOk, IfSome, IsErrOf, IsOkUnless, OnOk};
+ghost use Rattle.std.specs.Prelude.{◌≡◌, ◌≢◌, ◌≤◌, ◌<◌, ◌↔◌, ◌++◌, [], List, None, true, false, length, IfErr, IfNone};
+ghost use Rattle.std.specs.Prelude.{IfOk, IfSome, IsErrOf, IsOkUnless, OnOk};
 ghost use Rattle.batch_admission.specs.Found.{cause_of, found_in};
 ghost use Rattle.cube_model.specs.declared.fault.Fault.TheVariants.{Device, Failed, Memory};
 ghost use Rattle.cube_model.specs.declared.rows.DimRows.{DimRows};
@@ -11,7 +12,8 @@ ghost use Rattle.object_store.specs.Disk.{Leaves};
 ghost use Rattle.warehouse.specs.Growing.{IsGrown, totals_in};
 ghost use Rattle.warehouse.specs.Prepared.{Admitted, IsPrepared, MayFollow, Prepares};
 ghost use Rattle.warehouse.specs.Refusing.{is_of_device};
-ghost use Rattle.warehouse.specs.Session.{Breaks, CommitsOnce, IsAt, KeepsContent, SubmitRefuses, content_of, device_of, disk_of, has_failed};
+ghost use Rattle.warehouse.specs.Session.{Breaks, CommitsOnce, IsAt, KeepsContent, SubmitRefuses, content_of};
+ghost use Rattle.warehouse.specs.Session.{device_of, disk_of, has_failed};
 ghost use Rattle.warehouse.specs.Submitting.{WithOrWithout};
 ghost use Rattle.warehouse_objects.specs.Facts.{Admits};
 ghost use Rattle.warehouse_objects.specs.Represents.{Represents, root_of};
@@ -30,8 +32,8 @@ use std::alloc::Global;
 use warehouse_objects::numbers_fit;
 use warehouse_root::{Root, StoredTotals};
 
-/// A batch that grows by rows until it is submitted to the session that began it, or compared with one that is stored. Its
-/// rows are checked and written as columns as they come, and are not kept.
+/// A batch that grows by rows until it is submitted to the session that began it, or compared with one that is stored.
+/// Its rows are checked and written as columns as they come, and are not kept.
 #[derive(Drop)]
 pub struct GrowingBatch {
     pub(crate) found: Findings,
@@ -43,13 +45,15 @@ impl GrowingBatch {
 
     /// How many rows it has.
     pub fn row_count(&self) -> u32
-        ensures count { (dimensions : DimRows) (root : PlainRoot) (rows : List LineOrder) → IsGrown dimensions root rows self.now → result ≡ length rows }
+        ensures count { (dimensions : DimRows) (root : PlainRoot) (rows : List LineOrder)
+            → IsGrown dimensions root rows self.now → result ≡ length rows }
         ensures few { result ≤ most_batch_rows }
     {
         self.found.row_count()
     }
 
-    /// The first cause in its rows so far to refuse it: a text that is too long, an unknown key, or a sum past its limit.
+    /// The first cause in its rows so far to refuse it: a text that is too long, an unknown key, or a sum past its
+    /// limit.
     pub fn cause(&self) -> Option<Fault>
         ensures { result ≡ cause_of self.now.found }
     {
@@ -57,7 +61,7 @@ impl GrowingBatch {
     }
 
     // A batch of no row after those of a root, with room for so many.
-    fn behind(alloc: Global, root: &Root, rows: usize) -> Result<GrowingBatch, Fault>
+    fn after(alloc: Global, root: &Root, rows: usize) -> Result<GrowingBatch, Fault>
         ensures ok { IfOk result (λ batch. (dimensions : DimRows) → IsGrown dimensions root.now [] batch) }
         ensures memory { IfErr result (λ fault. fault ≡ Memory) }
     {
@@ -83,10 +87,13 @@ impl GrowingBatch {
 
     // The bytes of the batch of a number. Nothing where a text is too long to be stored.
     pub(crate) fn segment(&self, alloc: Global, number: u32) -> Result<Option<Vec<u8>>, Fault>
-        requires grown { (dimensions : DimRows) × (root : PlainRoot) × (rows : List LineOrder) × IsGrown dimensions root rows self.now }
-        ensures spelled { IfOk result (λ found. (dimensions : DimRows) (root : PlainRoot) (rows : List LineOrder) → IsGrown dimensions root rows self.now
+        requires grown { (dimensions : DimRows) × (root : PlainRoot) × (rows : List LineOrder)
+            × IsGrown dimensions root rows self.now }
+        ensures spelled { IfOk result (λ found. (dimensions : DimRows) (root : PlainRoot) (rows : List LineOrder)
+            → IsGrown dimensions root rows self.now
             → IfSome found (λ bytes. (bytes.items ≡ segment_of number rows) × IsBatch rows)) }
-        ensures long { IfOk result (λ found. (dimensions : DimRows) (root : PlainRoot) (rows : List LineOrder) → IsGrown dimensions root rows self.now
+        ensures long { IfOk result (λ found. (dimensions : DimRows) (root : PlainRoot) (rows : List LineOrder)
+            → IsGrown dimensions root rows self.now
             → IfNone found (long_text 1 rows ≢ None)) }
         ensures memory { IfErr result (λ fault. fault ≡ Memory) }
     {
@@ -100,8 +107,10 @@ impl GrowingBatch {
     // Makes the batch ready after those of a root, or answers the first cause to refuse it, or `Memory`.
     fn prepared(&self, alloc: Global, root: &Root, number: u32) -> Result<Prepared, Fault>
         requires grown { (dimensions : DimRows) × (rows : List LineOrder) × IsGrown dimensions root.now rows self.now }
-        ensures ready { IfOk result (λ p. (dimensions : DimRows) (rows : List LineOrder) → IsGrown dimensions root.now rows self.now → IsPrepared root.now number rows p) }
-        ensures model { (w : Warehouse) (rows : List LineOrder) → root_of w ≡ root.now → IsGrown w.rows root.now rows self.now → Prepares w number rows result }
+        ensures ready { IfOk result (λ p. (dimensions : DimRows) (rows : List LineOrder)
+            → IsGrown dimensions root.now rows self.now → IsPrepared root.now number rows p) }
+        ensures model { (w : Warehouse) (rows : List LineOrder) → root_of w ≡ root.now
+            → IsGrown w.rows root.now rows self.now → Prepares w number rows result }
         ensures apart { IfErr result (λ fault. is_of_device fault ≡ false) }
     {
         let totals = admitted(root, number, &self.found)?;
@@ -113,16 +122,17 @@ impl GrowingBatch {
 impl<D: Sectors> Session<D> {
     ghost use Rattle.warehouse.specs.Growing.{CanGrow, Grows, IsOfSession};
 
-    /// A batch of no row yet, after those that are there, with room for so many rows. It can only fail when out of memory.
+    /// A batch of no row yet, after those that are there, with room for so many rows. It can only fail when out of
+    /// memory.
     pub fn begin_batch(&self, alloc: Global, rows: usize) -> Result<GrowingBatch, Fault>
         ensures ok { IfOk result (Grows self.now []) }
         ensures memory { IfErr result (λ fault. fault ≡ Memory) }
     {
-        GrowingBatch::behind(alloc, &self.root, rows)
+        GrowingBatch::after(alloc, &self.root, rows)
     }
 
-    /// Adds rows to a batch of this session, with which it has at most 65,536. A cause to refuse it is answered when it is
-    /// submitted. It can only fail when out of memory.
+    /// Adds rows to a batch of this session, with which it has at most 65,536. A cause to refuse it is answered when it
+    /// is submitted. It can only fail when out of memory.
     pub fn add_rows(
         &self,
         alloc: Global,
@@ -130,7 +140,8 @@ impl<D: Sectors> Session<D> {
         rows: &[LineOrder],
     ) -> Result<(), Fault>
         requires few { CanGrow self.now (length rows.now) batch.old }
-        ensures ok { OnOk result ((before : List LineOrder) → Grows self.now before batch.old → Grows self.now (before ++ rows.now) batch.new) }
+        ensures ok { OnOk result ((before : List LineOrder) → Grows self.now before batch.old
+            → Grows self.now (before ++ rows.now) batch.new) }
         ensures memory { IsOkUnless result Memory }
     {
         batch.push(alloc, &self.dims, rows)
@@ -146,24 +157,29 @@ impl<D: Sectors> Session<D> {
         requires batch { IsOfSession self.old batch.now }
 
         // A crash at any point leaves the warehouse as it was, or with this batch if it is admissible.
-        ensures leaves { (w : Warehouse) (rows : List LineOrder) → IsAt D.Sectors self.old w → Grows self.old rows batch.now
+        ensures leaves { (w : Warehouse) (rows : List LineOrder) → IsAt D.Sectors self.old w
+            → Grows self.old rows batch.now
             → Leaves (disk_of D.Sectors self.old) (disk_of D.Sectors self.new) (WithOrWithout w number rows) }
 
         // Then with it.
-        ensures ok { OnOk result ((w : Warehouse) (rows : List LineOrder) → IsAt D.Sectors self.old w → Grows self.old rows batch.now
+        ensures ok { OnOk result ((w : Warehouse) (rows : List LineOrder) → IsAt D.Sectors self.old w
+            → Grows self.old rows batch.now
             → IsAt D.Sectors self.new (loaded w rows) × (D.keeps_word (device_of self.new) → Admits w number rows)) }
 
         // After a refusal, unless the device failed, as it was at each moment.
         ensures refused { IfErr result (λ fault. fault ≢ Device → (w : Warehouse) → IsAt D.Sectors self.old w →
-            IsAt D.Sectors self.new w × Leaves (disk_of D.Sectors self.old) (disk_of D.Sectors self.new) (λ c. Represents c w)) }
+            IsAt D.Sectors self.new w
+            × Leaves (disk_of D.Sectors self.old) (disk_of D.Sectors self.new) (λ c. Represents c w)) }
 
         // One commit was made, or none.
         ensures once { OnOk result (CommitsOnce D.Sectors self.old self.new) }
         ensures kept { IfErr result (λ fault. fault ≢ Device → KeepsContent D.Sectors self.old self.new) }
 
         // When each error comes.
-        ensures causes { IfErr result (λ fault. fault ≢ Device → (w : Warehouse) (rows : List LineOrder) → IsAt D.Sectors self.old w
-            → Grows self.old rows batch.now → D.keeps_word (device_of self.new) → SubmitRefuses D.Sectors self.old w number rows fault) }
+        ensures causes { IfErr result (λ fault. fault ≢ Device → (w : Warehouse) (rows : List LineOrder)
+            → IsAt D.Sectors self.old w
+            → Grows self.old rows batch.now → D.keeps_word (device_of self.new)
+            → SubmitRefuses D.Sectors self.old w number rows fault) }
         ensures failed { IsErrOf result Failed ↔ (has_failed self.old ≡ true) }
         ensures unmoved { IsErrOf result Failed → self.new ≡ self.old }
         ensures device { IsErrOf result Device → Breaks D.Sectors self.old self.new }
@@ -186,8 +202,10 @@ impl<D: Sectors> Session<D> {
         requires batch { IsOfSession self.now batch.now }
         ensures fine { IfOk result (λ _. has_failed self.now ≡ false) }
         ensures few { IfOk result (λ _. length (content_of D.Sectors self.now).objects < most_objects) }
-        ensures ready { IfOk result (λ p. (rows : List LineOrder) → Grows self.now rows batch.now → IsPrepared self.now.root number rows p) }
-        ensures model { (w : Warehouse) (rows : List LineOrder) → IsAt D.Sectors self.now w → Grows self.now rows batch.now
+        ensures ready { IfOk result (λ p. (rows : List LineOrder) → Grows self.now rows batch.now
+            → IsPrepared self.now.root number rows p) }
+        ensures model { (w : Warehouse) (rows : List LineOrder) → IsAt D.Sectors self.now w
+            → Grows self.now rows batch.now
             → D.keeps_word (device_of self.now) → Prepares w number rows result }
         ensures failed { IsErrOf result Failed ↔ (has_failed self.now ≡ true) }
         ensures device { IsErrOf result Device → ⊥ }
@@ -201,11 +219,13 @@ impl<D: Sectors> Session<D> {
 
 // The totals with those of a further batch, by what was found in its rows, or the first cause to refuse it.
 fn admitted(root: &Root, number: u32, found: &Findings) -> Result<StoredTotals, Fault>
-    ensures follows { IfOk result (λ _. (dimensions : DimRows) (rows : List LineOrder) → found.now ≡ found_in dimensions (totals_in root.now) rows
+    ensures follows { IfOk result (λ _. (dimensions : DimRows) (rows : List LineOrder)
+        → found.now ≡ found_in dimensions (totals_in root.now) rows
         → MayFollow (length root.now.batches) number rows) }
     ensures clean { IfOk result (λ _. cause_of found.now ≡ None) }
     ensures proper { IfOk result AreProperTotals }
-    ensures model { (w : Warehouse) (rows : List LineOrder) → root_of w ≡ root.now → found.now ≡ found_in w.rows (totals_in root.now) rows
+    ensures model { (w : Warehouse) (rows : List LineOrder) → root_of w ≡ root.now
+        → found.now ≡ found_in w.rows (totals_in root.now) rows
         → Admitted w number rows result }
     ensures apart { IfErr result (λ fault. is_of_device fault ≡ false) }
 {

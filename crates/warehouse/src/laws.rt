@@ -1,12 +1,13 @@
 //! Laws of the definitions: each function proves the statement that its contract names, and does nothing.
-ghost use Rattle.warehouse.specs.Headline.{FewerIsNotFound, LaterCrashIsFound, RestartedShows, CrashedCreateIsFound, CrashedOpenIsFound, CrashedRunIsFound};
+ghost use Rattle.warehouse.specs.Headline.{FewerIsNotFound, LaterCrashIsFound, RestartedShows, CrashedCreateIsFound};
+ghost use Rattle.warehouse.specs.Headline.{CrashedOpenIsFound, CrashedRunIsFound};
 
 use sector_device::Sectors;
 use warehouse_objects::laws::content_is_one_warehouse;
 
-/// However a run of commands crashes, before, between or within its device calls: the restarted device has a prefix of the
-/// submitted batches with every acknowledged one. By its contract, opening finds this one, also where it crashes and is run
-/// again.
+/// However a run of commands crashes, before, between or within its device calls: the restarted device has a prefix of
+/// the submitted batches with every acknowledged one. By its contract, opening finds this one, also where it crashes
+/// and is run again.
 pub fn crashed_run_is_found<D: Sectors>()
     ensures { CrashedRunIsFound D.Sectors }
 {}

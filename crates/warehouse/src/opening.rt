@@ -25,32 +25,40 @@ use std::rc::Rc;
 use warehouse_objects::{has_its_objects, read_dims, read_root};
 use warehouse_root::Root;
 
-/// Finds the warehouse on a device, also one that was not restarted, and finishes an upkeep that was cut off. A refusal hands the
-/// device back.
+/// Finds the warehouse on a device, also one that was not restarted, and finishes an upkeep that was cut off. A refusal
+/// hands the device back.
 ///
-/// It reads the root and the dimensions. Then it brings each stored cuboid that holds fewer batches than the target to it, by
-/// ascending view and in one commit each; the target stays. A cuboid that would have more than 262,144 cells is passed over. Where
-/// there is no room for a commit, and at the last generation, the others are left as they are. Where memory is missing or the
-/// device fails, cuboids that were brought on stay so.
+/// It reads the root and the dimensions. Then it brings each stored cuboid that holds fewer batches than the target to
+/// it, by ascending view and in one commit each; the target stays. A cuboid that would have more than 262,144 cells is
+/// passed over. Where there is no room for a commit, and at the last generation, the others are left as they are. Where
+/// memory is missing or the device fails, cuboids that were brought on stay so.
 pub fn open<D: Sectors>(alloc: Global, device: D) -> Result<Session<D>, (Fault, D)>
     // Where every image at the start represents batches that may be found, each at any point represents such.
     ensures leaves { IfOk result (λ session. (facts : Facts) (last : Option Change) →
-        AllShow (disk D.Sectors device) (MayRepresent facts last) → Leaves (disk D.Sectors device) (disk_of D.Sectors session) (MayRepresentSince (disk D.Sectors device) facts last)) }
+        AllShow (disk D.Sectors device) (MayRepresent facts last)
+        → Leaves (disk D.Sectors device) (disk_of D.Sectors session)
+        (MayRepresentSince (disk D.Sectors device) facts last)) }
     ensures leaves_err { IfErr result (λ e. (facts : Facts) (last : Option Change) →
-        AllShow (disk D.Sectors device) (MayRepresent facts last) → Leaves (disk D.Sectors device) (disk D.Sectors e.1) (MayRepresentSince (disk D.Sectors device) facts last)) }
+        AllShow (disk D.Sectors device) (MayRepresent facts last)
+        → Leaves (disk D.Sectors device) (disk D.Sectors e.1)
+        (MayRepresentSince (disk D.Sectors device) facts last)) }
 
     // Then it is at one of them, and every image represents that one. Its cuboids hold the batches up to the target.
     ensures ok { IfOk result (λ session. (facts : Facts) (last : Option Change) →
         AllShow (disk D.Sectors device) (MayRepresent facts last) → D.keeps_word (device_of session)
-        → (w : Warehouse) × MayBeFound facts last w × IsSince (disk D.Sectors device) w × IsAt D.Sectors session w × IsFinished D.Sectors session w) }
+        → (w : Warehouse) × MayBeFound facts last w × IsSince (disk D.Sectors device) w × IsAt D.Sectors session w
+        × IsFinished D.Sectors session w) }
 
     // Where every image at the start represents a warehouse, it never finds none: it refuses for memory or the device.
     ensures never { IfErr result (λ e. (facts : Facts) (last : Option Change) →
-        AllShow (disk D.Sectors device) (MayRepresent facts last) → D.keeps_word e.1 → (e.0 ≡ Memory) ⊎ (e.0 ≡ Device)) }
+        AllShow (disk D.Sectors device) (MayRepresent facts last) → D.keeps_word e.1 → (e.0 ≡ Memory)
+        ⊎ (e.0 ≡ Device)) }
     ensures device { IfErr result (λ e. e.0 ≡ Device → D.failed e.1 ≡ min (D.failed device + 1) (2 ^ 64 - 1)) }
     ensures unformatted { IfErr result (λ e. e.0 ≡ NotFormatted → D.keeps_word e.1 → HasNone (D.state device).reads) }
-    ensures explained { IfErr result (λ e. e.0 ≢ BadLayout → D.keeps_word e.1 → Explains e.0 (D.state device).size (D.state device).reads) }
-    ensures blank { IfErr result (λ e. e.0 ≡ BadLayout → D.keeps_word e.1 → Each (disk D.Sectors device) IsBlank → HasNone (D.state device).reads → ⊥) }
+    ensures explained { IfErr result (λ e. e.0 ≢ BadLayout → D.keeps_word e.1
+        → Explains e.0 (D.state device).size (D.state device).reads) }
+    ensures blank { IfErr result (λ e. e.0 ≡ BadLayout → D.keeps_word e.1 → Each (disk D.Sectors device) IsBlank
+        → HasNone (D.state device).reads → ⊥) }
     ensures causes { IfErr result (λ e. (e.0 ≡ Memory) ⊎ ((e.0 ≡ Device) ⊎ (is_of_layout e.0 ≡ true))) }
 {
     let mut session = match open_as_is(alloc, device) {
@@ -63,16 +71,20 @@ pub fn open<D: Sectors>(alloc: Global, device: D) -> Result<Session<D>, (Fault, 
     }
 }
 
-/// Finds the warehouse on a device, also one that was not restarted, and leaves it as it is, for a reader of a device that may not be
-/// written. A refusal hands the device back.
+/// Finds the warehouse on a device, also one that was not restarted, and leaves it as it is, for a reader of a device
+/// that may not be written. A refusal hands the device back.
 ///
 /// It reads the root and the dimensions, and no batch. It commits nothing: an upkeep that was cut off stays so.
 pub fn open_as_is<D: Sectors>(alloc: Global, device: D) -> Result<Session<D>, (Fault, D)>
     // Where every image at the start represents batches that may be found, each at any point represents such.
     ensures leaves { IfOk result (λ session. (facts : Facts) (last : Option Change) →
-        AllShow (disk D.Sectors device) (MayRepresent facts last) → Leaves (disk D.Sectors device) (disk_of D.Sectors session) (MayRepresentSince (disk D.Sectors device) facts last)) }
+        AllShow (disk D.Sectors device) (MayRepresent facts last)
+        → Leaves (disk D.Sectors device) (disk_of D.Sectors session)
+        (MayRepresentSince (disk D.Sectors device) facts last)) }
     ensures leaves_err { IfErr result (λ e. (facts : Facts) (last : Option Change) →
-        AllShow (disk D.Sectors device) (MayRepresent facts last) → Leaves (disk D.Sectors device) (disk D.Sectors e.1) (MayRepresentSince (disk D.Sectors device) facts last)) }
+        AllShow (disk D.Sectors device) (MayRepresent facts last)
+        → Leaves (disk D.Sectors device) (disk D.Sectors e.1)
+        (MayRepresentSince (disk D.Sectors device) facts last)) }
 
     // Then it is at one of them, and every image represents that one.
     ensures ok { IfOk result (λ session. (facts : Facts) (last : Option Change) →
@@ -81,17 +93,21 @@ pub fn open_as_is<D: Sectors>(alloc: Global, device: D) -> Result<Session<D>, (F
 
     // It holds what an image at the start showed.
     ensures fine { IfOk result (λ session. has_failed session ≡ false) }
-    ensures shown { IfOk result (λ session. D.keeps_word (device_of session) → IsShown (disk D.Sectors device) (content_of D.Sectors session)) }
+    ensures shown { IfOk result (λ session. D.keeps_word (device_of session)
+        → IsShown (disk D.Sectors device) (content_of D.Sectors session)) }
     ensures word { IfOk result (λ session. D.keeps_word (device_of session) → D.keeps_word device) }
     ensures failures { IfOk result (λ session. D.failed (device_of session) ≡ D.failed device) }
 
     // Where every image at the start represents a warehouse, it never finds none: it refuses for memory or the device.
     ensures never { IfErr result (λ e. (facts : Facts) (last : Option Change) →
-        AllShow (disk D.Sectors device) (MayRepresent facts last) → D.keeps_word e.1 → (e.0 ≡ Memory) ⊎ (e.0 ≡ Device)) }
+        AllShow (disk D.Sectors device) (MayRepresent facts last) → D.keeps_word e.1 → (e.0 ≡ Memory)
+        ⊎ (e.0 ≡ Device)) }
     ensures device { IfErr result (λ e. e.0 ≡ Device → D.failed e.1 ≡ min (D.failed device + 1) (2 ^ 64 - 1)) }
     ensures unformatted { IfErr result (λ e. e.0 ≡ NotFormatted → D.keeps_word e.1 → HasNone (D.state device).reads) }
-    ensures explained { IfErr result (λ e. e.0 ≢ BadLayout → D.keeps_word e.1 → Explains e.0 (D.state device).size (D.state device).reads) }
-    ensures blank { IfErr result (λ e. e.0 ≡ BadLayout → D.keeps_word e.1 → Each (disk D.Sectors device) IsBlank → HasNone (D.state device).reads → ⊥) }
+    ensures explained { IfErr result (λ e. e.0 ≢ BadLayout → D.keeps_word e.1
+        → Explains e.0 (D.state device).size (D.state device).reads) }
+    ensures blank { IfErr result (λ e. e.0 ≡ BadLayout → D.keeps_word e.1 → Each (disk D.Sectors device) IsBlank
+        → HasNone (D.state device).reads → ⊥) }
     ensures causes { IfErr result (λ e. (e.0 ≡ Memory) ⊎ ((e.0 ≡ Device) ⊎ (is_of_layout e.0 ≡ true))) }
 {
     let store = match Store::open(alloc, device) {
@@ -108,12 +124,20 @@ pub fn open_as_is<D: Sectors>(alloc: Global, device: D) -> Result<Session<D>, (F
 fn load<D: Sectors>(alloc: Global, mut store: Store<D>) -> Result<Session<D>, (Fault, D)>
     requires fine { stores.has_failed store ≡ false }
     ensures fine { IfOk result (λ session. has_failed session ≡ false) }
-    ensures content { IfOk result (λ session. (disk_of D.Sectors session).keeps_word → content_of D.Sectors session ≡ stores.content_of D.Sectors store) }
-    ensures failures { IfOk result (λ session. (disk_of D.Sectors session).failures ≡ (stores.disk_of D.Sectors store).failures) }
-    ensures leaves { IfOk result (λ session. Leaves (stores.disk_of D.Sectors store) (disk_of D.Sectors session) (λ c. c ≡ stores.content_of D.Sectors store)) }
-    ensures leaves_err { IfErr result (λ e. Leaves (stores.disk_of D.Sectors store) (disk D.Sectors e.1) (λ c. c ≡ stores.content_of D.Sectors store)) }
-    ensures readable { IfErr result (λ e. e.0 ≡ BadLayout → D.keeps_word e.1 → (w : Warehouse) → Represents (stores.content_of D.Sectors store) w → ⊥) }
-    ensures device { IfErr result (λ e. e.0 ≡ Device → D.failed e.1 ≡ min ((stores.disk_of D.Sectors store).failures + 1) (2 ^ 64 - 1)) }
+    ensures content { IfOk result (λ session. (disk_of D.Sectors session).keeps_word
+        → content_of D.Sectors session ≡ stores.content_of D.Sectors store) }
+    ensures failures { IfOk result
+        (λ session. (disk_of D.Sectors session).failures ≡ (stores.disk_of D.Sectors store).failures) }
+    ensures leaves { IfOk result
+        (λ session. Leaves (stores.disk_of D.Sectors store) (disk_of D.Sectors session)
+        (λ c. c ≡ stores.content_of D.Sectors store)) }
+    ensures leaves_err { IfErr result
+        (λ e. Leaves (stores.disk_of D.Sectors store) (disk D.Sectors e.1)
+        (λ c. c ≡ stores.content_of D.Sectors store)) }
+    ensures readable { IfErr result (λ e. e.0 ≡ BadLayout → D.keeps_word e.1 → (w : Warehouse)
+        → Represents (stores.content_of D.Sectors store) w → ⊥) }
+    ensures device { IfErr result
+        (λ e. e.0 ≡ Device → D.failed e.1 ≡ min ((stores.disk_of D.Sectors store).failures + 1) (2 ^ 64 - 1)) }
     ensures causes { IfErr result (λ e. (e.0 ≡ Memory) ⊎ ((e.0 ≡ Device) ⊎ (e.0 ≡ BadLayout))) }
 {
     match read(alloc, &mut store) {
@@ -125,10 +149,12 @@ fn load<D: Sectors>(alloc: Global, mut store: Store<D>) -> Result<Session<D>, (F
 // The dimensions and the root of the warehouse that the content of a store represents.
 fn read<D: Sectors>(alloc: Global, store: &mut Store<D>) -> Result<(Rc<Dims>, Root), Fault>
     requires fine { stores.has_failed store.old ≡ false }
-    ensures loaded { IfOk result (λ parts. D.keeps_word (stores.device_of store.new) → IsLoaded (stores.content_of D.Sectors store.old) parts.0.value parts.1) }
+    ensures loaded { IfOk result (λ parts. D.keeps_word (stores.device_of store.new)
+        → IsLoaded (stores.content_of D.Sectors store.old) parts.0.value parts.1) }
     ensures readable { IsErrOf result BadLayout → D.keeps_word (stores.device_of store.new)
         → (w : Warehouse) → Represents (stores.content_of D.Sectors store.old) w → ⊥ }
-    ensures leaves { Leaves (stores.disk_of D.Sectors store.old) (stores.disk_of D.Sectors store.new) (λ c. c ≡ stores.content_of D.Sectors store.old) }
+    ensures leaves { Leaves (stores.disk_of D.Sectors store.old) (stores.disk_of D.Sectors store.new)
+        (λ c. c ≡ stores.content_of D.Sectors store.old) }
     ensures stays { OnOk result (stores.IsStill D.Sectors store.old store.new) }
     ensures device { IsErrOf result Device → stores.Breaks D.Sectors store.old store.new }
     ensures causes { IfErr result (λ fault. (fault ≡ Memory) ⊎ ((fault ≡ Device) ⊎ (fault ≡ BadLayout))) }

@@ -18,17 +18,19 @@ use std::alloc::Global;
 impl<D: Sectors> Session<D> {
     /// How a query over the first `as_of` batches is answered: by the plan that reads least. It makes no device call.
     ///
-    /// `BadQuery` exactly where the query is not proper, else `NoSuchPrefix` exactly where there are fewer batches. It can
-    /// also run out of memory.
+    /// `BadQuery` exactly where the query is not proper, else `NoSuchPrefix` exactly where there are fewer batches. It
+    /// can also run out of memory.
     pub fn plan(&self, alloc: Global, as_of: u32, query: &Query) -> Result<Plan, Fault>
-        ensures plan { IfOk result (λ plan. (w : Warehouse) → IsAt D.Sectors self.now w → D.keeps_word (device_of self.now)
+        ensures plan { IfOk result (λ plan. (w : Warehouse) → IsAt D.Sectors self.now w
+            → D.keeps_word (device_of self.now)
             → IsAsked w as_of query.now × IsPlanOf w as_of query.now plan) }
 
         // When each error comes.
         ensures improper { has_failed self.now ≡ false → (IsProper query.now → ⊥) → result ≡ Err BadQuery }
         ensures beyond { (w : Warehouse) → IsAt D.Sectors self.now w → D.keeps_word (device_of self.now)
             → IsProper query.now → length w.batches < as_of → result ≡ Err NoSuchPrefix }
-        ensures refused { IfErr result (λ fault. (w : Warehouse) → IsAt D.Sectors self.now w → D.keeps_word (device_of self.now)
+        ensures refused { IfErr result (λ fault. (w : Warehouse) → IsAt D.Sectors self.now w
+            → D.keeps_word (device_of self.now)
             → QueryRefuses w as_of query.now fault) }
         ensures failed { IsErrOf result Failed ↔ (has_failed self.now ≡ true) }
     {
@@ -42,17 +44,19 @@ impl<D: Sectors> Session<D> {
         plan_of(alloc, &self.root, as_of, query)
     }
 
-    /// Every plan by which a query over the first `as_of` batches could be answered, each with how many cells and fact rows
-    /// it reads. The first is the one that `plan` gives. It makes no device call, and is refused as `plan` is.
+    /// Every plan by which a query over the first `as_of` batches could be answered, each with how many cells and fact
+    /// rows it reads. The first is the one that `plan` gives. It makes no device call, and is refused as `plan` is.
     pub fn plans(&self, alloc: Global, as_of: u32, query: &Query) -> Result<Vec<Priced>, Fault>
-        ensures plans { IfOk result (λ plans. (w : Warehouse) → IsAt D.Sectors self.now w → D.keeps_word (device_of self.now)
+        ensures plans { IfOk result (λ plans. (w : Warehouse) → IsAt D.Sectors self.now w
+            → D.keeps_word (device_of self.now)
             → IsAsked w as_of query.now × ArePlansOf w as_of query.now plans.items) }
 
         // When each error comes.
         ensures improper { has_failed self.now ≡ false → (IsProper query.now → ⊥) → result ≡ Err BadQuery }
         ensures beyond { (w : Warehouse) → IsAt D.Sectors self.now w → D.keeps_word (device_of self.now)
             → IsProper query.now → length w.batches < as_of → result ≡ Err NoSuchPrefix }
-        ensures refused { IfErr result (λ fault. (w : Warehouse) → IsAt D.Sectors self.now w → D.keeps_word (device_of self.now)
+        ensures refused { IfErr result (λ fault. (w : Warehouse) → IsAt D.Sectors self.now w
+            → D.keeps_word (device_of self.now)
             → QueryRefuses w as_of query.now fault) }
         ensures failed { IsErrOf result Failed ↔ (has_failed self.now ≡ true) }
     {

@@ -112,8 +112,10 @@ pub(crate) fn kept_is_represented(dims: &Rc<Dims>, root: &Root)
     ensures dims { AreStorable dims.now.value }
     ensures puts { ArePuts (dimension_puts dims.now.value) }
     ensures root { IsProper root.now }
-    ensures agrees { (c : Content) (w : Warehouse) → IsLoaded c dims.now.value root.now → Represents c w → Agrees w dims.now.value root.now }
-    ensures laid { (c : Content) (w : Warehouse) → IsLoaded c dims.now.value root.now → IsLaidOut c w → Agrees w dims.now.value root.now }
+    ensures agrees { (c : Content) (w : Warehouse) → IsLoaded c dims.now.value root.now → Represents c w
+        → Agrees w dims.now.value root.now }
+    ensures laid { (c : Content) (w : Warehouse) → IsLoaded c dims.now.value root.now → IsLaidOut c w
+        → Agrees w dims.now.value root.now }
 {
     rows_are_one();
     objects_are_storable();

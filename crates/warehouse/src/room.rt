@@ -20,10 +20,11 @@ use std::alloc::Global;
 const SECTOR_BYTES: u64 = 512;
 
 impl<D: Sectors> Session<D> {
-    /// How many sectors of the device the warehouse takes: the two superblocks, and the sectors of the catalogue and of each object.
-    /// At most the greatest `u64`. It makes no device call, and can only fail with `Memory`.
+    /// How many sectors of the device the warehouse takes: the two superblocks, and the sectors of the catalogue and of
+    /// each object. At most the greatest `u64`. It makes no device call, and can only fail with `Memory`.
     pub fn sectors_taken(&self, alloc: Global) -> Result<u64, Fault>
-        ensures taken { IfOk result (λ taken. (w : Warehouse) → IsAt D.Sectors self.now w → D.keeps_word (device_of self.now)
+        ensures taken { IfOk result (λ taken. (w : Warehouse) → IsAt D.Sectors self.now w
+            → D.keeps_word (device_of self.now)
             → taken ≡ min (sectors_taken (content_of D.Sectors self.now) w) u64.MAX) }
         ensures memory { IfErr result (λ fault. fault ≡ Memory) }
     {

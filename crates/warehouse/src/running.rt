@@ -18,19 +18,22 @@ use sector_device::Sectors;
 use std::alloc::Global;
 
 /// Does commands in order. The replies are those of the plain model, and while a command runs a crash leaves what that
-/// command may leave. Up to sixteen queries run step by step between the other commands, each in a slot: all slots are empty
-/// where the run begins, and what runs at its end is dropped. `NotRunning` is refused above the last slot, and at a step of an
-/// empty one. Room for the replies is taken first: `Memory` comes before any command is done.
+/// command may leave. Up to sixteen queries run step by step between the other commands, each in a slot: all slots are
+/// empty where the run begins, and what runs at its end is dropped. `NotRunning` is refused above the last slot, and at
+/// a step of an empty one. Room for the replies is taken first: `Memory` comes before any command is done.
 pub fn run<D: Sectors>(
     alloc: Global,
     session: &mut Session<D>,
     commands: &[Command],
 ) -> Result<Vec<Reply>, Fault>
-    ensures ran { IfOk result (λ replies. (w : Warehouse) → IsAt D.Sectors session.old w → D.keeps_word (device_of session.new) →
-        (after : Phase) × RanAll D.Sectors session.old (at w) commands.now replies.items session.new after × Holds D.Sectors session.new after) }
+    ensures ran { IfOk result (λ replies. (w : Warehouse) → IsAt D.Sectors session.old w
+        → D.keeps_word (device_of session.new) →
+        (after : Phase) × RanAll D.Sectors session.old (at w) commands.now replies.items session.new after
+        × Holds D.Sectors session.new after) }
 
     // At each moment a crash leaves what the commands before had made, or what one more may have made.
-    ensures found { IfOk result (λ replies. (w : Warehouse) → IsAt D.Sectors session.old w → D.keeps_word (device_of session.new) →
+    ensures found { IfOk result (λ replies. (w : Warehouse) → IsAt D.Sectors session.old w
+        → D.keeps_word (device_of session.new) →
         Leaves (disk_of D.Sectors session.old) (disk_of D.Sectors session.new) (FoundIn w commands.now replies.items)) }
     ensures memory { IfErr result (λ fault. (fault ≡ Memory) × (session.new ≡ session.old)) }
 
@@ -62,9 +65,12 @@ fn perform<D: Sectors>(
     command: &Command,
 ) -> Reply
     ensures word { D.keeps_word (device_of session.new) → D.keeps_word (device_of session.old) }
-    ensures ran { (w : Warehouse) (started : Slots) → IsAt D.Sectors session.old w → AreRunning slots.old.queries.items started → AreOf w started
-        → D.keeps_word (device_of session.new) → DoesWith D.Sectors session.old w started command.now result session.new slots.new.queries.items }
-    ensures broken { has_failed session.old ≡ true → Ran D.Sectors session.old broken command.now result session.new broken }
+    ensures ran { (w : Warehouse) (started : Slots) → IsAt D.Sectors session.old w
+        → AreRunning slots.old.queries.items started → AreOf w started
+        → D.keeps_word (device_of session.new)
+        → DoesWith D.Sectors session.old w started command.now result session.new slots.new.queries.items }
+    ensures broken { has_failed session.old ≡ true
+        → Ran D.Sectors session.old broken command.now result session.new broken }
 {
     if session.is_broken() {
         return Reply::Refused(Fault::Failed);
@@ -90,7 +96,9 @@ fn submit<D: Sectors>(
     rows: &Items<LineOrder>,
 ) -> Reply
     ensures word { D.keeps_word (device_of session.new) → D.keeps_word (device_of session.old) }
-    ensures ran { (w : Warehouse) (started : Slots) → IsAt D.Sectors session.old w → D.keeps_word (device_of session.new) → Does D.Sectors session.old w started (asks.Submit number rows.now) result session.new }
+    ensures ran { (w : Warehouse) (started : Slots) → IsAt D.Sectors session.old w
+        → D.keeps_word (device_of session.new)
+        → Does D.Sectors session.old w started (asks.Submit number rows.now) result session.new }
 {
     match session.submit(alloc, number, rows.as_slice()) {
         Ok(()) => Reply::Done,
@@ -101,7 +109,9 @@ fn submit<D: Sectors>(
 // Answers a query over the first batches.
 fn answer<D: Sectors>(alloc: Global, session: &mut Session<D>, as_of: u32, query: &Query) -> Reply
     ensures word { D.keeps_word (device_of session.new) → D.keeps_word (device_of session.old) }
-    ensures ran { (w : Warehouse) (started : Slots) → IsAt D.Sectors session.old w → D.keeps_word (device_of session.new) → Does D.Sectors session.old w started (asks.Query as_of query.now) result session.new }
+    ensures ran { (w : Warehouse) (started : Slots) → IsAt D.Sectors session.old w
+        → D.keeps_word (device_of session.new)
+        → Does D.Sectors session.old w started (asks.Query as_of query.now) result session.new }
 {
     match session.query(alloc, as_of, query) {
         Ok(found) => Reply::Answer(found),
@@ -112,7 +122,8 @@ fn answer<D: Sectors>(alloc: Global, session: &mut Session<D>, as_of: u32, query
 // Says the numbers of the warehouse.
 fn status<D: Sectors>(session: &mut Session<D>) -> Reply
     ensures word { D.keeps_word (device_of session.new) → D.keeps_word (device_of session.old) }
-    ensures ran { (w : Warehouse) (started : Slots) → IsAt D.Sectors session.old w → D.keeps_word (device_of session.new) → Does D.Sectors session.old w started asks.Status result session.new }
+    ensures ran { (w : Warehouse) (started : Slots) → IsAt D.Sectors session.old w
+        → D.keeps_word (device_of session.new) → Does D.Sectors session.old w started asks.Status result session.new }
 {
     let _broken = session.is_broken();
     match session.status() {
@@ -124,7 +135,9 @@ fn status<D: Sectors>(session: &mut Session<D>) -> Reply
 // Stores the cuboids of a choice.
 fn choose<D: Sectors>(alloc: Global, session: &mut Session<D>, k: u8) -> Reply
     ensures word { D.keeps_word (device_of session.new) → D.keeps_word (device_of session.old) }
-    ensures ran { (w : Warehouse) (started : Slots) → IsAt D.Sectors session.old w → D.keeps_word (device_of session.new) → Does D.Sectors session.old w started (asks.Choose k) result session.new }
+    ensures ran { (w : Warehouse) (started : Slots) → IsAt D.Sectors session.old w
+        → D.keeps_word (device_of session.new)
+        → Does D.Sectors session.old w started (asks.Choose k) result session.new }
 {
     match session.choose(alloc, k) {
         Ok(chosen) => Reply::Chosen(Items::from_vec(chosen)),
@@ -135,7 +148,8 @@ fn choose<D: Sectors>(alloc: Global, session: &mut Session<D>, k: u8) -> Reply
 // Brings each stored cuboid to all batches.
 fn keep_up<D: Sectors>(alloc: Global, session: &mut Session<D>) -> Reply
     ensures word { D.keeps_word (device_of session.new) → D.keeps_word (device_of session.old) }
-    ensures ran { (w : Warehouse) (started : Slots) → IsAt D.Sectors session.old w → D.keeps_word (device_of session.new) → Does D.Sectors session.old w started asks.Upkeep result session.new }
+    ensures ran { (w : Warehouse) (started : Slots) → IsAt D.Sectors session.old w
+        → D.keeps_word (device_of session.new) → Does D.Sectors session.old w started asks.Upkeep result session.new }
 {
     match session.upkeep(alloc) {
         Ok(()) => Reply::Done,
@@ -146,7 +160,8 @@ fn keep_up<D: Sectors>(alloc: Global, session: &mut Session<D>) -> Reply
 // Says whether each stored cuboid is what it is to be.
 fn audit<D: Sectors>(alloc: Global, session: &mut Session<D>) -> Reply
     ensures word { D.keeps_word (device_of session.new) → D.keeps_word (device_of session.old) }
-    ensures ran { (w : Warehouse) (started : Slots) → IsAt D.Sectors session.old w → D.keeps_word (device_of session.new) → Does D.Sectors session.old w started asks.Audit result session.new }
+    ensures ran { (w : Warehouse) (started : Slots) → IsAt D.Sectors session.old w
+        → D.keeps_word (device_of session.new) → Does D.Sectors session.old w started asks.Audit result session.new }
 {
     match session.audit(alloc) {
         Ok(yes) => Reply::Audited(yes),
@@ -157,7 +172,9 @@ fn audit<D: Sectors>(alloc: Global, session: &mut Session<D>) -> Reply
 // Adds rows to the dimensions.
 fn add<D: Sectors>(alloc: Global, session: &mut Session<D>, number: u32, rows: &NewRows) -> Reply
     ensures word { D.keeps_word (device_of session.new) → D.keeps_word (device_of session.old) }
-    ensures ran { (w : Warehouse) (started : Slots) → IsAt D.Sectors session.old w → D.keeps_word (device_of session.new) → Does D.Sectors session.old w started (asks.Add number rows.now) result session.new }
+    ensures ran { (w : Warehouse) (started : Slots) → IsAt D.Sectors session.old w
+        → D.keeps_word (device_of session.new)
+        → Does D.Sectors session.old w started (asks.Add number rows.now) result session.new }
 {
     match session.add(alloc, number, rows.rows()) {
         Ok(()) => Reply::Done,
@@ -175,8 +192,11 @@ fn start<D: Sectors>(
     query: &Query,
 ) -> Reply
     ensures word { D.keeps_word (device_of session.new) → D.keeps_word (device_of session.old) }
-    ensures ran { (w : Warehouse) (started : Slots) → IsAt D.Sectors session.old w → AreRunning slots.old.queries.items started → AreOf w started
-        → D.keeps_word (device_of session.new) → DoesWith D.Sectors session.old w started (asks.Start slot as_of query.now) result session.new slots.new.queries.items }
+    ensures ran { (w : Warehouse) (started : Slots) → IsAt D.Sectors session.old w
+        → AreRunning slots.old.queries.items started → AreOf w started
+        → D.keeps_word (device_of session.new)
+        → DoesWith D.Sectors session.old w started (asks.Start slot as_of query.now) result session.new
+        slots.new.queries.items }
 {
     let _broken = session.is_broken();
     if usize::from(slot) >= MOST_RUNNING {
@@ -199,8 +219,10 @@ fn step<D: Sectors>(
     slot: u8,
 ) -> Reply
     ensures word { D.keeps_word (device_of session.new) → D.keeps_word (device_of session.old) }
-    ensures ran { (w : Warehouse) (started : Slots) → IsAt D.Sectors session.old w → AreRunning slots.old.queries.items started → AreOf w started
-        → D.keeps_word (device_of session.new) → DoesWith D.Sectors session.old w started (asks.Step slot) result session.new slots.new.queries.items }
+    ensures ran { (w : Warehouse) (started : Slots) → IsAt D.Sectors session.old w
+        → AreRunning slots.old.queries.items started → AreOf w started
+        → D.keeps_word (device_of session.new)
+        → DoesWith D.Sectors session.old w started (asks.Step slot) result session.new slots.new.queries.items }
 {
     let _broken = session.is_broken();
     let Some(running) = slots.take(slot) else {

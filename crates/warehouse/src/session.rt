@@ -16,8 +16,8 @@ use std::alloc::Global;
 use std::rc::Rc;
 use warehouse_root::Root;
 
-/// A warehouse on a device, open for calls. It keeps the dimensions and the root in memory, and no batch. The queries that it
-/// starts share the dimensions.
+/// A warehouse on a device, open for calls. It keeps the dimensions and the root in memory, and no batch. The queries
+/// that it starts share the dimensions.
 ///
 /// After `Device` it answers `Failed` to every call but `device` and `close`, and calls the device no more. It is to be
 /// opened again.
@@ -26,7 +26,8 @@ pub struct Session<D: Sectors> {
     pub(crate) store: Store<D>,
     pub(crate) dims: Rc<Dims>,
     pub(crate) root: Root,
-    ghost loaded: { stores.has_failed store ≡ false → D.keeps_word (stores.device_of store) → IsLoaded (stores.content_of D.Sectors store) dims.value root } by { Prim.hlevel props },
+    ghost loaded: { stores.has_failed store ≡ false → D.keeps_word (stores.device_of store)
+        → IsLoaded (stores.content_of D.Sectors store) dims.value root } by { Prim.hlevel props },
 }
 
 impl<D: Sectors> Session<D> {

@@ -1,5 +1,6 @@
 //! What a session says of its warehouse.
-ghost use Rattle.std.specs.Prelude.{◌≡◌, ◌<◌, ◌≤◌, ◌↔◌, ℕ, None, true, length, slice_get, slice_index_or, IfOk, IfErr, IsErrOf};
+ghost use Rattle.std.specs.Prelude.{◌≡◌, ◌<◌, ◌≤◌, ◌↔◌, ℕ, None, true, length, slice_get, slice_index_or, IfOk, IfErr};
+ghost use Rattle.std.specs.Prelude.{IsErrOf};
 ghost use Rattle.warehouse_root.specs.Limits.{most_cuboids};
 ghost use Rattle.std.specs.List.{sum_by};
 ghost use Rattle.cube_model.specs.declared.fault.Fault.TheVariants.{Failed};
@@ -33,10 +34,11 @@ pub struct Status {
 }
 
 impl<D: Sectors> Session<D> {
-    /// The numbers of the warehouse. `Failed` where the device failed in an earlier call, and no other refusal. It takes
-    /// no memory, and makes no device call.
+    /// The numbers of the warehouse. `Failed` where the device failed in an earlier call, and no other refusal. It
+    /// takes no memory, and makes no device call.
     pub fn status(&self) -> Result<Status, Fault>
-        ensures ok { IfOk result (λ status. (w : Warehouse) → IsAt D.Sectors self.now w → D.keeps_word (device_of self.now)
+        ensures ok { IfOk result (λ status. (w : Warehouse) → IsAt D.Sectors self.now w
+            → D.keeps_word (device_of self.now)
             → IsStatus w (content_of D.Sectors self.now).generation status) }
         ensures failed { IsErrOf result Failed ↔ (has_failed self.now ≡ true) }
         ensures only { IfErr result (λ fault. fault ≡ Failed) }

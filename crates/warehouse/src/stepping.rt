@@ -7,7 +7,8 @@ ghost use Rattle.object_store.specs.Disk.{Leaves};
 ghost use Rattle.planned_queries.specs.Stepping.{Extends, IsRunning, RunningState, Started, Starts};
 ghost use Rattle.warehouse_objects.specs.Warehouse.{Warehouse};
 ghost use Rattle.warehouse_objects.specs.Represents.{Represents};
-ghost use Rattle.warehouse.specs.Session.{has_failed, device_of, disk_of, IsAt, Breaks, KeepsContent, IsAsked, QueryRefuses};
+ghost use Rattle.warehouse.specs.Session.{has_failed, device_of, disk_of, IsAt, Breaks, KeepsContent, IsAsked};
+ghost use Rattle.warehouse.specs.Session.{QueryRefuses};
 ghost use Rattle.warehouse.specs.Stepping.{StepsTo, refused_by};
 
 use crate::prepared::kept_is_represented;
@@ -30,29 +31,32 @@ pub enum Stepped {
 }
 
 impl<D: Sectors> Session<D> {
-    /// Starts a query over the first `as_of` batches. Its steps answer over these, whatever calls come between them. It reads
-    /// the cells of its plan, and no batch.
+    /// Starts a query over the first `as_of` batches. Its steps answer over these, whatever calls come between them. It
+    /// reads the cells of its plan, and no batch.
     ///
     /// It is refused as `query` is.
     pub fn start(&mut self, alloc: Global, as_of: u32, query: &Query) -> Result<Running, Fault>
         // The warehouse stays as it is, at each moment.
         ensures leaves { (w : Warehouse) → IsAt D.Sectors self.old w
             → Leaves (disk_of D.Sectors self.old) (disk_of D.Sectors self.new) (λ c. Represents c w) }
-        ensures stays { (IsErrOf result Device → ⊥) → (w : Warehouse) → IsAt D.Sectors self.old w → IsAt D.Sectors self.new w }
+        ensures stays { (IsErrOf result Device → ⊥) → (w : Warehouse) → IsAt D.Sectors self.old w
+            → IsAt D.Sectors self.new w }
 
         // Nothing was put on the device, and after a failure nothing is done.
         ensures reads { (IsErrOf result Device → ⊥) → KeepsContent D.Sectors self.old self.new }
         ensures unmoved { IsErrOf result Failed → self.new ≡ self.old }
 
         // The query runs over the batches of now.
-        ensures started { IfOk result (λ running. (w : Warehouse) → IsAt D.Sectors self.old w → D.keeps_word (device_of self.new)
+        ensures started { IfOk result (λ running. (w : Warehouse) → IsAt D.Sectors self.old w
+            → D.keeps_word (device_of self.new)
             → IsAsked w as_of query.now × ((s : Started) × Starts w as_of query.now s × IsRunning running s)) }
 
         // When each error comes.
         ensures improper { has_failed self.old ≡ false → (IsProper query.now → ⊥) → result ≡ Err BadQuery }
         ensures beyond { (w : Warehouse) → IsAt D.Sectors self.old w → D.keeps_word (device_of self.new)
             → IsProper query.now → length w.batches < as_of → result ≡ Err NoSuchPrefix }
-        ensures refused { IfErr result (λ fault. fault ≢ Device → (w : Warehouse) → IsAt D.Sectors self.old w → D.keeps_word (device_of self.new)
+        ensures refused { IfErr result (λ fault. fault ≢ Device → (w : Warehouse) → IsAt D.Sectors self.old w
+            → D.keeps_word (device_of self.new)
             → QueryRefuses w as_of query.now fault) }
         ensures failed { IsErrOf result Failed ↔ (has_failed self.old ≡ true) }
         ensures device { IsErrOf result Device → Breaks D.Sectors self.old self.new }
@@ -79,7 +83,8 @@ impl<D: Sectors> Session<D> {
         // The warehouse stays as it is, at each moment.
         ensures leaves { (w : Warehouse) → IsAt D.Sectors self.old w
             → Leaves (disk_of D.Sectors self.old) (disk_of D.Sectors self.new) (λ c. Represents c w) }
-        ensures stays { (refused_by result ≡ Some Device → ⊥) → (w : Warehouse) → IsAt D.Sectors self.old w → IsAt D.Sectors self.new w }
+        ensures stays { (refused_by result ≡ Some Device → ⊥) → (w : Warehouse) → IsAt D.Sectors self.old w
+            → IsAt D.Sectors self.new w }
 
         // Nothing was put on the device, and after a failure nothing is done.
         ensures reads { (refused_by result ≡ Some Device → ⊥) → KeepsContent D.Sectors self.old self.new }

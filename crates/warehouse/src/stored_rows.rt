@@ -5,6 +5,7 @@ ghost use Rattle.object_store.specs.Disk.{Leaves};
 ghost use Rattle.object_store.specs.Store as stores;
 ghost use Rattle.warehouse.specs.Comparing.{numbered};
 ghost use Rattle.warehouse.specs.Session.{Breaks, IsAt, KeepsContent, device_of, disk_of, has_failed};
+ghost use Rattle.warehouse_objects.specs.Reads.{ReadsOnly};
 ghost use Rattle.warehouse_objects.specs.Represents.{Represents, root_of};
 ghost use Rattle.warehouse_objects.specs.Warehouse.{Warehouse};
 
@@ -18,8 +19,9 @@ use std::alloc::Global;
 use warehouse_root::Root;
 
 impl<D: Sectors> Session<D> {
-    /// The fact rows of the stored batch of a number, in their order, or nothing where there is no such batch, for which nothing
-    /// is read. Batches are numbered from 1. All rows of the batch are in memory together: at most 65,536.
+    /// The fact rows of the stored batch of a number, in their order, or nothing where there is no such batch, for
+    /// which nothing is read. Batches are numbered from 1. All rows of the batch are in memory together: at most
+    /// 65,536.
     ///
     /// It can fail when out of memory, and where the device fails.
     pub fn rows_of_batch(
@@ -30,17 +32,20 @@ impl<D: Sectors> Session<D> {
         // The warehouse stays as it is, at each moment.
         ensures leaves { (w : Warehouse) → IsAt D.Sectors self.old w
             → Leaves (disk_of D.Sectors self.old) (disk_of D.Sectors self.new) (λ c. Represents c w) }
-        ensures stays { (IsErrOf result Device → ⊥) → (w : Warehouse) → IsAt D.Sectors self.old w → IsAt D.Sectors self.new w }
+        ensures stays { (IsErrOf result Device → ⊥) → (w : Warehouse) → IsAt D.Sectors self.old w
+            → IsAt D.Sectors self.new w }
 
         // Nothing was put on the device, and after a failure nothing is done.
         ensures reads { (IsErrOf result Device → ⊥) → KeepsContent D.Sectors self.old self.new }
         ensures unmoved { IsErrOf result Failed → self.new ≡ self.old }
 
         // The rows are those of the batch of that number.
-        ensures rows { IfOk result (λ found. (w : Warehouse) → IsAt D.Sectors self.old w → D.keeps_word (device_of self.new) → found ≡ numbered w.batches number) }
+        ensures rows { IfOk result (λ found. (w : Warehouse) → IsAt D.Sectors self.old w
+            → D.keeps_word (device_of self.new) → found ≡ numbered w.batches number) }
 
         // When each error comes.
-        ensures refused { IfErr result (λ fault. fault ≢ Device → (w : Warehouse) → IsAt D.Sectors self.old w → D.keeps_word (device_of self.new) → fault ≡ Memory) }
+        ensures refused { IfErr result (λ fault. fault ≢ Device → (w : Warehouse) → IsAt D.Sectors self.old w
+            → D.keeps_word (device_of self.new) → fault ≡ Memory) }
         ensures failed { IsErrOf result Failed ↔ (has_failed self.old ≡ true) }
         ensures device { IsErrOf result Device → Breaks D.Sectors self.old self.new }
         ensures word { D.keeps_word (device_of self.new) → D.keeps_word (device_of self.old) }
@@ -64,13 +69,13 @@ fn read_numbered<D: Sectors>(
     number: u32,
 ) -> Result<Option<Items<LineOrder>>, Fault>
     requires fine { stores.has_failed store.old ≡ false }
-    ensures rows { IfOk result (λ found. D.keeps_word (stores.device_of store.new) → (w : Warehouse) → Represents (stores.content_of D.Sectors store.old) w
+    ensures rows { IfOk result (λ found. D.keeps_word (stores.device_of store.new) → (w : Warehouse)
+        → Represents (stores.content_of D.Sectors store.old) w
         → root.now ≡ root_of w → found ≡ numbered w.batches number) }
-    ensures refused { IsErrOf result BadLayout → D.keeps_word (stores.device_of store.new) → (w : Warehouse) → Represents (stores.content_of D.Sectors store.old) w
+    ensures refused { IsErrOf result BadLayout → D.keeps_word (stores.device_of store.new) → (w : Warehouse)
+        → Represents (stores.content_of D.Sectors store.old) w
         → root.now ≡ root_of w → ⊥ }
-    ensures leaves { Leaves (stores.disk_of D.Sectors store.old) (stores.disk_of D.Sectors store.new) (λ c. c ≡ stores.content_of D.Sectors store.old) }
-    ensures stays { (IsErrOf result Device → ⊥) → stores.IsStill D.Sectors store.old store.new }
-    ensures device { IsErrOf result Device → stores.Breaks D.Sectors store.old store.new }
+    ensures reads { ReadsOnly D.Sectors store.old store.new result }
     ensures causes { IfErr result (λ fault. (fault ≡ Memory) ⊎ ((fault ≡ Device) ⊎ (fault ≡ BadLayout))) }
 {
     let _usable = store.is_broken();

@@ -1,5 +1,6 @@
 //! Adding a batch to a warehouse.
-ghost use Rattle.std.specs.Prelude.{◌≡◌, ◌≢◌, ◌<◌, ◌≤◌, ◌⊎◌, ◌+◌, ◌↔◌, true, false, Some, List, length, IfOk, IfErr, MatchResult, OnOk, IsErrOf};
+ghost use Rattle.std.specs.Prelude.{◌≡◌, ◌≢◌, ◌<◌, ◌≤◌, ◌⊎◌, ◌+◌, ◌↔◌, true, false, Some, List, length, IfOk, IfErr};
+ghost use Rattle.std.specs.Prelude.{MatchResult, OnOk, IsErrOf};
 ghost use Rattle.cube_model.specs.declared.fault.Fault.TheVariants.{Device, Failed, Memory};
 ghost use Rattle.cube_model.specs.declared.rows.LineOrder.{LineOrder};
 ghost use Rattle.wire.specs.Limits.{most_objects};
@@ -11,7 +12,8 @@ ghost use Rattle.warehouse.specs.Growing.{Grows};
 ghost use Rattle.warehouse.specs.Loaded.{Agrees};
 ghost use Rattle.warehouse.specs.Prepared.{IsPrepared, MayFollow};
 ghost use Rattle.warehouse.specs.Refusing.{is_of_device};
-ghost use Rattle.warehouse.specs.Session.{has_failed, content_of, device_of, disk_of, IsAt, Breaks, CommitsOnce, KeepsContent, SubmitRefuses};
+ghost use Rattle.warehouse.specs.Session.{has_failed, content_of, device_of, disk_of, IsAt, Breaks, CommitsOnce};
+ghost use Rattle.warehouse.specs.Session.{KeepsContent, SubmitRefuses};
 ghost use Rattle.warehouse.specs.Submitting.{IsReady, WithOrWithout};
 
 use crate::growing::GrowingBatch;
@@ -30,23 +32,27 @@ impl<D: Sectors> Session<D> {
     /// A batch that is admissible is refused for `Worn`, `Full`, `Memory` or `Device` alone.
     pub fn submit(&mut self, alloc: Global, number: u32, rows: &[LineOrder]) -> Result<(), Fault>
         // A crash at any point leaves the warehouse as it was, or with this batch if it is admissible.
-        ensures leaves { (w : Warehouse) → IsAt D.Sectors self.old w → Leaves (disk_of D.Sectors self.old) (disk_of D.Sectors self.new)
+        ensures leaves { (w : Warehouse) → IsAt D.Sectors self.old w
+            → Leaves (disk_of D.Sectors self.old) (disk_of D.Sectors self.new)
             (λ c. Represents c w ⊎ (Admits w number rows.now × Represents c (loaded w rows.now))) }
 
         // Then with it.
-        ensures ok { OnOk result ((w : Warehouse) → IsAt D.Sectors self.old w → IsAt D.Sectors self.new (loaded w rows.now)
+        ensures ok { OnOk result ((w : Warehouse) → IsAt D.Sectors self.old w
+            → IsAt D.Sectors self.new (loaded w rows.now)
             × (D.keeps_word (device_of self.new) → Admits w number rows.now)) }
 
         // After a refusal, unless the device failed, as it was at each moment.
         ensures refused { IfErr result (λ fault. fault ≢ Device → (w : Warehouse) → IsAt D.Sectors self.old w →
-            IsAt D.Sectors self.new w × Leaves (disk_of D.Sectors self.old) (disk_of D.Sectors self.new) (λ c. Represents c w)) }
+            IsAt D.Sectors self.new w
+            × Leaves (disk_of D.Sectors self.old) (disk_of D.Sectors self.new) (λ c. Represents c w)) }
 
         // One commit was made, or none.
         ensures once { OnOk result (CommitsOnce D.Sectors self.old self.new) }
         ensures kept { IfErr result (λ fault. fault ≢ Device → KeepsContent D.Sectors self.old self.new) }
 
         // When each error comes.
-        ensures causes { IfErr result (λ fault. fault ≢ Device → (w : Warehouse) → IsAt D.Sectors self.old w → D.keeps_word (device_of self.new)
+        ensures causes { IfErr result (λ fault. fault ≢ Device → (w : Warehouse) → IsAt D.Sectors self.old w
+            → D.keeps_word (device_of self.new)
             → SubmitRefuses D.Sectors self.old w number rows.now fault) }
         ensures failed { IsErrOf result Failed ↔ (has_failed self.old ≡ true) }
         ensures unmoved { IsErrOf result Failed → self.new ≡ self.old }
@@ -72,13 +78,17 @@ impl<D: Sectors> Session<D> {
         requires ready { (rows : List LineOrder) × IsPrepared self.old.root number rows prepared }
         ensures leaves { (w : Warehouse) (rows : List LineOrder) → IsReady D.Sectors self.old w number rows prepared
             → Leaves (disk_of D.Sectors self.old) (disk_of D.Sectors self.new) (WithOrWithout w number rows) }
-        ensures ok { OnOk result ((w : Warehouse) (rows : List LineOrder) → IsReady D.Sectors self.old w number rows prepared
+        ensures ok { OnOk result ((w : Warehouse) (rows : List LineOrder)
+            → IsReady D.Sectors self.old w number rows prepared
             → IsAt D.Sectors self.new (loaded w rows) × (D.keeps_word (device_of self.new) → Admits w number rows)) }
-        ensures refused { IfErr result (λ fault. fault ≢ Device → (w : Warehouse) (rows : List LineOrder) → IsReady D.Sectors self.old w number rows prepared
-            → IsAt D.Sectors self.new w × Leaves (disk_of D.Sectors self.old) (disk_of D.Sectors self.new) (λ c. Represents c w)) }
+        ensures refused { IfErr result (λ fault. fault ≢ Device → (w : Warehouse) (rows : List LineOrder)
+            → IsReady D.Sectors self.old w number rows prepared
+            → IsAt D.Sectors self.new w
+            × Leaves (disk_of D.Sectors self.old) (disk_of D.Sectors self.new) (λ c. Represents c w)) }
         ensures once { OnOk result (CommitsOnce D.Sectors self.old self.new) }
         ensures kept { IfErr result (λ fault. fault ≢ Device → KeepsContent D.Sectors self.old self.new) }
-        ensures causes { IfErr result (λ fault. fault ≢ Device → (w : Warehouse) (rows : List LineOrder) → IsReady D.Sectors self.old w number rows prepared
+        ensures causes { IfErr result (λ fault. fault ≢ Device → (w : Warehouse) (rows : List LineOrder)
+            → IsReady D.Sectors self.old w number rows prepared
             → D.keeps_word (device_of self.new) → SubmitRefuses D.Sectors self.old w number rows fault) }
         ensures failed { IsErrOf result Failed → ⊥ }
         ensures device { IsErrOf result Device → Breaks D.Sectors self.old self.new }
@@ -100,12 +110,13 @@ impl<D: Sectors> Session<D> {
         }
     }
 
-    // Rows that may follow the batches that are there, as a batch that has grown, or the first cause to refuse them, for which no
-    // memory is taken. No device call is made.
+    // Rows that may follow the batches that are there, as a batch that has grown, or the first cause to refuse them,
+    // for which no memory is taken. No device call is made.
     fn grown(&self, alloc: Global, number: u32, rows: &[LineOrder]) -> Result<GrowingBatch, Fault>
         ensures fine { IfOk result (λ _. has_failed self.now ≡ false) }
         ensures grows { IfOk result (Grows self.now rows.now) }
-        ensures refused { IfErr result (λ fault. (w : Warehouse) → IsAt D.Sectors self.now w → D.keeps_word (device_of self.now)
+        ensures refused { IfErr result (λ fault. (w : Warehouse) → IsAt D.Sectors self.now w
+            → D.keeps_word (device_of self.now)
             → (refusal_of w number rows.now ≡ Some fault) ⊎ (Admits w number rows.now × (fault ≡ Memory))) }
         ensures failed { IsErrOf result Failed ↔ (has_failed self.now ≡ true) }
         ensures device { IsErrOf result Device → ⊥ }
@@ -124,8 +135,10 @@ impl<D: Sectors> Session<D> {
         requires { puts ≤ 4 }
         ensures fine { OnOk result (has_failed self.now ≡ false) }
         ensures few { OnOk result (length (content_of D.Sectors self.now).objects + puts ≤ most_objects) }
-        ensures agrees { (w : Warehouse) → IsAt D.Sectors self.now w → D.keeps_word (device_of self.now) → Agrees w self.now.dims.value self.now.root }
-        ensures represents { IfErr result (λ _. (w : Warehouse) → IsAt D.Sectors self.now w → D.keeps_word (device_of self.now) → ⊥) }
+        ensures agrees { (w : Warehouse) → IsAt D.Sectors self.now w → D.keeps_word (device_of self.now)
+            → Agrees w self.now.dims.value self.now.root }
+        ensures represents { IfErr result (λ _. (w : Warehouse) → IsAt D.Sectors self.now w
+            → D.keeps_word (device_of self.now) → ⊥) }
         ensures failed { IsErrOf result Failed ↔ (has_failed self.now ≡ true) }
         ensures device { IsErrOf result Device → ⊥ }
         ensures leaves { (w : Warehouse) → IsAt D.Sectors self.now w

@@ -11,7 +11,8 @@ use sector_device::Sectors;
 impl<D: Sectors> Session<D> {
     /// The rows of the four dimensions. It makes no device call.
     pub fn dims(&self) -> &Dims
-        ensures { (w : Warehouse) → IsAt D.Sectors self.now w → D.keeps_word (device_of self.now) → result.now ≡ w.rows }
+        ensures { (w : Warehouse) → IsAt D.Sectors self.now w → D.keeps_word (device_of self.now)
+            → result.now ≡ w.rows }
     {
         kept_is_represented(&self.dims, &self.root);
         &self.dims

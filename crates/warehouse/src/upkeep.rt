@@ -20,24 +20,28 @@ use stored_cuboids::audited;
 use stored_cuboids::laws::kept_cuboids_are_sound;
 
 impl<D: Sectors> Session<D> {
-    /// Brings each stored cuboid to all batches. Where some mark is below their count, one commit sets the target to it; then
-    /// each such cuboid, by ascending view, gets its cells and its mark in a commit of its own.
+    /// Brings each stored cuboid to all batches. Where some mark is below their count, one commit sets the target to
+    /// it; then each such cuboid, by ascending view, gets its cells and its mark in a commit of its own.
     ///
-    /// A cuboid that would have more than 262,144 cells is passed over, and at the end `TooManyCells` names the view of the
-    /// first such cuboid. Any other fault ends it, and marks that were reached stay: it can fail when out of memory or room,
-    /// at the last generation, and because the device does.
+    /// A cuboid that would have more than 262,144 cells is passed over, and at the end `TooManyCells` names the view of
+    /// the first such cuboid. Any other fault ends it, and marks that were reached stay: it can fail when out of memory
+    /// or room, at the last generation, and because the device does.
     pub fn upkeep(&mut self, alloc: Global) -> Result<(), Fault>
         // A crash leaves the same rows, batches and views, and no mark lower.
-        ensures leaves { (w : Warehouse) → IsAt D.Sectors self.old w → Leaves (disk_of D.Sectors self.old) (disk_of D.Sectors self.new)
+        ensures leaves { (w : Warehouse) → IsAt D.Sectors self.old w
+            → Leaves (disk_of D.Sectors self.old) (disk_of D.Sectors self.new)
             (λ c. (v : Warehouse) × IsKeptUp w v × Represents c v) }
-        ensures stays { (IsErrOf result Device → ⊥) → (w : Warehouse) → IsAt D.Sectors self.old w → (v : Warehouse) × IsKeptUp w v × IsAt D.Sectors self.new v }
+        ensures stays { (IsErrOf result Device → ⊥) → (w : Warehouse) → IsAt D.Sectors self.old w
+            → (v : Warehouse) × IsKeptUp w v × IsAt D.Sectors self.new v }
 
         // Then each stored cuboid holds all batches.
-        ensures ok { OnOk result ((w : Warehouse) → IsAt D.Sectors self.old w → (v : Warehouse) × IsKeptUp w v × IsAt D.Sectors self.new v
+        ensures ok { OnOk result ((w : Warehouse) → IsAt D.Sectors self.old w → (v : Warehouse) × IsKeptUp w v
+            × IsAt D.Sectors self.new v
             × (D.keeps_word (device_of self.new) → AreWhole v)) }
 
         // When each error comes.
-        ensures refused { IfErr result (λ fault. fault ≢ Device → (w : Warehouse) → IsAt D.Sectors self.old w → (v : Warehouse) × IsKeptUp w v × IsAt D.Sectors self.new v
+        ensures refused { IfErr result (λ fault. fault ≢ Device → (w : Warehouse) → IsAt D.Sectors self.old w
+            → (v : Warehouse) × IsKeptUp w v × IsAt D.Sectors self.new v
             × (D.keeps_word (device_of self.new) → UpkeepRefuses D.Sectors self.new v fault)) }
         ensures failed { IsErrOf result Failed ↔ (has_failed self.old ≡ true) }
         ensures unmoved { IsErrOf result Failed → self.new ≡ self.old }
@@ -57,24 +61,28 @@ impl<D: Sectors> Session<D> {
         }
     }
 
-    /// Whether each stored cuboid is the grouping of the batches up to its mark, also where the cells were changed by other
-    /// means than a session. Each is worked out anew from the fact rows and compared.
+    /// Whether each stored cuboid is the grouping of the batches up to its mark, also where the cells were changed by
+    /// other means than a session. Each is worked out anew from the fact rows and compared.
     ///
     /// It can fail when out of memory, and because the device does.
     pub fn audit(&mut self, alloc: Global) -> Result<bool, Fault>
         // The warehouse stays as it is, at each moment.
         ensures leaves { (w : Warehouse) → IsAt D.Sectors self.old w
             → Leaves (disk_of D.Sectors self.old) (disk_of D.Sectors self.new) (λ c. Represents c w) }
-        ensures stays { (IsErrOf result Device → ⊥) → (w : Warehouse) → IsAt D.Sectors self.old w → IsAt D.Sectors self.new w }
+        ensures stays { (IsErrOf result Device → ⊥) → (w : Warehouse) → IsAt D.Sectors self.old w
+            → IsAt D.Sectors self.new w }
         ensures reads { (IsErrOf result Device → ⊥) → KeepsContent D.Sectors self.old self.new }
 
         // The answer is yes exactly where each is, whatever the cells of the cuboids are. So it is yes of a warehouse.
-        ensures answer { IfOk result (λ yes. (w : Warehouse) → IsLaidAt D.Sectors self.old w → D.keeps_word (device_of self.new)
+        ensures answer { IfOk result (λ yes. (w : Warehouse) → IsLaidAt D.Sectors self.old w
+            → D.keeps_word (device_of self.new)
             → IsTrue yes ↔ All (IsSound w) w.cuboids) }
-        ensures yes { IfOk result (λ yes. (w : Warehouse) → IsAt D.Sectors self.old w → D.keeps_word (device_of self.new) → yes ≡ true) }
+        ensures yes { IfOk result (λ yes. (w : Warehouse) → IsAt D.Sectors self.old w
+            → D.keeps_word (device_of self.new) → yes ≡ true) }
 
         // When each error comes.
-        ensures refused { IfErr result (λ fault. fault ≢ Device → (w : Warehouse) → IsLaidAt D.Sectors self.old w → D.keeps_word (device_of self.new) → fault ≡ Memory) }
+        ensures refused { IfErr result (λ fault. fault ≢ Device → (w : Warehouse) → IsLaidAt D.Sectors self.old w
+            → D.keeps_word (device_of self.new) → fault ≡ Memory) }
         ensures failed { IsErrOf result Failed ↔ (has_failed self.old ≡ true) }
         ensures unmoved { IsErrOf result Failed → self.new ≡ self.old }
         ensures device { IsErrOf result Device → Breaks D.Sectors self.old self.new }

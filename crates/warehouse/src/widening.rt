@@ -63,7 +63,8 @@ impl Widening {
     // That of dimensions whose last rows are new.
     fn of(alloc: Global, dims: Dims, root: &Root, rows: &DimRows) -> Result<Widening, Fault>
         requires few { root.now.additions < most_additions }
-        ensures ok { IfOk result (λ wider. (old : dim_rows.DimRows) → dims ≡ joined old rows.now → IsWidening old root.now rows.now wider) }
+        ensures ok { IfOk result (λ wider. (old : dim_rows.DimRows) → dims ≡ joined old rows.now
+            → IsWidening old root.now rows.now wider) }
         ensures memory { IfErr result (λ fault. fault ≡ Memory) }
     {
         objects_are_storable();
@@ -83,7 +84,8 @@ impl Widening {
 
 // The objects of the dimensions that have new rows.
 fn new_objects(alloc: Global, dims: &Dims, rows: &DimRows) -> Result<Vec<NewObject>, Fault>
-    ensures ok { IfOk result (λ objects. (old : dim_rows.DimRows) → dims.now ≡ joined old rows.now → shown_puts objects.items ≡ widening_puts old rows.now) }
+    ensures ok { IfOk result (λ objects. (old : dim_rows.DimRows) → dims.now ≡ joined old rows.now
+        → shown_puts objects.items ≡ widening_puts old rows.now) }
     ensures memory { IfErr result (λ fault. fault ≡ Memory) }
 {
     let mut objects = Vec::with_capacity(alloc, MOST_PUTS)?;
@@ -117,7 +119,8 @@ fn push_object(
     id: u32,
     count: usize,
 ) -> Result<(), Fault>
-    ensures ok { OnOk result (shown_puts objects.new.items ≡ shown_puts objects.old.items ++ put_of dims.now axis id count) }
+    ensures ok { OnOk result
+        (shown_puts objects.new.items ≡ shown_puts objects.old.items ++ put_of dims.now axis id count) }
     ensures memory { IfErr result (λ fault. fault ≡ Memory) }
 {
     if count == 0 {

@@ -1,13 +1,14 @@
 //! The batches of a store, checked one after another.
-ghost use Rattle.std.specs.Prelude.{◌≡◌, ◌⊎◌, ◌<◌, ℕ, None, Some, is_some, false, List, length, slice_get, take, IfErr, IfOk, IfSome, IsErrOf, IsTrue};
+ghost use Rattle.std.specs.Prelude.{◌≡◌, ◌⊎◌, ◌<◌, ℕ, None, Some, is_some, false, List, length, slice_get, take, IfErr};
+ghost use Rattle.std.specs.Prelude.{IfOk, IfSome, IsTrue};
 ghost use Rattle.cube_model.specs.declared.fault.Fault.TheVariants.{Device, Memory};
 ghost use Rattle.cube_model.specs.declared.rows.LineOrder.{LineOrder};
 ghost use Rattle.cube_model.specs.Limits.{most_batches};
-ghost use Rattle.object_store.specs.Disk.{Leaves};
-ghost use Rattle.object_store.specs.Store.{Breaks, IsStill, content_of, device_of, disk_of, has_failed};
+ghost use Rattle.object_store.specs.Store.{content_of, device_of, has_failed};
 ghost use Rattle.column_segment.specs.Segment.{IsSegment};
 ghost use Rattle.batch_admission.specs.Accepted.{HasAccepted};
 ghost use Rattle.warehouse_objects.specs.Warehouse.{Warehouse};
+ghost use Rattle.warehouse_objects.specs.Reads.{ReadsOnly};
 ghost use Rattle.warehouse_objects.specs.Represents.{IsLaidOut, root_of, stored};
 ghost use Rattle.warehouse_check.specs.Checked.{HasBatches, IsNextBatch, IsSegmentAt};
 
@@ -22,8 +23,8 @@ use sector_device::Sectors;
 use std::alloc::Global;
 use warehouse_root::{Root, StoredTotals, segment_id};
 
-/// What is wrong with the batches of a store, or with what its root says of them, if anything is. Each segment is read whole and decoded,
-/// and its rows are checked as those of a submit are. One batch is in memory at a time.
+/// What is wrong with the batches of a store, or with what its root says of them, if anything is. Each segment is read
+/// whole and decoded, and its rows are checked as those of a submit are. One batch is in memory at a time.
 ///
 /// It can fail when out of memory, or because the device does.
 pub(crate) fn check_batches<D: Sectors>(
@@ -33,12 +34,12 @@ pub(crate) fn check_batches<D: Sectors>(
     dims: &Dims,
 ) -> Result<Option<Finding>, Fault>
     requires fine { has_failed store.old ≡ false }
-    ensures sound { IfOk result (λ found. found ≡ None → D.keeps_word (device_of store.new) → HasBatches (content_of D.Sectors store.old) dims.now root.now) }
-    ensures found { IfOk result (λ found. IsTrue (is_some found) → D.keeps_word (device_of store.new) → (w : Warehouse) → IsLaidOut (content_of D.Sectors store.old) w
+    ensures sound { IfOk result (λ found. found ≡ None → D.keeps_word (device_of store.new)
+        → HasBatches (content_of D.Sectors store.old) dims.now root.now) }
+    ensures found { IfOk result (λ found. IsTrue (is_some found) → D.keeps_word (device_of store.new) → (w : Warehouse)
+        → IsLaidOut (content_of D.Sectors store.old) w
         → root.now ≡ root_of w → dims.now ≡ w.rows → ⊥) }
-    ensures leaves { Leaves (disk_of D.Sectors store.old) (disk_of D.Sectors store.new) (λ c. c ≡ content_of D.Sectors store.old) }
-    ensures stays { (IsErrOf result Device → ⊥) → IsStill D.Sectors store.old store.new }
-    ensures device { IsErrOf result Device → Breaks D.Sectors store.old store.new }
+    ensures reads { ReadsOnly D.Sectors store.old store.new result }
     ensures causes { IfErr result (λ fault. (fault ≡ Memory) ⊎ (fault ≡ Device)) }
 {
     let _usable = store.is_broken();
@@ -63,14 +64,16 @@ fn check_batch<D: Sectors>(
 ) -> Result<Option<Finding>, Fault>
     requires fine { has_failed store.old ≡ false }
     requires few { admission.old.count < most_batches }
-    ensures sound { IfOk result (λ found. found ≡ None → (batches : List (List LineOrder)) → HasAccepted admission.old batches
-        → IsNextBatch (D.keeps_word (device_of store.new)) (content_of D.Sectors store.old) dims.now batches said admission.new) }
-    ensures found { IfOk result (λ found. IsTrue (is_some found) → D.keeps_word (device_of store.new) → (w : Warehouse) (before : ℕ) (batch : List LineOrder)
-        → IsLaidOut (content_of D.Sectors store.old) w → dims.now ≡ w.rows → slice_get w.batches before ≡ Some batch → said ≡ length batch
+    ensures sound { IfOk result (λ found. found ≡ None → (batches : List (List LineOrder))
+        → HasAccepted admission.old batches
+        → IsNextBatch (D.keeps_word (device_of store.new)) (content_of D.Sectors store.old) dims.now batches said
+        admission.new) }
+    ensures found { IfOk result (λ found. IsTrue (is_some found) → D.keeps_word (device_of store.new)
+        → (w : Warehouse) (before : ℕ) (batch : List LineOrder)
+        → IsLaidOut (content_of D.Sectors store.old) w → dims.now ≡ w.rows → slice_get w.batches before ≡ Some batch
+        → said ≡ length batch
         → HasAccepted admission.old (take before w.batches) → ⊥) }
-    ensures leaves { Leaves (disk_of D.Sectors store.old) (disk_of D.Sectors store.new) (λ c. c ≡ content_of D.Sectors store.old) }
-    ensures stays { (IsErrOf result Device → ⊥) → IsStill D.Sectors store.old store.new }
-    ensures device { IsErrOf result Device → Breaks D.Sectors store.old store.new }
+    ensures reads { ReadsOnly D.Sectors store.old store.new result }
     ensures causes { IfErr result (λ fault. (fault ≡ Memory) ⊎ (fault ≡ Device)) }
 {
     let batch = admission.next_number();
@@ -89,11 +92,10 @@ fn read_segment<D: Sectors>(
     requires fine { has_failed store.old ≡ false }
     ensures some { IfOk result (λ found. IfSome found (λ segment. D.keeps_word (device_of store.new)
         → IsSegmentAt (content_of D.Sectors store.old) id segment.number segment.rows)) }
-    ensures none { IfOk result (λ found. found ≡ None → D.keeps_word (device_of store.new) → (number : ℕ) (rows : List LineOrder)
+    ensures none { IfOk result (λ found. found ≡ None → D.keeps_word (device_of store.new)
+        → (number : ℕ) (rows : List LineOrder)
         → IsSegmentAt (content_of D.Sectors store.old) id number rows → ⊥) }
-    ensures leaves { Leaves (disk_of D.Sectors store.old) (disk_of D.Sectors store.new) (λ c. c ≡ content_of D.Sectors store.old) }
-    ensures stays { (IsErrOf result Device → ⊥) → IsStill D.Sectors store.old store.new }
-    ensures device { IsErrOf result Device → Breaks D.Sectors store.old store.new }
+    ensures reads { ReadsOnly D.Sectors store.old store.new result }
     ensures causes { IfErr result (λ fault. (fault ≡ Memory) ⊎ (fault ≡ Device)) }
 {
     match store.get(alloc, id)? {
@@ -105,7 +107,8 @@ fn read_segment<D: Sectors>(
 // The segment that bytes are, if they are one.
 fn segment_in(alloc: Global, bytes: Vec<u8>) -> Result<Option<Segment>, Fault>
     ensures some { IfOk result (λ found. IfSome found (λ segment. IsSegment bytes.items segment.number segment.rows)) }
-    ensures none { IfOk result (λ found. found ≡ None → (number : ℕ) (rows : List LineOrder) → IsSegment bytes.items number rows → ⊥) }
+    ensures none { IfOk result (λ found. found ≡ None → (number : ℕ) (rows : List LineOrder)
+        → IsSegment bytes.items number rows → ⊥) }
     ensures memory { IfErr result (λ fault. fault ≡ Memory) }
 {
     match decode(alloc, bytes) {

@@ -1,9 +1,9 @@
 //! The check of a store.
 ghost use Rattle.std.specs.Prelude.{◌≡◌, ◌⊎◌, None, is_some, false, All, IfErr, IfOk, IsErrOf, IsTrue};
 ghost use Rattle.cube_model.specs.declared.fault.Fault.TheVariants.{BadLayout, Device, Memory};
-ghost use Rattle.object_store.specs.Disk.{Leaves};
-ghost use Rattle.object_store.specs.Store.{Breaks, IsStill, content_of, device_of, disk_of, has_failed};
+ghost use Rattle.object_store.specs.Store.{content_of, device_of, has_failed};
 ghost use Rattle.warehouse_objects.specs.Warehouse.{Warehouse};
+ghost use Rattle.warehouse_objects.specs.Reads.{ReadsOnly};
 ghost use Rattle.warehouse_objects.specs.Represents.{HasItsObjects, IsLaidOut, Represents, root_of};
 ghost use Rattle.stored_cuboids.specs.Merged.{IsSound};
 ghost use Rattle.warehouse_check.specs.Checked.{HasBatches};
@@ -20,12 +20,12 @@ use stored_cuboids::laws::kept_cuboids_are_sound;
 use warehouse_objects::has_its_objects;
 use warehouse_root::Root;
 
-/// The first thing that is wrong with the content of a store, by its root and its dimensions, if anything is: the objects, then each batch
-/// and the totals, then each stored cuboid. Each segment and each run is read whole. One batch is in memory at a time, and the cells of one
-/// cuboid.
+/// The first thing that is wrong with the content of a store, by its root and its dimensions, if anything is: the
+/// objects, then each batch and the totals, then each stored cuboid. Each segment and each run is read whole. One batch
+/// is in memory at a time, and the cells of one cuboid.
 ///
-/// `BadLayout` where a batch changed while it was checked, which none does on a device that keeps its word. It can also run out of
-/// memory, or fail because the device does.
+/// `BadLayout` where a batch changed while it was checked, which none does on a device that keeps its word. It can also
+/// run out of memory, or fail because the device does.
 pub fn checked<D: Sectors>(
     alloc: Global,
     store: &mut Store<D>,
@@ -34,24 +34,28 @@ pub fn checked<D: Sectors>(
 ) -> Result<Option<Finding>, Fault>
     requires fine { has_failed store.old ≡ false }
 
-    // Nothing is found: then the objects are those for which the root asks, and the batches are as it says, whatever the content is.
-    ensures objects { IfOk result (λ found. found ≡ None → D.keeps_word (device_of store.new) → HasItsObjects (content_of D.Sectors store.old) root.now) }
-    ensures batches { IfOk result (λ found. found ≡ None → D.keeps_word (device_of store.new) → HasBatches (content_of D.Sectors store.old) dims.now root.now) }
+    // Nothing is found: then the objects are those for which the root asks, and the batches are as it says, whatever
+    // the content is.
+    ensures objects { IfOk result (λ found. found ≡ None → D.keeps_word (device_of store.new)
+        → HasItsObjects (content_of D.Sectors store.old) root.now) }
+    ensures batches { IfOk result (λ found. found ≡ None → D.keeps_word (device_of store.new)
+        → HasBatches (content_of D.Sectors store.old) dims.now root.now) }
 
     // And where its cuboids are laid out by the rules, each is the grouping of its batches.
-    ensures cuboids { IfOk result (λ found. found ≡ None → D.keeps_word (device_of store.new) → (w : Warehouse) → IsLaidOut (content_of D.Sectors store.old) w
+    ensures cuboids { IfOk result (λ found. found ≡ None → D.keeps_word (device_of store.new) → (w : Warehouse)
+        → IsLaidOut (content_of D.Sectors store.old) w
         → root.now ≡ root_of w → dims.now ≡ w.rows → All (IsSound w) w.cuboids) }
 
     // Something is found, or it is refused: then the content represents no warehouse.
-    ensures found { IfOk result (λ found. IsTrue (is_some found) → D.keeps_word (device_of store.new) → (w : Warehouse) → Represents (content_of D.Sectors store.old) w
+    ensures found { IfOk result (λ found. IsTrue (is_some found) → D.keeps_word (device_of store.new) → (w : Warehouse)
+        → Represents (content_of D.Sectors store.old) w
         → root.now ≡ root_of w → dims.now ≡ w.rows → ⊥) }
-    ensures refused { IsErrOf result BadLayout → D.keeps_word (device_of store.new) → (w : Warehouse) → Represents (content_of D.Sectors store.old) w
+    ensures refused { IsErrOf result BadLayout → D.keeps_word (device_of store.new) → (w : Warehouse)
+        → Represents (content_of D.Sectors store.old) w
         → root.now ≡ root_of w → dims.now ≡ w.rows → ⊥ }
 
     // The content stays, at each moment.
-    ensures leaves { Leaves (disk_of D.Sectors store.old) (disk_of D.Sectors store.new) (λ c. c ≡ content_of D.Sectors store.old) }
-    ensures stays { (IsErrOf result Device → ⊥) → IsStill D.Sectors store.old store.new }
-    ensures device { IsErrOf result Device → Breaks D.Sectors store.old store.new }
+    ensures reads { ReadsOnly D.Sectors store.old store.new result }
     ensures causes { IfErr result (λ fault. (fault ≡ Memory) ⊎ ((fault ≡ Device) ⊎ (fault ≡ BadLayout))) }
 {
     kept_cuboids_are_sound();

@@ -1,9 +1,9 @@
 //! The stored cuboids of a store, checked one after another.
 ghost use Rattle.std.specs.Prelude.{◌≡◌, ◌⊎◌, ◌↔◌, None, false, All, IfErr, IfOk, IsErrOf};
 ghost use Rattle.cube_model.specs.declared.fault.Fault.TheVariants.{BadLayout, Device, Memory};
-ghost use Rattle.object_store.specs.Disk.{Leaves};
-ghost use Rattle.object_store.specs.Store.{Breaks, IsStill, content_of, device_of, disk_of, has_failed};
+ghost use Rattle.object_store.specs.Store.{content_of, device_of, has_failed};
 ghost use Rattle.warehouse_objects.specs.Warehouse.{Warehouse};
+ghost use Rattle.warehouse_objects.specs.Reads.{ReadsOnly};
 ghost use Rattle.warehouse_objects.specs.Represents.{IsLaidOut, root_of};
 ghost use Rattle.stored_cuboids.specs.Merged.{IsSound};
 
@@ -16,8 +16,8 @@ use std::alloc::Global;
 use stored_cuboids::is_sound;
 use warehouse_root::Root;
 
-/// The first stored cuboid that is not the grouping of the batches up to its mark, if there is one. Each is worked out anew from the fact
-/// rows and compared, one at a time.
+/// The first stored cuboid that is not the grouping of the batches up to its mark, if there is one. Each is worked out
+/// anew from the fact rows and compared, one at a time.
 ///
 /// `BadLayout` where a batch is not as the root says. It can also run out of memory, or fail because the device does.
 pub(crate) fn check_cuboids<D: Sectors>(
@@ -27,13 +27,13 @@ pub(crate) fn check_cuboids<D: Sectors>(
     dims: &Dims,
 ) -> Result<Option<Finding>, Fault>
     requires fine { has_failed store.old ≡ false }
-    ensures answer { IfOk result (λ found. D.keeps_word (device_of store.new) → (w : Warehouse) → IsLaidOut (content_of D.Sectors store.old) w
+    ensures answer { IfOk result (λ found. D.keeps_word (device_of store.new) → (w : Warehouse)
+        → IsLaidOut (content_of D.Sectors store.old) w
         → root.now ≡ root_of w → dims.now ≡ w.rows → (found ≡ None) ↔ All (IsSound w) w.cuboids) }
-    ensures refused { IsErrOf result BadLayout → D.keeps_word (device_of store.new) → (w : Warehouse) → IsLaidOut (content_of D.Sectors store.old) w
+    ensures refused { IsErrOf result BadLayout → D.keeps_word (device_of store.new) → (w : Warehouse)
+        → IsLaidOut (content_of D.Sectors store.old) w
         → root.now ≡ root_of w → dims.now ≡ w.rows → ⊥ }
-    ensures leaves { Leaves (disk_of D.Sectors store.old) (disk_of D.Sectors store.new) (λ c. c ≡ content_of D.Sectors store.old) }
-    ensures stays { (IsErrOf result Device → ⊥) → IsStill D.Sectors store.old store.new }
-    ensures device { IsErrOf result Device → Breaks D.Sectors store.old store.new }
+    ensures reads { ReadsOnly D.Sectors store.old store.new result }
     ensures causes { IfErr result (λ fault. (fault ≡ Memory) ⊎ ((fault ≡ Device) ⊎ (fault ≡ BadLayout))) }
 {
     let _usable = store.is_broken();

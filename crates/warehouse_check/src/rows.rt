@@ -13,7 +13,8 @@ use cube_model::Fault;
 use dimensions::Dims;
 use std::alloc::Global;
 
-/// Takes the rows of a segment in as the next batch, of which the root says how many there are, or finds what is wrong with them.
+/// Takes the rows of a segment in as the next batch, of which the root says how many there are, or finds what is wrong
+/// with them.
 pub(crate) fn take_in(
     alloc: Global,
     dims: &Dims,
@@ -21,10 +22,13 @@ pub(crate) fn take_in(
     segment: &Segment,
     said: u32,
 ) -> Result<Option<Finding>, Fault>
-    ensures sound { IfOk result (λ found. found ≡ None → (batches : List (List LineOrder)) → HasAccepted admission.old batches
+    ensures sound { IfOk result (λ found. found ≡ None → (batches : List (List LineOrder))
+        → HasAccepted admission.old batches
         → IsTakenIn dims.now batches segment.now.number segment.now.rows said admission.new) }
-    ensures found { IfOk result (λ found. IsTrue (is_some found) → (batches : List (List LineOrder)) → HasAccepted admission.old batches
-        → segment.now.number ≡ length batches + 1 → length segment.now.rows ≡ said → IsNext dims.now batches segment.now.rows → ⊥) }
+    ensures found { IfOk result (λ found. IsTrue (is_some found) → (batches : List (List LineOrder))
+        → HasAccepted admission.old batches
+        → segment.now.number ≡ length batches + 1 → length segment.now.rows ≡ said
+        → IsNext dims.now batches segment.now.rows → ⊥) }
     ensures memory { IfErr result (λ fault. fault ≡ Memory) }
 {
     let batch = admission.next_number();
@@ -48,11 +52,14 @@ fn admit(
     segment: &Segment,
     batch: u32,
 ) -> Result<Option<Finding>, Fault>
-    ensures sound { IfOk result (λ found. found ≡ None → (batches : List (List LineOrder)) → HasAccepted admission.old batches → batch ≡ length batches + 1
+    ensures sound { IfOk result (λ found. found ≡ None → (batches : List (List LineOrder))
+        → HasAccepted admission.old batches → batch ≡ length batches + 1
         → IsNext dims.now batches segment.now.rows) }
-    ensures taken { IfOk result (λ found. found ≡ None → (batches : List (List LineOrder)) → HasAccepted admission.old batches → batch ≡ length batches + 1
+    ensures taken { IfOk result (λ found. found ≡ None → (batches : List (List LineOrder))
+        → HasAccepted admission.old batches → batch ≡ length batches + 1
         → HasAccepted admission.new (batches ++ segment.now.rows ∷ [])) }
-    ensures found { IfOk result (λ found. IsTrue (is_some found) → (batches : List (List LineOrder)) → HasAccepted admission.old batches → batch ≡ length batches + 1
+    ensures found { IfOk result (λ found. IsTrue (is_some found) → (batches : List (List LineOrder))
+        → HasAccepted admission.old batches → batch ≡ length batches + 1
         → IsNext dims.now batches segment.now.rows → ⊥) }
     ensures memory { IfErr result (λ fault. fault ≡ Memory) }
 {

@@ -17,30 +17,37 @@ fresh_first w rows same = ap fresh same
 
 module _ (w : Warehouse) (rows : DimRows) (same : rows ≡ w.rows) where
   holds_fresh : (c : Content) → Represents c (fresh rows) → HoldsPart w c
-  holds_fresh c represents = holds_first w 0 c (subst (λ (v : Warehouse). Represents c v) (fresh_first w rows same) represents)
+  holds_fresh c represents =
+      holds_first w 0 c (subst (λ (v : Warehouse). Represents c v) (fresh_first w rows same) represents)
 
   -- what a crash leaves while the store is made
-  pub making_leaves : (old new : Disk) → LeavesOrNone old new (λ c. Represents c (fresh rows)) → LeavesOrNone old new (HoldsPart w)
+  pub making_leaves : (old new : Disk) → LeavesOrNone old new (λ c. Represents c (fresh rows))
+      → LeavesOrNone old new (HoldsPart w)
   making_leaves old new leaves =
       passes_also (ShowsSomeOrNone (λ (c : Content). Represents c (fresh rows))) (ShowsSomeOrNone (HoldsPart w)) old new
-      (λ k size image one. ⊎_elim (λ none. inl none) (λ shown. inr (shown.0, shown.1, holds_fresh shown.0 shown.2)) one) leaves
+      (λ k size image one. ⊎_elim (λ none. inl none) (λ shown. inr (shown.0, shown.1, holds_fresh shown.0 shown.2)) one)
+      leaves
 
   -- and while it is filled
-  pub filling_leaves : (old mid new : Disk) → LeavesOrNone old mid (λ c. Represents c (fresh rows)) → Leaves mid new (HoldsPart w) → LeavesOrNone old new (HoldsPart w)
+  pub filling_leaves : (old mid new : Disk) → LeavesOrNone old mid (λ c. Represents c (fresh rows))
+      → Leaves mid new (HoldsPart w) → LeavesOrNone old new (HoldsPart w)
   filling_leaves old mid new first second =
       passes_then (ShowsSomeOrNone (HoldsPart w)) old mid new (making_leaves old mid first)
-      (passes_also (ShowsSome (HoldsPart w)) (ShowsSomeOrNone (HoldsPart w)) mid new (λ k size image shown. inr shown) second)
+      (passes_also (ShowsSome (HoldsPart w)) (ShowsSomeOrNone (HoldsPart w)) mid new (λ k size image shown. inr shown)
+      second)
 
 -- a device that is given back
 module _ {E : Type 0} (h : Ghosts E) (device back kept : E) (same : back ≡ kept) where
   pub back_word : h.keeps_word back → h.keeps_word kept
   back_word k = subst (λ (d : E). h.keeps_word d) same k
 
-  pub back_leaves : (P : Content → Type 0) → LeavesOrNone (disk h device) (disk h kept) P → LeavesOrNone (disk h device) (disk h back) P
+  pub back_leaves : (P : Content → Type 0) → LeavesOrNone (disk h device) (disk h kept) P
+      → LeavesOrNone (disk h device) (disk h back) P
   back_leaves P leaves = subst (λ (d : E). LeavesOrNone (disk h device) (disk h d) P) (sym same) leaves
 
   -- a store was made on it, so no read showed a valid superblock
-  pub back_spared : (h.keeps_word kept → HasNone (h.state device).reads) → (HasNone (h.state device).reads → ⊥) → OnlyImagesOf (disk h device) (disk h back)
+  pub back_spared : (h.keeps_word kept → HasNone (h.state device).reads) → (HasNone (h.state device).reads → ⊥)
+      → OnlyImagesOf (disk h device) (disk h back)
   back_spared unformatted some = record {
     word = λ k. absurd (some (unformatted (back_word k)));
     size = λ k. absurd (some (unformatted (back_word k)));

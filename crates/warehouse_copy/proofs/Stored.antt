@@ -1,5 +1,6 @@
 -- The views of stored cuboids, by what is said of them in places.
-use Rattle.std.proofs.Common.{◌≡◌, ◌⊎◌, inl, inr, ◌∙◌, ℕ, ◌+◌, ◌<◌, ◌≤◌, List, [], ◌∷◌, ◌++◌, All, length, map, Option, Some, None, slice_get, take, refl, sym, ap, subst, add-one, arith}
+use Rattle.std.proofs.Common.{◌≡◌, ◌⊎◌, inl, inr, ◌∙◌, ℕ, ◌+◌, ◌<◌, ◌≤◌, List, [], ◌∷◌, ◌++◌, All, length, map, Option}
+use Rattle.std.proofs.Common.{Some, None, slice_get, take, refl, sym, ap, subst, add-one, arith}
 use Rattle.std.specs.Prelude.{slice_index_or}
 use Rattle.std.proofs.lemmas.List.{take_all, map-append}
 use Rattle.std.proofs.lemmas.Bool.{cases_lt}
@@ -14,14 +15,17 @@ use Rattle.warehouse.specs.Status.{IsSaidOf, IsSaidAt}
 use Rattle.warehouse_copy.specs.Copied.{AreSaidOf}
 
 -- what is at a place that is not empty
-said_there : (stored : Option Cuboid) (place : Option StoredCuboid) (said : StoredCuboid) → place ≡ Some said → IsSaidAt stored place → (cuboid : Cuboid) × (stored ≡ Some cuboid) × IsSaidOf cuboid said
+said_there : (stored : Option Cuboid) (place : Option StoredCuboid) (said : StoredCuboid) → place ≡ Some said
+    → IsSaidAt stored place → (cuboid : Cuboid) × (stored ≡ Some cuboid) × IsSaidOf cuboid said
 said_there None None said is represents = absurd cc
 said_there None (Some other) said is represents = absurd represents
 said_there (Some cuboid) None said is represents = absurd represents
-said_there (Some cuboid) (Some other) said is represents = (cuboid, refl, subst (IsSaidOf cuboid) (some_one other said is) represents)
+said_there (Some cuboid) (Some other) said is represents =
+    (cuboid, refl, subst (IsSaidOf cuboid) (some_one other said is) represents)
 
 -- and at one that is
-none_there : (stored : Option Cuboid) (place : Option StoredCuboid) → place ≡ None → IsSaidAt stored place → stored ≡ None
+none_there : (stored : Option Cuboid) (place : Option StoredCuboid) → place ≡ None → IsSaidAt stored place
+    → stored ≡ None
 none_there None place is represents = refl
 none_there (Some cuboid) None is represents = absurd represents
 none_there (Some cuboid) (Some other) is represents = absurd cc
@@ -47,28 +51,37 @@ module _ (stored : List Cuboid) (places : List (Option StoredCuboid)) (said_of :
 
   module _ (count : ℕ) (low : count < 16) (views : List View) (first : AreFirst stored count views) where
     -- the view at the next place is that of the next cuboid
-    pub first_more : (said : StoredCuboid) (view : View) → slice_index_or places count None ≡ Some said → index_of view ≡ said.view → IndexesNameViews → AreFirst stored (count + 1) (views ++ view ∷ [])
+    pub first_more : (said : StoredCuboid) (view : View) → slice_index_or places count None ≡ Some said
+        → index_of view ≡ said.view → IndexesNameViews → AreFirst stored (count + 1) (views ++ view ∷ [])
     first_more said view is same names =
-        let here = said_there (slice_get stored count) (slice_index_or places count None) said is (said_of.each count low) in
+        let here = said_there (slice_get stored count) (slice_index_or places count None) said is
+        (said_of.each count low) in
         let own : view ≡ here.0.view = names.one_view view here.0.view (same ∙ here.2.view) in
-        let more : take (count + 1) stored ≡ take count stored ++ here.0 ∷ [] = ap (λ (n : ℕ). take n stored) (add-one count) ∙ take_next stored count here.0 here.1 in
+        let more : take (count + 1) stored ≡ take count stored ++ here.0 ∷ [] =
+        ap (λ (n : ℕ). take n stored) (add-one count) ∙ take_next stored count here.0 here.1 in
         record {
           within = omega (arith, slice_get_within stored count here.0 here.1);
           are = ap (λ (v : View). views ++ v ∷ []) own ∙ ap (λ (l : List View). l ++ here.0.view ∷ []) first.are
-              ∙ sym (map-append (λ (cuboid : Cuboid). cuboid.view) (take count stored) (here.0 ∷ [])) ∙ ap (map (λ (cuboid : Cuboid). cuboid.view)) (sym more);
+              ∙ sym (map-append (λ (cuboid : Cuboid). cuboid.view) (take count stored) (here.0 ∷ []))
+              ∙ ap (map (λ (cuboid : Cuboid). cuboid.view)) (sym more);
         }
 
     -- at an empty place there are no more
     pub first_all : slice_index_or places count None ≡ None → views ≡ map (λ cuboid. cuboid.view) stored
     first_all is =
-        let end : length stored ≤ count = past stored count (none_there (slice_get stored count) (slice_index_or places count None) is (said_of.each count low)) in
+        let end : length stored ≤ count =
+        past stored count
+        (none_there (slice_get stored count) (slice_index_or places count None) is (said_of.each count low)) in
         first.are ∙ ap (map (λ (cuboid : Cuboid). cuboid.view)) (take_all count stored end)
 
     -- no cuboid without ship mode has a number above those views
-    pub never_high : (said : StoredCuboid) → slice_index_or places count None ≡ Some said → 256 ≤ said.view → All (λ cuboid. index_of cuboid.view < 256) stored → ⊥
+    pub never_high : (said : StoredCuboid) → slice_index_or places count None ≡ Some said → 256 ≤ said.view
+        → All (λ cuboid. index_of cuboid.view < 256) stored → ⊥
     never_high said is high low_views =
-        let here = said_there (slice_get stored count) (slice_index_or places count None) said is (said_of.each count low) in
-        let own : index_of here.0.view < 256 = all_here (λ (cuboid : Cuboid). index_of cuboid.view < 256) stored count here.0 low_views here.1 in
+        let here = said_there (slice_get stored count) (slice_index_or places count None) said is
+        (said_of.each count low) in
+        let own : index_of here.0.view < 256 =
+        all_here (λ (cuboid : Cuboid). index_of cuboid.view < 256) stored count here.0 low_views here.1 in
         omega (arith, own, here.2.view, high)
 
   pub first_end : (views : List View) → AreFirst stored 16 views → views ≡ map (λ cuboid. cuboid.view) stored

@@ -9,7 +9,8 @@ use Rattle.warehouse_copy.specs.Copied.{IsCopy, IsPart}
 -- a copy may be asked what the first warehouse may be asked, and answers the same
 abbrev pub CopiesAnswerAlike : Type 0
 CopiesAnswerAlike = (w copy : Warehouse) (as_of : ℕ) (query : Query) → IsCopy w copy
-    → (IsAsked copy as_of query ↔ IsAsked w as_of query) × (answer_as_of query as_of copy.rows copy.batches ≡ answer_as_of query as_of w.rows w.batches)
+    → (IsAsked copy as_of query ↔ IsAsked w as_of query)
+    × (answer_as_of query as_of copy.rows copy.batches ≡ answer_as_of query as_of w.rows w.batches)
 
 -- the same of its first batches, as far as they are there
 abbrev pub PartsAnswerAlike : Type 0

@@ -36,8 +36,8 @@ HoldsPart w c = (part : Warehouse) × IsPart w part × Represents c part
 abbrev pub with_first : Warehouse → ℕ → Warehouse
 with_first w count = record (fresh w.rows) { batches = take count w.batches }
 
--- Why a copy is not made: no memory, a device that fails, no room, or the last generation. Or the new device is too small, or has a
--- warehouse already.
+-- Why a copy is not made: no memory, a device that fails, no room, or the last generation. Or the new device is too
+-- small, or has a warehouse already.
 abbrev pub IsCopyFault : Fault → Type 0
 IsCopyFault Memory = Unit {0}
 IsCopyFault Device = Unit {0}

@@ -19,15 +19,20 @@ pub(crate) fn copy_batches<D: Sectors, E: Sectors>(
     to: &mut Session<E>,
 ) -> Result<(), Fault>
     // The first warehouse stays as it is, at each moment.
-    ensures from_leaves { (w : Warehouse) → IsAt D.Sectors from.old w → Leaves (disk_of D.Sectors from.old) (disk_of D.Sectors from.new) (λ c. Represents c w) }
-    ensures from_stays { (IsErrOf result Device → ⊥) → (w : Warehouse) → IsAt D.Sectors from.old w → IsAt D.Sectors from.new w }
+    ensures from_leaves { (w : Warehouse) → IsAt D.Sectors from.old w
+        → Leaves (disk_of D.Sectors from.old) (disk_of D.Sectors from.new) (λ c. Represents c w) }
+    ensures from_stays { (IsErrOf result Device → ⊥) → (w : Warehouse) → IsAt D.Sectors from.old w
+        → IsAt D.Sectors from.new w }
 
     // Then the other one has all its batches, and until then the first ones.
-    ensures ok { OnOk result ((w : Warehouse) → IsAt D.Sectors from.old w → IsAt E.Sectors to.old (with_first w 0) → D.keeps_word (device_of from.new)
+    ensures ok { OnOk result ((w : Warehouse) → IsAt D.Sectors from.old w → IsAt E.Sectors to.old (with_first w 0)
+        → D.keeps_word (device_of from.new)
         → IsAt E.Sectors to.new (with_first w (length w.batches))) }
-    ensures leaves { (w : Warehouse) → IsAt D.Sectors from.old w → IsAt E.Sectors to.old (with_first w 0) → D.keeps_word (device_of from.new)
+    ensures leaves { (w : Warehouse) → IsAt D.Sectors from.old w → IsAt E.Sectors to.old (with_first w 0)
+        → D.keeps_word (device_of from.new)
         → Leaves (disk_of E.Sectors to.old) (disk_of E.Sectors to.new) (HoldsPart w) }
-    ensures refused { IfErr result (λ fault. (w : Warehouse) → IsAt D.Sectors from.old w → IsAt E.Sectors to.old (with_first w 0)
+    ensures refused { IfErr result (λ fault. (w : Warehouse) → IsAt D.Sectors from.old w
+        → IsAt E.Sectors to.old (with_first w 0)
         → D.keeps_word (device_of from.new) → E.keeps_word (device_of to.new) → IsCopyFault fault) }
     ensures from_word { D.keeps_word (device_of from.new) → D.keeps_word (device_of from.old) }
     ensures word { E.keeps_word (device_of to.new) → E.keeps_word (device_of to.old) }
@@ -49,14 +54,19 @@ fn copy_batch<D: Sectors, E: Sectors>(
     before: u32,
 ) -> Result<(), Fault>
     requires fits { before + 1 < 2 ^ 32 }
-    ensures from_leaves { (w : Warehouse) → IsAt D.Sectors from.old w → Leaves (disk_of D.Sectors from.old) (disk_of D.Sectors from.new) (λ c. Represents c w) }
-    ensures from_stays { (IsErrOf result Device → ⊥) → (w : Warehouse) → IsAt D.Sectors from.old w → IsAt D.Sectors from.new w }
-    ensures ok { OnOk result ((w : Warehouse) → IsAt D.Sectors from.old w → IsAt E.Sectors to.old (with_first w before) → D.keeps_word (device_of from.new)
+    ensures from_leaves { (w : Warehouse) → IsAt D.Sectors from.old w
+        → Leaves (disk_of D.Sectors from.old) (disk_of D.Sectors from.new) (λ c. Represents c w) }
+    ensures from_stays { (IsErrOf result Device → ⊥) → (w : Warehouse) → IsAt D.Sectors from.old w
+        → IsAt D.Sectors from.new w }
+    ensures ok { OnOk result ((w : Warehouse) → IsAt D.Sectors from.old w → IsAt E.Sectors to.old (with_first w before)
+        → D.keeps_word (device_of from.new)
         → IsAt E.Sectors to.new (with_first w (before + 1))) }
-    ensures leaves { (w : Warehouse) → IsAt D.Sectors from.old w → IsAt E.Sectors to.old (with_first w before) → D.keeps_word (device_of from.new)
+    ensures leaves { (w : Warehouse) → IsAt D.Sectors from.old w → IsAt E.Sectors to.old (with_first w before)
+        → D.keeps_word (device_of from.new)
         → Leaves (disk_of E.Sectors to.old) (disk_of E.Sectors to.new) (HoldsPart w) }
     ensures refused { IfErr result (λ fault. (w : Warehouse) → IsAt D.Sectors from.old w → before < length w.batches
-        → IsAt E.Sectors to.old (with_first w before) → D.keeps_word (device_of from.new) → E.keeps_word (device_of to.new) → IsCopyFault fault) }
+        → IsAt E.Sectors to.old (with_first w before) → D.keeps_word (device_of from.new)
+        → E.keeps_word (device_of to.new) → IsCopyFault fault) }
     ensures from_word { D.keeps_word (device_of from.new) → D.keeps_word (device_of from.old) }
     ensures word { E.keeps_word (device_of to.new) → E.keeps_word (device_of to.old) }
 {

@@ -19,18 +19,22 @@ use warehouse::{MOST_CUBOIDS, Session, StoredCuboid};
 // How many views there are without ship mode.
 const FIRST_VIEWS: u16 = 256;
 
-// Stores the cuboids of the views of a warehouse in one that has its batches, and no cuboid, and brings them to all batches.
+// Stores the cuboids of the views of a warehouse in one that has its batches, and no cuboid, and brings them to all
+// batches.
 pub(crate) fn copy_cuboids<D: Sectors, E: Sectors>(
     alloc: Global,
     from: &Session<D>,
     to: &mut Session<E>,
 ) -> Result<(), Fault>
     // Then it is a copy, and until then it has the batches.
-    ensures ok { OnOk result ((w : Warehouse) → IsAt D.Sectors from.now w → IsAt E.Sectors to.old (with_first w (length w.batches)) → D.keeps_word (device_of from.now)
-        → (copy : Warehouse) × IsCopy w copy × IsAt E.Sectors to.new copy × (E.keeps_word (device_of to.new) → AreBroughtOn copy)) }
+    ensures ok { OnOk result ((w : Warehouse) → IsAt D.Sectors from.now w
+        → IsAt E.Sectors to.old (with_first w (length w.batches)) → D.keeps_word (device_of from.now)
+        → (copy : Warehouse) × IsCopy w copy × IsAt E.Sectors to.new copy
+        × (E.keeps_word (device_of to.new) → AreBroughtOn copy)) }
     ensures leaves { (w : Warehouse) → IsAt E.Sectors to.old (with_first w (length w.batches))
         → Leaves (disk_of E.Sectors to.old) (disk_of E.Sectors to.new) (HoldsPart w) }
-    ensures refused { IfErr result (λ fault. (w : Warehouse) → IsAt D.Sectors from.now w → IsAt E.Sectors to.old (with_first w (length w.batches))
+    ensures refused { IfErr result (λ fault. (w : Warehouse) → IsAt D.Sectors from.now w
+        → IsAt E.Sectors to.old (with_first w (length w.batches))
         → D.keeps_word (device_of from.now) → E.keeps_word (device_of to.new) → IsCopyFault fault) }
     ensures word { E.keeps_word (device_of to.new) → E.keeps_word (device_of to.old) }
 {
@@ -47,9 +51,11 @@ fn views_in(
 ) -> Result<Vec<View>, Fault>
     ensures few { IfOk result (λ views. length views.items ≤ most_cuboids) }
     ensures known { IfOk result (λ views. All (λ view. index_of view < 256) views.items) }
-    ensures views { IfOk result (λ views. (stored : List Cuboid) → AreSaidOf stored cuboids.now → views.items ≡ map (λ cuboid. cuboid.view) stored) }
+    ensures views { IfOk result (λ views. (stored : List Cuboid) → AreSaidOf stored cuboids.now
+        → views.items ≡ map (λ cuboid. cuboid.view) stored) }
     ensures refused { IfErr result (λ fault. (fault ≡ Memory) ⊎ ((fault ≡ BadLayout)
-        × ((stored : List Cuboid) → AreSaidOf stored cuboids.now → All (λ cuboid. index_of cuboid.view < 256) stored → ⊥))) }
+        × ((stored : List Cuboid) → AreSaidOf stored cuboids.now → All (λ cuboid. index_of cuboid.view < 256) stored
+        → ⊥))) }
 {
     indexes_name_views();
     let mut views = Vec::new(alloc);
@@ -84,10 +90,13 @@ fn put_views<E: Sectors>(alloc: Global, to: &mut Session<E>, views: &[View]) -> 
     requires few { length views.now ≤ most_cuboids }
     requires known { All (λ view. index_of view < 256) views.now }
     ensures ok { OnOk result ((w : Warehouse) → IsAt E.Sectors to.old w
-        → (v : Warehouse) × IsKeptUp (with_views w views.now) v × IsAt E.Sectors to.new v × (E.keeps_word (device_of to.new) → AreBroughtOn v)) }
-    ensures leaves { (w : Warehouse) → IsAt E.Sectors to.old w → Leaves (disk_of E.Sectors to.old) (disk_of E.Sectors to.new)
+        → (v : Warehouse) × IsKeptUp (with_views w views.now) v × IsAt E.Sectors to.new v
+        × (E.keeps_word (device_of to.new) → AreBroughtOn v)) }
+    ensures leaves { (w : Warehouse) → IsAt E.Sectors to.old w
+        → Leaves (disk_of E.Sectors to.old) (disk_of E.Sectors to.new)
         (λ c. Represents c w ⊎ ((v : Warehouse) × IsKeptUp (with_views w views.now) v × Represents c v)) }
-    ensures refused { IfErr result (λ fault. (w : Warehouse) → IsAt E.Sectors to.old w → E.keeps_word (device_of to.new) → IsCopyFault fault) }
+    ensures refused { IfErr result (λ fault. (w : Warehouse) → IsAt E.Sectors to.old w → E.keeps_word (device_of to.new)
+        → IsCopyFault fault) }
     ensures word { E.keeps_word (device_of to.new) → E.keeps_word (device_of to.old) }
 {
     to.set_views(alloc, views)?;
@@ -97,10 +106,13 @@ fn put_views<E: Sectors>(alloc: Global, to: &mut Session<E>, views: &[View]) -> 
 // Brings each stored cuboid to all batches, but those whose view has too many cells.
 fn bring_on<E: Sectors>(alloc: Global, to: &mut Session<E>) -> Result<(), Fault>
     ensures ok { OnOk result ((w : Warehouse) → IsAt E.Sectors to.old w
-        → (v : Warehouse) × IsKeptUp w v × IsAt E.Sectors to.new v × (E.keeps_word (device_of to.new) → AreBroughtOn v)) }
-    ensures leaves { (w : Warehouse) → IsAt E.Sectors to.old w → Leaves (disk_of E.Sectors to.old) (disk_of E.Sectors to.new)
+        → (v : Warehouse) × IsKeptUp w v × IsAt E.Sectors to.new v
+        × (E.keeps_word (device_of to.new) → AreBroughtOn v)) }
+    ensures leaves { (w : Warehouse) → IsAt E.Sectors to.old w
+        → Leaves (disk_of E.Sectors to.old) (disk_of E.Sectors to.new)
         (λ c. (v : Warehouse) × IsKeptUp w v × Represents c v) }
-    ensures refused { IfErr result (λ fault. (w : Warehouse) → IsAt E.Sectors to.old w → E.keeps_word (device_of to.new) → IsCopyFault fault) }
+    ensures refused { IfErr result (λ fault. (w : Warehouse) → IsAt E.Sectors to.old w → E.keeps_word (device_of to.new)
+        → IsCopyFault fault) }
     ensures word { E.keeps_word (device_of to.new) → E.keeps_word (device_of to.old) }
 {
     match to.upkeep(alloc) {

@@ -1,5 +1,6 @@
 -- Rows that were written as lines, batch after batch.
-use Rattle.std.proofs.Common.{◌≡◌, ◌⊎◌, ⊎_elim, inl, inr, ◌∙◌, ap, sym, subst, refl, ℕ, ◌+◌, ◌<◌, ◌≤◌, Bool, true, false, List, [], ◌++◌}
+use Rattle.std.proofs.Common.{◌≡◌, ◌⊎◌, ⊎_elim, inl, inr, ◌∙◌, ap, sym, subst, refl, ℕ, ◌+◌, ◌<◌, ◌≤◌, Bool, true}
+use Rattle.std.proofs.Common.{false, List, [], ◌++◌}
 use Rattle.std.proofs.Common.{length, take, slice_get, Option, Some, None, Result, Ok, Err, IfErr, add-one}
 use Rattle.std.specs.Prelude.{◌&&◌, OnOk}
 use Rattle.std.specs.Io.KnownBytes.{Appends}
@@ -30,7 +31,8 @@ module _ (rows : List LineOrder) (old new : Option (List ℕ)) where
   written_by true is writes = record { spellable = is; lines = writes }
   written_by false is writes = absurd (let no : Ok tt ≡ Err BadLayout = writes.0 in cc)
 
-  refused_by : (test : Bool) → list_all is_spellable rows ≡ test → (fault : Fault) → Wrote test (Err fault) → RefusesRows rows old new fault
+  refused_by : (test : Bool) → list_all is_spellable rows ≡ test → (fault : Fault) → Wrote test (Err fault)
+      → RefusesRows rows old new fault
   refused_by true is fault writes = subst (RefusesRows rows old new) (sym writes.0) (is, writes.1)
   refused_by false is fault writes =
       let bad : fault ≡ BadLayout = let both : Err fault ≡ Err BadLayout = writes.0 in cc in
@@ -53,11 +55,13 @@ module _ (rows : List LineOrder) (old new : Option (List ℕ)) where
     never_failed is = never Failed (λ e. cc) (λ e. cc) is
 
   -- what was done then
-  pub rows_written : (result : Result Unit Fault) → Wrote (list_all is_spellable rows) result → OnOk result (AreWritten rows old new)
+  pub rows_written : (result : Result Unit Fault) → Wrote (list_all is_spellable rows) result
+      → OnOk result (AreWritten rows old new)
   rows_written (Ok done) writes = written_by (list_all is_spellable rows) refl writes
   rows_written (Err fault) writes = tt
 
-  pub rows_refused : (result : Result Unit Fault) → Wrote (list_all is_spellable rows) result → IfErr result (RefusesRows rows old new)
+  pub rows_refused : (result : Result Unit Fault) → Wrote (list_all is_spellable rows) result
+      → IfErr result (RefusesRows rows old new)
   rows_refused (Ok done) writes = tt
   rows_refused (Err fault) writes = refused_by (list_all is_spellable rows) refl fault writes
 
@@ -67,16 +71,19 @@ device_or : (fault : Fault) → (fault ≡ Device) ⊎ (fault ≡ Device → ⊥
 device_or Device = inl refl
 device_or fault = inr (λ e. cc)
 
-of_any : (batch : Option (List LineOrder)) (a : Option (List ℕ)) → RefusesBatch batch a a Memory × RefusesBatch batch a a Device
+of_any : (batch : Option (List LineOrder)) (a : Option (List ℕ)) → RefusesBatch batch a a Memory
+    × RefusesBatch batch a a Device
 of_any None a = (Keeps-refl a, Keeps-refl a)
 of_any (Some rows) a = (Keeps-refl a, Keeps-refl a)
 
 -- the rows of a batch are not read
-pub not_read : (batch : Option (List LineOrder)) (a : Option (List ℕ)) (fault : Fault) → ((fault ≡ Device → ⊥) → fault ≡ Memory)
+pub not_read : (batch : Option (List LineOrder)) (a : Option (List ℕ)) (fault : Fault)
+    → ((fault ≡ Device → ⊥) → fault ≡ Memory)
     → RefusesBatch batch a a fault
 not_read batch a fault why =
     ⊎_elim (λ (device : fault ≡ Device). subst (RefusesBatch batch a a) (sym device) (of_any batch a).1)
-    (λ (other : fault ≡ Device → ⊥). subst (RefusesBatch batch a a) (sym (why other)) (of_any batch a).0) (device_or fault)
+    (λ (other : fault ≡ Device → ⊥). subst (RefusesBatch batch a a) (sym (why other)) (of_any batch a).0)
+    (device_or fault)
 
 module _ (found batch : Option (List LineOrder)) (same : found ≡ batch) where
   -- a batch that is there is not written
@@ -87,13 +94,15 @@ module _ (found batch : Option (List LineOrder)) (same : found ≡ batch) where
 
   -- there is no batch of the number
   pub none_there : found ≡ None → (a : Option (List ℕ)) → RefusesBatch batch a a NoSuchPrefix
-  none_there is a = subst (λ (b : Option (List LineOrder)). RefusesBatch b a a NoSuchPrefix) (sym (sym same ∙ is)) (Keeps-refl a)
+  none_there is a = subst (λ (b : Option (List LineOrder)). RefusesBatch b a a NoSuchPrefix) (sym (sym same ∙ is))
+      (Keeps-refl a)
 
 pub nothing_written : (a : Option (List ℕ)) → AreWritten [] a a
 nothing_written a = record { spellable = refl; lines = Appends-nil a }
 
 -- some rows were written, and then others
-written_then : (first second : List LineOrder) (old mid new : Option (List ℕ)) → AreWritten first old mid → AreWritten second mid new
+written_then : (first second : List LineOrder) (old mid new : Option (List ℕ)) → AreWritten first old mid
+    → AreWritten second mid new
     → AreWritten (first ++ second) old new
 written_then first second old mid new one two =
     let both : facts_text (first ++ second) ≡ facts_text first ++ facts_text second =
@@ -105,32 +114,36 @@ written_then first second old mid new one two =
     }
 
 module _ (batches : List (List LineOrder)) where
-  module _ (before : ℕ) (old mid new : Option (List ℕ)) (first : AreWritten (all_rows (take before batches)) old mid) where
-    -- one batch more
-    pub written_next : (rows : List LineOrder) × (numbered batches (before + 1) ≡ Some rows) × AreWritten rows mid new
-        → AreWritten (all_rows (take (before + 1) batches)) old new
-    written_next (rows, there, next) =
-        let here : slice_get batches before ≡ Some rows = sym (ap (numbered batches) (add-one before)) ∙ there in
-        let all : all_rows (take (before + 1) batches) ≡ all_rows (take before batches) ++ rows =
-        ap (λ (n : ℕ). all_rows (take n batches)) (add-one before) ∙ rows_next batches before rows here in
-        subst (λ (l : List LineOrder). AreWritten l old new) (sym all)
-        (written_then (all_rows (take before batches)) rows old mid new first next)
+  module _ (before : ℕ) (old mid new : Option (List ℕ)) (first : AreWritten (all_rows (take before batches)) old mid)
+    where
+      -- one batch more
+      pub written_next : (rows : List LineOrder) × (numbered batches (before + 1) ≡ Some rows) × AreWritten rows mid new
+          → AreWritten (all_rows (take (before + 1) batches)) old new
+      written_next (rows, there, next) =
+          let here : slice_get batches before ≡ Some rows = sym (ap (numbered batches) (add-one before)) ∙ there in
+          let all : all_rows (take (before + 1) batches) ≡ all_rows (take before batches) ++ rows =
+          ap (λ (n : ℕ). all_rows (take n batches)) (add-one before) ∙ rows_next batches before rows here in
+          subst (λ (l : List LineOrder). AreWritten l old new) (sym all)
+          (written_then (all_rows (take before batches)) rows old mid new first next)
 
-    -- the next one is refused
-    pub refused_next : before < length batches → (fault : Fault) → RefusesBatch (numbered batches (before + 1)) mid new fault
-        → RefusesAfter batches old new fault
-    refused_next lt fault refused =
-        let got = get_within batches before lt in
-        let there : numbered batches (before + 1) ≡ Some got.0 = ap (numbered batches) (add-one before) ∙ got.1 in record {
-          count = before;
-          next = got.0;
-          is_next = got.1;
-          between = mid;
-          first = first;
-          refused = subst (λ (b : Option (List LineOrder)). RefusesBatch b mid new fault) there refused;
-        }
+      -- the next one is refused
+      pub refused_next : before < length batches → (fault : Fault)
+          → RefusesBatch (numbered batches (before + 1)) mid new fault
+          → RefusesAfter batches old new fault
+      refused_next lt fault refused =
+          let got = get_within batches before lt in
+          let there : numbered batches (before + 1) ≡ Some got.0 = ap (numbered batches) (add-one before) ∙ got.1 in
+          record {
+            count = before;
+            next = got.0;
+            is_next = got.1;
+            between = mid;
+            first = first;
+            refused = subst (λ (b : Option (List LineOrder)). RefusesBatch b mid new fault) there refused;
+          }
 
-  pub all_written : (count : ℕ) → length batches ≤ count → (old new : Option (List ℕ)) → AreWritten (all_rows (take count batches)) old new
+  pub all_written : (count : ℕ) → length batches ≤ count → (old new : Option (List ℕ))
+      → AreWritten (all_rows (take count batches)) old new
       → AreWritten (all_rows batches) old new
   all_written count end old new written =
       subst (λ (l : List (List LineOrder)). AreWritten (all_rows l) old new) (take_all count batches end) written

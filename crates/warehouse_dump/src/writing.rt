@@ -57,8 +57,8 @@ pub fn write_batches<D: Sectors, W: Write>(
     Ok(())
 }
 
-/// Hands a writer a line for each fact row of the stored batch of a number. Batches are numbered from 1. All rows of the
-/// batch are in memory together: at most 65,536. It does not flush.
+/// Hands a writer a line for each fact row of the stored batch of a number. Batches are numbered from 1. All rows of
+/// the batch are in memory together: at most 65,536. It does not flush.
 ///
 /// `NoSuchPrefix` where there is no such batch, and `BadLayout` where a line can spell one of its rows in no way: then
 /// nothing is written. `Output` where the writer fails, after a beginning of the lines. It can also fail when out of

@@ -15,7 +15,9 @@ abbrev pub Says : Result Unit Fault → Result Bool Fault → Type 0
 Says done result = MatchResult done (λ _. result ≡ Ok true) (λ fault. result ≡ Err fault)
 
 module _ {D : Type 0} (g : Ghosts D) (w : Warehouse) (old new : Session D g) (before after : Option (List ℕ)) where
-  pub yes-loads : (first size : ℕ) (text : Option (List ℕ)) (done : Result Unit Fault) (result : Result Bool Fault) → Says done result → Loads g w first size text old new before after done → Loads g w first size text old new before after result
+  pub yes-loads : (first size : ℕ) (text : Option (List ℕ)) (done : Result Unit Fault) (result : Result Bool Fault)
+      → Says done result → Loads g w first size text old new before after done
+      → Loads g w first size text old new before after result
   yes-loads first size text (Ok wrote) result is loads = rw is (record {
     trace = loads.trace;
     next = loads.next;
@@ -41,19 +43,28 @@ module _ {D : Type 0} (g : Ghosts D) (w : Warehouse) (old new : Session D g) (be
     leaves = loads.leaves;
   })
 
-  pub yes-reports : (as_of : Option ℕ) (query : Query) (done : Result Unit Fault) (result : Result Bool Fault) → Says done result → Reports g w as_of query old new before after done → Reports g w as_of query old new before after result
+  pub yes-reports : (as_of : Option ℕ) (query : Query) (done : Result Unit Fault) (result : Result Bool Fault)
+      → Says done result → Reports g w as_of query old new before after done
+      → Reports g w as_of query old new before after result
   yes-reports as_of query (Ok wrote) result is reports = rw is (record { ends = reports.ends; leaves = reports.leaves })
-  yes-reports as_of query (Err fault) result is reports = rw is (record { ends = reports.ends; leaves = reports.leaves })
+  yes-reports as_of query (Err fault) result is reports =
+      rw is (record { ends = reports.ends; leaves = reports.leaves })
 
-  pub yes-tells : (done : Result Unit Fault) (result : Result Bool Fault) → Says done result → Tells g w old new before after done → Tells g w old new before after result
+  pub yes-tells : (done : Result Unit Fault) (result : Result Bool Fault) → Says done result
+      → Tells g w old new before after done → Tells g w old new before after result
   yes-tells (Ok wrote) result is tells = rw is tells
   yes-tells (Err fault) result is tells = rw is tells
 
-  pub yes-chooses : (IsIt : List Chosen → Type 0) (refuses : Fault → Type 0) (done : Result Unit Fault) (result : Result Bool Fault) → Says done result
-      → StoresChoice g w IsIt refuses old new before after done → StoresChoice g w IsIt refuses old new before after result
-  yes-chooses IsIt refuses (Ok wrote) result is chooses = rw is (record { ends = chooses.ends; leaves = chooses.leaves })
-  yes-chooses IsIt refuses (Err fault) result is chooses = rw is (record { ends = chooses.ends; leaves = chooses.leaves })
+  pub yes-chooses : (IsIt : List Chosen → Type 0) (refuses : Fault → Type 0) (done : Result Unit Fault)
+      (result : Result Bool Fault) → Says done result
+      → StoresChoice g w IsIt refuses old new before after done
+      → StoresChoice g w IsIt refuses old new before after result
+  yes-chooses IsIt refuses (Ok wrote) result is chooses =
+      rw is (record { ends = chooses.ends; leaves = chooses.leaves })
+  yes-chooses IsIt refuses (Err fault) result is chooses =
+      rw is (record { ends = chooses.ends; leaves = chooses.leaves })
 
-  pub yes-keeps : (done : Result Unit Fault) (result : Result Bool Fault) → Says done result → KeepsUp g w old new before after done → KeepsUp g w old new before after result
+  pub yes-keeps : (done : Result Unit Fault) (result : Result Bool Fault) → Says done result
+      → KeepsUp g w old new before after done → KeepsUp g w old new before after result
   yes-keeps (Ok wrote) result is keeps = rw is (record { ends = keeps.ends; leaves = keeps.leaves })
   yes-keeps (Err fault) result is keeps = rw is (record { ends = keeps.ends; leaves = keeps.leaves })

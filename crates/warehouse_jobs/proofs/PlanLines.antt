@@ -7,7 +7,9 @@ use Rattle.warehouse_jobs.specs.PlanLines.{other_line, plan_line, plans_text}
 
 -- the line of the plan that is taken, and those of the others
 pub taken-first : (as_of : ℕ) (plans : List Priced) (d : Priced) → 1 ≤ length plans
-    → plans_text as_of plans ≡ plan_line (codes "plan ") as_of (get_or plans 0 d) ++ flat_map (other_line as_of) (take (length plans - 1) (drop 1 plans))
+    → plans_text as_of plans ≡ plan_line (codes "plan ") as_of (get_or plans 0 d)
+    ++ flat_map (other_line as_of) (take (length plans - 1) (drop 1 plans))
 taken-first as_of [] d some = absurd (omega arith)
 taken-first as_of (one ∷ others) d some =
-    ap (λ rest. plan_line (codes "plan ") as_of one ++ flat_map (other_line as_of) rest) (sym (take_rest (one ∷ others) 1))
+    ap (λ rest. plan_line (codes "plan ") as_of one ++ flat_map (other_line as_of) rest)
+    (sym (take_rest (one ∷ others) 1))

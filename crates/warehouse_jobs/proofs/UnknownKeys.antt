@@ -10,14 +10,17 @@ use Rattle.warehouse_jobs.specs.Loading.{with_batches}
 use Rattle.warehouse_jobs.proofs.Added.{same_rows}
 
 -- none is kept yet
-pub no_key : (dimensions : DimRows) (unknown : Option UnknownKey) → unknown ≡ None → IfSome unknown (IsInNoRow dimensions)
+pub no_key : (dimensions : DimRows) (unknown : Option UnknownKey) → unknown ≡ None
+    → IfSome unknown (IsInNoRow dimensions)
 no_key dimensions unknown none = rw none tt
 
 -- one that is in no row of a warehouse is in none with more batches, and back
 pub after_batches : (w : Warehouse) (number : ℕ) (batches : List (List LineOrder)) (unknown : Option UnknownKey)
     → IfSome unknown (IsInNoRow w.rows) → IfSome unknown (IsInNoRow (with_batches w number batches).rows)
-after_batches w number batches unknown kept = subst (λ rows. IfSome unknown (IsInNoRow rows)) (sym (same_rows w number batches)) kept
+after_batches w number batches unknown kept =
+    subst (λ rows. IfSome unknown (IsInNoRow rows)) (sym (same_rows w number batches)) kept
 
 pub before_batches : (w : Warehouse) (number : ℕ) (batches : List (List LineOrder)) (unknown : Option UnknownKey)
     → IfSome unknown (IsInNoRow (with_batches w number batches).rows) → IfSome unknown (IsInNoRow w.rows)
-before_batches w number batches unknown kept = subst (λ rows. IfSome unknown (IsInNoRow rows)) (same_rows w number batches) kept
+before_batches w number batches unknown kept =
+    subst (λ rows. IfSome unknown (IsInNoRow rows)) (same_rows w number batches) kept

@@ -1,5 +1,6 @@
 -- What an addition of dimension rows makes of a warehouse, and what it writes. Our own.
-use Rattle.std.specs.Prelude.{◌≡◌, ◌⊎◌, ◌<◌, ◌≤◌, ℕ, ◌+◌, nat_le, if◌then◌else◌, true, List, length, Option, Result, Ok, Err}
+use Rattle.std.specs.Prelude.{◌≡◌, ◌⊎◌, ◌<◌, ◌≤◌, ℕ, ◌+◌, nat_le, if◌then◌else◌, true, List, length, Option, Result, Ok}
+use Rattle.std.specs.Prelude.{Err}
 use Rattle.std.specs.Io.KnownBytes.{Appends, Keeps}
 use Rattle.sector_device.specs.declared.device.Sectors.{Ghosts}
 use Rattle.cube_model.specs.declared.fault.Fault.{Fault}
@@ -32,34 +33,41 @@ with_addition w number rows = if nat_le number w.additions then w else widened w
 
 -- its lines
 abbrev pub lines_of : Warehouse → ℕ → DimRows → List ℕ
-lines_of w number rows = addition_text number (row_total rows) (taken_of w number) (with_addition w number rows).additions
+lines_of w number rows =
+    addition_text number (row_total rows) (taken_of w number) (with_addition w number rows).additions
 
--- The device in an addition. It represents the warehouse after it then, and until then this or the one before. Of an addition that is
--- passed over each row is in the dimensions already, under its key and with the same texts
-pub record TakesRows {D : Type 0} (g : Ghosts D) (w : Warehouse) (number : ℕ) (rows : DimRows) (old new : Session D g) (taken : Taken) : Type 0 where
+-- The device in an addition. It represents the warehouse after it then, and until then this or the one before. Of an
+-- addition that is passed over each row is in the dimensions already, under its key and with the same texts
+pub record TakesRows {D : Type 0} (g : Ghosts D) (w : Warehouse) (number : ℕ) (rows : DimRows) (old new : Session D g)
+    (taken : Taken) : Type 0 where
   pub taken_is : taken ≡ taken_of w number
   pub follows : w.additions < number → AdmitsRows w number rows
   pub same : number ≤ w.additions → HasRows w.rows rows
   pub at : IsAt g new (with_addition w number rows)
   pub leaves : Leaves (disk_of g old) (disk_of g new) (λ c. Represents c w ⊎ Represents c (with_addition w number rows))
 
--- Why an addition is refused where the device has not failed: its number is there already, and one of its rows is not in the
--- dimensions so; or its number is not there, and the warehouse refuses it
+-- Why an addition is refused where the device has not failed: its number is there already, and one of its rows is not
+-- in the dimensions so; or its number is not there, and the warehouse refuses it
 abbrev pub AdditionRefuses : {D : Type 0} (g : Ghosts D) → Session D g → Warehouse → ℕ → DimRows → Fault → Type 0
 AdditionRefuses g session w number rows fault =
     ((fault ≡ Repeated) × (number ≤ w.additions) × (HasRows w.rows rows → ⊥))
     ⊎ ((w.additions < number) × AddRefuses g session w number rows fault)
 
--- An addition is refused. The warehouse stays, unless the device failed: it may then have the rows, where they are admissible
-pub record RefusesRows {D : Type 0} (g : Ghosts D) (w : Warehouse) (number : ℕ) (rows : DimRows) (old new : Session D g) (fault : Fault) : Type 0 where
+-- An addition is refused. The warehouse stays, unless the device failed: it may then have the rows, where they are
+-- admissible
+pub record RefusesRows {D : Type 0} (g : Ghosts D) (w : Warehouse) (number : ℕ) (rows : DimRows) (old new : Session D g)
+    (fault : Fault) : Type 0 where
   pub cause : ((fault ≡ Device) × (has_failed new ≡ true)) ⊎ (AdditionRefuses g old w number rows fault × IsAt g new w)
-  pub leaves : Leaves (disk_of g old) (disk_of g new) (λ c. Represents c w ⊎ (AdmitsRows w number rows × Represents c (widened w rows)))
+  pub leaves : Leaves (disk_of g old) (disk_of g new)
+      (λ c. Represents c w ⊎ (AdmitsRows w number rows × Represents c (widened w rows)))
 
--- An addition: once the device has it, its lines are written. Or it is refused, and nothing is written. Or the device has it, and the
--- writer failed, after a beginning of its lines
-abbrev pub AddsRows : {D A : Type 0} (g : Ghosts D) → Warehouse → ℕ → DimRows → (old new : Session D g) → (before after : Option (List ℕ)) → Result A Fault → Type 0
+-- An addition: once the device has it, its lines are written. Or it is refused, and nothing is written. Or the device
+-- has it, and the writer failed, after a beginning of its lines
+abbrev pub AddsRows : {D A : Type 0} (g : Ghosts D) → Warehouse → ℕ → DimRows → (old new : Session D g)
+    → (before after : Option (List ℕ)) → Result A Fault → Type 0
 AddsRows g w number rows old new before after (Ok done) =
     TakesRows g w number rows old new (taken_of w number) × Appends before after (lines_of w number rows)
 AddsRows g w number rows old new before after (Err fault) =
     (RefusesRows g w number rows old new fault × Keeps before after)
-    ⊎ ((fault ≡ Output) × TakesRows g w number rows old new (taken_of w number) × AppendsBeginning before after (lines_of w number rows))
+    ⊎ ((fault ≡ Output) × TakesRows g w number rows old new (taken_of w number)
+    × AppendsBeginning before after (lines_of w number rows))

@@ -15,7 +15,8 @@ AreCut number [] (rows ∷ batches) next left = ⊥
 AreCut number (lines ∷ parts) (rows ∷ batches) next left =
     (rows_of lineorder_row number lines ≡ Ok rows) × AreCut (number_after (length rows) number) parts batches next left
 
--- Batches that are read from a text from its first line on, so many lines a batch. Of a text that is not known nothing is said
+-- Batches that are read from a text from its first line on, so many lines a batch. Of a text that is not known nothing
+-- is said
 abbrev pub AreCutFrom : Option (List ℕ) → ℕ → List (List LineOrder) → ℕ → List (List (List ℕ)) → Type 0
 AreCutFrom None size batches next left = ⊤
 AreCutFrom (Some text) size batches next left = AreCut 1 (parts_of size (lines_of text)) batches next left

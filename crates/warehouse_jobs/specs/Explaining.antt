@@ -11,11 +11,13 @@ use Rattle.warehouse_objects.specs.Warehouse.{Warehouse}
 use Rattle.warehouse.specs.Session.{IsAsked, QueryRefuses}
 use Rattle.warehouse_jobs.specs.PlanLines.{plans_text}
 
--- The plans of a query over the first batches were written, the one that is taken first. Or the writer failed, after a beginning of
--- them. Or the query is refused, and nothing was written
+-- The plans of a query over the first batches were written, the one that is taken first. Or the writer failed, after a
+-- beginning of them. Or the query is refused, and nothing was written
 abbrev pub Explains : {A : Type 0} → Warehouse → ℕ → Query → (before after : Option (List ℕ)) → Result A Fault → Type 0
 Explains w count query before after (Ok done) =
-    IsAsked w count query × (plans : List Priced) × ArePlansOf w count query plans × Appends before after (plans_text count plans)
+    IsAsked w count query × (plans : List Priced) × ArePlansOf w count query plans
+    × Appends before after (plans_text count plans)
 Explains w count query before after (Err fault) =
-    ((fault ≡ Output) × IsAsked w count query × (plans : List Priced) × ArePlansOf w count query plans × AppendsBeginning before after (plans_text count plans))
+    ((fault ≡ Output) × IsAsked w count query × (plans : List Priced) × ArePlansOf w count query plans
+    × AppendsBeginning before after (plans_text count plans))
     ⊎ (Keeps before after × QueryRefuses w count query fault)

@@ -19,21 +19,25 @@ abbrev pub partial_cause : Warehouse → ℕ → PartAsked → Option Fault
 partial_cause w count asked = member_cause (answer_as_of asked.query count w.rows w.batches)
 
 -- a member cannot be read back, and nothing was written
-pub record RefusesMember {D : Type 0} (g : Ghosts D) (w : Warehouse) (count : ℕ) (asked : PartAsked) (new : Session D g) (before after : Option (List ℕ)) (fault : Fault) : Type 0 where
+pub record RefusesMember {D : Type 0} (g : Ghosts D) (w : Warehouse) (count : ℕ) (asked : PartAsked) (new : Session D g)
+    (before after : Option (List ℕ)) (fault : Fault) : Type 0 where
   pub cause : partial_cause w count asked ≡ Some fault
   pub at : IsAt g new w
   pub within : IsAsked w count asked.query
   pub nothing : Keeps before after
 
 -- a partial report is written as each text of an answer is, where its members can be read back
-abbrev pub AnswersInPart : {D A : Type 0} (g : Ghosts D) → Warehouse → ℕ → PartAsked → (new : Session D g) → (before after : Option (List ℕ)) → Result A Fault → Type 0
+abbrev pub AnswersInPart : {D A : Type 0} (g : Ghosts D) → Warehouse → ℕ → PartAsked → (new : Session D g)
+    → (before after : Option (List ℕ)) → Result A Fault → Type 0
 AnswersInPart g w count asked new before after (Ok done) =
-    (partial_cause w count asked ≡ None) × Answers {A = Unit {0}} (partial_text asked w.rows) g w count asked.query new before after (Ok tt)
+    (partial_cause w count asked ≡ None) × Answers {A = Unit {0}} (partial_text asked w.rows) g w count asked.query new
+    before after (Ok tt)
 AnswersInPart g w count asked new before after (Err fault) =
     Answers {A = Unit {0}} (partial_text asked w.rows) g w count asked.query new before after (Err fault)
     ⊎ RefusesMember g w count asked new before after fault
 
 -- a partial report leaves the warehouse as it is at each moment
-pub record ReportsInPart {D A : Type 0} (g : Ghosts D) (w : Warehouse) (as_of : Option ℕ) (asked : PartAsked) (old new : Session D g) (before after : Option (List ℕ)) (result : Result A Fault) : Type 0 where
+pub record ReportsInPart {D A : Type 0} (g : Ghosts D) (w : Warehouse) (as_of : Option ℕ) (asked : PartAsked)
+    (old new : Session D g) (before after : Option (List ℕ)) (result : Result A Fault) : Type 0 where
   pub ends : AnswersInPart g w (asked_for w as_of) asked new before after result
   pub leaves : Leaves (disk_of g old) (disk_of g new) (λ c. Represents c w)

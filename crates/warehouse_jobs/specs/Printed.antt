@@ -33,7 +33,8 @@ additions_line count = named_line (codes "additions ") count
 -- what became of the addition of a number, which has so many rows, and how many additions there are then
 abbrev pub addition_text : ℕ → ℕ → Taken → ℕ → List ℕ
 addition_text number rows Added additions =
-    codes "addition " ++ (decimal number ++ (codes " rows " ++ (decimal rows ++ (codes "\n" ++ additions_line additions))))
+    codes "addition "
+    ++ (decimal number ++ (codes " rows " ++ (decimal rows ++ (codes "\n" ++ additions_line additions))))
 addition_text number rows Skipped additions =
     codes "addition " ++ (decimal number ++ (codes " skipped\n" ++ additions_line additions))
 

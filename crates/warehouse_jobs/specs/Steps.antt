@@ -17,7 +17,8 @@ pub record IsRead (size : ℕ) (lines rest : Unread) (rows : List LineOrder) : T
   pub takes : TakesBatch lineorder_row size lines rest rows
 
 -- no row was left, and nothing happened
-pub record IsAtLast {D : Type 0} (g : Ghosts D) (size : ℕ) (lines rest : Unread) (old new : Session D g) (before after : Option (List ℕ)) : Type 0 where
+pub record IsAtLast {D : Type 0} (g : Ghosts D) (size : ℕ) (lines rest : Unread) (old new : Session D g)
+    (before after : Option (List ℕ)) : Type 0 where
   pub rows : List LineOrder
   pub none : length rows ≡ 0
   pub takes : TakesBatch lineorder_row size lines rest rows
@@ -25,16 +26,19 @@ pub record IsAtLast {D : Type 0} (g : Ghosts D) (size : ℕ) (lines rest : Unrea
   pub nothing : after ≡ before
 
 -- the next batch could not be read, and nothing happened
-pub record IsUnread {D : Type 0} (g : Ghosts D) (size : ℕ) (lines : Unread) (old new : Session D g) (before after : Option (List ℕ)) (fault : Fault) : Type 0 where
+pub record IsUnread {D : Type 0} (g : Ghosts D) (size : ℕ) (lines : Unread) (old new : Session D g)
+    (before after : Option (List ℕ)) (fault : Fault) : Type 0 where
   pub refused : RefusesBatch lineorder_row size lines fault
   pub same : new ≡ old
   pub nothing : after ≡ before
 
 -- The next batch was read, and once the device has it, its line is written; or no row was left. Or the next batch could
 -- not be read, or did not end well
-abbrev pub Steps : {D : Type 0} (g : Ghosts D) → ℕ → Warehouse → ℕ → (lines rest : Unread) → (old new : Session D g) → (before after : Option (List ℕ)) → Result Bool Fault → Type 0
+abbrev pub Steps : {D : Type 0} (g : Ghosts D) → ℕ → Warehouse → ℕ → (lines rest : Unread) → (old new : Session D g)
+    → (before after : Option (List ℕ)) → Result Bool Fault → Type 0
 Steps g size w number lines rest old new before after (Ok true) =
-    (rows : List LineOrder) × IsRead size lines rest rows × TakesIn g w number rows old new (taken_of w number) × Appends before after (line_in w number rows)
+    (rows : List LineOrder) × IsRead size lines rest rows × TakesIn g w number rows old new (taken_of w number)
+    × Appends before after (line_in w number rows)
 Steps g size w number lines rest old new before after (Ok false) = IsAtLast g size lines rest old new before after
 Steps g size w number lines rest old new before after (Err fault) =
     IsUnread g size lines old new before after fault

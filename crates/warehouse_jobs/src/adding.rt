@@ -16,12 +16,13 @@ use std::alloc::Global;
 use std::io::Write;
 use warehouse::Session;
 
-/// Adds rows to the dimensions under a number, and writes and flushes two lines once they are durable: `addition 1 rows 1`, how many
-/// rows there are in all four tables, and `additions 1`, how many additions the warehouse has. Additions are numbered from 1.
+/// Adds rows to the dimensions under a number, and writes and flushes two lines once they are durable: `addition 1 rows
+/// 1`, how many rows there are in all four tables, and `additions 1`, how many additions the warehouse has. Additions
+/// are numbered from 1.
 ///
-/// An addition whose number is there is skipped where each of its rows is in the dimensions already, under its key and with the same
-/// texts: the first line is `addition 1 skipped` then. Where one is not, the addition is `Repeated`. Any other refusal is that of
-/// `Session::add`, or `Output` where the writer fails, which leaves the addition.
+/// An addition whose number is there is skipped where each of its rows is in the dimensions already, under its key and
+/// with the same texts: the first line is `addition 1 skipped` then. Where one is not, the addition is `Repeated`. Any
+/// other refusal is that of `Session::add`, or `Output` where the writer fails, which leaves the addition.
 pub fn add<D: Sectors, W: Write>(
     alloc: Global,
     session: &mut Session<D>,
@@ -33,10 +34,12 @@ pub fn add<D: Sectors, W: Write>(
 
     // What is written, what the warehouse is then, and what a crash at any point until then leaves.
     ensures adds { (w : Warehouse) → IsAt D.Sectors session.old w → D.keeps_word (device_of session.new)
-        → AddsRows D.Sectors w number rows.now session.old session.new (W.contents out.old) (W.contents out.new) result }
+        → AddsRows D.Sectors w number rows.now session.old session.new (W.contents out.old) (W.contents out.new)
+        result }
 
     // Where the device failed in an earlier call, nothing is done.
-    ensures failed { has_failed session.old ≡ true → (result ≡ Err Failed) × (session.new ≡ session.old) × Keeps (W.contents out.old) (W.contents out.new) }
+    ensures failed { has_failed session.old ≡ true → (result ≡ Err Failed) × (session.new ≡ session.old)
+        × Keeps (W.contents out.old) (W.contents out.new) }
     ensures word { D.keeps_word (device_of session.new) → D.keeps_word (device_of session.old) }
 {
     if session.is_broken() {
@@ -55,9 +58,11 @@ fn take_rows<D: Sectors>(
     rows: &DimRows,
 ) -> Result<Taken, Fault>
     requires short { HaveShortTexts rows.now }
-    ensures taken { IfOk result (λ taken. (w : Warehouse) → IsAt D.Sectors session.old w → D.keeps_word (device_of session.new)
+    ensures taken { IfOk result (λ taken. (w : Warehouse) → IsAt D.Sectors session.old w
+        → D.keeps_word (device_of session.new)
         → TakesRows D.Sectors w number rows.now session.old session.new taken) }
-    ensures refused { IfErr result (λ fault. (w : Warehouse) → IsAt D.Sectors session.old w → D.keeps_word (device_of session.new)
+    ensures refused { IfErr result (λ fault. (w : Warehouse) → IsAt D.Sectors session.old w
+        → D.keeps_word (device_of session.new)
         → RefusesRows D.Sectors w number rows.now session.old session.new fault) }
     ensures word { D.keeps_word (device_of session.new) → D.keeps_word (device_of session.old) }
 {

@@ -21,7 +21,8 @@ use warehouse::{Finding, Session, Status, StoredCuboid};
 /// Checks all that is stored of a warehouse, and answers whether nothing is wrong. It writes one line and flushes it:
 /// `ok: batches 1, rows 3, cuboids 3`, or the first thing that is wrong, such as `batch 3: rows 5, the root says 6`.
 ///
-/// It can fail when out of memory, because the device or the writer does, and with `Failed` where the device failed in an earlier call.
+/// It can fail when out of memory, because the device or the writer does, and with `Failed` where the device failed in
+/// an earlier call.
 pub fn check<D: Sectors, W: Write>(
     alloc: Global,
     session: &mut Session<D>,
@@ -32,11 +33,14 @@ pub fn check<D: Sectors, W: Write>(
         → Checks D.Sectors w session.old session.new (W.contents out.old) (W.contents out.new) result }
 
     // Yes says that the content has its objects and batches, whatever it is, and no that it represents no warehouse.
-    ensures yes { IfOk result (λ sound. IsTrue sound → D.keeps_word (device_of session.new) → IsChecked (content_of D.Sectors session.old)) }
-    ensures no { IfOk result (λ sound. sound ≡ false → D.keeps_word (device_of session.new) → (w : Warehouse) → Represents (content_of D.Sectors session.old) w → ⊥) }
+    ensures yes { IfOk result (λ sound. IsTrue sound → D.keeps_word (device_of session.new)
+        → IsChecked (content_of D.Sectors session.old)) }
+    ensures no { IfOk result (λ sound. sound ≡ false → D.keeps_word (device_of session.new) → (w : Warehouse)
+        → Represents (content_of D.Sectors session.old) w → ⊥) }
 
     // Where the device failed in an earlier call, nothing is done.
-    ensures failed { has_failed session.old ≡ true → (result ≡ Err Failed) × (session.new ≡ session.old) × Keeps (W.contents out.old) (W.contents out.new) }
+    ensures failed { has_failed session.old ≡ true → (result ≡ Err Failed) × (session.new ≡ session.old)
+        × Keeps (W.contents out.old) (W.contents out.new) }
     ensures word { D.keeps_word (device_of session.new) → D.keeps_word (device_of session.old) }
 {
     match session.check(alloc)? {

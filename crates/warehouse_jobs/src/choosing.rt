@@ -27,8 +27,8 @@ pub(crate) fn choose<D: Sectors, W: Write>(
     write_choice(out, chosen.as_slice())
 }
 
-/// Stores the cuboids of the greedy list of k views where only some views are asked for, and writes a line for each, in the order
-/// of choice.
+/// Stores the cuboids of the greedy list of k views where only some views are asked for, and writes a line for each, in
+/// the order of choice.
 pub(crate) fn choose_for<D: Sectors, W: Write>(
     alloc: Global,
     session: &mut Session<D>,
@@ -37,7 +37,8 @@ pub(crate) fn choose_for<D: Sectors, W: Write>(
     out: &mut W,
 ) -> Result<(), Fault>
     ensures chooses { (w : Warehouse) → IsAt D.Sectors session.old w → D.keeps_word (device_of session.new)
-        → ChoosesFor D.Sectors w demanded.now k session.old session.new (W.contents out.old) (W.contents out.new) result }
+        → ChoosesFor D.Sectors w demanded.now k session.old session.new (W.contents out.old) (W.contents out.new)
+        result }
     ensures word { D.keeps_word (device_of session.new) → D.keeps_word (device_of session.old) }
 {
     let chosen = session.choose_for(alloc, k, demanded)?;

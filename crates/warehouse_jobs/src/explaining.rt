@@ -16,11 +16,12 @@ use std::io::Write;
 use warehouse::Session;
 
 /// Writes how a query over the first batches, or over all, is answered: a line for the plan that reads least, such as
-/// `plan view 248 ALL|ALL|mfgr|day mark 1 tail 0 cost 2`, and after it one for each other plan, such as `other scan tail 1 cost 3`.
-/// The tail is how many batches are read as fact rows, the cost how many cells and fact rows are read. It makes no device call.
+/// `plan view 248 ALL|ALL|mfgr|day mark 1 tail 0 cost 2`, and after it one for each other plan, such as `other scan
+/// tail 1 cost 3`. The tail is how many batches are read as fact rows, the cost how many cells and fact rows are read.
+/// It makes no device call.
 ///
-/// `BadQuery` where the query is not proper, `NoSuchPrefix` where there are fewer batches, `Memory`, and `Output` where the writer
-/// fails; `Failed` where the device failed in an earlier call.
+/// `BadQuery` where the query is not proper, `NoSuchPrefix` where there are fewer batches, `Memory`, and `Output` where
+/// the writer fails; `Failed` where the device failed in an earlier call.
 pub fn explain<D: Sectors, W: Write>(
     alloc: Global,
     session: &Session<D>,
@@ -30,7 +31,8 @@ pub fn explain<D: Sectors, W: Write>(
 ) -> Result<(), Fault>
     ensures explains { (w : Warehouse) → IsAt D.Sectors session.now w → D.keeps_word (device_of session.now)
         → Explains w (asked_for w as_of) query.now (W.contents out.old) (W.contents out.new) result }
-    ensures failed { has_failed session.now ≡ true → (result ≡ Err Failed) × Keeps (W.contents out.old) (W.contents out.new) }
+    ensures failed { has_failed session.now ≡ true → (result ≡ Err Failed)
+        × Keeps (W.contents out.old) (W.contents out.new) }
 {
     let count = batches_asked(session, as_of)?;
     explain_over(alloc, session, count, query, out)
@@ -46,7 +48,8 @@ fn explain_over<D: Sectors, W: Write>(
 ) -> Result<(), Fault>
     ensures explains { (w : Warehouse) → IsAt D.Sectors session.now w → D.keeps_word (device_of session.now)
         → Explains w count query.now (W.contents out.old) (W.contents out.new) result }
-    ensures failed { has_failed session.now ≡ true → (result ≡ Err Failed) × Keeps (W.contents out.old) (W.contents out.new) }
+    ensures failed { has_failed session.now ≡ true → (result ≡ Err Failed)
+        × Keeps (W.contents out.old) (W.contents out.new) }
 {
     let plans = session.plans(alloc, count, query)?;
     write_plans(out, count, plans.as_slice())

@@ -90,8 +90,8 @@ impl BatchRows {
 /// What is asked of a warehouse.
 #[derive(Drop)]
 pub enum Job {
-    /// Adds the fact rows of a file, so many rows a batch, its first batch with a number. A batch that is there already is
-    /// passed over, and one that is another than the batch of its number is refused.
+    /// Adds the fact rows of a file, so many rows a batch, its first batch with a number. A batch that is there already
+    /// is passed over, and one that is another than the batch of its number is refused.
     Load { first: BatchNumber, rows: BatchRows },
     /// Reports the answer to a query over the first batches, so many of them, or all that are there.
     Report { as_of: Option<u32>, query: Query },
@@ -100,7 +100,8 @@ pub enum Job {
     Status,
     /// Stores the cuboids of the greedy list of so many views.
     Choose(u8),
-    /// Stores those of the greedy list of so many views where only some views are asked for, each as often as it is among them.
+    /// Stores those of the greedy list of so many views where only some views are asked for, each as often as it is
+    /// among them.
     ChooseFor { k: u8, demanded: Vec<View> },
     /// Brings each stored cuboid to all batches.
     Upkeep,

@@ -37,7 +37,8 @@ pub(crate) fn audit<D: Sectors, W: Write>(
 ) -> Result<bool, Fault>
     ensures audits { (w : Warehouse) → IsAt D.Sectors session.old w → D.keeps_word (device_of session.new)
         → Audits D.Sectors w session.old session.new (W.contents out.old) (W.contents out.new) result }
-    ensures laid { IfOk result (λ yes. (w : Warehouse) → IsLaidAt D.Sectors session.old w → D.keeps_word (device_of session.new)
+    ensures laid { IfOk result (λ yes. (w : Warehouse) → IsLaidAt D.Sectors session.old w
+        → D.keeps_word (device_of session.new)
         → IsTrue yes ↔ All (IsSound w) w.cuboids) }
     ensures text { IfOk result (λ yes. Appends (W.contents out.old) (W.contents out.new) (audit_text yes)) }
     ensures word { D.keeps_word (device_of session.new) → D.keeps_word (device_of session.old) }

@@ -1,6 +1,7 @@
-//! Laws of loads: each function proves the statement that its contract names, and does nothing. They hold whatever a load returns
-//! where it succeeds, so of `load` and of `perform`.
-ghost use Rattle.warehouse_jobs.specs.Lawful.{LoadAddsTheOthers, LoadHoldsItsBatches, LoadedIsEvaluated, CrashedLoadIsFound};
+//! Laws of loads: each function proves the statement that its contract names, and does nothing. They hold whatever a
+//! load returns where it succeeds, so of `load` and of `perform`.
+ghost use Rattle.warehouse_jobs.specs.Lawful.{LoadAddsTheOthers, LoadHoldsItsBatches, LoadedIsEvaluated};
+ghost use Rattle.warehouse_jobs.specs.Lawful.{CrashedLoadIsFound};
 
 use sector_device::Sectors;
 use warehouse::laws::restarted_shows;
@@ -15,8 +16,8 @@ pub fn load_holds_its_batches<D: Sectors, A>()
     ensures { LoadHoldsItsBatches A D.Sectors }
 {}
 
-/// However a load crashes after some of its lines were written: the restarted device has the batches of these lines, and by its
-/// contract opening finds them.
+/// However a load crashes after some of its lines were written: the restarted device has the batches of these lines,
+/// and by its contract opening finds them.
 pub fn crashed_load_is_found<D: Sectors, A>()
     ensures { CrashedLoadIsFound A D.Sectors }
 {

@@ -1,5 +1,6 @@
-//! What is done to an open warehouse: a file is loaded, rows are added to the dimensions, a query is reported or its plans are written,
-//! the numbers are written, and cuboids are chosen, kept up to date and audited; all that is stored is checked.
+//! What is done to an open warehouse: a file is loaded, rows are added to the dimensions, a query is reported or its
+//! plans are written, the numbers are written, and cuboids are chosen, kept up to date and audited; all that is stored
+//! is checked.
 #![tactic(auto)]
 
 mod adding;

@@ -76,7 +76,8 @@ impl<R: Read + Drop> LoadText<R> {
         Ok(LoadText { lines, kept })
     }
 
-    /// The line that was read last. Where the text is refused, it is the line that is, except where that is too long or a read failed.
+    /// The line that was read last. Where the text is refused, it is the line that is, except where that is too long or
+    /// a read failed.
     pub fn line(&self) -> &[u8]
         ensures { result.now ≡ self.now.lines.line }
     {
@@ -108,7 +109,8 @@ pub fn load<D: Sectors, R: Read + Drop, W: Write>(
     out: &mut W,
 ) -> Result<(), Fault>
     // Of a text of which no line was taken yet.
-    ensures loads { (w : Warehouse) (text : Option (List ℕ)) → IsAt D.Sectors session.old w → D.keeps_word (device_of session.new)
+    ensures loads { (w : Warehouse) (text : Option (List ℕ)) → IsAt D.Sectors session.old w
+        → D.keeps_word (device_of session.new)
         → Keeps text lineorder.old.lines.left → lineorder.old.lines.number ≡ 0 → lineorder.old.lines.fault ≡ None
         → Loads D.Sectors w first rows text session.old session.new (W.contents out.old) (W.contents out.new) result }
     ensures word { D.keeps_word (device_of session.new) → D.keeps_word (device_of session.old) }
@@ -116,7 +118,8 @@ pub fn load<D: Sectors, R: Read + Drop, W: Write>(
     // After a refusal the text has the line that is refused, or a key that is in no row of its dimension.
     ensures line { lineorder.old.lines.fault ≡ None → KeepsLine lineorder_row lineorder.new.lines }
     ensures unknown { (w : Warehouse) → IsAt D.Sectors session.old w → D.keeps_word (device_of session.new)
-        → lineorder.old.lines.number ≡ 0 → lineorder.old.unknown ≡ None → IfSome lineorder.new.unknown (IsInNoRow w.rows) }
+        → lineorder.old.lines.number ≡ 0 → lineorder.old.unknown ≡ None
+        → IfSome lineorder.new.unknown (IsInNoRow w.rows) }
 {
     if let Some(fault) = lineorder.lines.fault() {
         return Err(fault);
@@ -135,7 +138,8 @@ pub(crate) fn load_from<D: Sectors, R: Read + Drop, W: Write>(
     out: &mut W,
 ) -> Result<(), Fault>
     ensures loads { (w : Warehouse) → IsAt D.Sectors session.old w → D.keeps_word (device_of session.new)
-        → Loads D.Sectors w first rows (R.remaining lineorder) session.old session.new (W.contents out.old) (W.contents out.new) result }
+        → Loads D.Sectors w first rows (R.remaining lineorder) session.old session.new (W.contents out.old)
+        (W.contents out.new) result }
     ensures word { D.keeps_word (device_of session.new) → D.keeps_word (device_of session.old) }
 {
     let mut text = LoadText::new(alloc, lineorder)?;
@@ -156,7 +160,8 @@ fn load_lines<D: Sectors, R: Read, W: Write>(
     requires some { 1 ≤ size }
     requires few { size ≤ most_batch_rows }
     requires fault { lines.old.fault ≡ None }
-    ensures loads { (w : Warehouse) (text : Option (List ℕ)) → IsAt D.Sectors session.old w → Keeps text lines.old.left → lines.old.number ≡ 0
+    ensures loads { (w : Warehouse) (text : Option (List ℕ)) → IsAt D.Sectors session.old w → Keeps text lines.old.left
+        → lines.old.number ≡ 0
         → D.keeps_word (device_of session.new)
         → Loads D.Sectors w first size text session.old session.new (W.contents out.old) (W.contents out.new) result }
     ensures word { D.keeps_word (device_of session.new) → D.keeps_word (device_of session.old) }
@@ -188,7 +193,8 @@ fn load_next<D: Sectors, R: Read, W: Write>(
     requires few { size ≤ most_batch_rows }
     requires fault { lines.old.fault ≡ None }
     ensures steps { (w : Warehouse) → IsAt D.Sectors session.old w → D.keeps_word (device_of session.new)
-        → Steps D.Sectors size w number lines.old lines.new session.old session.new (W.contents out.old) (W.contents out.new) result }
+        → Steps D.Sectors size w number lines.old lines.new session.old session.new (W.contents out.old)
+        (W.contents out.new) result }
     ensures fault { OnOk result (lines.new.fault ≡ None) }
     ensures line { KeepsLine lineorder_row lines.new }
     ensures unknown { (w : Warehouse) → IsAt D.Sectors session.old w → D.keeps_word (device_of session.new)
@@ -214,7 +220,8 @@ fn next_batch<D: Sectors, R: Read>(
 ) -> Result<GrowingBatch, Fault>
     requires few { size ≤ most_batch_rows }
     requires fault { lines.old.fault ≡ None }
-    ensures ok { IfOk result (λ batch. (rows : List LineOrder) × TakesBatch lineorder_row size lines.old lines.new rows × Grows session.now rows batch) }
+    ensures ok { IfOk result (λ batch. (rows : List LineOrder) × TakesBatch lineorder_row size lines.old lines.new rows
+        × Grows session.now rows batch) }
     ensures refused { IfErr result (RefusesBatch lineorder_row size lines.old) }
     ensures line { KeepsLine lineorder_row lines.new }
     ensures unknown { (w : Warehouse) → IsAt D.Sectors session.now w → D.keeps_word (device_of session.now)
@@ -225,8 +232,8 @@ fn next_batch<D: Sectors, R: Read>(
     Ok(batch)
 }
 
-// Puts the rows of the next lines into a batch of none, so many, and fewer only at the end of the text. Each piece of them
-// is looked at and written as columns while it lies near the processor still.
+// Puts the rows of the next lines into a batch of none, so many, and fewer only at the end of the text. Each piece of
+// them is looked at and written as columns while it lies near the processor still.
 fn fill<D: Sectors, R: Read>(
     alloc: Global,
     session: &Session<D>,
@@ -238,7 +245,8 @@ fn fill<D: Sectors, R: Read>(
     requires few { size ≤ most_batch_rows }
     requires fault { lines.old.fault ≡ None }
     requires none { Grows session.now [] batch.old }
-    ensures ok { OnOk result ((rows : List LineOrder) × TakesBatch lineorder_row size lines.old lines.new rows × Grows session.now rows batch.new) }
+    ensures ok { OnOk result ((rows : List LineOrder) × TakesBatch lineorder_row size lines.old lines.new rows
+        × Grows session.now rows batch.new) }
     ensures refused { IfErr result (RefusesBatch lineorder_row size lines.old) }
     ensures line { KeepsLine lineorder_row lines.new }
     ensures unknown { (w : Warehouse) → IsAt D.Sectors session.now w → D.keeps_word (device_of session.now)
@@ -255,7 +263,8 @@ fn fill<D: Sectors, R: Read>(
     Ok(())
 }
 
-// Reads so many further rows, fewer only at the end of the text, into the room of earlier ones, and adds them to a batch.
+// Reads so many further rows, fewer only at the end of the text, into the room of earlier ones, and adds them to a
+// batch.
 fn next_piece<D: Sectors, R: Read>(
     alloc: Global,
     session: &Session<D>,
@@ -268,7 +277,8 @@ fn next_piece<D: Sectors, R: Read>(
     requires few { CanGrow session.now most batch.old }
     requires fault { lines.old.fault ≡ None }
     ensures taken { IfOk result (TakesBatch lineorder_row most lines.old lines.new) }
-    ensures grown { IfOk result (λ rows. (before : List LineOrder) → Grows session.now before batch.old → Grows session.now (before ++ rows) batch.new) }
+    ensures grown { IfOk result (λ rows. (before : List LineOrder) → Grows session.now before batch.old
+        → Grows session.now (before ++ rows) batch.new) }
     ensures refused { IfErr result (RefusesBatch lineorder_row most lines.old) }
     ensures line { KeepsLine lineorder_row lines.new }
     ensures unknown { (w : Warehouse) → IsAt D.Sectors session.now w → D.keeps_word (device_of session.now)
@@ -304,7 +314,8 @@ fn load_batch<D: Sectors, W: Write>(
     out: &mut W,
 ) -> Result<(), Fault>
     requires batch { IsOfSession session.old batch.now }
-    ensures does { (w : Warehouse) (rows : List LineOrder) → IsAt D.Sectors session.old w → Grows session.old rows batch.now → D.keeps_word (device_of session.new)
+    ensures does { (w : Warehouse) (rows : List LineOrder) → IsAt D.Sectors session.old w
+        → Grows session.old rows batch.now → D.keeps_word (device_of session.new)
         → DoesBatch D.Sectors w number rows session.old session.new (W.contents out.old) (W.contents out.new) result }
     ensures word { D.keeps_word (device_of session.new) → D.keeps_word (device_of session.old) }
 {
@@ -312,7 +323,8 @@ fn load_batch<D: Sectors, W: Write>(
     write_batch(out, number, batch.row_count() as usize, taken)
 }
 
-// Adds the batch of a number. Where a batch of that number is there already, it is passed over if it is this one, row by row.
+// Adds the batch of a number. Where a batch of that number is there already, it is passed over if it is this one, row
+// by row.
 fn take_in<D: Sectors>(
     alloc: Global,
     session: &mut Session<D>,
@@ -320,9 +332,11 @@ fn take_in<D: Sectors>(
     batch: &GrowingBatch,
 ) -> Result<Taken, Fault>
     requires batch { IsOfSession session.old batch.now }
-    ensures taken { IfOk result (λ taken. (w : Warehouse) (rows : List LineOrder) → IsAt D.Sectors session.old w → Grows session.old rows batch.now → D.keeps_word (device_of session.new)
+    ensures taken { IfOk result (λ taken. (w : Warehouse) (rows : List LineOrder) → IsAt D.Sectors session.old w
+        → Grows session.old rows batch.now → D.keeps_word (device_of session.new)
         → TakesIn D.Sectors w number rows session.old session.new taken) }
-    ensures refused { IfErr result (λ fault. (w : Warehouse) (rows : List LineOrder) → IsAt D.Sectors session.old w → Grows session.old rows batch.now → D.keeps_word (device_of session.new)
+    ensures refused { IfErr result (λ fault. (w : Warehouse) (rows : List LineOrder) → IsAt D.Sectors session.old w
+        → Grows session.old rows batch.now → D.keeps_word (device_of session.new)
         → Refuses D.Sectors w number rows session.old session.new fault) }
     ensures word { D.keeps_word (device_of session.new) → D.keeps_word (device_of session.old) }
 {

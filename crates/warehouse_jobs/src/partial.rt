@@ -16,11 +16,12 @@ use std::alloc::Global;
 use std::io::Write;
 use warehouse::Session;
 
-/// Writes the partial report that is asked for, over the first batches or over all, as the job `Report` writes a whole one.
+/// Writes the partial report that is asked for, over the first batches or over all, as the job `Report` writes a whole
+/// one.
 ///
-/// `BadQuery` where its query is not proper, `NoSuchPrefix` where there are fewer batches, `Memory`, `Device` where the device
-/// fails, `BadLayout` where a member has a bar or a line feed or is the text ALL, and `Output` where the writer fails, after a
-/// beginning of the report; `Failed` where the device failed in an earlier call.
+/// `BadQuery` where its query is not proper, `NoSuchPrefix` where there are fewer batches, `Memory`, `Device` where the
+/// device fails, `BadLayout` where a member has a bar or a line feed or is the text ALL, and `Output` where the writer
+/// fails, after a beginning of the report; `Failed` where the device failed in an earlier call.
 pub fn report_partial<D: Sectors, W: Write>(
     alloc: Global,
     session: &mut Session<D>,
@@ -29,10 +30,12 @@ pub fn report_partial<D: Sectors, W: Write>(
     out: &mut W,
 ) -> Result<(), Fault>
     ensures reports { (w : Warehouse) → IsAt D.Sectors session.old w → D.keeps_word (device_of session.new)
-        → ReportsInPart D.Sectors w as_of asked.now session.old session.new (W.contents out.old) (W.contents out.new) result }
+        → ReportsInPart D.Sectors w as_of asked.now session.old session.new (W.contents out.old) (W.contents out.new)
+        result }
 
     // Where the device failed in an earlier call, nothing is done.
-    ensures failed { has_failed session.old ≡ true → (result ≡ Err Failed) × (session.new ≡ session.old) × Keeps (W.contents out.old) (W.contents out.new) }
+    ensures failed { has_failed session.old ≡ true → (result ≡ Err Failed) × (session.new ≡ session.old)
+        × Keeps (W.contents out.old) (W.contents out.new) }
     ensures word { D.keeps_word (device_of session.new) → D.keeps_word (device_of session.old) }
 {
     if session.is_broken() {
@@ -52,7 +55,8 @@ fn partial_over<D: Sectors, W: Write>(
 ) -> Result<(), Fault>
     ensures ends { (w : Warehouse) → IsAt D.Sectors session.old w → D.keeps_word (device_of session.new)
         → AnswersInPart D.Sectors w count asked.now session.new (W.contents out.old) (W.contents out.new) result }
-    ensures leaves { (w : Warehouse) → IsAt D.Sectors session.old w → Leaves (disk_of D.Sectors session.old) (disk_of D.Sectors session.new) (λ c. Represents c w) }
+    ensures leaves { (w : Warehouse) → IsAt D.Sectors session.old w
+        → Leaves (disk_of D.Sectors session.old) (disk_of D.Sectors session.new) (λ c. Represents c w) }
     ensures word { D.keeps_word (device_of session.new) → D.keeps_word (device_of session.old) }
 {
     let found = session.query_groups(alloc, count, &asked.query)?;

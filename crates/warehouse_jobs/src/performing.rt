@@ -23,15 +23,16 @@ use warehouse::Session;
 
 /// Does a job, and says whether the answer is yes. That of any job but an audit is always yes.
 ///
-/// A load reads fact rows from `lineorder`; no other job does. The first refusal ends it, and batches before it stay. For
-/// each batch it writes a line, `batch 1 rows 3` or `batch 1 skipped`, and flushes it, once the batch is on the device and
-/// not before; at the end `batches 1`, the number of batches in the warehouse. A batch whose number is there is skipped
-/// where the stored batch has exactly its rows, in the same order, and is `Repeated` where it has others. Lines are counted
-/// in the whole file. It keeps the columns of one batch in memory.
+/// A load reads fact rows from `lineorder`; no other job does. The first refusal ends it, and batches before it stay.
+/// For each batch it writes a line, `batch 1 rows 3` or `batch 1 skipped`, and flushes it, once the batch is on the
+/// device and not before; at the end `batches 1`, the number of batches in the warehouse. A batch whose number is there
+/// is skipped where the stored batch has exactly its rows, in the same order, and is `Repeated` where it has others.
+/// Lines are counted in the whole file. It keeps the columns of one batch in memory.
 ///
-/// A report is written as `ssb_reports` does. A status is a line each of `batches`, `rows`, `target` and `generation`, and then
-/// one for each stored cuboid, `cuboid 59 mark 1 runs 1 cells 2`. A choice is a line for each view, in the order of choice,
-/// `view 59 city|ALL|mfgr|ALL benefit 8`. Upkeep writes `upkeep done`, an audit `audit yes` or `audit no`.
+/// A report is written as `ssb_reports` does. A status is a line each of `batches`, `rows`, `target` and `generation`,
+/// and then one for each stored cuboid, `cuboid 59 mark 1 runs 1 cells 2`. A choice is a line for each view, in the
+/// order of choice, `view 59 city|ALL|mfgr|ALL benefit 8`. Upkeep writes `upkeep done`, an audit `audit yes` or `audit
+/// no`.
 pub fn perform<D: Sectors, R: Read + Drop, W: Write>(
     alloc: Global,
     session: &mut Session<D>,
@@ -39,19 +40,24 @@ pub fn perform<D: Sectors, R: Read + Drop, W: Write>(
     lineorder: R,
     out: &mut W,
 ) -> Result<bool, Fault>
-    // What is written, what the warehouse is then, and what a crash at any point until then leaves. Whatever the reader is:
-    // which rows the batches of a load have is said where its bytes are known.
+    // What is written, what the warehouse is then, and what a crash at any point until then leaves. Whatever the reader
+    // is: which rows the batches of a load have is said where its bytes are known.
     ensures performs { (w : Warehouse) → IsAt D.Sectors session.old w → D.keeps_word (device_of session.new)
-        → Performs D.Sectors w (R.remaining lineorder) job session.old session.new (W.contents out.old) (W.contents out.new) result }
+        → Performs D.Sectors w (R.remaining lineorder) job session.old session.new (W.contents out.old)
+        (W.contents out.new) result }
     ensures yes { (MayAnswerNo job → ⊥) → IfOk result (λ answer. answer ≡ true) }
 
     // That of an audit is yes exactly where each stored cuboid is what it is to be, whatever its cells are.
-    ensures sound { MayAnswerNo job → IfOk result (λ answer. (w : Warehouse) → IsLaidAt D.Sectors session.old w → D.keeps_word (device_of session.new)
+    ensures sound { MayAnswerNo job
+        → IfOk result (λ answer. (w : Warehouse) → IsLaidAt D.Sectors session.old w
+        → D.keeps_word (device_of session.new)
         → IsTrue answer ↔ All (IsSound w) w.cuboids) }
-    ensures printed { MayAnswerNo job → IfOk result (λ answer. Appends (W.contents out.old) (W.contents out.new) (audit_text answer)) }
+    ensures printed { MayAnswerNo job
+        → IfOk result (λ answer. Appends (W.contents out.old) (W.contents out.new) (audit_text answer)) }
 
     // Where the device failed in an earlier call, nothing is done.
-    ensures failed { has_failed session.old ≡ true → (result ≡ Err Failed) × (session.new ≡ session.old) × Keeps (W.contents out.old) (W.contents out.new) }
+    ensures failed { has_failed session.old ≡ true → (result ≡ Err Failed) × (session.new ≡ session.old)
+        × Keeps (W.contents out.old) (W.contents out.new) }
     ensures word { D.keeps_word (device_of session.new) → D.keeps_word (device_of session.old) }
 {
     if session.is_broken() {
@@ -69,11 +75,15 @@ fn do_job<D: Sectors, R: Read + Drop, W: Write>(
     out: &mut W,
 ) -> Result<bool, Fault>
     ensures performs { (w : Warehouse) → IsAt D.Sectors session.old w → D.keeps_word (device_of session.new)
-        → Performs D.Sectors w (R.remaining lineorder) job session.old session.new (W.contents out.old) (W.contents out.new) result }
+        → Performs D.Sectors w (R.remaining lineorder) job session.old session.new (W.contents out.old)
+        (W.contents out.new) result }
     ensures yes { (MayAnswerNo job → ⊥) → IfOk result (λ answer. answer ≡ true) }
-    ensures sound { MayAnswerNo job → IfOk result (λ answer. (w : Warehouse) → IsLaidAt D.Sectors session.old w → D.keeps_word (device_of session.new)
+    ensures sound { MayAnswerNo job
+        → IfOk result (λ answer. (w : Warehouse) → IsLaidAt D.Sectors session.old w
+        → D.keeps_word (device_of session.new)
         → IsTrue answer ↔ All (IsSound w) w.cuboids) }
-    ensures printed { MayAnswerNo job → IfOk result (λ answer. Appends (W.contents out.old) (W.contents out.new) (audit_text answer)) }
+    ensures printed { MayAnswerNo job
+        → IfOk result (λ answer. Appends (W.contents out.old) (W.contents out.new) (audit_text answer)) }
     ensures word { D.keeps_word (device_of session.new) → D.keeps_word (device_of session.old) }
 {
     match job {

@@ -66,7 +66,8 @@ fn write_source<W: Write>(out: &mut W, plan: Plan) -> Result<(), Fault>
 
 // Writes the view of stored cells, and how many batches they hold.
 fn write_cells<W: Write>(out: &mut W, view: View, mark: u32) -> Result<(), Fault>
-    ensures { Writes (W.contents out.old) (W.contents out.new) result (view_text false view ++ (codes " mark " ++ decimal mark)) }
+    ensures { Writes (W.contents out.old) (W.contents out.new) result
+        (view_text false view ++ (codes " mark " ++ decimal mark)) }
 {
     write_view(out, view)?;
     write_bytes(out, b" mark ")?;

@@ -4,7 +4,9 @@ ghost use Rattle.std.specs.List.{flat_map};
 ghost use Rattle.lattice.specs.Names.{view_text};
 ghost use Rattle.ssb_reports.specs.Writing.{Writes};
 ghost use Rattle.warehouse_jobs.specs.declared.taken.Taken.TheVariants.{Added, Skipped};
-ghost use Rattle.warehouse_jobs.specs.Printed.{addition_text, audit_text, batch_line, choice_text, chosen_line, count_line, counts_text, cuboid_line, named_line, place_text, status_text, upkeep_text};
+ghost use Rattle.warehouse_jobs.specs.Printed.{addition_text, audit_text, batch_line, choice_text, chosen_line};
+ghost use Rattle.warehouse_jobs.specs.Printed.{count_line, counts_text, cuboid_line, named_line, place_text};
+ghost use Rattle.warehouse_jobs.specs.Printed.{status_text, upkeep_text};
 
 use crate::taken::Taken;
 use cube_model::{Axis, Fault};
@@ -106,7 +108,8 @@ fn write_added<W: Write>(out: &mut W, number: u32, rows: u128, additions: u32) -
 }
 
 fn write_skipped<W: Write>(out: &mut W, number: u32, additions: u32) -> Result<(), Fault>
-    ensures { (rows : ℕ) → Writes (W.contents out.old) (W.contents out.new) result (addition_text number rows Skipped additions) }
+    ensures { (rows : ℕ)
+        → Writes (W.contents out.old) (W.contents out.new) result (addition_text number rows Skipped additions) }
 {
     let (mut addition, mut count) = (Buffer::new(), Buffer::new());
     let parts: [&[u8]; 6] = [

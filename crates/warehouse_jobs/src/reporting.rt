@@ -40,8 +40,10 @@ fn report_over<D: Sectors, W: Write>(
     out: &mut W,
 ) -> Result<(), Fault>
     ensures ends { (w : Warehouse) → IsAt D.Sectors session.old w → D.keeps_word (device_of session.new)
-        → Answers (report_of query.now) D.Sectors w count query.now session.new (W.contents out.old) (W.contents out.new) result }
-    ensures leaves { (w : Warehouse) → IsAt D.Sectors session.old w → Leaves (disk_of D.Sectors session.old) (disk_of D.Sectors session.new) (λ c. Represents c w) }
+        → Answers (report_of query.now) D.Sectors w count query.now session.new (W.contents out.old)
+        (W.contents out.new) result }
+    ensures leaves { (w : Warehouse) → IsAt D.Sectors session.old w
+        → Leaves (disk_of D.Sectors session.old) (disk_of D.Sectors session.new) (λ c. Represents c w) }
     ensures word { D.keeps_word (device_of session.new) → D.keeps_word (device_of session.old) }
 {
     let found = session.query_groups(alloc, count, query)?;
@@ -54,7 +56,8 @@ pub(crate) fn batches_asked<D: Sectors>(
     session: &Session<D>,
     as_of: Option<u32>,
 ) -> Result<u32, Fault>
-    ensures ok { IfOk result (λ count. (w : Warehouse) → IsAt D.Sectors session.now w → D.keeps_word (device_of session.now) → count ≡ asked_for w as_of) }
+    ensures ok { IfOk result (λ count. (w : Warehouse) → IsAt D.Sectors session.now w
+        → D.keeps_word (device_of session.now) → count ≡ asked_for w as_of) }
     ensures err { IfErr result (λ fault. (fault ≡ Failed) × (has_failed session.now ≡ true)) }
 {
     match as_of {

@@ -1,5 +1,7 @@
 -- What contents represent.
-use Rattle.std.proofs.Common.{◌≡◌, ◌≢◌, ◌<◌, ◌≤◌, ◌+◌, ◌-◌, ◌==◌, ◌∙◌, suc, sym, ap, refl, subst, arith, drop, get_or, nat_lt, if◌then◌else◌, ℕ, true, false, List, [], ◌∷◌, ◌++◌, map, length, slice_get, Option, Some, None, All, length-append}
+use Rattle.std.proofs.Common.{◌≡◌, ◌≢◌, ◌<◌, ◌≤◌, ◌+◌, ◌-◌, ◌==◌, ◌∙◌, suc, sym, ap, refl, subst, arith, drop, get_or}
+use Rattle.std.proofs.Common.{nat_lt, if◌then◌else◌, ℕ, true, false, List, [], ◌∷◌, ◌++◌, map, length, slice_get}
+use Rattle.std.proofs.Common.{Option, Some, None, All, length-append}
 use Rattle.std.specs.List.{AllPairs}
 use Rattle.std.specs.Option.{option_map}
 use Rattle.std.proofs.lemmas.Bool.Decides.{nat_tests}
@@ -14,7 +16,8 @@ use Rattle.cube_model.specs.Admission.{IsAdmissible, all_rows}
 use Rattle.cube_model.specs.Lawful.{KeepAllRules, ValidRowsKeepTheRules}
 use Rattle.object_store.specs.Content.{Content}
 use Rattle.object_store.specs.Commit.{ArePuts, IsObject, committed, created}
-use Rattle.object_store.proofs.CallerLemmas.{bytes_after, bytes_created, layout_after, layout_created, once_after, once_created, one_put, root_after, root_created}
+use Rattle.object_store.proofs.CallerLemmas.{bytes_after, bytes_created, layout_after, layout_created, once_after}
+use Rattle.object_store.proofs.CallerLemmas.{once_created, one_put, root_after, root_created}
 use Rattle.object_store.proofs.Lists.{AllPairs-nil}
 use Rattle.column_segment.specs.Segment.{FitColumns, IsBatch, segment_of}
 use Rattle.dimensions.proofs.CallerLemmas.{good_customers, good_dates, good_parts, good_suppliers}
@@ -29,10 +32,13 @@ use Rattle.cuboid_cells.specs.declared.span.Span.{Span}
 use Rattle.cuboid_cells.specs.Spelled.{IsSpan}
 use Rattle.cuboid_cells.specs.Steps.{cells_of}
 use Rattle.cuboid_upkeep.specs.Grouping.{RepresentRows}
-use Rattle.warehouse_objects.specs.Warehouse.{AreInOrder, AreStorable, Cuboid, IsNext, StoredRun, Warehouse, aimed, fresh, loaded, modes_of}
-use Rattle.warehouse_objects.specs.Represents.{Follow, HasRows, HoldsGroupings, Represents, dimension_of, object_of, root_of, rows_in, run_behind, said_of, segment_behind, stored}
+use Rattle.warehouse_objects.specs.Warehouse.{AreInOrder, AreStorable, Cuboid, IsNext, StoredRun, Warehouse, aimed}
+use Rattle.warehouse_objects.specs.Warehouse.{fresh, loaded, modes_of}
+use Rattle.warehouse_objects.specs.Represents.{Follow, HasRows, HoldsGroupings, Represents, dimension_of, object_of}
+use Rattle.warehouse_objects.specs.Represents.{root_of, rows_in, run_after, said_of, segment_after, stored}
 use Rattle.warehouse_objects.specs.Lawful.{batch_put, dimension_puts}
-use Rattle.warehouse_objects.proofs.Batches.{few_batches, in_order_more, in_order_none, next_number, root_proper, slice_get_snoc, some_one}
+use Rattle.warehouse_objects.proofs.Batches.{few_batches, in_order_more, in_order_none, next_number, root_proper}
+use Rattle.warehouse_objects.proofs.Batches.{slice_get_snoc, some_one}
 use Rattle.warehouse_objects.proofs.Lengths.{dimension_least, dimension_most, segment_least, segment_most}
 use Rattle.warehouse_objects.proofs.Rows.{same_rows}
 
@@ -46,12 +52,16 @@ module _ (a b c d : List ℕ) (f : ℕ → List LineOrder → List ℕ) (g : ℕ
       else (if id == 3 then Some c
       else (if id == 4 then Some d
       else (if nat_lt id 65537 then None
-      else (if nat_lt id 131072 then option_map (f (id - 65537 + 1)) (slice_get batches (id - 65537)) else g (id - 131072))))))
+      else (if nat_lt id 131072 then option_map (f (id - 65537 + 1)) (slice_get batches (id - 65537)) else g
+      (id - 131072))))))
 
-  one_more : (batches : List (List LineOrder)) (batch : List LineOrder) (number id : ℕ) → number ≡ length batches + 1 → number ≤ 65535
-      → (if 65536 + number == id then Some (f number batch) else objects_in batches id) ≡ objects_in (batches ++ batch ∷ []) id
+  one_more : (batches : List (List LineOrder)) (batch : List LineOrder) (number id : ℕ) → number ≡ length batches + 1
+      → number ≤ 65535
+      → (if 65536 + number == id then Some (f number batch) else objects_in batches id)
+      ≡ objects_in (batches ++ batch ∷ []) id
   one_more batches batch number id is few =
-      (elim (65536 + number == id) as (λ t. (65536 + number == id) ≡ t → (if t then Some (f number batch) else objects_in batches id) ≡ objects_in (batches ++ batch ∷ []) id) [
+      (elim (65536 + number == id) as (λ t. (65536 + number == id) ≡ t
+      → (if t then Some (f number batch) else objects_in batches id) ≡ objects_in (batches ++ batch ∷ []) id) [
         | true ↦ λ e.
             let at : id ≡ 65536 + number = grind (arith, nat_tests, e) in
             let before : id - 65537 ≡ length batches = omega (arith, at, is) in
@@ -63,37 +73,52 @@ module _ (a b c d : List ℕ) (f : ℕ → List LineOrder → List ℕ) (g : ℕ
             grind (arith, nat_tests, e, is, snoc, few)
       ]) refl
 
-  pub object_behind : (batches : List (List LineOrder)) (before : ℕ) → before < 65535 → objects_in batches (65537 + before) ≡ option_map (f (before + 1)) (slice_get batches before)
-  object_behind batches before low =
+  pub object_after : (batches : List (List LineOrder)) (before : ℕ) → before < 65535
+      → objects_in batches (65537 + before) ≡ option_map (f (before + 1)) (slice_get batches before)
+  object_after batches before low =
       let back : 65537 + before - 65537 ≡ before = omega arith in
       grind (arith, nat_tests, back, low)
 
   -- objects before the runs, and the runs
-  pub objects_low : (h : ℕ → Option (List ℕ)) (batches : List (List LineOrder)) (id : ℕ) (t : Option (List ℕ)) → id < 131072 → objects_in batches id ≡ t
-      → (if id == 1 then Some a else (if id == 2 then Some b else (if id == 3 then Some c else (if id == 4 then Some d else (if nat_lt id 65537 then None else (if nat_lt id 131072 then option_map (f (id - 65537 + 1)) (slice_get batches (id - 65537)) else h (id - 131072))))))) ≡ t
+  pub objects_low : (h : ℕ → Option (List ℕ)) (batches : List (List LineOrder)) (id : ℕ) (t : Option (List ℕ))
+      → id < 131072 → objects_in batches id ≡ t
+      → (if id == 1 then Some a else
+      (if id == 2 then Some b else
+      (if id == 3 then Some c else
+      (if id == 4 then Some d else
+      (if nat_lt id 65537 then None else
+      (if nat_lt id 131072 then option_map (f (id - 65537 + 1)) (slice_get batches (id - 65537)) else h
+      (id - 131072))))))) ≡ t
   objects_low h batches id t low is = grind (arith, nat_tests, low, is)
 
   pub objects_high : (batches : List (List LineOrder)) (id : ℕ) → 131072 ≤ id → objects_in batches id ≡ g (id - 131072)
   objects_high batches id high = grind (arith, nat_tests, high)
 
-four_objects : (a b c d : List ℕ) (f : ℕ → List LineOrder → List ℕ) (id : ℕ) → (if 4 == id then Some d else (if 3 == id then Some c else (if 2 == id then Some b else (if 1 == id then Some a else None)))) ≡ objects_in a b c d f (λ _. None) [] id
+four_objects : (a b c d : List ℕ) (f : ℕ → List LineOrder → List ℕ) (id : ℕ)
+    → (if 4 == id then Some d else
+    (if 3 == id then Some c else (if 2 == id then Some b else (if 1 == id then Some a else None))))
+    ≡ objects_in a b c d f (λ _. None) [] id
 four_objects a b c d f id = grind (arith, nat_tests)
 
 -- the object of a batch
-pub object_batch : (w : Warehouse) (before : ℕ) → before < 65535 → object_of w (65537 + before) ≡ segment_behind before w.batches
+pub object_batch : (w : Warehouse) (before : ℕ) → before < 65535
+    → object_of w (65537 + before) ≡ segment_after before w.batches
 object_batch w before low =
-    object_behind (dimension_of w.rows Customer) (dimension_of w.rows Supplier) (dimension_of w.rows Part) (dimension_of w.rows Date) segment_of (λ place. run_behind place w.cuboids) w.batches before low
+    object_after (dimension_of w.rows Customer) (dimension_of w.rows Supplier) (dimension_of w.rows Part)
+    (dimension_of w.rows Date) segment_of (λ place. run_after place w.cuboids) w.batches before low
 
 -- ---- a content that was made
 
 abbrev first_bytes : List ℕ
 first_bytes = roots.root_of (roots.first_root First)
 
-pub represents_created : (rows : DimRows) → AreStorable rows → Represents (created (dimension_puts rows) first_bytes (number_of First)) (fresh rows)
+pub represents_created : (rows : DimRows) → AreStorable rows
+    → Represents (created (dimension_puts rows) first_bytes (number_of First)) (fresh rows)
 represents_created rows storable = record {
   objects = λ id.
       bytes_created (dimension_puts rows) first_bytes (number_of First) id
-      ∙ four_objects (dimension_of rows Customer) (dimension_of rows Supplier) (dimension_of rows Part) (dimension_of rows Date) segment_of id;
+      ∙ four_objects (dimension_of rows Customer) (dimension_of rows Supplier) (dimension_of rows Part)
+      (dimension_of rows Date) segment_of id;
   once = once_created (dimension_puts rows) first_bytes (number_of First);
   layout = layout_created (dimension_puts rows) first_bytes (number_of First);
   first = refl;
@@ -113,11 +138,14 @@ represents_created rows storable = record {
 -- ---- one batch more
 
 -- a run over the first batches is one over more
-run_in_more : (w : Warehouse) (batch : List LineOrder) (span : Span) → span.to ≤ length w.batches → rows_in (w.batches ++ batch ∷ []) span ≡ rows_in w.batches span
-run_in_more w batch span low = ap (λ (l : List (List LineOrder)). all_rows (drop span.from l)) (take-append-le span.to w.batches (batch ∷ []) low)
+run_in_more : (w : Warehouse) (batch : List LineOrder) (span : Span) → span.to ≤ length w.batches
+    → rows_in (w.batches ++ batch ∷ []) span ≡ rows_in w.batches span
+run_in_more w batch span low =
+    ap (λ (l : List (List LineOrder)). all_rows (drop span.from l)) (take-append-le span.to w.batches (batch ∷ []) low)
 
 -- the runs of a cuboid end at its mark
-ends_within : (from mark : ℕ) (runs : List StoredRun) → Follow from runs mark → All (λ run. IsSpan run.span) runs → (from ≤ mark) × All (λ run. run.span.to ≤ mark) runs
+ends_within : (from mark : ℕ) (runs : List StoredRun) → Follow from runs mark → All (λ run. IsSpan run.span) runs
+    → (from ≤ mark) × All (λ run. run.span.to ≤ mark) runs
 ends_within from mark [] follow spans = (omega (arith, follow), All-nil (λ run. run.span.to ≤ mark))
 ends_within from mark (run ∷ runs) follow spans =
     let rest = ends_within run.span.to mark runs follow.1 (All-tail (λ r. IsSpan r.span) run runs spans) in
@@ -125,22 +153,28 @@ ends_within from mark (run ∷ runs) follow spans =
     (omega (arith, rest.0, own.some, follow.0), All-cons (λ r. r.span.to ≤ mark) run runs rest.0 rest.1)
 
 -- a cuboid holds what it held where a batch is added
-groupings_more : (w : Warehouse) (batch : List LineOrder) (cuboid : Cuboid) → cuboid.mark ≤ length w.batches → HoldsGroupings w cuboid → HoldsGroupings (loaded w batch) cuboid
+groupings_more : (w : Warehouse) (batch : List LineOrder) (cuboid : Cuboid) → cuboid.mark ≤ length w.batches
+    → HoldsGroupings w cuboid → HoldsGroupings (loaded w batch) cuboid
 groupings_more w batch cuboid low holds = record {
   laid = record { follow = holds.laid.follow; spans = holds.laid.spans; proper = holds.laid.proper };
   groupings = λ k d within.
       let ends = (ends_within 0 cuboid.mark cuboid.runs holds.laid.follow holds.laid.spans).1 k d within in
-      subst (λ (l : List LineOrder). RepresentRows w.rows (modes_of w) l (cells_of cuboid.view (get_or cuboid.runs k d).cells)) (sym (run_in_more w batch (get_or cuboid.runs k d).span (omega (arith, ends, low)))) (holds.groupings k d within);
+      subst (λ (l : List LineOrder). RepresentRows w.rows (modes_of w) l
+      (cells_of cuboid.view (get_or cuboid.runs k d).cells))
+      (sym (run_in_more w batch (get_or cuboid.runs k d).span (omega (arith, ends, low))))
+      (holds.groupings k d within);
 }
 
 -- the marks of stored cuboids, by the root
 mark_within : (w : Warehouse) → IsProper (root_of w) → All (λ cuboid. cuboid.mark ≤ length w.batches) w.cuboids
 mark_within w proper = λ k d within.
     let said = proper.each k (said_of d) (omega (arith, within, length-map w.cuboids said_of)) in
-    let same : get_or (map said_of w.cuboids) k (said_of d) ≡ said_of (get_or w.cuboids k d) = get_or-map said_of w.cuboids k d (said_of d) within in
+    let same : get_or (map said_of w.cuboids) k (said_of d) ≡ said_of (get_or w.cuboids k d) =
+    get_or-map said_of w.cuboids k d (said_of d) within in
     omega (arith, said.mark, ap (λ (s : StoredCuboid). s.mark) same, length-map w.batches length)
 
-module _ (c : Content) (w : Warehouse) (number : ℕ) (batch : List LineOrder) (represents : Represents c w) (admissible : IsAdmissible w.rows w.batches number batch) (fits : FitColumns batch) where
+module _ (c : Content) (w : Warehouse) (number : ℕ) (batch : List LineOrder) (represents : Represents c w)
+    (admissible : IsAdmissible w.rows w.batches number batch) (fits : FitColumns batch) where
   abbrev bytes : List ℕ
   bytes = roots.root_of (root_of (loaded w batch))
 
@@ -148,7 +182,10 @@ module _ (c : Content) (w : Warehouse) (number : ℕ) (batch : List LineOrder) (
   is_next = next_number w.rows w.batches number batch admissible
 
   next : IsNext w.rows w.batches batch
-  next = record { admissible = subst (λ (n : ℕ). IsAdmissible w.rows w.batches n batch) is_next admissible; fits = fits }
+  next = record {
+    admissible = subst (λ (n : ℕ). IsAdmissible w.rows w.batches n batch) is_next admissible;
+    fits = fits;
+  }
 
   many : length (w.batches ++ batch ∷ []) ≡ length w.batches + 1
   many = length-append w.batches (batch ∷ [])
@@ -165,7 +202,8 @@ module _ (c : Content) (w : Warehouse) (number : ℕ) (batch : List LineOrder) (
   marks : All (λ cuboid. cuboid.mark ≤ length w.batches) w.cuboids
   marks = mark_within w represents.root.proper
 
-  proper_more : (cuboid : StoredCuboid) → IsProperCuboid w.layout (length (map length w.batches)) cuboid → IsProperCuboid w.layout (length (map length (w.batches ++ batch ∷ []))) cuboid
+  proper_more : (cuboid : StoredCuboid) → IsProperCuboid w.layout (length (map length w.batches)) cuboid
+      → IsProperCuboid w.layout (length (map length (w.batches ++ batch ∷ []))) cuboid
   proper_more cuboid is = record {
     view = is.view;
     mark = omega (arith, is.mark, length-map w.batches length, length-map (w.batches ++ batch ∷ []) length, many);
@@ -174,12 +212,16 @@ module _ (c : Content) (w : Warehouse) (number : ℕ) (batch : List LineOrder) (
     most_cells = is.most_cells;
   }
 
-  pub represents_loaded : Represents (committed (batch_put number batch) [] bytes (number_of w.layout) c) (loaded w batch)
+  pub represents_loaded : Represents (committed (batch_put number batch) [] bytes (number_of w.layout) c)
+      (loaded w batch)
   represents_loaded = record {
     objects = λ id.
         bytes_after (batch_put number batch) [] bytes (number_of w.layout) c id
-        ∙ ap (λ (o : Option (List ℕ)). if 65536 + number == id then Some (segment_of number batch) else o) (represents.objects id)
-        ∙ one_more (dimension_of w.rows Customer) (dimension_of w.rows Supplier) (dimension_of w.rows Part) (dimension_of w.rows Date) segment_of (λ place. run_behind place w.cuboids) w.batches batch number id is_next few;
+        ∙ ap (λ (o : Option (List ℕ)). if 65536 + number == id then Some (segment_of number batch) else o)
+        (represents.objects id)
+        ∙ one_more (dimension_of w.rows Customer) (dimension_of w.rows Supplier) (dimension_of w.rows Part)
+        (dimension_of w.rows Date) segment_of (λ place. run_after place w.cuboids) w.batches batch number id
+        is_next few;
     once = once_after (batch_put number batch) [] bytes (number_of w.layout) c represents.once;
     layout = layout_after (batch_put number batch) [] bytes (number_of w.layout) c;
     first = represents.first;
@@ -193,12 +235,14 @@ module _ (c : Content) (w : Warehouse) (number : ℕ) (batch : List LineOrder) (
     };
     rows = represents.rows;
     batches = in_order;
-    cuboids = λ k d within. groupings_more w batch (get_or w.cuboids k d) (marks k d within) (represents.cuboids k d within);
+    cuboids = λ k d within. groupings_more w batch (get_or w.cuboids k d) (marks k d within)
+        (represents.cuboids k d within);
   }
 
 -- ---- a new target
 
-pub represents_aimed : (c : Content) (w : Warehouse) → Represents c w → Represents (committed [] [] (roots.root_of (root_of (aimed w))) (number_of w.layout) c) (aimed w)
+pub represents_aimed : (c : Content) (w : Warehouse) → Represents c w
+    → Represents (committed [] [] (roots.root_of (root_of (aimed w))) (number_of w.layout) c) (aimed w)
 represents_aimed c w represents =
     let bytes : List ℕ = roots.root_of (root_of (aimed w)) in record {
       objects = λ id. bytes_after [] [] bytes (number_of w.layout) c id ∙ represents.objects id;
@@ -222,9 +266,12 @@ represents_aimed c w represents =
     }
 
 -- the root with the batch is the root with its rows and its totals
-pub root_loaded : (w : Warehouse) (batch : List LineOrder) → root_of (loaded w batch) ≡ roots.with_batch (length batch) (stored (totals_of (all_rows (w.batches ++ batch ∷ [])))) (root_of w)
+pub root_loaded : (w : Warehouse) (batch : List LineOrder)
+    → root_of (loaded w batch)
+    ≡ roots.with_batch (length batch) (stored (totals_of (all_rows (w.batches ++ batch ∷ [])))) (root_of w)
 root_loaded w batch =
-    let lengths : map length (w.batches ++ batch ∷ []) ≡ map length w.batches ++ length batch ∷ [] = map-append length w.batches (batch ∷ []) in
+    let lengths : map length (w.batches ++ batch ∷ []) ≡ map length w.batches ++ length batch ∷ [] =
+    map-append length w.batches (batch ∷ []) in
     λ i. record {
       layout = w.layout;
       batches = lengths i;
@@ -236,22 +283,28 @@ root_loaded w batch =
 
 -- ---- what may be handed to the store
 
-apart : (id : ℕ) (bytes : List ℕ) (puts : List (ℕ × List ℕ)) → All (λ (put : ℕ × List ℕ). id ≢ put.0) puts → AllPairs (λ (a : ℕ × List ℕ) (b : ℕ × List ℕ). a.0 ≢ b.0) puts
+apart : (id : ℕ) (bytes : List ℕ) (puts : List (ℕ × List ℕ)) → All (λ (put : ℕ × List ℕ). id ≢ put.0) puts
+    → AllPairs (λ (a : ℕ × List ℕ) (b : ℕ × List ℕ). a.0 ≢ b.0) puts
     → AllPairs (λ (a : ℕ × List ℕ) (b : ℕ × List ℕ). a.0 ≢ b.0) ((id, bytes) ∷ puts)
 apart id bytes puts = AllPairs-cons (λ (a : ℕ × List ℕ) (b : ℕ × List ℕ). a.0 ≢ b.0) (id, bytes) puts
 
-pub distinct_puts : (a b c d : List ℕ) → AllPairs (λ (a : ℕ × List ℕ) (b : ℕ × List ℕ). a.0 ≢ b.0) ((1, a) ∷ (2, b) ∷ (3, c) ∷ (4, d) ∷ [])
+pub distinct_puts : (a b c d : List ℕ)
+    → AllPairs (λ (a : ℕ × List ℕ) (b : ℕ × List ℕ). a.0 ≢ b.0) ((1, a) ∷ (2, b) ∷ (3, c) ∷ (4, d) ∷ [])
 distinct_puts a b c d =
     apart 1 a ((2, b) ∷ (3, c) ∷ (4, d) ∷ [])
     (All-cons (λ (put : ℕ × List ℕ). 1 ≢ put.0) (2, b) ((3, c) ∷ (4, d) ∷ []) (λ e. omega (arith, e))
     (All-cons (λ (put : ℕ × List ℕ). 1 ≢ put.0) (3, c) ((4, d) ∷ []) (λ e. omega (arith, e))
-    (All-cons (λ (put : ℕ × List ℕ). 1 ≢ put.0) (4, d) [] (λ e. omega (arith, e)) (All-nil (λ (put : ℕ × List ℕ). 1 ≢ put.0)))))
+    (All-cons (λ (put : ℕ × List ℕ). 1 ≢ put.0) (4, d) [] (λ e. omega (arith, e))
+    (All-nil (λ (put : ℕ × List ℕ). 1 ≢ put.0)))))
     (apart 2 b ((3, c) ∷ (4, d) ∷ [])
     (All-cons (λ (put : ℕ × List ℕ). 2 ≢ put.0) (3, c) ((4, d) ∷ []) (λ e. omega (arith, e))
-    (All-cons (λ (put : ℕ × List ℕ). 2 ≢ put.0) (4, d) [] (λ e. omega (arith, e)) (All-nil (λ (put : ℕ × List ℕ). 2 ≢ put.0))))
+    (All-cons (λ (put : ℕ × List ℕ). 2 ≢ put.0) (4, d) [] (λ e. omega (arith, e))
+    (All-nil (λ (put : ℕ × List ℕ). 2 ≢ put.0))))
     (apart 3 c ((4, d) ∷ [])
-    (All-cons (λ (put : ℕ × List ℕ). 3 ≢ put.0) (4, d) [] (λ e. omega (arith, e)) (All-nil (λ (put : ℕ × List ℕ). 3 ≢ put.0)))
-    (apart 4 d [] (All-nil (λ (put : ℕ × List ℕ). 4 ≢ put.0)) (AllPairs-nil (λ (a : ℕ × List ℕ) (b : ℕ × List ℕ). a.0 ≢ b.0)))))
+    (All-cons (λ (put : ℕ × List ℕ). 3 ≢ put.0) (4, d) [] (λ e. omega (arith, e))
+    (All-nil (λ (put : ℕ × List ℕ). 3 ≢ put.0)))
+    (apart 4 d [] (All-nil (λ (put : ℕ × List ℕ). 4 ≢ put.0))
+    (AllPairs-nil (λ (a : ℕ × List ℕ) (b : ℕ × List ℕ). a.0 ≢ b.0)))))
 
 -- the dimensions are puts
 module _ (law : ValidRowsKeepTheRules) (rows : DimRows) (storable : AreStorable rows) where
@@ -265,30 +318,59 @@ module _ (law : ValidRowsKeepTheRules) (rows : DimRows) (storable : AreStorable 
       let p = good_parts rows keep storable.short in
       let d = good_dates rows keep storable.short in record {
         each =
-            All-cons IsObject (1, dimension_of rows Customer) ((2, dimension_of rows Supplier) ∷ (3, dimension_of rows Part) ∷ (4, dimension_of rows Date) ∷ []) (record { least = dimension_least Customer (rows_on rows Customer) c; most = dimension_most Customer (rows_on rows Customer) c })
-            (All-cons IsObject (2, dimension_of rows Supplier) ((3, dimension_of rows Part) ∷ (4, dimension_of rows Date) ∷ []) (record { least = dimension_least Supplier (rows_on rows Supplier) s; most = dimension_most Supplier (rows_on rows Supplier) s })
-            (All-cons IsObject (3, dimension_of rows Part) ((4, dimension_of rows Date) ∷ []) (record { least = dimension_least Part (rows_on rows Part) p; most = dimension_most Part (rows_on rows Part) p })
-            (All-cons IsObject (4, dimension_of rows Date) [] (record { least = dimension_least Date (rows_on rows Date) d; most = dimension_most Date (rows_on rows Date) d }) (All-nil IsObject))));
-        distinct = distinct_puts (dimension_of rows Customer) (dimension_of rows Supplier) (dimension_of rows Part) (dimension_of rows Date);
+            All-cons IsObject (1, dimension_of rows Customer)
+            ((2, dimension_of rows Supplier) ∷ (3, dimension_of rows Part) ∷ (4, dimension_of rows Date) ∷ [])
+            (record {
+              least = dimension_least Customer (rows_on rows Customer) c;
+              most = dimension_most Customer (rows_on rows Customer) c;
+            })
+            (All-cons IsObject (2, dimension_of rows Supplier)
+            ((3, dimension_of rows Part) ∷ (4, dimension_of rows Date) ∷ [])
+            (record {
+              least = dimension_least Supplier (rows_on rows Supplier) s;
+              most = dimension_most Supplier (rows_on rows Supplier) s;
+            })
+            (All-cons IsObject (3, dimension_of rows Part) ((4, dimension_of rows Date) ∷ [])
+            (record {
+              least = dimension_least Part (rows_on rows Part) p;
+              most = dimension_most Part (rows_on rows Part) p;
+            })
+            (All-cons IsObject (4, dimension_of rows Date) []
+            (record {
+              least = dimension_least Date (rows_on rows Date) d;
+              most = dimension_most Date (rows_on rows Date) d;
+            }) (All-nil IsObject))));
+        distinct = distinct_puts (dimension_of rows Customer) (dimension_of rows Supplier) (dimension_of rows Part)
+            (dimension_of rows Date);
       }
 
 -- a batch is a put
 pub batch_is_put : (number : ℕ) (batch : List LineOrder) → IsBatch batch → ArePuts (batch_put number batch)
-batch_is_put number batch is = one_put (segment_id number) (segment_of number batch) (segment_least number batch) (segment_most number batch is)
+batch_is_put number batch is = one_put (segment_id number) (segment_of number batch) (segment_least number batch)
+    (segment_most number batch is)
 
 -- ---- what a content says
 
 pub has_rows : (c : Content) (w : Warehouse) → Represents c w → HasRows c w.rows
-has_rows c w represents = record { customers = represents.objects 1; suppliers = represents.objects 2; parts = represents.objects 3; dates = represents.objects 4 }
+has_rows c w represents =
+    record {
+      customers = represents.objects 1;
+      suppliers = represents.objects 2;
+      parts = represents.objects 3;
+      dates = represents.objects 4;
+    }
 
-pub rows_one : ValidRowsKeepTheRules → (c : Content) (rows others : DimRows) → AreStorable rows → AreStorable others → HasRows c rows → HasRows c others → rows ≡ others
+pub rows_one : ValidRowsKeepTheRules → (c : Content) (rows others : DimRows) → AreStorable rows → AreStorable others
+    → HasRows c rows → HasRows c others → rows ≡ others
 rows_one law c rows others storable also has have =
     same_rows law rows others storable also
     (some_one _ _ (sym has.customers ∙ have.customers)) (some_one _ _ (sym has.suppliers ∙ have.suppliers))
     (some_one _ _ (sym has.parts ∙ have.parts)) (some_one _ _ (sym has.dates ∙ have.dates))
 
-batches_same : {A : Type 0} (xs ys : List A) → length xs ≡ length ys → ((k : ℕ) (x y : A) → slice_get xs k ≡ Some x → slice_get ys k ≡ Some y → x ≡ y) → xs ≡ ys
+batches_same : {A : Type 0} (xs ys : List A) → length xs ≡ length ys
+    → ((k : ℕ) (x y : A) → slice_get xs k ≡ Some x → slice_get ys k ≡ Some y → x ≡ y) → xs ≡ ys
 batches_same [] [] many same = refl
 batches_same [] (y ∷ ys) many same = absurd (omega (arith, many))
 batches_same (x ∷ xs) [] many same = absurd (omega (arith, many))
-batches_same (x ∷ xs) (y ∷ ys) many same = λ i. same 0 x y refl refl i ∷ batches_same xs ys (omega (arith, many)) (λ k. same (suc k)) i
+batches_same (x ∷ xs) (y ∷ ys) many same =
+    λ i. same 0 x y refl refl i ∷ batches_same xs ys (omega (arith, many)) (λ k. same (suc k)) i

@@ -1,5 +1,6 @@
 -- How many bytes the objects of a warehouse have.
-use Rattle.std.proofs.Common.{◌≡◌, ◌<◌, ◌≤◌, ◌+◌, ◌*◌, refl, arith, ℕ, List, [], ◌∷◌, ◌++◌, map, length, codes, Some, None, length-append}
+use Rattle.std.proofs.Common.{◌≡◌, ◌<◌, ◌≤◌, ◌+◌, ◌*◌, refl, arith, ℕ, List, [], ◌∷◌, ◌++◌, map, length, codes, Some}
+use Rattle.std.proofs.Common.{None, length-append}
 use Rattle.std.specs.List.{AllByRecursion, flat_map}
 use Rattle.std.proofs.lemmas.List.{length-map}
 use Rattle.std.proofs.lemmas.List.Elements.{All-head, All-map, All-tail}
@@ -21,8 +22,10 @@ use Rattle.column_segment.specs.declared.columns.TextColumn.{TextColumn}
 use Rattle.dimensions.specs.Coded.{AreGoodRows}
 use Rattle.dimensions.specs.Shapes.{lowers_of, lower_of}
 use Rattle.dimensions.specs.TextRows.{TextRow}
-use Rattle.dimensions.proofs.CallerLemmas.{few_good_rows, good_places_above, good_places_of_rows, good_texts, lower_below}
-use Rattle.dimension_objects.specs.Spelled.{codes_in_order, dimension_spelling, header_of, keys_spelling, linked_columns, parts_of, row_columns, stored_columns, texts_in_order}
+use Rattle.dimensions.proofs.CallerLemmas.{few_good_rows, good_places_above, good_places_of_rows, good_texts}
+use Rattle.dimensions.proofs.CallerLemmas.{lower_below}
+use Rattle.dimension_objects.specs.Spelled.{codes_in_order, dimension_spelling, header_of, keys_spelling}
+use Rattle.dimension_objects.specs.Spelled.{linked_columns, parts_of, row_columns, stored_columns, texts_in_order}
 use Rattle.dimension_objects.specs.Spelled as dimension_objects
 use Rattle.dimension_objects.proofs.Front.{length-numbers}
 use Rattle.dimension_objects.proofs.SpelledLaws.{linked_all, row_all, stored_all}
@@ -33,7 +36,8 @@ each_text_most : (texts : List (List ℕ)) → AreShort texts → length (flat_m
 each_text_most [] short = omega arith
 each_text_most (text ∷ texts) short =
     let here = All-head (λ t. length t ≤ longest_text) text texts short in
-    let rest : length (flat_map text_spelling texts) ≤ 256 * length texts = each_text_most texts (All-tail (λ t. length t ≤ longest_text) text texts short) in
+    let rest : length (flat_map text_spelling texts) ≤ 256 * length texts =
+    each_text_most texts (All-tail (λ t. length t ≤ longest_text) text texts short) in
     omega (
       arith,
       length-append (text_spelling text) (flat_map text_spelling texts),
@@ -44,14 +48,22 @@ each_text_most (text ∷ texts) short =
     )
 
 texts_most : (texts : List (List ℕ)) → AreShort texts → length (texts_spelling texts) ≤ 4 + 256 * length texts
-texts_most texts short = omega (arith, length-append (spelling 4 (length texts)) (flat_map text_spelling texts), length-spelling 4 (length texts), each_text_most texts short)
+texts_most texts short =
+    omega (
+      arith,
+      length-append (spelling 4 (length texts)) (flat_map text_spelling texts),
+      length-spelling 4 (length texts),
+      each_text_most texts short,
+    )
 
 -- ---- a batch
 
-column_most : (column : List (List ℕ)) → AreShort column → length column ≤ most_batch_rows → length (column_spelling column) ≤ 16908292
+column_most : (column : List (List ℕ)) → AreShort column → length column ≤ most_batch_rows
+    → length (column_spelling column) ≤ 16908292
 column_most column short few =
     let fewer : length (firsts column) ≤ length column = length-firsts column in
-    let proper : AreProper most_batch_rows (firsts column) = AreProper-firsts most_batch_rows column short (omega (arith, fewer, few)) in
+    let proper : AreProper most_batch_rows (firsts column) =
+    AreProper-firsts most_batch_rows column short (omega (arith, fewer, few)) in
     omega (
       arith,
       length-append (texts_spelling (firsts column)) (codes_spelling (codes_of column)),
@@ -62,14 +74,23 @@ column_most column short few =
       few,
     )
 
-text_columns_most : (rows : List LineOrder) → IsBatch rows → (columns : List TextColumn) → length (flat_map (text_column rows) columns) ≤ 16908292 * length columns
+text_columns_most : (rows : List LineOrder) → IsBatch rows → (columns : List TextColumn)
+    → length (flat_map (text_column rows) columns) ≤ 16908292 * length columns
 text_columns_most rows batch [] = omega arith
 text_columns_most rows batch (column ∷ columns) =
-    let short : AreShort (map (text_of column) rows) = All-map (λ t. length t ≤ longest_text) (text_of column) rows (batch.short column) in
-    let one : length (text_column rows column) ≤ 16908292 = column_most (map (text_of column) rows) short (omega (arith, length-map rows (text_of column), batch.few)) in
-    omega (arith, length-append (text_column rows column) (flat_map (text_column rows) columns), one, text_columns_most rows batch columns)
+    let short : AreShort (map (text_of column) rows) =
+    All-map (λ t. length t ≤ longest_text) (text_of column) rows (batch.short column) in
+    let one : length (text_column rows column) ≤ 16908292 =
+    column_most (map (text_of column) rows) short (omega (arith, length-map rows (text_of column), batch.few)) in
+    omega (
+      arith,
+      length-append (text_column rows column) (flat_map (text_column rows) columns),
+      one,
+      text_columns_most rows batch columns,
+    )
 
-number_column_most : (column : Column) → column.width ≤ 8 → (rows : List LineOrder) → length (number_column rows column) ≤ 8 * length rows
+number_column_most : (column : Column) → column.width ≤ 8 → (rows : List LineOrder)
+    → length (number_column rows column) ≤ 8 * length rows
 number_column_most column narrow [] = omega arith
 number_column_most column narrow (row ∷ rows) =
     omega (
@@ -80,14 +101,39 @@ number_column_most column narrow (row ∷ rows) =
       number_column_most column narrow rows,
     )
 
-number_columns_most : (rows : List LineOrder) → length rows ≤ most_batch_rows → (columns : List Column) → AllByRecursion (λ column. column.width ≤ 8) columns
+number_columns_most : (rows : List LineOrder) → length rows ≤ most_batch_rows → (columns : List Column)
+    → AllByRecursion (λ column. column.width ≤ 8) columns
     → length (flat_map (number_column rows) columns) ≤ 524288 * length columns
 number_columns_most rows few [] narrow = omega arith
 number_columns_most rows few (column ∷ columns) narrow =
-    omega (arith, length-append (number_column rows column) (flat_map (number_column rows) columns), number_column_most column narrow.0 rows, few, number_columns_most rows few columns narrow.1)
+    omega (
+      arith,
+      length-append (number_column rows column) (flat_map (number_column rows) columns),
+      number_column_most column narrow.0 rows,
+      few,
+      number_columns_most rows few columns narrow.1,
+    )
 
 narrow : AllByRecursion (λ column. column.width ≤ 8) number_columns
-narrow = (omega arith, (omega arith, (omega arith, (omega arith, (omega arith, (omega arith, (omega arith, (omega arith, (omega arith, (omega arith, (omega arith, (omega arith, (omega arith, tt)))))))))))))
+narrow = (
+  omega arith,
+  (
+    omega arith,
+    (
+      omega arith,
+      (
+        omega arith,
+        (
+          omega arith,
+          (
+            omega arith,
+            (omega arith, (omega arith, (omega arith, (omega arith, (omega arith, (omega arith, (omega arith, tt))))))),
+          ),
+        ),
+      ),
+    ),
+  ),
+)
 
 module _ (number : ℕ) (rows : List LineOrder) where
   front : length (segments.header_of number (length rows)) ≡ 12
@@ -118,7 +164,8 @@ module _ (number : ℕ) (rows : List LineOrder) where
 
 -- ---- a dimension
 
-texts_in_order_most : (texts : ℕ → List (List ℕ)) (order : List ℕ) → AllByRecursion (λ column. AreProper most_members (texts column)) order
+texts_in_order_most : (texts : ℕ → List (List ℕ)) (order : List ℕ)
+    → AllByRecursion (λ column. AreProper most_members (texts column)) order
     → length (texts_in_order texts order) ≤ 16776964 * length order
 texts_in_order_most texts [] proper = omega arith
 texts_in_order_most texts (column ∷ order) proper =
@@ -130,11 +177,18 @@ texts_in_order_most texts (column ∷ order) proper =
       texts_in_order_most texts order proper.1,
     )
 
-codes_in_order_most : (numbers : ℕ → List ℕ) (order : List ℕ) → AllByRecursion (λ column. length (numbers column) ≤ most_dimension_rows) order
+codes_in_order_most : (numbers : ℕ → List ℕ) (order : List ℕ)
+    → AllByRecursion (λ column. length (numbers column) ≤ most_dimension_rows) order
     → length (codes_in_order numbers order) ≤ 8388608 * length order
 codes_in_order_most numbers [] few = omega arith
 codes_in_order_most numbers (column ∷ order) few =
-    omega (arith, length-append (codes_spelling (numbers column)) (codes_in_order numbers order), length-numbers 2 (numbers column), few.0, codes_in_order_most numbers order few.1)
+    omega (
+      arith,
+      length-append (codes_spelling (numbers column)) (codes_in_order numbers order),
+      length-numbers 2 (numbers column),
+      few.0,
+      codes_in_order_most numbers order few.1,
+    )
 
 module _ (axis : Axis) (rows : List TextRow) (good : AreGoodRows axis rows) where
   abbrev keys : List ℕ
@@ -148,7 +202,11 @@ module _ (axis : Axis) (rows : List TextRow) (good : AreGoodRows axis rows) wher
     | None ↦ λ e. omega (arith, good_places_of_rows axis rows good i lt e, few_good_rows axis rows good)
     | Some j ↦ λ e.
         let before = lower_below axis i j e in
-        omega (arith, good_places_above axis rows good i j lt e, (good_texts axis rows good j (omega (arith, before, lt))).most)
+        omega (
+          arith,
+          good_places_above axis rows good i j lt e,
+          (good_texts axis rows good j (omega (arith, before, lt))).most,
+        )
   ] refl
 
   abbrev last : List ℕ
@@ -170,30 +228,46 @@ module _ (axis : Axis) (rows : List TextRow) (good : AreGoodRows axis rows) wher
   )
 
   pub dimension_least : 1 ≤ length (dimension_spelling axis rows)
-  dimension_least = omega (arith, length-append (dimension_objects.header_of axis (length keys)) (texts ++ (linked ++ (keys_spelling keys ++ last))), header)
+  dimension_least =
+      omega (
+        arith,
+        length-append (dimension_objects.header_of axis (length keys))
+            (texts ++ (linked ++ (keys_spelling keys ++ last))),
+        header,
+      )
 
-  in_all : length (dimension_spelling axis rows) ≤ 16777228 + 16776964 * length (stored_columns axis) + 8388608 * length (linked_columns axis) + 8388608 * length (row_columns axis)
+  in_all : length (dimension_spelling axis rows) ≤ 16777228 + 16776964 * length (stored_columns axis)
+      + 8388608 * length (linked_columns axis) + 8388608 * length (row_columns axis)
   in_all =
       omega (
         arith,
-        length-append (dimension_objects.header_of axis (length keys)) (texts ++ (linked ++ (keys_spelling keys ++ last))),
+        length-append (dimension_objects.header_of axis (length keys))
+            (texts ++ (linked ++ (keys_spelling keys ++ last))),
         header,
         length-append texts (linked ++ (keys_spelling keys ++ last)),
         length-append linked (keys_spelling keys ++ last),
         length-append (keys_spelling keys) last,
-        texts_in_order_most (parts_of axis rows).texts (stored_columns axis) (stored_all axis (λ column. AreProper most_members ((parts_of axis rows).texts column)) (good_texts axis rows good)),
-        codes_in_order_most numbers (linked_columns axis) (linked_all axis (λ column. length (numbers column) ≤ most_dimension_rows) few_codes),
-        codes_in_order_most numbers (row_columns axis) (row_all axis (λ column. length (numbers column) ≤ most_dimension_rows) few_codes),
+        texts_in_order_most (parts_of axis rows).texts (stored_columns axis)
+            (stored_all axis (λ column. AreProper most_members ((parts_of axis rows).texts column))
+            (good_texts axis rows good)),
+        codes_in_order_most numbers (linked_columns axis)
+            (linked_all axis (λ column. length (numbers column) ≤ most_dimension_rows) few_codes),
+        codes_in_order_most numbers (row_columns axis)
+            (row_all axis (λ column. length (numbers column) ≤ most_dimension_rows) few_codes),
         length-numbers 4 keys,
         length-map rows (λ row. row.key),
         few_good_rows axis rows good,
       )
 
-few_columns : (axis : Axis) → 16777228 + 16776964 * length (stored_columns axis) + 8388608 * length (linked_columns axis) + 8388608 * length (row_columns axis) ≤ most_object_bytes
+few_columns : (axis : Axis)
+    → 16777228 + 16776964 * length (stored_columns axis) + 8388608 * length (linked_columns axis)
+    + 8388608 * length (row_columns axis) ≤ most_object_bytes
 few_columns Customer = omega arith
 few_columns Supplier = omega arith
 few_columns Part = omega arith
 few_columns Date = omega arith
 
-pub dimension_most : (axis : Axis) (rows : List TextRow) → AreGoodRows axis rows → length (dimension_spelling axis rows) ≤ most_object_bytes
-dimension_most axis rows good = let most = in_all axis rows good in let few = few_columns axis in omega (arith, most, few)
+pub dimension_most : (axis : Axis) (rows : List TextRow) → AreGoodRows axis rows
+    → length (dimension_spelling axis rows) ≤ most_object_bytes
+dimension_most axis rows good = let most = in_all axis rows good in let few = few_columns axis in
+    omega (arith, most, few)

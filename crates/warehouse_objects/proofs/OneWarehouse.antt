@@ -1,5 +1,7 @@
 -- A content represents one warehouse.
-use Rattle.std.proofs.Common.{◌≡◌, ◌<◌, ◌≤◌, ◌+◌, ◌-◌, ◌*◌, ◌/◌, ◌%◌, ◌==◌, ◌∙◌, zero, suc, sym, ap, refl, arith, if◌then◌else◌, ℕ, Bool, true, false, List, [], ◌∷◌, map, length, get_or, slice_get, Option, Some}
+use Rattle.std.proofs.Common.{◌≡◌, ◌<◌, ◌≤◌, ◌+◌, ◌-◌, ◌*◌, ◌/◌, ◌%◌, ◌==◌, ◌∙◌, zero, suc, sym, ap, refl, arith}
+use Rattle.std.proofs.Common.{if◌then◌else◌, ℕ, Bool, true, false, List, [], ◌∷◌, map, length, get_or, slice_get}
+use Rattle.std.proofs.Common.{Option, Some}
 use Rattle.std.specs.Option.{option_map}
 use Rattle.std.proofs.Math.Nat.{div-add-mod, mod-lt}
 use Rattle.std.proofs.lemmas.Bool.Decides.{nat_tests}
@@ -24,7 +26,8 @@ use Rattle.warehouse_root.specs.Objects.{run_id}
 use Rattle.warehouse_root.specs.Root.{AreAscending}
 use Rattle.warehouse_root.proofs.CallerLemmas.{root_fits, root_of-one}
 use Rattle.warehouse_objects.specs.Warehouse.{Cuboid, Warehouse, cuboid_at}
-use Rattle.warehouse_objects.specs.Represents.{IsLaid, Represents, RepresentsWith, dimension_of, object_of, root_of, run_behind, run_bytes, run_in, said_of}
+use Rattle.warehouse_objects.specs.Represents.{IsLaid, Represents, RepresentsWith, dimension_of, object_of, root_of}
+use Rattle.warehouse_objects.specs.Represents.{run_after, run_bytes, run_in, said_of}
 use Rattle.warehouse_objects.proofs.Batches.{few_batches, segment_at, some_one}
 use Rattle.warehouse_objects.proofs.Contents.{object_batch, objects_high, rows_one}
 
@@ -37,9 +40,11 @@ place_is v r few =
     (omega (arith, parts, low, few), omega (arith, parts, low, few))
 
 -- a cuboid of cuboids by ascending views is that of its view
-pub own_view : (cuboids : List Cuboid) (k : ℕ) (d : Cuboid) → AreAscending (map said_of cuboids) → k < length cuboids → cuboid_at (index_of (get_or cuboids k d).view) cuboids ≡ Some (get_or cuboids k d)
+pub own_view : (cuboids : List Cuboid) (k : ℕ) (d : Cuboid) → AreAscending (map said_of cuboids) → k < length cuboids
+    → cuboid_at (index_of (get_or cuboids k d).view) cuboids ≡ Some (get_or cuboids k d)
 own_view [] k d up within = absurd (omega (arith, within))
-own_view (c ∷ cs) zero d up within = ap (λ (b : Bool). if b then Some c else cuboid_at (index_of c.view) cs) (same (index_of c.view))
+own_view (c ∷ cs) zero d up within =
+    ap (λ (b : Bool). if b then Some c else cuboid_at (index_of c.view) cs) (same (index_of c.view))
   where
     same : (n : ℕ) → (n == n) ≡ true
     same n = grind (arith, nat_tests)
@@ -47,38 +52,48 @@ own_view (c ∷ cs) (suc k) d up within =
     let inside : k < length cs = omega (arith, within) in
     let at_k = get_or-map said_of cs k d (said_of d) inside in
     let above = up 0 (suc k) (said_of d) (omega arith) (omega (arith, inside, length-map cs said_of)) in
-    let less : index_of c.view < index_of (get_or cs k d).view = omega (arith, above, ap (λ (s : StoredCuboid). s.view) at_k) in
-    ap (λ (b : Bool). if b then Some c else cuboid_at (index_of (get_or cs k d).view) cs) (other (index_of c.view) (index_of (get_or cs k d).view) less)
+    let less : index_of c.view < index_of (get_or cs k d).view =
+    omega (arith, above, ap (λ (s : StoredCuboid). s.view) at_k) in
+    ap (λ (b : Bool). if b then Some c else cuboid_at (index_of (get_or cs k d).view) cs)
+    (other (index_of c.view) (index_of (get_or cs k d).view) less)
     ∙ own_view cs k d (λ i j e before lt. up (suc i) (suc j) e (omega (arith, before)) (omega (arith, lt))) inside
   where
     other : (n m : ℕ) → n < m → (n == m) ≡ false
     other n m lt = grind (arith, nat_tests, lt)
 
-pub object_run : (w : Warehouse) (k r : ℕ) (d : Cuboid) → AreAscending (map said_of w.cuboids) → k < length w.cuboids → r < 16
-    → object_of w (run_id (index_of (get_or w.cuboids k d).view) r) ≡ option_map (run_bytes (get_or w.cuboids k d)) (slice_get (get_or w.cuboids k d).runs r)
+pub object_run : (w : Warehouse) (k r : ℕ) (d : Cuboid) → AreAscending (map said_of w.cuboids) → k < length w.cuboids
+    → r < 16
+    → object_of w (run_id (index_of (get_or w.cuboids k d).view) r) ≡ option_map (run_bytes (get_or w.cuboids k d))
+    (slice_get (get_or w.cuboids k d).runs r)
 object_run w k r d up within few =
     let v : ℕ = index_of (get_or w.cuboids k d).view in
     let at = place_is v r few in
     let back : run_id v r - 131072 ≡ 16 * v + r = omega arith in
-    objects_high (dimension_of w.rows Customer) (dimension_of w.rows Supplier) (dimension_of w.rows Part) (dimension_of w.rows Date) segment_of (λ place. run_behind place w.cuboids) w.batches (run_id v r) (omega arith)
-    ∙ ap (λ (p : ℕ). run_behind p w.cuboids) back
+    objects_high (dimension_of w.rows Customer) (dimension_of w.rows Supplier) (dimension_of w.rows Part)
+    (dimension_of w.rows Date) segment_of (λ place. run_after place w.cuboids) w.batches (run_id v r) (omega arith)
+    ∙ ap (λ (p : ℕ). run_after p w.cuboids) back
     ∙ ap (λ (q : ℕ). run_in (cuboid_at q w.cuboids) ((16 * v + r) % 16)) at.0
     ∙ ap (λ (m : ℕ). run_in (cuboid_at v w.cuboids) m) at.1
     ∙ ap (λ (o : Option Cuboid). run_in o r) (own_view w.cuboids k d up within)
 
 -- ---- lists that are the same at each place
 
-all_same : {A : Type 0} (xs ys : List A) → length xs ≡ length ys → ((k : ℕ) (d : A) → k < length xs → get_or xs k d ≡ get_or ys k d) → xs ≡ ys
+all_same : {A : Type 0} (xs ys : List A) → length xs ≡ length ys
+    → ((k : ℕ) (d : A) → k < length xs → get_or xs k d ≡ get_or ys k d) → xs ≡ ys
 all_same [] [] many same = refl
 all_same [] (y ∷ ys) many same = absurd (omega (arith, many))
 all_same (x ∷ xs) [] many same = absurd (omega (arith, many))
-all_same (x ∷ xs) (y ∷ ys) many same = λ i. same 0 x (omega arith) i ∷ all_same xs ys (omega (arith, many)) (λ k d lt. same (suc k) d (omega (arith, lt))) i
+all_same (x ∷ xs) (y ∷ ys) many same =
+    λ i. same 0 x (omega arith) i ∷ all_same xs ys (omega (arith, many)) (λ k d lt. same (suc k) d (omega (arith, lt)))
+    i
 
-batches_same : {A : Type 0} (xs ys : List A) → length xs ≡ length ys → ((k : ℕ) (x y : A) → slice_get xs k ≡ Some x → slice_get ys k ≡ Some y → x ≡ y) → xs ≡ ys
+batches_same : {A : Type 0} (xs ys : List A) → length xs ≡ length ys
+    → ((k : ℕ) (x y : A) → slice_get xs k ≡ Some x → slice_get ys k ≡ Some y → x ≡ y) → xs ≡ ys
 batches_same [] [] many same = refl
 batches_same [] (y ∷ ys) many same = absurd (omega (arith, many))
 batches_same (x ∷ xs) [] many same = absurd (omega (arith, many))
-batches_same (x ∷ xs) (y ∷ ys) many same = λ i. same 0 x y refl refl i ∷ batches_same xs ys (omega (arith, many)) (λ k. same (suc k)) i
+batches_same (x ∷ xs) (y ∷ ys) many same =
+    λ i. same 0 x y refl refl i ∷ batches_same xs ys (omega (arith, many)) (λ k. same (suc k)) i
 
 one_layout : (a b : Layout) → number_of a ≡ number_of b → a ≡ b
 one_layout First First same = refl
@@ -88,9 +103,13 @@ one_layout Second Second same = refl
 
 -- ---- one warehouse
 
-module _ (law : ValidRowsKeepTheRules) (c : Content) (w v : Warehouse) (is : RepresentsWith IsLaid c w) (also : RepresentsWith IsLaid c v) where
+module _ (law : ValidRowsKeepTheRules) (c : Content) (w v : Warehouse) (is : RepresentsWith IsLaid c w)
+    (also : RepresentsWith IsLaid c v) where
   same_root : root_of w ≡ root_of v
-  same_root = root_of-one (root_of w) (root_of v) (root_fits (root_of w) is.root.proper) (root_fits (root_of v) also.root.proper) (one_layout w.layout v.layout (sym is.layout ∙ also.layout)) (sym is.root.spelled ∙ also.root.spelled)
+  same_root =
+      root_of-one (root_of w) (root_of v) (root_fits (root_of w) is.root.proper)
+      (root_fits (root_of v) also.root.proper) (one_layout w.layout v.layout (sym is.layout ∙ also.layout))
+      (sym is.root.spelled ∙ also.root.spelled)
 
   same_count : length w.batches ≡ length v.batches
   same_count = sym (length-map w.batches length) ∙ ap (λ r. length r.batches) same_root ∙ length-map v.batches length
@@ -99,7 +118,9 @@ module _ (law : ValidRowsKeepTheRules) (c : Content) (w v : Warehouse) (is : Rep
   same_batch k x y at other =
       let low : k < 65535 = omega (arith, slice_get_within w.batches k x at, few_batches w.rows w.batches is.batches) in
       let bytes : segment_of (k + 1) x ≡ segment_of (k + 1) y =
-      some_one _ _ (sym (ap (option_map (segment_of (k + 1))) at) ∙ sym (object_batch w k low) ∙ sym (is.objects (65537 + k)) ∙ also.objects (65537 + k) ∙ object_batch v k low ∙ ap (option_map (segment_of (k + 1))) other) in
+      some_one _ _ (sym (ap (option_map (segment_of (k + 1))) at) ∙ sym (object_batch w k low)
+      ∙ sym (is.objects (65537 + k)) ∙ also.objects (65537 + k) ∙ object_batch v k low
+      ∙ ap (option_map (segment_of (k + 1))) other) in
       let segment = segment_at v.rows v.batches also.batches k y other in
       (IsSegment-one (segment_of (k + 1) x) (k + 1) (k + 1) x y (segment_at w.rows w.batches is.batches k x at)
       (record { spelled = bytes; number_fits = segment.number_fits; batch = segment.batch; fits = segment.fits })).1
@@ -111,11 +132,14 @@ module _ (law : ValidRowsKeepTheRules) (c : Content) (w v : Warehouse) (is : Rep
   same_said = ap (λ r. r.cuboids) same_root
 
   many_cuboids : length w.cuboids ≡ length v.cuboids
-  many_cuboids = sym (length-map w.cuboids said_of) ∙ ap (λ (l : List StoredCuboid). length l) same_said ∙ length-map v.cuboids said_of
+  many_cuboids = sym (length-map w.cuboids said_of) ∙ ap (λ (l : List StoredCuboid). length l) same_said
+      ∙ length-map v.cuboids said_of
 
-  same_entry : (k : ℕ) (d : Cuboid) → k < length w.cuboids → said_of (get_or w.cuboids k d) ≡ said_of (get_or v.cuboids k d)
+  same_entry : (k : ℕ) (d : Cuboid) → k < length w.cuboids
+      → said_of (get_or w.cuboids k d) ≡ said_of (get_or v.cuboids k d)
   same_entry k d within =
-      sym (get_or-map said_of w.cuboids k d (said_of d) within) ∙ ap (λ (l : List StoredCuboid). get_or l k (said_of d)) same_said
+      sym (get_or-map said_of w.cuboids k d (said_of d) within)
+      ∙ ap (λ (l : List StoredCuboid). get_or l k (said_of d)) same_said
       ∙ get_or-map said_of v.cuboids k d (said_of d) (omega (arith, within, many_cuboids))
 
   same_cuboid : (k : ℕ) (d : Cuboid) → k < length w.cuboids → get_or w.cuboids k d ≡ get_or v.cuboids k d
@@ -128,7 +152,12 @@ module _ (law : ValidRowsKeepTheRules) (c : Content) (w v : Warehouse) (is : Rep
       let view : a.view ≡ b.view = one_view a.view b.view number in
       let runs_many : length a.runs ≡ length b.runs = ap (λ (s : StoredCuboid). s.runs) entry in
       let proper = is.root.proper.each k (said_of d) (omega (arith, within, length-map w.cuboids said_of)) in
-      let most : length a.runs ≤ 8 = omega (arith, proper.most_runs, ap (λ (s : StoredCuboid). s.runs) (get_or-map said_of w.cuboids k d (said_of d) within)) in
+      let most : length a.runs ≤ 8 =
+      omega (
+        arith,
+        proper.most_runs,
+        ap (λ (s : StoredCuboid). s.runs) (get_or-map said_of w.cuboids k d (said_of d) within),
+      ) in
       let laid = is.cuboids k d within in
       let laid_also = also.cuboids k d there in
       let runs : a.runs ≡ b.runs = all_same a.runs b.runs runs_many (λ r e inside.
@@ -138,8 +167,12 @@ module _ (law : ValidRowsKeepTheRules) (c : Content) (w v : Warehouse) (is : Rep
       let at_x = slice_get-get_or a.runs r e inside in
       let at_y = slice_get-get_or b.runs r e inside_also in
       let bytes : run_bytes a x ≡ run_bytes b y =
-      some_one _ _ (sym (ap (option_map (run_bytes a)) at_x) ∙ sym (object_run w k r d is.root.proper.ascending within (omega (arith, inside, most))) ∙ sym (is.objects (run_id (index_of a.view) r))
-      ∙ also.objects (run_id (index_of a.view) r) ∙ ap (λ (n : ℕ). object_of v (run_id n r)) number ∙ object_run v k r d also.root.proper.ascending there (omega (arith, inside, most)) ∙ ap (option_map (run_bytes b)) at_y) in
+      some_one _ _ (sym (ap (option_map (run_bytes a)) at_x)
+      ∙ sym (object_run w k r d is.root.proper.ascending within (omega (arith, inside, most)))
+      ∙ sym (is.objects (run_id (index_of a.view) r))
+      ∙ also.objects (run_id (index_of a.view) r) ∙ ap (λ (n : ℕ). object_of v (run_id n r)) number
+      ∙ object_run v k r d also.root.proper.ascending there (omega (arith, inside, most))
+      ∙ ap (option_map (run_bytes b)) at_y) in
       let one = IsRun-one (run_bytes a x) x.span y.span (cells_of a.view x.cells) (cells_of b.view y.cells)
       (record { spelled = refl; span = laid.spans r e inside; proper = laid.proper r e inside })
       (record { spelled = bytes; span = laid_also.spans r e inside_also; proper = laid_also.proper r e inside_also }) in
@@ -150,7 +183,12 @@ module _ (law : ValidRowsKeepTheRules) (c : Content) (w v : Warehouse) (is : Rep
   laid_one =
       let rows : w.rows ≡ v.rows = rows_one law c w.rows v.rows is.rows also.rows
       (record { customers = is.objects 1; suppliers = is.objects 2; parts = is.objects 3; dates = is.objects 4 })
-      (record { customers = also.objects 1; suppliers = also.objects 2; parts = also.objects 3; dates = also.objects 4 }) in
+      (record {
+        customers = also.objects 1;
+        suppliers = also.objects 2;
+        parts = also.objects 3;
+        dates = also.objects 4;
+      }) in
       let batches : w.batches ≡ v.batches = batches_same w.batches v.batches same_count same_batch in
       let cuboids : w.cuboids ≡ v.cuboids = all_same w.cuboids v.cuboids many_cuboids same_cuboid in
       λ i. record {

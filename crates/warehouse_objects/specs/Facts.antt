@@ -38,7 +38,8 @@ number_refusal additions number = first_cause (
 
 -- the first cause that forbids an addition of a number after so many
 abbrev pub addition_refusal : DimRows → ℕ → ℕ → DimRows → Option Fault
-addition_refusal rows additions number more = first_cause (number_refusal additions number ∷ addition_cause rows more ∷ [])
+addition_refusal rows additions number more =
+    first_cause (number_refusal additions number ∷ addition_cause rows more ∷ [])
 
 -- what one command may add
 pub data Change : Type 0 where
@@ -47,8 +48,10 @@ pub data Change : Type 0 where
 
 -- facts with a change that is admissible there
 abbrev pub Adds : Facts → Change → Facts → Type 0
-Adds facts (a_batch batch) new = IsAdmissible facts.rows facts.batches (length facts.batches + 1) batch × (new ≡ with_next facts batch)
-Adds facts (some_rows more) new = (addition_refusal facts.rows facts.additions (facts.additions + 1) more ≡ None) × (new ≡ with_rows facts more)
+Adds facts (a_batch batch) new = IsAdmissible facts.rows facts.batches (length facts.batches + 1) batch
+    × (new ≡ with_next facts batch)
+Adds facts (some_rows more) new = (addition_refusal facts.rows facts.additions (facts.additions + 1) more ≡ None)
+    × (new ≡ with_rows facts more)
 
 -- a batch of a number may be added to a warehouse
 abbrev pub Admits : Warehouse → ℕ → List LineOrder → Type 0

@@ -16,13 +16,15 @@ use Rattle.warehouse_root.specs.Layouts.{number_of}
 use Rattle.warehouse_root.specs.Objects.{run_id, segment_id}
 use Rattle.warehouse_root.specs.Root as roots
 use Rattle.warehouse_objects.specs.Facts.{Admits}
-use Rattle.warehouse_objects.specs.Warehouse.{Warehouse, AreStorable, Cuboid, StoredRun, aimed, cells_in, cuboid_at, dropped_ids, fresh, kept, loaded, with_views}
+use Rattle.warehouse_objects.specs.Warehouse.{Warehouse, AreStorable, Cuboid, StoredRun, aimed, cells_in, cuboid_at}
+use Rattle.warehouse_objects.specs.Warehouse.{dropped_ids, fresh, kept, loaded, with_views}
 use Rattle.warehouse_objects.specs.Represents.{HasRows, HoldsGroupings, Represents, dimension_of, root_of, run_bytes}
 
 -- the four objects of dimensions, in the order in which a warehouse is made of them
 abbrev pub dimension_puts : DimRows → List (ℕ × List ℕ)
 dimension_puts rows =
-    (1, dimension_of rows Customer) ∷ (2, dimension_of rows Supplier) ∷ (3, dimension_of rows Part) ∷ (4, dimension_of rows Date) ∷ []
+    (1, dimension_of rows Customer) ∷ (2, dimension_of rows Supplier) ∷ (3, dimension_of rows Part)
+    ∷ (4, dimension_of rows Date) ∷ []
 
 -- the object that a batch is put as
 abbrev pub batch_put : ℕ → List LineOrder → List (ℕ × List ℕ)
@@ -41,7 +43,9 @@ CreatingRepresents = (rows : DimRows) → AreStorable rows
 abbrev pub LoadingRepresents : Type 0
 LoadingRepresents = (c : Content) (w : Warehouse) (number : ℕ) (batch : List LineOrder)
     → Represents c w → Admits w number batch → FitColumns batch
-    → Represents (committed (loading_puts w number batch) [] (roots.root_of (root_of (loaded w batch))) (number_of w.layout) c) (loaded w batch)
+    → Represents
+    (committed (loading_puts w number batch) [] (roots.root_of (root_of (loaded w batch))) (number_of w.layout) c)
+    (loaded w batch)
 
 -- a commit of the root with another target makes a content whose cuboids are to hold all batches
 abbrev pub AimingRepresents : Type 0
@@ -56,7 +60,8 @@ run_put cuboid number run = (run_id (index_of cuboid.view) number, run_bytes cub
 abbrev pub later_runs : Cuboid → List ℕ
 later_runs cuboid = range_with_len (run_id (index_of cuboid.view) 1) (length cuboid.runs - 1)
 
--- A cuboid of a warehouse may take the place of that of its view: it holds the groupings of its batches, within the limits.
+-- A cuboid of a warehouse may take the place of that of its view: it holds the groupings of its batches, within the
+-- limits.
 pub record MayReplace (w : Warehouse) (old new : Cuboid) : Type 0 where
   pub stored : cuboid_at (index_of old.view) w.cuboids ≡ Some old
   pub view : new.view ≡ old.view
@@ -68,19 +73,27 @@ pub record MayReplace (w : Warehouse) (old new : Cuboid) : Type 0 where
 
 -- a commit of one run more, after those of its cuboid, or in the place of all of them
 abbrev pub AppendingRepresents : Type 0
-AppendingRepresents = (c : Content) (w : Warehouse) (old new : Cuboid) (run : StoredRun) → Represents c w → MayReplace w old new
+AppendingRepresents = (c : Content) (w : Warehouse) (old new : Cuboid) (run : StoredRun) → Represents c w
+    → MayReplace w old new
     → new.runs ≡ old.runs ++ run ∷ []
-    → Represents (committed (run_put new (length old.runs) run) [] (roots.root_of (root_of (kept w new))) (number_of w.layout) c) (kept w new)
+    → Represents
+    (committed (run_put new (length old.runs) run) [] (roots.root_of (root_of (kept w new))) (number_of w.layout) c)
+    (kept w new)
 
 abbrev pub MergingRepresents : Type 0
-MergingRepresents = (c : Content) (w : Warehouse) (old new : Cuboid) (run : StoredRun) → Represents c w → MayReplace w old new
+MergingRepresents = (c : Content) (w : Warehouse) (old new : Cuboid) (run : StoredRun) → Represents c w
+    → MayReplace w old new
     → new.runs ≡ run ∷ []
-    → Represents (committed (run_put new 0 run) (later_runs old) (roots.root_of (root_of (kept w new))) (number_of w.layout) c) (kept w new)
+    → Represents
+    (committed (run_put new 0 run) (later_runs old) (roots.root_of (root_of (kept w new))) (number_of w.layout) c)
+    (kept w new)
 
 -- a commit of the root with the cuboids of some views, that drops the runs of the others
 abbrev pub ChoosingRepresents : Type 0
 ChoosingRepresents = (c : Content) (w : Warehouse) (views : List View) → Represents c w → length views ≤ most_cuboids
-    → Represents (committed [] (dropped_ids w views) (roots.root_of (root_of (with_views w views))) (number_of w.layout) c) (with_views w views)
+    → Represents
+    (committed [] (dropped_ids w views) (roots.root_of (root_of (with_views w views))) (number_of w.layout) c)
+    (with_views w views)
 
 -- the objects of storable rows, and that of an admissible batch, are such as a store takes
 abbrev pub ObjectsAreStorable : Type 0
@@ -90,7 +103,8 @@ ObjectsAreStorable = ((rows : DimRows) → AreStorable rows → ArePuts (dimensi
 
 -- objects 1 to 4 are the dimensions of one list of rows at most
 abbrev pub RowsAreOne : Type 0
-RowsAreOne = (c : Content) (rows others : DimRows) → AreStorable rows → AreStorable others → HasRows c rows → HasRows c others → rows ≡ others
+RowsAreOne = (c : Content) (rows others : DimRows) → AreStorable rows → AreStorable others → HasRows c rows
+    → HasRows c others → rows ≡ others
 
 -- a content represents one warehouse at most
 abbrev pub ContentIsOneWarehouse : Type 0

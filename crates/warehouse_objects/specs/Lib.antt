@@ -2,5 +2,6 @@ pub mod Counted
 pub mod Warehouse
 pub mod Facts
 pub mod Represents
+pub mod Reads
 pub mod Lawful
 pub mod Loaded

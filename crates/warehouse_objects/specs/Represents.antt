@@ -1,5 +1,6 @@
 -- What the content of a store represents. The ids of objects and what they hold are our layout.
-use Rattle.std.specs.Prelude.{◌≡◌, ◌<◌, ◌≤◌, ℕ, ◌+◌, ◌-◌, ◌/◌, ◌%◌, ◌==◌, nat_lt, if◌then◌else◌, Option, Some, None, is_some, IsTrue, List, [], ◌∷◌, length, map, slice_get, take, drop, All}
+use Rattle.std.specs.Prelude.{◌≡◌, ◌<◌, ◌≤◌, ℕ, ◌+◌, ◌-◌, ◌/◌, ◌%◌, ◌==◌, nat_lt, if◌then◌else◌, Option, Some, None}
+use Rattle.std.specs.Prelude.{is_some, IsTrue, List, [], ◌∷◌, length, map, slice_get, take, drop, All}
 use Rattle.std.specs.List.{AllPairs, filter, find, range_with_len}
 use Rattle.std.specs.Option.{option_map}
 use Rattle.cube_model.specs.declared.attr.Axis.{Axis}
@@ -26,15 +27,16 @@ use Rattle.warehouse_root.specs.declared.totals.StoredTotals.{StoredTotals}
 use Rattle.warehouse_root.specs.Layouts.{number_of}
 use Rattle.warehouse_root.specs.Objects.{object_ids, run_id, segment_id}
 use Rattle.warehouse_root.specs.Root.{IsRoot, PlainRoot}
-use Rattle.warehouse_objects.specs.Warehouse.{Warehouse, AreInOrder, AreStorable, Cuboid, StoredRun, cells_in, cuboid_at, is_among, modes_of}
+use Rattle.warehouse_objects.specs.Warehouse.{Warehouse, AreInOrder, AreStorable, Cuboid, StoredRun, cells_in}
+use Rattle.warehouse_objects.specs.Warehouse.{cuboid_at, is_among, modes_of}
 
 -- the bytes of the rows of a dimension
 abbrev pub dimension_of : DimRows → Axis → List ℕ
 dimension_of rows axis = dimension_spelling axis (rows_on rows axis)
 
 -- the bytes of the batch that has so many before it: batches count from 1
-abbrev pub segment_behind : ℕ → List (List LineOrder) → Option (List ℕ)
-segment_behind before batches = option_map (segment_of (before + 1)) (slice_get batches before)
+abbrev pub segment_after : ℕ → List (List LineOrder) → Option (List ℕ)
+segment_after before batches = option_map (segment_of (before + 1)) (slice_get batches before)
 
 -- the bytes of a run of a cuboid
 abbrev pub run_bytes : Cuboid → StoredRun → List ℕ
@@ -46,11 +48,11 @@ run_in None run = None
 run_in (Some cuboid) run = option_map (run_bytes cuboid) (slice_get cuboid.runs run)
 
 -- the run that is so far after the first one of view 0: each view has sixteen places
-abbrev pub run_behind : ℕ → List Cuboid → Option (List ℕ)
-run_behind place cuboids = run_in (cuboid_at (place / 16) cuboids) (place % 16)
+abbrev pub run_after : ℕ → List Cuboid → Option (List ℕ)
+run_after place cuboids = run_in (cuboid_at (place / 16) cuboids) (place % 16)
 
--- The object that a warehouse has at an id: 1 to 4 are the dimensions, 65,536 + b is the segment of batch b, and 131,072 +
--- 16 v + r run r of the cuboid of view v.
+-- The object that a warehouse has at an id: 1 to 4 are the dimensions, 65,536 + b is the segment of batch b, and
+-- 131,072 + 16 v + r run r of the cuboid of view v.
 abbrev pub object_of : Warehouse → ℕ → Option (List ℕ)
 object_of w id =
     if id == 1 then Some (dimension_of w.rows Customer)
@@ -58,7 +60,8 @@ object_of w id =
     else (if id == 3 then Some (dimension_of w.rows Part)
     else (if id == 4 then Some (dimension_of w.rows Date)
     else (if nat_lt id (segment_id 1) then None
-    else (if nat_lt id (run_id 0 0) then segment_behind (id - segment_id 1) w.batches else run_behind (id - run_id 0 0) w.cuboids)))))
+    else (if nat_lt id (run_id 0 0) then segment_after (id - segment_id 1) w.batches else run_after (id - run_id 0 0)
+    w.cuboids)))))
 
 -- totals, as they are stored
 abbrev pub stored : Totals → StoredTotals
@@ -73,7 +76,8 @@ stored totals = record {
 
 -- what the root says of a cuboid
 abbrev pub said_of : Cuboid → StoredCuboid
-said_of cuboid = record { view = index_of cuboid.view; runs = length cuboid.runs; mark = cuboid.mark; cells = cells_in cuboid.runs }
+said_of cuboid =
+    record { view = index_of cuboid.view; runs = length cuboid.runs; mark = cuboid.mark; cells = cells_in cuboid.runs }
 
 -- what the root says of a warehouse
 abbrev pub root_of : Warehouse → PlainRoot
@@ -97,7 +101,8 @@ said_or_new number (Some cuboid) = cuboid
 
 -- what a root says of the cuboids of the views below a count that are among some, by what it said before
 abbrev pub said_below : ℕ → List View → List StoredCuboid → List StoredCuboid
-said_below count views cuboids = map (λ number. said_or_new number (find (λ cuboid. cuboid.view == number) cuboids)) (numbers_among views count)
+said_below count views cuboids = map (λ number. said_or_new number (find (λ cuboid. cuboid.view == number) cuboids))
+    (numbers_among views count)
 
 -- the same of all views without ship mode
 abbrev pub said_with : List View → List StoredCuboid → List StoredCuboid
@@ -121,7 +126,9 @@ pub record IsLaid (w : Warehouse) (cuboid : Cuboid) : Type 0 where
 -- and each of its runs is the grouping of its batches by the view
 pub record HoldsGroupings (w : Warehouse) (cuboid : Cuboid) : Type 0 where
   pub laid : IsLaid w cuboid
-  pub groupings : All (λ run. RepresentRows w.rows (modes_of w) (rows_in w.batches run.span) (cells_of cuboid.view run.cells)) cuboid.runs
+  pub groupings : All
+      (λ run. RepresentRows w.rows (modes_of w) (rows_in w.batches run.span) (cells_of cuboid.view run.cells))
+      cuboid.runs
 
 -- The content is that of the warehouse, whose stored cuboids keep something.
 pub record RepresentsWith (Keeps : Warehouse → Cuboid → Type 0) (c : Content) (w : Warehouse) : Type 0 where

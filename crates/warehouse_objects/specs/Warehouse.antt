@@ -1,5 +1,6 @@
 -- What a warehouse is, apart from how it is stored. Our own.
-use Rattle.std.specs.Prelude.{◌≡◌, ℕ, ◌+◌, ◌==◌, if◌then◌else◌, Bool, false, not, Option, None, Some, List, [], ◌∷◌, ◌++◌, length, map, take, slice_get}
+use Rattle.std.specs.Prelude.{◌≡◌, ℕ, ◌+◌, ◌==◌, if◌then◌else◌, Bool, false, not, Option, None, Some, List, [], ◌∷◌}
+use Rattle.std.specs.Prelude.{◌++◌, length, map, take, slice_get}
 use Rattle.std.specs.List.{AllByRecursion, filter, find, flat_map, list_any, range_with_len, sum_by}
 use Rattle.cube_model.specs.declared.attr.Axis.{Axis}
 use Rattle.cube_model.specs.declared.rows.DimRows.{DimRows}
@@ -89,12 +90,14 @@ kept_of view (Some cuboid) = cuboid
 
 -- with the cuboids of some views, and no others: one that is stored stays as it is, another one holds no batch
 abbrev pub with_views : Warehouse → List View → Warehouse
-with_views w views = record w { target = 0; cuboids = map (λ view. kept_of view (cuboid_at (index_of view) w.cuboids)) (in_order views) }
+with_views w views =
+    record w { target = 0; cuboids = map (λ view. kept_of view (cuboid_at (index_of view) w.cuboids)) (in_order views) }
 
 -- the ids of the runs that go then: those of the stored cuboids of other views
 abbrev pub dropped_ids : Warehouse → List View → List ℕ
 dropped_ids w views =
-    flat_map (λ cuboid. range_with_len (run_id (index_of cuboid.view) 0) (length cuboid.runs)) (filter (λ cuboid. not (is_among views (index_of cuboid.view))) w.cuboids)
+    flat_map (λ cuboid. range_with_len (run_id (index_of cuboid.view) 0) (length cuboid.runs))
+    (filter (λ cuboid. not (is_among views (index_of cuboid.view))) w.cuboids)
 
 -- dimension rows that can be stored: they are valid, their texts are short, and their keys fit four bytes
 pub record AreStorable (rows : DimRows) : Type 0 where
@@ -113,4 +116,5 @@ pub record IsNext (rows : DimRows) (batches : List (List LineOrder)) (batch : Li
 
 -- each batch may follow those before it
 abbrev pub AreInOrder : DimRows → List (List LineOrder) → Type 0
-AreInOrder rows batches = (before : ℕ) (batch : List LineOrder) → slice_get batches before ≡ Some batch → IsNext rows (take before batches) batch
+AreInOrder rows batches = (before : ℕ) (batch : List LineOrder) → slice_get batches before ≡ Some batch
+    → IsNext rows (take before batches) batch

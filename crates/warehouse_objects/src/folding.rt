@@ -1,11 +1,11 @@
 //! Folding the batches of a store.
-ghost use Rattle.std.specs.Prelude.{◌≡◌, ◌⊎◌, ◌↔◌, ◌+◌, ◌<◌, ◌≤◌, [], List, false, Some, length, slice_get, take, IfErr, IfOk, IsErrOf, IsTrue, OnErr, OnOk};
+ghost use Rattle.std.specs.Prelude.{◌≡◌, ◌⊎◌, ◌↔◌, ◌+◌, ◌<◌, ◌≤◌, List, false, Some, length, slice_get, take};
+ghost use Rattle.std.specs.Prelude.{IfErr, IfOk, IsErrOf, IsTrue, OnErr, OnOk};
 ghost use Rattle.cube_model.specs.declared.fault.Fault.TheVariants.{BadLayout, Device, Memory};
 ghost use Rattle.cube_model.specs.declared.rows.LineOrder.{LineOrder};
 ghost use Rattle.cube_model.specs.Admission.{all_rows};
 ghost use Rattle.cube_model.specs.Limits.{most_batches};
-ghost use Rattle.object_store.specs.Disk.{Leaves};
-ghost use Rattle.object_store.specs.Store.{Breaks, IsStill, content_of, device_of, disk_of, has_failed};
+ghost use Rattle.object_store.specs.Store.{content_of, device_of, has_failed};
 ghost use Rattle.column_segment.specs.Segment.{IsSegment};
 ghost use Rattle.cube_query.specs.Asked.{asked_columns};
 ghost use Rattle.cube_query.specs.Groups.{IsOver, RepresentsRows};
@@ -13,6 +13,7 @@ ghost use Rattle.cube_query.specs.Limits.{AreFoldable};
 ghost use Rattle.warehouse_root.specs.Objects.{segment_id};
 ghost use Rattle.warehouse_objects.specs.Counted.{CountsBatch};
 ghost use Rattle.warehouse_objects.specs.Warehouse.{Warehouse};
+ghost use Rattle.warehouse_objects.specs.Reads.{ReadsOnly};
 ghost use Rattle.warehouse_objects.specs.Represents.{Represents, root_of};
 
 use column_segment::{ColumnBuffer, FactColumn, Segment, decode};
@@ -24,11 +25,11 @@ use sector_device::Sectors;
 use std::alloc::Global;
 use warehouse_root::{Root, segment_id};
 
-/// Counts the rows of the batches after the first `from`, up to `as_of`, into a fold, straight from their columns. Of each
-/// batch only those are read at which the fold's query looks, into one buffer.
+/// Counts the rows of the batches after the first `from`, up to `as_of`, into a fold, straight from their columns. Of
+/// each batch only those are read at which the fold's query looks, into one buffer.
 ///
-/// `BadLayout` where a batch has another number than its place, or another count of rows than the root says, and where the
-/// fold cannot take its rows. After a refusal the fold is to be dropped.
+/// `BadLayout` where a batch has another number than its place, or another count of rows than the root says, and where
+/// the fold cannot take its rows. After a refusal the fold is to be dropped.
 pub fn fold_batches<D: Sectors>(
     alloc: Global,
     store: &mut Store<D>,
@@ -44,17 +45,19 @@ pub fn fold_batches<D: Sectors>(
     requires few { as_of ≤ length root.now.batches }
 
     // A fold that represents the rows of the batches up to the first of them then represents those up to the last.
-    ensures ok { OnOk result (D.keeps_word (device_of store.new) → (w : Warehouse) → Represents (content_of D.Sectors store.old) w
-        → RepresentsRows dims.now fold.old (all_rows (take from w.batches)) → RepresentsRows dims.now fold.new (all_rows (take as_of w.batches))) }
+    ensures ok { OnOk result (D.keeps_word (device_of store.new) → (w : Warehouse)
+        → Represents (content_of D.Sectors store.old) w
+        → RepresentsRows dims.now fold.old (all_rows (take from w.batches))
+        → RepresentsRows dims.now fold.new (all_rows (take as_of w.batches))) }
     ensures over { IsOver dims.now fold.new }
     ensures query { fold.new.query ≡ fold.old.query }
-    ensures refused { IsErrOf result BadLayout → D.keeps_word (device_of store.new) → (w : Warehouse) → Represents (content_of D.Sectors store.old) w
-        → root.now ≡ root_of w → dims.now ≡ w.rows → RepresentsRows dims.now fold.old (all_rows (take from w.batches)) → ⊥ }
+    ensures refused { IsErrOf result BadLayout → D.keeps_word (device_of store.new) → (w : Warehouse)
+        → Represents (content_of D.Sectors store.old) w
+        → root.now ≡ root_of w → dims.now ≡ w.rows → RepresentsRows dims.now fold.old (all_rows (take from w.batches))
+        → ⊥ }
 
     // The content stays, at each moment.
-    ensures leaves { Leaves (disk_of D.Sectors store.old) (disk_of D.Sectors store.new) (λ c. c ≡ content_of D.Sectors store.old) }
-    ensures stays { (IsErrOf result Device → ⊥) → IsStill D.Sectors store.old store.new }
-    ensures device { IsErrOf result Device → Breaks D.Sectors store.old store.new }
+    ensures reads { ReadsOnly D.Sectors store.old store.new result }
     ensures causes { IfErr result (λ fault. (fault ≡ Memory) ⊎ ((fault ≡ Device) ⊎ (fault ≡ BadLayout))) }
 {
     let _usable = store.is_broken();
@@ -69,11 +72,11 @@ pub fn fold_batches<D: Sectors>(
     Ok(())
 }
 
-/// Counts the batch after the first so many into a fold, straight from the columns at which the fold's query looks. A refusal
-/// leaves the fold as it was.
+/// Counts the batch after the first so many into a fold, straight from the columns at which the fold's query looks. A
+/// refusal leaves the fold as it was.
 ///
-/// `BadLayout` where the batch is not there as the root says, and where the fold cannot take its rows. The dimensions may be those of
-/// an earlier time: it is enough that they have the keys of the batches up to this one.
+/// `BadLayout` where the batch is not there as the root says, and where the fold cannot take its rows. The dimensions
+/// may be those of an earlier time: it is enough that they have the keys of the batches up to this one.
 pub fn fold_batch<D: Sectors>(
     alloc: Global,
     store: &mut Store<D>,
@@ -84,19 +87,21 @@ pub fn fold_batch<D: Sectors>(
 ) -> Result<(), Fault>
     requires fine { has_failed store.old ≡ false }
     requires over { IsOver dims.now fold.old }
-    ensures ok { OnOk result (D.keeps_word (device_of store.new) → (w : Warehouse) → Represents (content_of D.Sectors store.old) w
-        → RepresentsRows dims.now fold.old (all_rows (take before w.batches)) → RepresentsRows dims.now fold.new (all_rows (take (before + 1) w.batches))) }
+    ensures ok { OnOk result (D.keeps_word (device_of store.new) → (w : Warehouse)
+        → Represents (content_of D.Sectors store.old) w
+        → RepresentsRows dims.now fold.old (all_rows (take before w.batches))
+        → RepresentsRows dims.now fold.new (all_rows (take (before + 1) w.batches))) }
     ensures err { OnErr result (fold.new ≡ fold.old) }
     ensures over { IsOver dims.now fold.new }
     ensures query { fold.new.query ≡ fold.old.query }
-    ensures refused { IsErrOf result BadLayout → D.keeps_word (device_of store.new) → (w : Warehouse) → Represents (content_of D.Sectors store.old) w
-        → root.now ≡ root_of w → before < length w.batches → AreFoldable dims.now (all_rows (take (before + 1) w.batches))
+    ensures refused { IsErrOf result BadLayout → D.keeps_word (device_of store.new) → (w : Warehouse)
+        → Represents (content_of D.Sectors store.old) w
+        → root.now ≡ root_of w → before < length w.batches
+        → AreFoldable dims.now (all_rows (take (before + 1) w.batches))
         → RepresentsRows dims.now fold.old (all_rows (take before w.batches)) → ⊥ }
 
     // The content stays, at each moment.
-    ensures leaves { Leaves (disk_of D.Sectors store.old) (disk_of D.Sectors store.new) (λ c. c ≡ content_of D.Sectors store.old) }
-    ensures stays { (IsErrOf result Device → ⊥) → IsStill D.Sectors store.old store.new }
-    ensures device { IsErrOf result Device → Breaks D.Sectors store.old store.new }
+    ensures reads { ReadsOnly D.Sectors store.old store.new result }
     ensures causes { IfErr result (λ fault. (fault ≡ Memory) ⊎ ((fault ≡ Device) ⊎ (fault ≡ BadLayout))) }
 {
     let _usable = store.is_broken();
@@ -111,8 +116,8 @@ pub fn fold_batch<D: Sectors>(
     add_batch(store, dims, fold, &mut buffer, &columns, before, count)
 }
 
-// Reads the columns of the batch after so many others at which the fold's query looks, and counts its rows in. There are to
-// be so many. A refusal leaves the fold as it was.
+// Reads the columns of the batch after so many others at which the fold's query looks, and counts its rows in. There
+// are to be so many. A refusal leaves the fold as it was.
 fn add_batch<D: Sectors>(
     store: &mut Store<D>,
     dims: &Dims,
@@ -126,16 +131,18 @@ fn add_batch<D: Sectors>(
     requires over { IsOver dims.now fold.old }
     requires few { before < most_batches }
     requires asked { columns.now ≡ asked_columns fold.old.query }
-    ensures ok { OnOk result (CountsBatch dims.now fold.old fold.new before (D.keeps_word (device_of store.new)) (content_of D.Sectors store.old)) }
+    ensures ok { OnOk result
+        (CountsBatch dims.now fold.old fold.new before (D.keeps_word (device_of store.new))
+        (content_of D.Sectors store.old)) }
     ensures err { OnErr result (fold.new ≡ fold.old) }
     ensures over { IsOver dims.now fold.new }
     ensures query { fold.new.query ≡ fold.old.query }
-    ensures refused { IsErrOf result BadLayout → D.keeps_word (device_of store.new) → (w : Warehouse) → Represents (content_of D.Sectors store.old) w
+    ensures refused { IsErrOf result BadLayout → D.keeps_word (device_of store.new) → (w : Warehouse)
+        → Represents (content_of D.Sectors store.old) w
         → (batch : List LineOrder) → slice_get w.batches before ≡ Some batch → count ≡ length batch
-        → AreFoldable dims.now (all_rows (take (before + 1) w.batches)) → RepresentsRows dims.now fold.old (all_rows (take before w.batches)) → ⊥ }
-    ensures leaves { Leaves (disk_of D.Sectors store.old) (disk_of D.Sectors store.new) (λ c. c ≡ content_of D.Sectors store.old) }
-    ensures stays { (IsErrOf result Device → ⊥) → IsStill D.Sectors store.old store.new }
-    ensures device { IsErrOf result Device → Breaks D.Sectors store.old store.new }
+        → AreFoldable dims.now (all_rows (take (before + 1) w.batches))
+        → RepresentsRows dims.now fold.old (all_rows (take before w.batches)) → ⊥ }
+    ensures reads { ReadsOnly D.Sectors store.old store.new result }
     ensures causes { IfErr result (λ fault. (fault ≡ Memory) ⊎ ((fault ≡ Device) ⊎ (fault ≡ BadLayout))) }
 {
     let number = before + 1;

@@ -1,5 +1,7 @@
 //! Laws of the definitions: each function proves the statement that its contract names, and does nothing.
-ghost use Rattle.warehouse_objects.specs.Lawful.{AimingRepresents, AppendingRepresents, ChoosingRepresents, ContentIsOneWarehouse, CreatingRepresents, LoadingRepresents, MergingRepresents, ObjectsAreStorable, RowsAreOne};
+ghost use Rattle.warehouse_objects.specs.Lawful.{AimingRepresents, AppendingRepresents, ChoosingRepresents};
+ghost use Rattle.warehouse_objects.specs.Lawful.{ContentIsOneWarehouse, CreatingRepresents, LoadingRepresents};
+ghost use Rattle.warehouse_objects.specs.Lawful.{MergingRepresents, ObjectsAreStorable, RowsAreOne};
 
 use cube_model::valid_rows_keep_the_rules;
 
@@ -49,8 +51,8 @@ pub fn merging_represents()
     ensures { MergingRepresents }
 {}
 
-/// A commit of the root with the cuboids of some views, at most 16, that drops the runs of the others, makes a content that
-/// represents the warehouse with these views.
+/// A commit of the root with the cuboids of some views, at most 16, that drops the runs of the others, makes a content
+/// that represents the warehouse with these views.
 pub fn choosing_represents()
     ensures { ChoosingRepresents }
 {}

@@ -18,7 +18,8 @@ pub fn has_its_objects<D: Sectors>(
     store: &Store<D>,
     root: &Root,
 ) -> Result<bool, Fault>
-    ensures ok { IfOk result (λ has. D.keeps_word (device_of store.now) → IsTrue has ↔ HasItsObjects (content_of D.Sectors store.now) root.now) }
+    ensures ok { IfOk result (λ has. D.keeps_word (device_of store.now) → IsTrue has
+        ↔ HasItsObjects (content_of D.Sectors store.now) root.now) }
 
     // It does where the content represents a warehouse of that root.
     ensures represents { IfOk result (λ has. has ≡ false → D.keeps_word (device_of store.now)

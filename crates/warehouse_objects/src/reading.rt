@@ -4,12 +4,12 @@ ghost use Rattle.cube_model.specs.declared.fault.Fault.TheVariants.{BadLayout, D
 ghost use Rattle.cube_model.specs.declared.attr.Axis.TheVariants.{Customer, Supplier, Part, Date};
 ghost use Rattle.cube_model.specs.declared.rows.DimRows.{DimRows};
 ghost use Rattle.object_store.specs.Content.{bytes_of};
-ghost use Rattle.object_store.specs.Disk.{Leaves};
-ghost use Rattle.object_store.specs.Store.{Breaks, IsStill, content_of, device_of, disk_of, has_failed};
+ghost use Rattle.object_store.specs.Store.{content_of, device_of, has_failed};
 ghost use Rattle.warehouse_root.specs.declared.layout.Layout.TheVariants.{First};
 ghost use Rattle.warehouse_root.specs.Layouts.{number_of};
 ghost use Rattle.warehouse_root.specs.Root.{IsRootOf};
 ghost use Rattle.warehouse_objects.specs.Warehouse.{AreStorable, Warehouse};
+ghost use Rattle.warehouse_objects.specs.Reads.{ReadsOnly};
 ghost use Rattle.warehouse_objects.specs.Represents.{HasRows, Represents, dimension_of, root_of};
 
 use crate::laws::rows_are_one;
@@ -26,7 +26,8 @@ use warehouse_root::{Layout, Root};
 pub fn read_root<D: Sectors>(alloc: Global, store: &Store<D>) -> Result<Root, Fault>
     ensures ok { IfOk result (IsRootOf First (content_of D.Sectors store.now).root) }
     ensures layout { OnOk result ((content_of D.Sectors store.now).layout ≡ number_of First) }
-    ensures found { IfOk result (λ root. (w : Warehouse) → Represents (content_of D.Sectors store.now) w → root ≡ root_of w) }
+    ensures found { IfOk result (λ root. (w : Warehouse) → Represents (content_of D.Sectors store.now) w
+        → root ≡ root_of w) }
     ensures refused { IfErr result (λ fault. (fault ≡ Memory)
         ⊎ ((fault ≡ BadLayout) × ((w : Warehouse) → ¬ Represents (content_of D.Sectors store.now) w))) }
 {
@@ -40,7 +41,8 @@ pub fn read_root<D: Sectors>(alloc: Global, store: &Store<D>) -> Result<Root, Fa
 /// far as objects 1 to 4 show it.
 pub fn read_dims<D: Sectors>(alloc: Global, store: &mut Store<D>) -> Result<Dims, Fault>
     requires fine { has_failed store.old ≡ false }
-    ensures ok { IfOk result (λ dims. D.keeps_word (device_of store.new) → HasRows (content_of D.Sectors store.old) dims) }
+    ensures ok { IfOk result (λ dims. D.keeps_word (device_of store.new)
+        → HasRows (content_of D.Sectors store.old) dims) }
     ensures storable { IfOk result AreStorable }
     ensures found { IfOk result (λ dims. D.keeps_word (device_of store.new)
         → (w : Warehouse) → Represents (content_of D.Sectors store.old) w → dims ≡ w.rows) }
@@ -48,9 +50,7 @@ pub fn read_dims<D: Sectors>(alloc: Global, store: &mut Store<D>) -> Result<Dims
         → (w : Warehouse) → ¬ Represents (content_of D.Sectors store.old) w }
 
     // The content stays, at each moment.
-    ensures leaves { Leaves (disk_of D.Sectors store.old) (disk_of D.Sectors store.new) (λ c. c ≡ content_of D.Sectors store.old) }
-    ensures stays { (IsErrOf result Device → ⊥) → IsStill D.Sectors store.old store.new }
-    ensures device { IsErrOf result Device → Breaks D.Sectors store.old store.new }
+    ensures reads { ReadsOnly D.Sectors store.old store.new result }
     ensures causes { IfErr result (λ fault. (fault ≡ Memory) ⊎ ((fault ≡ Device) ⊎ (fault ≡ BadLayout))) }
 {
     rows_are_one();
@@ -67,14 +67,16 @@ fn read_others<D: Sectors>(
     suppliers: &[u8],
 ) -> Result<Dims, Fault>
     requires fine { has_failed store.old ≡ false }
-    ensures ok { IfOk result (λ dims. D.keeps_word (device_of store.new) → bytes_of (content_of D.Sectors store.old) 1 ≡ Some customers.now
-        → bytes_of (content_of D.Sectors store.old) 2 ≡ Some suppliers.now → HasRows (content_of D.Sectors store.old) dims) }
+    ensures ok { IfOk result (λ dims. D.keeps_word (device_of store.new)
+        → bytes_of (content_of D.Sectors store.old) 1 ≡ Some customers.now
+        → bytes_of (content_of D.Sectors store.old) 2 ≡ Some suppliers.now
+        → HasRows (content_of D.Sectors store.old) dims) }
     ensures storable { IfOk result AreStorable }
-    ensures refused { IsErrOf result BadLayout → D.keeps_word (device_of store.new) → bytes_of (content_of D.Sectors store.old) 1 ≡ Some customers.now
-        → bytes_of (content_of D.Sectors store.old) 2 ≡ Some suppliers.now → (w : Warehouse) → ¬ Represents (content_of D.Sectors store.old) w }
-    ensures leaves { Leaves (disk_of D.Sectors store.old) (disk_of D.Sectors store.new) (λ c. c ≡ content_of D.Sectors store.old) }
-    ensures stays { (IsErrOf result Device → ⊥) → IsStill D.Sectors store.old store.new }
-    ensures device { IsErrOf result Device → Breaks D.Sectors store.old store.new }
+    ensures refused { IsErrOf result BadLayout → D.keeps_word (device_of store.new)
+        → bytes_of (content_of D.Sectors store.old) 1 ≡ Some customers.now
+        → bytes_of (content_of D.Sectors store.old) 2 ≡ Some suppliers.now → (w : Warehouse)
+        → ¬ Represents (content_of D.Sectors store.old) w }
+    ensures reads { ReadsOnly D.Sectors store.old store.new result }
     ensures causes { IfErr result (λ fault. (fault ≡ Memory) ⊎ ((fault ≡ Device) ⊎ (fault ≡ BadLayout))) }
 {
     let (parts, dates) = read_two(alloc, store, 3)?;
@@ -90,12 +92,12 @@ fn read_two<D: Sectors>(
     requires fine { has_failed store.old ≡ false }
     requires fits { first + 1 < 2 ^ 32 }
     ensures found { IfOk result (λ two. D.keeps_word (device_of store.new)
-        → (bytes_of (content_of D.Sectors store.old) first ≡ Some two.0.items) × (bytes_of (content_of D.Sectors store.old) (first + 1) ≡ Some two.1.items)) }
+        → (bytes_of (content_of D.Sectors store.old) first ≡ Some two.0.items)
+        × (bytes_of (content_of D.Sectors store.old) (first + 1) ≡ Some two.1.items)) }
     ensures missing { IsErrOf result BadLayout → D.keeps_word (device_of store.new)
-        → (bytes_of (content_of D.Sectors store.old) first ≡ None) ⊎ (bytes_of (content_of D.Sectors store.old) (first + 1) ≡ None) }
-    ensures leaves { Leaves (disk_of D.Sectors store.old) (disk_of D.Sectors store.new) (λ c. c ≡ content_of D.Sectors store.old) }
-    ensures stays { (IsErrOf result Device → ⊥) → IsStill D.Sectors store.old store.new }
-    ensures device { IsErrOf result Device → Breaks D.Sectors store.old store.new }
+        → (bytes_of (content_of D.Sectors store.old) first ≡ None)
+        ⊎ (bytes_of (content_of D.Sectors store.old) (first + 1) ≡ None) }
+    ensures reads { ReadsOnly D.Sectors store.old store.new result }
     ensures causes { IfErr result (λ fault. (fault ≡ Memory) ⊎ ((fault ≡ Device) ⊎ (fault ≡ BadLayout))) }
 {
     let one = read_object(alloc, store, first)?;
@@ -114,9 +116,7 @@ pub fn read_object<D: Sectors>(
         → bytes_of (content_of D.Sectors store.old) id ≡ Some bytes.items) }
     ensures missing { IsErrOf result BadLayout → D.keeps_word (device_of store.new)
         → bytes_of (content_of D.Sectors store.old) id ≡ None }
-    ensures leaves { Leaves (disk_of D.Sectors store.old) (disk_of D.Sectors store.new) (λ c. c ≡ content_of D.Sectors store.old) }
-    ensures stays { (IsErrOf result Device → ⊥) → IsStill D.Sectors store.old store.new }
-    ensures device { IsErrOf result Device → Breaks D.Sectors store.old store.new }
+    ensures reads { ReadsOnly D.Sectors store.old store.new result }
     ensures causes { IfErr result (λ fault. (fault ≡ Memory) ⊎ ((fault ≡ Device) ⊎ (fault ≡ BadLayout))) }
 {
     match store.get(alloc, id)? {
@@ -133,10 +133,12 @@ fn decoded(
     parts: &[u8],
     dates: &[u8],
 ) -> Result<Dims, Fault>
-    ensures ok { IfOk result (λ dims. (customers.now ≡ dimension_of dims Customer) × (suppliers.now ≡ dimension_of dims Supplier)
+    ensures ok { IfOk result (λ dims. (customers.now ≡ dimension_of dims Customer)
+        × (suppliers.now ≡ dimension_of dims Supplier)
         × (parts.now ≡ dimension_of dims Part) × (dates.now ≡ dimension_of dims Date)) }
     ensures storable { IfOk result AreStorable }
-    ensures refused { IfErr result (λ fault. (fault ≡ Memory) ⊎ ((fault ≡ BadLayout) × ((rows : DimRows) → AreStorable rows
+    ensures refused { IfErr result
+        (λ fault. (fault ≡ Memory) ⊎ ((fault ≡ BadLayout) × ((rows : DimRows) → AreStorable rows
         → customers.now ≡ dimension_of rows Customer → suppliers.now ≡ dimension_of rows Supplier
         → parts.now ≡ dimension_of rows Part → dates.now ≡ dimension_of rows Date → ⊥))) }
 {

@@ -1,5 +1,6 @@
 -- What the bytes of a root determine, for the proofs of other crates too.
-use Rattle.std.proofs.Common.{◌≡◌, ℕ, ◌+◌, ◌*◌, ◌^◌, ◌<◌, ◌≤◌, List, [], ◌∷◌, ◌++◌, length, All, refl, sym, ap, ◌∙◌, arith, append_assoc, append-nil, length-append}
+use Rattle.std.proofs.Common.{◌≡◌, ℕ, ◌+◌, ◌*◌, ◌^◌, ◌<◌, ◌≤◌, List, [], ◌∷◌, ◌++◌, length, All, refl, sym, ap, ◌∙◌}
+use Rattle.std.proofs.Common.{arith, append_assoc, append-nil, length-append}
 use Rattle.std.proofs.lemmas.List.Elements.{All-head, All-tail}
 use Rattle.std.specs.List.{flat_map}
 use Rattle.wire.specs.Limits.{most_root_bytes}
@@ -11,7 +12,8 @@ use Rattle.warehouse_root.specs.declared.layout.Layout.TheVariants.{First, Secon
 use Rattle.warehouse_root.specs.declared.totals.StoredTotals.{StoredTotals}
 use Rattle.warehouse_root.specs.Layouts.{views_of}
 use Rattle.warehouse_root.specs.Reading.{CuboidFits, TotalsFit}
-use Rattle.warehouse_root.specs.Root.{AreProperTotals, IsProper, IsRoot, IsRootOf, PlainRoot, counts_of, cuboid_of, root_of, totals_of}
+use Rattle.warehouse_root.specs.Root.{AreProperTotals, IsProper, IsRoot, IsRootOf, PlainRoot, counts_of, cuboid_of}
+use Rattle.warehouse_root.specs.Root.{root_of, totals_of}
 use Rattle.warehouse_root.proofs.Fields.{four-one, length-four, six-append}
 
 -- the counts have 16 bytes
@@ -40,7 +42,9 @@ length-cuboid_of cuboid =
 
 -- the last four of the totals
 last_totals : StoredTotals → List ℕ
-last_totals totals = spelling 8 totals.revenue ++ (spelling 8 totals.supplycost ++ (spelling 8 totals.discounted ++ spelling 8 totals.profit))
+last_totals totals =
+    spelling 8 totals.revenue
+    ++ (spelling 8 totals.supplycost ++ (spelling 8 totals.discounted ++ spelling 8 totals.profit))
 
 -- the totals have 48 bytes
 pub length-totals_of : (totals : StoredTotals) → length (totals_of totals) ≡ 48
@@ -48,7 +52,8 @@ unfolding last_totals
 length-totals_of totals =
     let last : length (last_totals totals) ≡ 32 = omega (
       arith,
-      length-four (spelling 8 totals.revenue) (spelling 8 totals.supplycost) (spelling 8 totals.discounted) (spelling 8 totals.profit),
+      length-four (spelling 8 totals.revenue) (spelling 8 totals.supplycost) (spelling 8 totals.discounted)
+          (spelling 8 totals.profit),
       length-spelling 8 totals.revenue,
       length-spelling 8 totals.supplycost,
       length-spelling 8 totals.discounted,
@@ -65,14 +70,27 @@ length-totals_of totals =
 
 pub length-rows : (batches : List ℕ) → length (flat_map (spelling 4) batches) ≡ 4 * length batches
 length-rows [] = refl
-length-rows (rows ∷ batches) = omega (arith, length-append (spelling 4 rows) (flat_map (spelling 4) batches), length-spelling 4 rows, length-rows batches)
+length-rows (rows ∷ batches) =
+    omega (
+      arith,
+      length-append (spelling 4 rows) (flat_map (spelling 4) batches),
+      length-spelling 4 rows,
+      length-rows batches,
+    )
 
 pub length-cuboids : (cuboids : List StoredCuboid) → length (flat_map cuboid_of cuboids) ≡ 12 * length cuboids
 length-cuboids [] = refl
-length-cuboids (cuboid ∷ cuboids) = omega (arith, length-append (cuboid_of cuboid) (flat_map cuboid_of cuboids), length-cuboid_of cuboid, length-cuboids cuboids)
+length-cuboids (cuboid ∷ cuboids) =
+    omega (
+      arith,
+      length-append (cuboid_of cuboid) (flat_map cuboid_of cuboids),
+      length-cuboid_of cuboid,
+      length-cuboids cuboids,
+    )
 
 -- how many bytes a root has
-pub length-root_of : (root : PlainRoot) → length (root_of root) ≡ 64 + 4 * length root.batches + 12 * length root.cuboids
+pub length-root_of : (root : PlainRoot)
+    → length (root_of root) ≡ 64 + 4 * length root.batches + 12 * length root.cuboids
 length-root_of root =
     let counts : List ℕ = counts_of (length root.batches) root.target root.additions (length root.cuboids) in
     let batches : List ℕ = flat_map (spelling 4) root.batches in
@@ -90,36 +108,62 @@ length-root_of root =
 
 -- a proper root has no more bytes than a store takes
 pub root_is_short : (bytes : List ℕ) (root : PlainRoot) → IsRoot bytes root → length bytes ≤ most_root_bytes
-root_is_short bytes root is = omega (arith, ap length is.spelled, length-root_of root, is.proper.most_batches, is.proper.most_cuboids)
+root_is_short bytes root is =
+    omega (arith, ap length is.spelled, length-root_of root, is.proper.most_batches, is.proper.most_cuboids)
 
 -- bytes begin with the totals of one
 pub totals-one : (one other : StoredTotals) (xs ys : List ℕ) → TotalsFit one → TotalsFit other
     → totals_of one ++ xs ≡ totals_of other ++ ys → (one ≡ other) × (xs ≡ ys)
 totals-one one other xs ys fit other_fit same =
-    let parts = sym (six-append (spelling 8 one.quantity) (spelling 8 one.extendedprice) (spelling 8 one.revenue) (spelling 8 one.supplycost) (spelling 8 one.discounted) (spelling 8 one.profit) xs)
-    ∙ same ∙ six-append (spelling 8 other.quantity) (spelling 8 other.extendedprice) (spelling 8 other.revenue) (spelling 8 other.supplycost) (spelling 8 other.discounted) (spelling 8 other.profit) ys in
+    let parts =
+    sym (six-append (spelling 8 one.quantity) (spelling 8 one.extendedprice) (spelling 8 one.revenue)
+    (spelling 8 one.supplycost) (spelling 8 one.discounted) (spelling 8 one.profit) xs)
+    ∙ same ∙ six-append (spelling 8 other.quantity) (spelling 8 other.extendedprice) (spelling 8 other.revenue)
+    (spelling 8 other.supplycost) (spelling 8 other.discounted) (spelling 8 other.profit) ys in
     let first = spelling-one 8 one.quantity other.quantity _ _ fit.quantity other_fit.quantity parts in
-    let second = spelling-one 8 one.extendedprice other.extendedprice _ _ fit.extendedprice other_fit.extendedprice first.1 in
+    let second = spelling-one 8 one.extendedprice other.extendedprice _ _ fit.extendedprice other_fit.extendedprice
+    first.1 in
     let third = spelling-one 8 one.revenue other.revenue _ _ fit.revenue other_fit.revenue second.1 in
     let fourth = spelling-one 8 one.supplycost other.supplycost _ _ fit.supplycost other_fit.supplycost third.1 in
     let fifth = spelling-one 8 one.discounted other.discounted _ _ fit.discounted other_fit.discounted fourth.1 in
     let sixth = spelling-one 8 one.profit other.profit xs ys fit.profit other_fit.profit fifth.1 in
-    let is : ◌≡◌ {A = StoredTotals} (record { quantity = one.quantity; extendedprice = one.extendedprice; revenue = one.revenue; supplycost = one.supplycost; discounted = one.discounted; profit = one.profit })
-    (record { quantity = other.quantity; extendedprice = other.extendedprice; revenue = other.revenue; supplycost = other.supplycost; discounted = other.discounted; profit = other.profit }) =
+    let is : ◌≡◌ {A = StoredTotals}
+    (record {
+      quantity = one.quantity;
+      extendedprice = one.extendedprice;
+      revenue = one.revenue;
+      supplycost =
+          one.supplycost;
+      discounted = one.discounted;
+      profit = one.profit;
+    })
+    (record {
+      quantity = other.quantity;
+      extendedprice = other.extendedprice;
+      revenue = other.revenue;
+      supplycost =
+          other.supplycost;
+      discounted = other.discounted;
+      profit = other.profit;
+    }) =
     rw (first.0, second.0, third.0, fourth.0, fifth.0, sixth.0) refl in
     (is, sixth.1)
 
 -- bytes begin with the rows of one list of so many batches at most
-pub rows-one : (batches others : List ℕ) (xs ys : List ℕ) → All (λ rows. rows < 2 ^ 32) batches → All (λ rows. rows < 2 ^ 32) others → length batches ≡ length others
+pub rows-one : (batches others : List ℕ) (xs ys : List ℕ) → All (λ rows. rows < 2 ^ 32) batches
+    → All (λ rows. rows < 2 ^ 32) others → length batches ≡ length others
     → flat_map (spelling 4) batches ++ xs ≡ flat_map (spelling 4) others ++ ys → (batches ≡ others) × (xs ≡ ys)
 rows-one [] [] xs ys fit others_fit many same = (refl, same)
 rows-one [] (other ∷ others) xs ys fit others_fit many same = absurd (omega arith)
 rows-one (rows ∷ batches) [] xs ys fit others_fit many same = absurd (omega arith)
 rows-one (rows ∷ batches) (other ∷ others) xs ys fit others_fit many same =
-    let parts = sym (append_assoc (spelling 4 rows) (flat_map (spelling 4) batches) xs) ∙ same ∙ append_assoc (spelling 4 other) (flat_map (spelling 4) others) ys in
+    let parts = sym (append_assoc (spelling 4 rows) (flat_map (spelling 4) batches) xs) ∙ same
+    ∙ append_assoc (spelling 4 other) (flat_map (spelling 4) others) ys in
     let first = spelling-one 4 rows other (flat_map (spelling 4) batches ++ xs) (flat_map (spelling 4) others ++ ys)
-    (All-head (λ rows. rows < 2 ^ 32) rows batches fit) (All-head (λ rows. rows < 2 ^ 32) other others others_fit) parts in
-    let rest = rows-one batches others xs ys (All-tail (λ rows. rows < 2 ^ 32) rows batches fit) (All-tail (λ rows. rows < 2 ^ 32) other others others_fit) (omega arith) first.1 in
+    (All-head (λ rows. rows < 2 ^ 32) rows batches fit) (All-head (λ rows. rows < 2 ^ 32) other others others_fit)
+    parts in
+    let rest = rows-one batches others xs ys (All-tail (λ rows. rows < 2 ^ 32) rows batches fit)
+    (All-tail (λ rows. rows < 2 ^ 32) other others others_fit) (omega arith) first.1 in
     (rw (first.0, rest.0) refl, rest.1)
 
 -- bytes begin with one cuboid at most
@@ -128,21 +172,25 @@ pub cuboid_of-one : (one other : StoredCuboid) (xs ys : List ℕ) → CuboidFits
 cuboid_of-one one other xs ys fits other_fits same =
     let parts = four-one 2 2 4 4 one.view one.runs one.mark one.cells other.view other.runs other.mark other.cells xs ys
     fits.view fits.runs fits.mark fits.cells other_fits.view other_fits.runs other_fits.mark other_fits.cells same in
-    let is : ◌≡◌ {A = StoredCuboid} (record { view = one.view; runs = one.runs; mark = one.mark; cells = one.cells }) (record { view = other.view; runs = other.runs; mark = other.mark; cells = other.cells }) =
+    let is : ◌≡◌ {A = StoredCuboid} (record { view = one.view; runs = one.runs; mark = one.mark; cells = one.cells })
+    (record { view = other.view; runs = other.runs; mark = other.mark; cells = other.cells }) =
     rw (parts.0, parts.1, parts.2, parts.3) refl in
     (is, parts.4)
 
 -- bytes begin with one list of so many cuboids at most
-pub cuboids-one : (cuboids others : List StoredCuboid) (xs ys : List ℕ) → All CuboidFits cuboids → All CuboidFits others → length cuboids ≡ length others
+pub cuboids-one : (cuboids others : List StoredCuboid) (xs ys : List ℕ) → All CuboidFits cuboids → All CuboidFits others
+    → length cuboids ≡ length others
     → flat_map cuboid_of cuboids ++ xs ≡ flat_map cuboid_of others ++ ys → (cuboids ≡ others) × (xs ≡ ys)
 cuboids-one [] [] xs ys fit others_fit many same = (refl, same)
 cuboids-one [] (other ∷ others) xs ys fit others_fit many same = absurd (omega arith)
 cuboids-one (cuboid ∷ cuboids) [] xs ys fit others_fit many same = absurd (omega arith)
 cuboids-one (cuboid ∷ cuboids) (other ∷ others) xs ys fit others_fit many same =
-    let parts = sym (append_assoc (cuboid_of cuboid) (flat_map cuboid_of cuboids) xs) ∙ same ∙ append_assoc (cuboid_of other) (flat_map cuboid_of others) ys in
+    let parts = sym (append_assoc (cuboid_of cuboid) (flat_map cuboid_of cuboids) xs) ∙ same
+    ∙ append_assoc (cuboid_of other) (flat_map cuboid_of others) ys in
     let first = cuboid_of-one cuboid other (flat_map cuboid_of cuboids ++ xs) (flat_map cuboid_of others ++ ys)
     (All-head CuboidFits cuboid cuboids fit) (All-head CuboidFits other others others_fit) parts in
-    let rest = cuboids-one cuboids others xs ys (All-tail CuboidFits cuboid cuboids fit) (All-tail CuboidFits other others others_fit) (omega arith) first.1 in
+    let rest = cuboids-one cuboids others xs ys (All-tail CuboidFits cuboid cuboids fit)
+    (All-tail CuboidFits other others others_fit) (omega arith) first.1 in
     (rw (first.0, rest.0) refl, rest.1)
 
 -- the numbers of a root fit their fields
@@ -187,27 +235,53 @@ root_fits root proper = record {
 }
 
 -- a root is its fields
-made_of : (one other : PlainRoot) → one.layout ≡ other.layout → one.batches ≡ other.batches → one.target ≡ other.target → one.additions ≡ other.additions
+made_of : (one other : PlainRoot) → one.layout ≡ other.layout → one.batches ≡ other.batches → one.target ≡ other.target
+    → one.additions ≡ other.additions
     → one.totals ≡ other.totals → one.cuboids ≡ other.cuboids → one ≡ other
 made_of one other same0 same1 same2 same3 same4 same5 =
-    let is : ◌≡◌ {A = PlainRoot} (record { layout = one.layout; batches = one.batches; target = one.target; additions = one.additions; totals = one.totals; cuboids = one.cuboids })
-    (record { layout = other.layout; batches = other.batches; target = other.target; additions = other.additions; totals = other.totals; cuboids = other.cuboids }) =
+    let is : ◌≡◌ {A = PlainRoot}
+    (record {
+      layout = one.layout;
+      batches = one.batches;
+      target = one.target;
+      additions = one.additions;
+      totals = one.totals;
+      cuboids = one.cuboids;
+    })
+    (record {
+      layout = other.layout;
+      batches = other.batches;
+      target = other.target;
+      additions = other.additions;
+      totals = other.totals;
+      cuboids = other.cuboids;
+    }) =
     rw (same0, same1, same2, same3, same4, same5) refl in is
 
 -- a root whose numbers fit is the only one of its layout with its bytes
-pub root_of-one : (one other : PlainRoot) → RootFits one → RootFits other → one.layout ≡ other.layout → root_of one ≡ root_of other → one ≡ other
+pub root_of-one : (one other : PlainRoot) → RootFits one → RootFits other → one.layout ≡ other.layout
+    → root_of one ≡ root_of other → one ≡ other
 root_of-one one other fits other_fits layout same =
-    let counts = four-one 4 4 4 4 (length one.batches) one.target one.additions (length one.cuboids) (length other.batches) other.target other.additions (length other.cuboids)
-    (totals_of one.totals ++ (flat_map (spelling 4) one.batches ++ flat_map cuboid_of one.cuboids)) (totals_of other.totals ++ (flat_map (spelling 4) other.batches ++ flat_map cuboid_of other.cuboids))
-    fits.many fits.target fits.additions fits.cuboids other_fits.many other_fits.target other_fits.additions other_fits.cuboids same in
-    let totals = totals-one one.totals other.totals (flat_map (spelling 4) one.batches ++ flat_map cuboid_of one.cuboids) (flat_map (spelling 4) other.batches ++ flat_map cuboid_of other.cuboids)
+    let counts = four-one 4 4 4 4 (length one.batches) one.target one.additions (length one.cuboids)
+    (length other.batches) other.target other.additions (length other.cuboids)
+    (totals_of one.totals ++ (flat_map (spelling 4) one.batches ++ flat_map cuboid_of one.cuboids))
+    (totals_of other.totals ++ (flat_map (spelling 4) other.batches ++ flat_map cuboid_of other.cuboids))
+    fits.many fits.target fits.additions fits.cuboids other_fits.many other_fits.target other_fits.additions
+    other_fits.cuboids same in
+    let totals =
+    totals-one one.totals other.totals (flat_map (spelling 4) one.batches ++ flat_map cuboid_of one.cuboids)
+    (flat_map (spelling 4) other.batches ++ flat_map cuboid_of other.cuboids)
     fits.totals other_fits.totals counts.4 in
-    let rows = rows-one one.batches other.batches (flat_map cuboid_of one.cuboids) (flat_map cuboid_of other.cuboids) fits.rows other_fits.rows counts.0 totals.1 in
-    let ends = append-nil (flat_map cuboid_of one.cuboids) ∙ rows.1 ∙ sym (append-nil (flat_map cuboid_of other.cuboids)) in
+    let rows = rows-one one.batches other.batches (flat_map cuboid_of one.cuboids) (flat_map cuboid_of other.cuboids)
+    fits.rows other_fits.rows counts.0 totals.1 in
+    let ends = append-nil (flat_map cuboid_of one.cuboids) ∙ rows.1
+    ∙ sym (append-nil (flat_map cuboid_of other.cuboids)) in
     let cuboids = cuboids-one one.cuboids other.cuboids [] [] fits.each other_fits.each counts.3 ends in
     made_of one other layout rows.0 counts.1 counts.2 totals.0 cuboids.0
 
 -- bytes are one root of a layout at most
-pub IsRootOf-one : (layout : Layout) (bytes : List ℕ) (a b : PlainRoot) → IsRootOf layout bytes a → IsRootOf layout bytes b → a ≡ b
+pub IsRootOf-one : (layout : Layout) (bytes : List ℕ) (a b : PlainRoot) → IsRootOf layout bytes a
+    → IsRootOf layout bytes b → a ≡ b
 IsRootOf-one layout bytes a b is also =
-    root_of-one a b (root_fits a is.is_root.proper) (root_fits b also.is_root.proper) (is.of_layout ∙ sym also.of_layout) (sym is.is_root.spelled ∙ also.is_root.spelled)
+    root_of-one a b (root_fits a is.is_root.proper) (root_fits b also.is_root.proper)
+    (is.of_layout ∙ sym also.of_layout) (sym is.is_root.spelled ∙ also.is_root.spelled)

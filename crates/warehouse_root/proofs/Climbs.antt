@@ -35,26 +35,34 @@ row first (suc count) =
 none_below : (low high : ℕ) (xs : List ℕ) → Climbs low xs high → All (λ x. low ≤ x) xs
 none_below low high [] climbs = All-nil (λ x. low ≤ x)
 none_below low high (x ∷ xs) climbs =
-    All-cons (λ y. low ≤ y) x xs climbs.0 (none_below low high xs (lower low (x + 1) high xs (omega (arith, climbs.0)) climbs.1))
+    All-cons (λ y. low ≤ y) x xs climbs.0
+    (none_below low high xs (lower low (x + 1) high xs (omega (arith, climbs.0)) climbs.1))
 
 pub apart : (low high : ℕ) (xs : List ℕ) → Climbs low xs high → AllPairs (λ one other. one < other) xs
 apart low high [] climbs = λ i j d before within. absurd (omega arith)
 apart low high (x ∷ xs) climbs =
-    AllPairs-cons (λ one other. one < other) x xs (λ k d within. omega (arith, none_below (x + 1) high xs climbs.1 k d within)) (apart (x + 1) high xs climbs.1)
+    AllPairs-cons (λ one other. one < other) x xs
+    (λ k d within. omega (arith, none_below (x + 1) high xs climbs.1 k d within)) (apart (x + 1) high xs climbs.1)
 
 -- the runs of cuboids whose views ascend
-runs : (layout : Layout) (batches low : ℕ) (cuboids : List StoredCuboid) → All (λ cuboid. low ≤ run_id cuboid.view 0) cuboids
-    → All (IsProperCuboid layout batches) cuboids → AreAscending cuboids → (high : ℕ) × Climbs low (flat_map run_ids cuboids) high
+runs : (layout : Layout) (batches low : ℕ) (cuboids : List StoredCuboid)
+    → All (λ cuboid. low ≤ run_id cuboid.view 0) cuboids
+    → All (IsProperCuboid layout batches) cuboids → AreAscending cuboids
+    → (high : ℕ) × Climbs low (flat_map run_ids cuboids) high
 runs layout batches low [] above each ascending = (low, omega arith)
 runs layout batches low (cuboid ∷ cuboids) above each ascending =
     let proper = All-head (IsProperCuboid layout batches) cuboid cuboids each in
     let first : ℕ = run_id cuboid.view 0 in
-    let behind : All (λ later. first + cuboid.runs ≤ run_id later.view 0) cuboids =
-    λ k d within. let over : cuboid.view < (slice_index_or cuboids k d).view = ascending 0 (suc k) d (omega arith) (omega arith) in omega (arith, proper.most_runs, over) in
-    let rest = runs layout batches (first + cuboid.runs) cuboids behind (All-tail (IsProperCuboid layout batches) cuboid cuboids each) (λ i j d before within. ascending (suc i) (suc j) d (omega arith) (omega arith)) in (
+    let after : All (λ later. first + cuboid.runs ≤ run_id later.view 0) cuboids =
+    λ k d within. let over : cuboid.view < (slice_index_or cuboids k d).view =
+    ascending 0 (suc k) d (omega arith) (omega arith) in omega (arith, proper.most_runs, over) in
+    let rest = runs layout batches (first + cuboid.runs) cuboids after
+    (All-tail (IsProperCuboid layout batches) cuboid cuboids each)
+    (λ i j d before within. ascending (suc i) (suc j) d (omega arith) (omega arith)) in (
       rest.0,
       join low (first + cuboid.runs) rest.0 (run_ids cuboid) (flat_map run_ids cuboids)
-          (lower low first (first + cuboid.runs) (run_ids cuboid) (All-head (λ later. low ≤ run_id later.view 0) cuboid cuboids above) (row first cuboid.runs)) rest.1,
+          (lower low first (first + cuboid.runs) (run_ids cuboid)
+          (All-head (λ later. low ≤ run_id later.view 0) cuboid cuboids above) (row first cuboid.runs)) rest.1,
     )
 
 few_dimensions : (layout : Layout) → dimensions_of layout ≤ 5
@@ -66,8 +74,13 @@ pub objects : (root : PlainRoot) → IsProper root → AllPairs (λ one other. o
 objects root proper =
     let batches : ℕ = length root.batches in
     let dimensions : ℕ = dimensions_of root.layout in
-    let last = runs root.layout batches (65536 + 1 + batches) root.cuboids (λ k d within. omega (arith, proper.most_batches)) proper.each proper.ascending in
-    let behind = join 65537 (65537 + batches) last.0 (segment_ids batches) (flat_map run_ids root.cuboids) (row 65537 batches) last.1 in
-    let whole = join 1 (1 + dimensions) last.0 (dimension_ids root.layout) (segment_ids batches ++ flat_map run_ids root.cuboids) (row 1 dimensions)
-    (lower (1 + dimensions) 65537 last.0 (segment_ids batches ++ flat_map run_ids root.cuboids) (omega (arith, few_dimensions root.layout)) behind) in
+    let last = runs root.layout batches (65536 + 1 + batches) root.cuboids
+    (λ k d within. omega (arith, proper.most_batches)) proper.each proper.ascending in
+    let after = join 65537 (65537 + batches) last.0 (segment_ids batches) (flat_map run_ids root.cuboids)
+    (row 65537 batches) last.1 in
+    let whole =
+    join 1 (1 + dimensions) last.0 (dimension_ids root.layout)
+    (segment_ids batches ++ flat_map run_ids root.cuboids) (row 1 dimensions)
+    (lower (1 + dimensions) 65537 last.0 (segment_ids batches ++ flat_map run_ids root.cuboids)
+    (omega (arith, few_dimensions root.layout)) after) in
     apart 1 last.0 (object_ids root) whole

@@ -1,5 +1,6 @@
 -- A root with a cuboid in the place of that of its view keeps the rules.
-use Rattle.std.proofs.Common.{◌≡◌, ℕ, ◌+◌, ◌<◌, ◌≤◌, ◌==◌, if◌then◌else◌, Bool, true, false, List, length, map, get_or, All, refl, sym, ap, ◌∙◌, arith}
+use Rattle.std.proofs.Common.{◌≡◌, ℕ, ◌+◌, ◌<◌, ◌≤◌, ◌==◌, if◌then◌else◌, Bool, true, false, List, length, map, get_or}
+use Rattle.std.proofs.Common.{All, refl, sym, ap, ◌∙◌, arith}
 use Rattle.std.proofs.lemmas.Bool.Decides.{nat_tests}
 use Rattle.std.proofs.lemmas.List.{get_or-map, length-map}
 use Rattle.std.proofs.lemmas.List.Elements.{All-map}
@@ -12,23 +13,30 @@ module _ (cuboid : StoredCuboid) where
 
   placed_view : (other : StoredCuboid) → (placed_at other).view ≡ other.view
   placed_view other =
-      (elim (other.view == cuboid.view) as (λ b. (other.view == cuboid.view) ≡ b → (if b then cuboid else other).view ≡ other.view) [
+      (elim (other.view == cuboid.view) as (λ b. (other.view == cuboid.view) ≡ b
+      → (if b then cuboid else other).view ≡ other.view) [
         | true ↦ λ e. (let same : cuboid.view ≡ other.view = grind (arith, nat_tests, e) in same)
         | false ↦ λ e. refl
       ]) refl
 
   placed_has : (P : StoredCuboid → Type 0) (other : StoredCuboid) → P cuboid → P other → P (placed_at other)
-  placed_has P other own has = elim (other.view == cuboid.view) as (λ b. P (if b then cuboid else other)) [ true ↦ own | false ↦ has ]
+  placed_has P other own has = elim (other.view == cuboid.view) as (λ b. P (if b then cuboid else other)) [
+    | true ↦ own
+    | false ↦ has
+  ]
 
   placed_ascend : (cuboids : List StoredCuboid) → AreAscending cuboids → AreAscending (put_cuboid cuboid cuboids)
   placed_ascend cuboids up i j d before within =
       let there : j < length cuboids = omega (arith, within, length-map cuboids placed_at) in
       let less = up i j d before there in
-      let at_i = ap (λ (c : StoredCuboid). c.view) (get_or-map placed_at cuboids i d d (omega (arith, before, there))) ∙ placed_view (get_or cuboids i d) in
-      let at_j = ap (λ (c : StoredCuboid). c.view) (get_or-map placed_at cuboids j d d there) ∙ placed_view (get_or cuboids j d) in
+      let at_i = ap (λ (c : StoredCuboid). c.view) (get_or-map placed_at cuboids i d d (omega (arith, before, there)))
+      ∙ placed_view (get_or cuboids i d) in
+      let at_j = ap (λ (c : StoredCuboid). c.view) (get_or-map placed_at cuboids j d d there)
+      ∙ placed_view (get_or cuboids j d) in
       omega (arith, less, at_i, at_j)
 
-  pub placed : (root : PlainRoot) → IsProper root → IsProperCuboid root.layout (length root.batches) cuboid → IsProper (with_cuboid cuboid root)
+  pub placed : (root : PlainRoot) → IsProper root → IsProperCuboid root.layout (length root.batches) cuboid
+      → IsProper (with_cuboid cuboid root)
   placed root proper own = record {
     most_batches = proper.most_batches;
     rows = proper.rows;
@@ -38,6 +46,7 @@ module _ (cuboid : StoredCuboid) where
     most_cuboids = omega (arith, proper.most_cuboids, length-map root.cuboids placed_at);
     each =
         All-map (IsProperCuboid root.layout (length root.batches)) placed_at root.cuboids
-        (λ k d within. placed_has (IsProperCuboid root.layout (length root.batches)) (get_or root.cuboids k d) own (proper.each k d within));
+        (λ k d within. placed_has (IsProperCuboid root.layout (length root.batches)) (get_or root.cuboids k d) own
+        (proper.each k d within));
     ascending = placed_ascend root.cuboids proper.ascending;
   }

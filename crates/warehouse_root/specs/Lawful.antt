@@ -8,7 +8,8 @@ use Rattle.warehouse_root.specs.Root.{IsProper, IsRoot, IsRootOf, PlainRoot}
 
 -- bytes are at most one root of a layout
 abbrev pub BytesAreOneRoot : Type 0
-BytesAreOneRoot = (layout : Layout) (bytes : List ℕ) (a b : PlainRoot) → IsRootOf layout bytes a → IsRootOf layout bytes b → a ≡ b
+BytesAreOneRoot = (layout : Layout) (bytes : List ℕ) (a b : PlainRoot) → IsRootOf layout bytes a
+    → IsRootOf layout bytes b → a ≡ b
 
 -- the objects that a proper root asks for have ids that differ, and come by ascending id
 abbrev pub ObjectsAreApart : Type 0

@@ -86,10 +86,13 @@ pub record ReadsFront (old new : List ℕ) (counts : Counts) (totals : StoredTot
   pub totals_read : ReadsTotals mid new totals
 
 -- the bytes are those of a root of these parts, where they keep the rules, and of no other root
-pub record ArePartsOf (bytes : List ℕ) (counts : Counts) (totals : StoredTotals) (batches : List ℕ) (cuboids : List StoredCuboid) : Type 0 where
+pub record ArePartsOf (bytes : List ℕ) (counts : Counts) (totals : StoredTotals) (batches : List ℕ)
+    (cuboids : List StoredCuboid) : Type 0 where
   pub many : length batches ≡ counts.batches
-  pub is_root_of : (layout : Layout) → IsProper (parts_of layout counts totals batches cuboids) → IsRootOf layout bytes (parts_of layout counts totals batches cuboids)
-  pub parts_are : (layout : Layout) (root : PlainRoot) → IsRootOf layout bytes root → parts_of layout counts totals batches cuboids ≡ root
+  pub is_root_of : (layout : Layout) → IsProper (parts_of layout counts totals batches cuboids)
+      → IsRootOf layout bytes (parts_of layout counts totals batches cuboids)
+  pub parts_are : (layout : Layout) (root : PlainRoot) → IsRootOf layout bytes root
+      → parts_of layout counts totals batches cuboids ≡ root
 
 -- the bytes are those of no root
 abbrev pub SpellNoRoot : List ℕ → Type 0

@@ -35,7 +35,8 @@ totals_of totals =
 
 -- the 12 bytes of a cuboid
 abbrev pub cuboid_of : StoredCuboid → List ℕ
-cuboid_of cuboid = spelling 2 cuboid.view ++ (spelling 2 cuboid.runs ++ (spelling 4 cuboid.mark ++ spelling 4 cuboid.cells))
+cuboid_of cuboid =
+    spelling 2 cuboid.view ++ (spelling 2 cuboid.runs ++ (spelling 4 cuboid.mark ++ spelling 4 cuboid.cells))
 
 -- the bytes of a root: the counts, the totals, the rows of each batch, each cuboid
 abbrev pub root_of : PlainRoot → List ℕ

@@ -1,7 +1,8 @@
 //! Reading the parts of a root from the front of bytes.
 ghost use Rattle.std.specs.Prelude.{◌≡◌, ◌⊎◌, ◌*◌, ◌≤◌, ◌<◌, ◌↔◌, length, IfErr, IfOk, IsErr, IsOkUnless, IsTrue};
 ghost use Rattle.cube_model.specs.declared.fault.Fault.{Fault};
-ghost use Rattle.warehouse_root.specs.Reading.{ArePartsOf, ReadsCounts, ReadsCuboid, ReadsCuboids, ReadsFront, ReadsRows, ReadsTotals, SpellNoRoot};
+ghost use Rattle.warehouse_root.specs.Reading.{ArePartsOf, ReadsCounts, ReadsCuboid, ReadsCuboids, ReadsFront};
+ghost use Rattle.warehouse_root.specs.Reading.{ReadsRows, ReadsTotals, SpellNoRoot};
 
 use crate::cuboid::StoredCuboid;
 use crate::totals::StoredTotals;
@@ -40,8 +41,10 @@ pub(crate) struct Parts {
 
 // The parts that the bytes spell. `BadLayout` where they are not as many as their counts say.
 pub(crate) fn read_parts(alloc: Global, bytes: &[u8]) -> Result<Parts, Fault>
-    ensures ok { IfOk result (λ parts. ArePartsOf bytes.now parts.counts parts.totals parts.batches.items parts.cuboids.items) }
-    ensures refused { IfErr result (λ fault. (fault ≡ Fault.Memory) ⊎ ((fault ≡ Fault.BadLayout) × SpellNoRoot bytes.now)) }
+    ensures ok { IfOk result
+        (λ parts. ArePartsOf bytes.now parts.counts parts.totals parts.batches.items parts.cuboids.items) }
+    ensures refused { IfErr result
+        (λ fault. (fault ≡ Fault.Memory) ⊎ ((fault ≡ Fault.BadLayout) × SpellNoRoot bytes.now)) }
 {
     let mut cursor = Cursor::new(bytes);
     let (counts, totals) = read_front(&mut cursor)?;

@@ -1,11 +1,14 @@
 //! The root of a warehouse.
-ghost use Rattle.std.specs.Prelude.{◌≡◌, ◌⊎◌, ◌↔◌, ◌≤◌, ◌<◌, List, [], ◌∷◌, ◌++◌, length, All, IfErr, IfOk, IsTrue, OnOk};
+ghost use Rattle.std.specs.Prelude.{◌≡◌, ◌⊎◌, ◌↔◌, ◌≤◌, ◌<◌, List, [], ◌∷◌, ◌++◌, length, All, IfErr, IfOk, IsTrue};
+ghost use Rattle.std.specs.Prelude.{OnOk};
 ghost use Rattle.std.specs.List.{Contains};
 ghost use Rattle.cube_model.specs.declared.fault.Fault.{Fault};
 ghost use Rattle.cube_model.specs.Limits.{most_batch_rows, most_batches};
 ghost use Rattle.warehouse_root.specs.Limits.{most_additions, most_cuboids};
 ghost use Rattle.warehouse_root.specs.Objects.{object_ids};
-ghost use Rattle.warehouse_root.specs.Root.{AreAscending, AreProperTotals, IsProper, IsProperCuboid, IsRoot, IsRootOf, PlainRoot, first_root, put_cuboid, root_of, with_addition, with_batch, with_cuboid, with_cuboids, with_target};
+ghost use Rattle.warehouse_root.specs.Root.{AreAscending, AreProperTotals, IsProper, IsProperCuboid, IsRoot, IsRootOf};
+ghost use Rattle.warehouse_root.specs.Root.{PlainRoot, first_root, put_cuboid, root_of, with_addition, with_batch};
+ghost use Rattle.warehouse_root.specs.Root.{with_cuboid, with_cuboids, with_target};
 
 use crate::cuboid::StoredCuboid;
 use crate::decoding::keep_rules;

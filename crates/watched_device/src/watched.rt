@@ -7,7 +7,8 @@ use sector_device::{DeviceError, Sectors};
 
 /// A device of which an observer sees how many sectors each call reads or writes, once it has succeeded.
 ///
-/// It shows what its inner device shows, at each moment, and fails where that does. Of a call that fails the observer sees nothing.
+/// It shows what its inner device shows, at each moment, and fails where that does. Of a call that fails the observer
+/// sees nothing.
 #[derive(Drop)]
 pub struct Watched<D: Sectors, O: Observer> {
     inner: D,
@@ -67,7 +68,8 @@ impl<D: Sectors, O: Observer> Sectors for Watched<D, O> {
         ensures word { KeepsWord D.Sectors self.new → KeepsWord D.Sectors self.old }
         ensures goes_on { D.Sectors.always_keeps → KeepsWord D.Sectors self.old → KeepsWord D.Sectors self.new }
         ensures bytes { OnOk result (KeepsWord D.Sectors self.new → to.new ≡ (state_of D.Sectors self.old).reads i) }
-        ensures stays { KeepsWord D.Sectors self.new → Stays (state_of D.Sectors self.old) (state_of D.Sectors self.new) }
+        ensures stays { KeepsWord D.Sectors self.new
+            → Stays (state_of D.Sectors self.old) (state_of D.Sectors self.new) }
 
         ensures noted { IsNoted O.Observer.reads 1 result (observer_of self.old) (observer_of self.new) }
     {
@@ -82,8 +84,10 @@ impl<D: Sectors, O: Observer> Sectors for Watched<D, O> {
         ensures failures { CountsFailure result (failures_of D.Sectors self.old) (failures_of D.Sectors self.new) }
         ensures word { KeepsWord D.Sectors self.new → KeepsWord D.Sectors self.old }
         ensures goes_on { D.Sectors.always_keeps → KeepsWord D.Sectors self.old → KeepsWord D.Sectors self.new }
-        ensures written { OnOk result (KeepsWord D.Sectors self.new → (state_of D.Sectors self.new).reads i ≡ from.now) }
-        ensures writes { KeepsWord D.Sectors self.new → Writes i from.now (state_of D.Sectors self.old) (state_of D.Sectors self.new) }
+        ensures written { OnOk result
+            (KeepsWord D.Sectors self.new → (state_of D.Sectors self.new).reads i ≡ from.now) }
+        ensures writes { KeepsWord D.Sectors self.new
+            → Writes i from.now (state_of D.Sectors self.old) (state_of D.Sectors self.new) }
 
         ensures noted { IsNoted O.Observer.writes 1 result (observer_of self.old) (observer_of self.new) }
     {
@@ -100,10 +104,13 @@ impl<D: Sectors, O: Observer> Sectors for Watched<D, O> {
         ensures failures { CountsFailure result (failures_of D.Sectors self.old) (failures_of D.Sectors self.new) }
         ensures word { KeepsWord D.Sectors self.new → KeepsWord D.Sectors self.old }
         ensures goes_on { D.Sectors.always_keeps → KeepsWord D.Sectors self.old → KeepsWord D.Sectors self.new }
-        ensures bytes { OnOk result (KeepsWord D.Sectors self.new → HasRun (state_of D.Sectors self.old).reads first to.new) }
-        ensures stays { KeepsWord D.Sectors self.new → Stays (state_of D.Sectors self.old) (state_of D.Sectors self.new) }
+        ensures bytes { OnOk result
+            (KeepsWord D.Sectors self.new → HasRun (state_of D.Sectors self.old).reads first to.new) }
+        ensures stays { KeepsWord D.Sectors self.new
+            → Stays (state_of D.Sectors self.old) (state_of D.Sectors self.new) }
 
-        ensures noted { IsNoted O.Observer.reads (length to.old / 512) result (observer_of self.old) (observer_of self.new) }
+        ensures noted { IsNoted O.Observer.reads (length to.old / 512) result (observer_of self.old)
+            (observer_of self.new) }
     {
         let sectors = to.len() / 512;
         self.inner.read_run(first, to)?;
@@ -119,10 +126,14 @@ impl<D: Sectors, O: Observer> Sectors for Watched<D, O> {
         ensures failures { CountsFailure result (failures_of D.Sectors self.old) (failures_of D.Sectors self.new) }
         ensures word { KeepsWord D.Sectors self.new → KeepsWord D.Sectors self.old }
         ensures goes_on { D.Sectors.always_keeps → KeepsWord D.Sectors self.old → KeepsWord D.Sectors self.new }
-        ensures written { OnOk result (KeepsWord D.Sectors self.new → HasRun (state_of D.Sectors self.new).reads first from.now) }
-        ensures within { KeepsWord D.Sectors self.new → WritesWithin (IsInRun first (length from.now / 512)) (state_of D.Sectors self.old) (state_of D.Sectors self.new) }
+        ensures written { OnOk result
+            (KeepsWord D.Sectors self.new → HasRun (state_of D.Sectors self.new).reads first from.now) }
+        ensures within { KeepsWord D.Sectors self.new
+            → WritesWithin (IsInRun first (length from.now / 512)) (state_of D.Sectors self.old)
+            (state_of D.Sectors self.new) }
 
-        ensures noted { IsNoted O.Observer.writes (length from.now / 512) result (observer_of self.old) (observer_of self.new) }
+        ensures noted { IsNoted O.Observer.writes (length from.now / 512) result (observer_of self.old)
+            (observer_of self.new) }
     {
         self.inner.write_run(first, from)?;
         self.observer.note_written(from.len() / 512);

@@ -1,5 +1,6 @@
 -- What the spelling of a number determines, and how runs of reads go on, for the proofs of other crates too.
-use Rattle.std.proofs.Common.{◌≡◌, ℕ, zero, suc, ◌+◌, ◌*◌, ◌/◌, ◌%◌, ◌^◌, ◌<◌, ◌≤◌, List, [], ◌∷◌, ◌++◌, length, take, drop, slice_index, refl, sym, ap, ◌∙◌, arith}
+use Rattle.std.proofs.Common.{◌≡◌, ℕ, zero, suc, ◌+◌, ◌*◌, ◌/◌, ◌%◌, ◌^◌, ◌<◌, ◌≤◌, List, [], ◌∷◌, ◌++◌, length, take}
+use Rattle.std.proofs.Common.{drop, slice_index, refl, sym, ap, ◌∙◌, arith}
 use Rattle.std.proofs.Math.Nat.{div-div-eq-div-mul, pow-succ'}
 use Rattle.std.proofs.Math.Seq.{drop-append-add, take-append_seam}
 use Rattle.std.proofs.lemmas.List.{take_all, append_cancel_left}
@@ -16,7 +17,8 @@ use Rattle.wire.specs.Writing.{with_field}
 byte_at-suc : (i x : ℕ) → byte_at (suc i) x ≡ byte_at i (x / 256)
 byte_at-suc zero x = refl
 byte_at-suc (suc i) x =
-    ap (λ (y : ℕ). y % 256) (ap (λ (p : ℕ). x / p) (pow-succ' 256 (suc i)) ∙ sym (div-div-eq-div-mul x 256 (256 ^ suc i)))
+    ap (λ (y : ℕ). y % 256) (ap (λ (p : ℕ). x / p) (pow-succ' 256 (suc i))
+    ∙ sym (div-div-eq-div-mul x 256 (256 ^ suc i)))
 
 bytes_low_first-suc : (k i x : ℕ) → bytes_low_first (suc i) k x ≡ bytes_low_first i k (x / 256)
 bytes_low_first-suc zero i x = refl
@@ -38,7 +40,8 @@ bytes_of-number (suc n) (a ∷ xs) room are_bytes =
 pub spelling-number : (n : ℕ) (field : List ℕ) → length field ≡ n → ((k : ℕ) → slice_index field k < 256)
     → spelling n (little_number n field) ≡ field
 unfolding spelling
-spelling-number n field many are_bytes = bytes_of-number n field (omega arith) are_bytes ∙ take_all n field (omega arith)
+spelling-number n field many are_bytes = bytes_of-number n field (omega arith) are_bytes
+    ∙ take_all n field (omega arith)
 
 -- a spelling has as many bytes as asked for
 pub length-spelling : (n x : ℕ) → length (spelling n x) ≡ n
@@ -55,7 +58,8 @@ spelling-one n x y xs ys x_fits y_fits same =
     (numbers, append_cancel_left (little_bytes n x) xs ys (same ∙ ap (λ (z : ℕ). little_bytes n z ++ ys) (sym numbers)))
 
 -- a field over the bytes that follow those that are done
-pub with_field-done : (done field rest : List ℕ) → with_field (length done) field (done ++ rest) ≡ done ++ (field ++ drop (length field) rest)
+pub with_field-done : (done field rest : List ℕ) → with_field (length done) field (done ++ rest) ≡ done
+    ++ (field ++ drop (length field) rest)
 with_field-done done field rest = rw (take-append_seam done rest, drop-append-add done rest (length field)) refl
 
 -- no read leaves a source as it is, where no read is a run
@@ -69,7 +73,8 @@ HasRead-then g join old mid new first second =
     record { stays = Stays-then g old mid new first.stays second.stays; run = join old mid new first.run second.run }
 
 -- a refusal after a run of reads
-pub IsRefused-later : {S : Type 0} (g : Ghosts S) → ((fault : Fault) (a b c : S) → g.reads a b → g.fails fault b c → g.fails fault a c)
+pub IsRefused-later : {S : Type 0} (g : Ghosts S)
+    → ((fault : Fault) (a b c : S) → g.reads a b → g.fails fault b c → g.fails fault a c)
     → (fault : Fault) (old mid new : S) → HasRead g old mid → IsRefused g fault mid new → IsRefused g fault old new
 IsRefused-later g join fault old mid new first second = record {
   stays = Stays-then g old mid new first.stays second.stays;

@@ -1,5 +1,6 @@
 -- A read of a field, from the bytes that were taken for it.
-use Rattle.std.proofs.Common.{◌≡◌, ℕ, ◌^◌, ◌<◌, ℤ, List, ◌++◌, length, slice_index, FitsSigned, sym, ap, ◌∙◌, arith, w64, to_z, of_z}
+use Rattle.std.proofs.Common.{◌≡◌, ℕ, ◌^◌, ◌<◌, ℤ, List, ◌++◌, length, slice_index, FitsSigned, sym, ap, ◌∙◌, arith}
+use Rattle.std.proofs.Common.{w64, to_z, of_z}
 use Rattle.std.proofs.lemmas.Int.{of_z-to_z, to_z-of_z, ints}
 use Rattle.byteorder.specs.Endian.{little_number}
 use Rattle.byteorder.specs.Numbers.{little_from-lt}
@@ -16,7 +17,8 @@ pub signed_number : (field : List ℕ) (z : ℤ) → length field ≡ 8 → ((k 
     → z ≡ to_z w64 (little_number 8 field) → signed_spelling (to_z w64 (of_z w64 z)) ≡ field
 signed_number field z many are_bytes is =
     let fits : little_number 8 field < 2 ^ 64 = little_from-lt 0 8 field are_bytes in
-    let bits_of : of_z w64 (to_z w64 (little_number 8 field)) ≡ little_number 8 field = of_z-to_z w64 (little_number 8 field) fits in
+    let bits_of : of_z w64 (to_z w64 (little_number 8 field)) ≡ little_number 8 field =
+    of_z-to_z w64 (little_number 8 field) fits in
     rw (is, bits_of, bits_of) (spelling-number 8 field many are_bytes)
 
 -- the bytes that a read took are the spelling of the number

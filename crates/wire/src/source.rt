@@ -1,5 +1,6 @@
 //! Reading parts of texts, from wherever they are.
-ghost use Rattle.std.specs.Prelude.{◌≡◌, ◌+◌, ◌≤◌, ℕ, List, Option, length, option_map, IfErr, IsSomeAnd, MatchResult, OnOk};
+ghost use Rattle.std.specs.Prelude.{◌≡◌, ◌+◌, ◌≤◌, ℕ, List, Option, length, option_map, IfErr, IsSomeAnd, MatchResult};
+ghost use Rattle.std.specs.Prelude.{OnOk};
 ghost use Rattle.cube_model.specs.declared.fault.Fault.{Fault};
 ghost use Rattle.wire.specs.Parts.{Gives, IsReadFault};
 

@@ -22,7 +22,8 @@ pub fn read_whole<S: Source>(
     ensures found { IfOk result (λ found. S.keeps_word source.new
         → option_map (λ bytes. bytes.items) found ≡ S.texts source.old id) }
     ensures run { MatchResult result (λ _. HasRead S.Source source.old source.new)
-        (λ fault. ((fault ≡ Fault.Memory) × HasRead S.Source source.old source.new) ⊎ IsRefused S.Source fault source.old source.new) }
+        (λ fault. ((fault ≡ Fault.Memory) × HasRead S.Source source.old source.new)
+        ⊎ IsRefused S.Source fault source.old source.new) }
 {
     let Some(total) = source.total(id) else {
         return Ok(None);
@@ -41,10 +42,12 @@ fn read_to_end<S: Source>(
 ) -> Result<(), Fault>
     requires total { S.totals source.old id ≡ Some total }
     requires empty { vec_len out.old ≡ 0 }
-    ensures found { OnOk result (S.keeps_word source.new → S.totals source.old id ≡ option_map length (S.texts source.old id)
+    ensures found { OnOk result
+        (S.keeps_word source.new → S.totals source.old id ≡ option_map length (S.texts source.old id)
         → Some out.new.items ≡ S.texts source.old id) }
     ensures run { MatchResult result (λ _. HasRead S.Source source.old source.new)
-        (λ fault. ((fault ≡ Fault.Memory) × HasRead S.Source source.old source.new) ⊎ IsRefused S.Source fault source.old source.new) }
+        (λ fault. ((fault ≡ Fault.Memory) × HasRead S.Source source.old source.new)
+        ⊎ IsRefused S.Source fault source.old source.new) }
 {
     let mut buffer = [0; PART];
     let mut at = 0;

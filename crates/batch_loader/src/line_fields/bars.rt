@@ -2,7 +2,7 @@
 ghost use Rattle.std.specs.Prelude.{◌≡◌, ◌≢◌, ◌+◌, ◌-◌, ◌<◌, ◌≤◌, ◌==◌, ℕ, List, MatchOption, length, map};
 ghost use Rattle.std.specs.Int.{bit_at};
 ghost use Rattle.std.specs.Simd.Lanes.{mask_l};
-ghost use Rattle.batch_loader.specs.Bars.{AreBarsBehind, EndsPart, bar_bit};
+ghost use Rattle.batch_loader.specs.Bars.{AreBarsAfter, EndsPart, bar_bit};
 
 use std::simd::prelude::*;
 
@@ -19,7 +19,7 @@ pub struct Window {
 /// The first bytes of a text, of which all bars are still to come.
 #[inline(always)]
 pub fn first_window(text: &[u8]) -> Window
-    ensures { AreBarsBehind text.now 0 result.first result.bars }
+    ensures { AreBarsAfter text.now 0 result.first result.bars }
 {
     Window {
         first: 0,
@@ -27,17 +27,19 @@ pub fn first_window(text: &[u8]) -> Window
     }
 }
 
-/// The place of the first bar from a place on, or the length of the text, and the window of the bars after it; or nothing for a place past the end.
+/// The place of the first bar from a place on, or the length of the text, and the window of the bars after it; or
+/// nothing for a place past the end.
 #[inline(always)]
 pub fn next_end(text: &[u8], from: usize, window: Window) -> Option<(usize, Window)>
-    requires bars { from ≤ length text.now → AreBarsBehind text.now from window.first window.bars }
+    requires bars { from ≤ length text.now → AreBarsAfter text.now from window.first window.bars }
     requires past { length text.now < from → window.bars ≡ 0 }
-    ensures { MatchOption result (length text.now < from) (λ next. EndsPart text.now from next.0 next.1.first next.1.bars) }
+    ensures { MatchOption result (length text.now < from)
+        (λ next. EndsPart text.now from next.0 next.1.first next.1.bars) }
 {
     // Mostly the next bar is in the window at hand.
     if window.bars != 0 {
-        let (bit, behind) = lowest_bar(window);
-        return Some((window.first + bit, behind));
+        let (bit, after) = lowest_bar(window);
+        return Some((window.first + bit, after));
     }
     if from > text.len() {
         return None;
@@ -46,29 +48,30 @@ pub fn next_end(text: &[u8], from: usize, window: Window) -> Option<(usize, Wind
     if window.bars == 0 {
         return Some((text.len(), window));
     }
-    let (bit, behind) = lowest_bar(window);
-    Some((window.first + bit, behind))
+    let (bit, after) = lowest_bar(window);
+    Some((window.first + bit, after))
 }
 
 /// The first bar of a window, by its place in the window, and the window of those after it.
 #[inline(always)]
 fn lowest_bar(window: Window) -> (usize, Window)
     requires { window.bars ≢ 0 }
-    ensures { (text : List ℕ) (from : ℕ) → AreBarsBehind text from window.first window.bars → EndsPart text from (window.first + result.0) result.1.first result.1.bars }
+    ensures { (text : List ℕ) (from : ℕ) → AreBarsAfter text from window.first window.bars
+        → EndsPart text from (window.first + result.0) result.1.first result.1.bars }
 {
     let bit = lowest(window.bars);
-    let behind = Window {
+    let after = Window {
         first: window.first,
         bars: without(window.bars, bit),
     };
-    (bit, behind)
+    (bit, after)
 }
 
 /// The first window with a bar from a place on, or the last window.
 #[inline(never)]
 fn later_window(text: &[u8], from: usize, window: Window) -> Window
-    requires bars { AreBarsBehind text.now from window.first window.bars }
-    ensures bars { AreBarsBehind text.now from result.first result.bars }
+    requires bars { AreBarsAfter text.now from window.first window.bars }
+    ensures bars { AreBarsAfter text.now from result.first result.bars }
     ensures none { result.bars ≡ 0 → length text.now ≤ result.first + 64 }
 {
     let mut window = window;

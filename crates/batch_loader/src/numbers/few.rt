@@ -4,7 +4,8 @@ ghost use Rattle.batch_loader.specs.Numbers.{is_digit, number_of};
 
 use super::number_between;
 
-/// The number up to a limit that a part of a text spells, if it spells one. It is decided sooner where it has one digit or two.
+/// The number up to a limit that a part of a text spells, if it spells one. It is decided sooner where it has one digit
+/// or two.
 #[inline(always)]
 pub fn few_digits_between(text: &[u8], start: usize, end: usize, limit: u64) -> Option<u64>
     requires order { start ≤ end }

@@ -29,10 +29,12 @@ pub fn are_digits(text: &[u8], start: usize, count: usize) -> bool
     others << (64 - 8 * count) == 0
 }
 
-/// Marks of a number's bytes, at their highest bits. The lowest byte above nine has one, and the bytes below it have none.
+/// Marks of a number's bytes, at their highest bits. The lowest byte above nine has one, and the bytes below it have
+/// none.
 #[inline(always)]
 fn marks_above_nine(number: u64) -> u64
-    ensures { (k : ℕ) → k < 8 → bit_at result (8 * k + 7) ≡ max (bit_at number (8 * k + 7)) (bit_at (raised number) (8 * k + 7)) }
+    ensures { (k : ℕ) → k < 8
+        → bit_at result (8 * k + 7) ≡ max (bit_at number (8 * k + 7)) (bit_at (raised number) (8 * k + 7)) }
 {
     (number.wrapping_add(TO_HIGHEST) | number) & HIGHEST_BITS
 }

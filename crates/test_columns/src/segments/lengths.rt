@@ -1,4 +1,4 @@
-//! Batches whose lengths lie around a block of 32 rows: masks, sums, the least and the greatest beside those by rows.
+//! Batches whose lengths lie around a block of 32 rows: masks, sums, the least and the greatest outside those by rows.
 
 use crate::segments::batches::{ZEROS, spelled};
 use column_segment::{Segment, decode};

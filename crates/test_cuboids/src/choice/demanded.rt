@@ -31,8 +31,8 @@ const COUNTS: Counts = Counts {
     ship_modes: None,
 };
 
-// The views asked for, how many are to be chosen of 500 rows, those chosen and their benefits. View 246 has a category and a year
-// (20 cells), 253 a month (12), 245 a category and a month (120), 240 a brand and a day (500 at most).
+// The views asked for, how many are to be chosen of 500 rows, those chosen and their benefits. View 246 has a category
+// and a year (20 cells), 253 a month (12), 245 a category and a month (120), 240 a brand and a day (500 at most).
 static CHOICES: [(&[u16], u8, &[u16], &[u64]); 7] = [
     (&[246, 246, 253], 1, &[245], &[1140]),
     (&[246, 246, 253], 3, &[245, 246, 253], &[1140, 200, 108]),

@@ -1,4 +1,5 @@
-//! Additions of dimension rows one after the other: what each writes, what comes of it, and what is stored when the writer fails.
+//! Additions of dimension rows one after the other: what each writes, what comes of it, and what is stored when the
+//! writer fails.
 use cube_model::{Axis, Fault};
 use sample_sessions::fresh;
 use sample_star::{Taker, whole};

@@ -5,4 +5,5 @@ use Rattle.added_rows.proofs.Answers.{answers_kept}
 use Rattle.added_rows.proofs.laws.answers_as_of_stay.Goals as goal
 
 pub returns : goal.returns
-returns c = λ query as_of rows more batches order there. answers_kept query rows more (all_rows (take as_of batches)) (foldable rows batches order as_of there).known
+returns c = λ query as_of rows more batches order there. answers_kept query rows more (all_rows (take as_of batches))
+    (foldable rows batches order as_of there).known

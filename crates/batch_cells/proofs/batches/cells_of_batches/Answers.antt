@@ -1,4 +1,5 @@
-use Rattle.std.proofs.Common.{rules, ◌≡◌, ◌⊎◌, inl, ◌<◌, ◌≤◌, ◌+◌, ℕ, List, [], ◌++◌, Err, length, get_or, sym, ◌∙◌, ap, subst, add-one, arith}
+use Rattle.std.proofs.Common.{rules, ◌≡◌, ◌⊎◌, inl, ◌<◌, ◌≤◌, ◌+◌, ℕ, List, [], ◌++◌, length, get_or, sym, ◌∙◌, ap}
+use Rattle.std.proofs.Common.{subst, add-one, arith}
 use Rattle.std.proofs.lemmas.List.{length-map}
 use Rattle.std.proofs.lemmas.Result.{IfErr-weaker, IfOk-weaker, err_from_is_err_and}
 use Rattle.cube_model.specs.Admission.{all_rows}
@@ -16,7 +17,7 @@ use Rattle.cuboid_upkeep.specs.Steps.{AreUnfit, HaveTooMany, IsAddFault}
 use Rattle.warehouse_objects.specs.Represents.{IsLaidOut}
 use Rattle.warehouse_objects.proofs.Batches.{get_within}
 use Rattle.warehouse_objects.proofs.Folded.{err_fault, of_fault}
-use Rattle.warehouse_objects.proofs.OneMoreRead.{breaks_then, reads_more, still_then}
+use Rattle.warehouse_objects.proofs.OneMoreRead.{has_read, reads_more, same_error, still_then, then_reads}
 use Rattle.cuboid_upkeep.specs.Growing.{grown}
 use Rattle.batch_cells.proofs.Faults.{too_many_of, unfit}
 use Rattle.batch_cells.proofs.Members.{many_then, never_bad, none_represent}
@@ -26,13 +27,16 @@ use Rattle.batch_cells.proofs.batches.cells_of_batches.Goals as goal
 
 pub loop-before-init : goal.loop-before-init
 loop-before-init g c =
-    let represent : RepresentRows c.args.dims.now [] [] (grown c.in_ok-cells.cells) = none_represent c.args.dims.now c.args.view (grown c.in_ok-cells.cells) c.in_ok-cells.ensures.none in record {
+    let represent : RepresentRows c.args.dims.now [] [] (grown c.in_ok-cells.cells) =
+    none_represent c.args.dims.now c.args.view (grown c.in_ok-cells.cells) c.in_ok-cells.ensures.none in record {
       fine = c.requires.fine;
       still = search rules;
       leaves = c.is_broken-usable.ensures.leaves c.requires.fine;
       view = ap (λ (cells : PlainCells). cells.view) c.in_ok-cells.ensures.none;
       some = ([], represent);
-      own = λ k w laid. subst (λ (batches : List (List LineOrder)). RepresentRows c.args.dims.now [] (all_rows batches) (grown c.in_ok-cells.cells)) (sym (none_between c.args.span.from w.batches)) represent;
+      own = λ k w laid. subst
+          (λ (batches : List (List LineOrder)). RepresentRows c.args.dims.now [] (all_rows batches)
+          (grown c.in_ok-cells.cells)) (sym (none_between c.args.span.from w.batches)) represent;
       over = c.in_ok-cells.ensures.over;
     }
 
@@ -51,21 +55,25 @@ loop-before-preserved g c =
     let was = c.loop-before.store in
     let now = c.add_batch.new.store in
     let so_far = c.loop-before.invariant in
-    let still : IsStill g.D.Sectors c.loop-before.store c.add_batch.new.store = c.in_ok-add_batch.ensures.stays (λ is. cc) in
+    let still : IsStill g.D.Sectors c.loop-before.store c.add_batch.new.store =
+    c.in_ok-add_batch.ensures.reads.stays (λ is. cc) in
     let next = c.in_ok-add_batch.ensures.ok in
     let from : ℕ = c.args.span.from in
     let before : ℕ = c.loop-before.before in record {
       fine = still.failed ∙ so_far.fine;
       still = still_then g.D.Sectors first was now so_far.still still;
-      leaves = reads_more g.D.Sectors first was now so_far.still so_far.leaves c.in_ok-add_batch.ensures.leaves;
+      leaves = reads_more g.D.Sectors first was now so_far.still so_far.leaves c.in_ok-add_batch.ensures.reads.leaves;
       view = c.in_ok-add_batch.ensures.view ∙ so_far.view;
       some = (so_far.some.0 ++ next.some.0, next.some.1.represent so_far.some.0 so_far.some.1);
       own = λ k w laid.
-          let here = next.own k w (subst (λ (x : Content). IsLaidOut x w) (sym (so_far.still.content (still.word k))) laid) in
+          let here = next.own k w
+          (subst (λ (x : Content). IsLaidOut x w) (sym (so_far.still.content (still.word k))) laid) in
           let low : from ≤ before = omega arith in
           let more : between w.batches from (before + 1) ≡ between w.batches from before ++ here.0 =
-          ap (λ (n : ℕ). between w.batches from n) (add-one before) ∙ one_more w.batches from before here.0 low here.1 in
-          subst (λ (rows : List LineOrder). RepresentRows c.args.dims.now [] rows (grown c.add_batch.new.cells)) (sym more) (here.2.represent (between w.batches from before) (so_far.own (still.word k) w laid));
+          ap (λ (n : ℕ). between w.batches from n) (add-one before)
+          ∙ one_more w.batches from before here.0 low here.1 in
+          subst (λ (rows : List LineOrder). RepresentRows c.args.dims.now [] rows (grown c.add_batch.new.cells))
+          (sym more) (here.2.represent (between w.batches from before) (so_far.own (still.word k) w laid));
       over = c.in_ok-add_batch.ensures.over;
     }
 
@@ -79,19 +87,26 @@ returns-in_err-add_batch-clause-large g c =
     let to : ℕ = c.args.span.to in
     let view : View = c.args.view in
     let fault : Fault = c.in_err-add_batch.field-0.0 in
-    let large : fault ≡ TooManyCells (index_of view) = err_fault c.in_err-add_batch.field-0.0 (TooManyCells (index_of view)) is in
-    let word = c.in_err-add_batch.ensures.leaves.word k in
+    let large : fault ≡ TooManyCells (index_of view) =
+    err_fault c.in_err-add_batch.field-0.0 (TooManyCells (index_of view)) is in
+    let word = c.in_err-add_batch.ensures.reads.leaves.word k in
     let there = subst (λ (x : Content). IsLaidOut x w) (sym (so_far.still.content word)) laid in
-    let lengths : length c.args.root.now.batches ≡ length w.batches = ap (λ r. length r.batches) rooted ∙ length-map w.batches length in
+    let lengths : length c.args.root.now.batches ≡ length w.batches = ap (λ r. length r.batches) rooted
+    ∙ length-map w.batches length in
     let within : to ≤ length w.batches = omega (arith, c.requires.few, lengths) in
     let high : before < to = omega (arith, c.loop-before-test.true) in
     let low : from ≤ before = omega arith in
     let got = get_within w.batches before (omega (arith, high, within)) in
-    let many = ap (λ (l : List ℕ). get_or l before 0) (c.batches-batches.ensures ∙ ap (λ r. r.batches) rooted) ∙ count_here w.batches before got.0 got.1 in
-    let why = c.in_err-add_batch.ensures.refused (λ device. let no_fault : Device ≡ TooManyCells (index_of view) = sym device ∙ large in cc) k w there got.0 got.1 many (between w.batches from before) (so_far.own word w laid) in
+    let many = ap (λ (l : List ℕ). get_or l before 0) (c.batches-batches.ensures ∙ ap (λ r. r.batches) rooted)
+    ∙ count_here w.batches before got.0 got.1 in
+    let why = c.in_err-add_batch.ensures.refused
+    (λ device. let no_fault : Device ≡ TooManyCells (index_of view) = sym device ∙ large in cc) k w there got.0
+    got.1 many (between w.batches from before) (so_far.own word w laid) in
     let why_here : IsAddFault c.args.dims.now [] view (between w.batches from before ++ got.0) fault =
-    subst (λ (v : View). IsAddFault c.args.dims.now [] v (between w.batches from before ++ got.0) fault) so_far.view why in
-    many_then w.rows w.batches laid.batches view no_modes from to within c.rows_have_cells.ensures c.more_rows_have_no_fewer_cells.ensures before got.0 high low got.1
+    subst (λ (v : View). IsAddFault c.args.dims.now [] v (between w.batches from before ++ got.0) fault) so_far.view
+    why in
+    many_then w.rows w.batches laid.batches view no_modes from to within c.rows_have_cells.ensures
+    c.more_rows_have_no_fewer_cells.ensures before got.0 high low got.1
     (subst (λ (rows : DimRows). HaveTooMany rows [] view (between w.batches from before ++ got.0)) same
     (too_many_of c.args.dims.now view (between w.batches from before ++ got.0) fault why_here large)))
 
@@ -105,61 +120,62 @@ returns-in_err-add_batch-clause-refused g c =
     let view : View = c.args.view in
     let fault : Fault = c.in_err-add_batch.field-0.0 in
     let bad : fault ≡ BadLayout = err_fault c.in_err-add_batch.field-0.0 BadLayout is in
-    let word = c.in_err-add_batch.ensures.leaves.word k in
+    let word = c.in_err-add_batch.ensures.reads.leaves.word k in
     let there = subst (λ (x : Content). IsLaidOut x w) (sym (so_far.still.content word)) laid in
-    let lengths : length c.args.root.now.batches ≡ length w.batches = ap (λ r. length r.batches) rooted ∙ length-map w.batches length in
+    let lengths : length c.args.root.now.batches ≡ length w.batches = ap (λ r. length r.batches) rooted
+    ∙ length-map w.batches length in
     let lt : before < length w.batches = omega (arith, c.loop-before-test.true, c.requires.few, lengths) in
     let low : from ≤ before = omega arith in
     let got = get_within w.batches before lt in
-    let many = ap (λ (l : List ℕ). get_or l before 0) (c.batches-batches.ensures ∙ ap (λ r. r.batches) rooted) ∙ count_here w.batches before got.0 got.1 in
-    let why = c.in_err-add_batch.ensures.refused (λ device. let no_fault : Device ≡ BadLayout = sym device ∙ bad in cc) k w there got.0 got.1 many (between w.batches from before) (so_far.own word w laid) in
-    let none : AreUnfit c.args.dims.now [] view (between w.batches from before ++ got.0) = subst (λ (v : View). AreUnfit c.args.dims.now [] v (between w.batches from before ++ got.0)) so_far.view
+    let many = ap (λ (l : List ℕ). get_or l before 0) (c.batches-batches.ensures ∙ ap (λ r. r.batches) rooted)
+    ∙ count_here w.batches before got.0 got.1 in
+    let why = c.in_err-add_batch.ensures.refused (λ device. let no_fault : Device ≡ BadLayout = sym device ∙ bad in cc)
+    k w there got.0 got.1 many (between w.batches from before) (so_far.own word w laid) in
+    let none : AreUnfit c.args.dims.now [] view (between w.batches from before ++ got.0) =
+    subst (λ (v : View). AreUnfit c.args.dims.now [] v (between w.batches from before ++ got.0)) so_far.view
     (unfit c.args.dims.now (grown c.loop-before.cells).view (between w.batches from before ++ got.0) fault why bad) in
-    never_bad w.rows w.batches laid.batches view no_modes from (before + 1) (omega (arith, lt)) c.rows_in_range_fit.ensures before got.0 (sym (add-one before)) low got.1
+    never_bad w.rows w.batches laid.batches view no_modes from (before + 1) (omega (arith, lt))
+    c.rows_in_range_fit.ensures before got.0 (sym (add-one before)) low got.1
     (subst (λ (rows : DimRows). AreUnfit rows [] view (between w.batches from before ++ got.0)) same none))
 
-pub returns-in_err-add_batch-clause-leaves : goal.returns-in_err-add_batch-clause-leaves
-returns-in_err-add_batch-clause-leaves g c =
-    let so_far = c.loop-before.invariant in
-    reads_more g.D.Sectors c.args.store.now c.loop-before.store c.add_batch.new.store so_far.still so_far.leaves c.in_err-add_batch.ensures.leaves
-
-pub returns-in_err-add_batch-clause-stays : goal.returns-in_err-add_batch-clause-stays
-returns-in_err-add_batch-clause-stays g c =
+pub returns-in_err-add_batch-clause-reads : goal.returns-in_err-add_batch-clause-reads
+returns-in_err-add_batch-clause-reads g c =
     let p = err_from_is_err_and c.from_residual-in_err-add_batch.result c.from_residual-in_err-add_batch.ensures.1 in
-    rw (p.1, p.2) (λ other. still_then g.D.Sectors c.args.store.now c.loop-before.store c.add_batch.new.store c.loop-before.invariant.still
-    (c.in_err-add_batch.ensures.stays (λ is. other (ap (λ (f : Fault). Err f) (err_fault c.in_err-add_batch.field-0.0 Device is)))))
-
-pub returns-in_err-add_batch-clause-device : goal.returns-in_err-add_batch-clause-device
-returns-in_err-add_batch-clause-device g c =
-    let p = err_from_is_err_and c.from_residual-in_err-add_batch.result c.from_residual-in_err-add_batch.ensures.1 in
-    rw (p.1, p.2) (λ is. breaks_then g.D.Sectors c.args.store.now c.loop-before.store c.add_batch.new.store c.loop-before.invariant.still c.requires.fine
-    (c.in_err-add_batch.ensures.device (ap (λ (f : Fault). Err f) (err_fault c.in_err-add_batch.field-0.0 Device is))))
+    rw (p.1, p.2) (same_error g.D.Sectors c.args.store.now c.add_batch.new.store _
+    (then_reads g.D.Sectors c.args.store.now c.loop-before.store c.add_batch.new.store c.loop-before.invariant.still _
+    c.requires.fine c.loop-before.invariant.leaves c.in_err-add_batch.ensures.reads))
 
 pub returns-in_err-add_batch-clause-causes : goal.returns-in_err-add_batch-clause-causes
 returns-in_err-add_batch-clause-causes g c =
     let p = err_from_is_err_and c.from_residual-in_err-add_batch.result c.from_residual-in_err-add_batch.ensures.1 in
-    rw (p.1, p.2) (subst (λ (v : View). (c.in_err-add_batch.field-0.0 ≡ Memory) ⊎ ((c.in_err-add_batch.field-0.0 ≡ Device) ⊎ ((c.in_err-add_batch.field-0.0 ≡ BadLayout) ⊎ (c.in_err-add_batch.field-0.0 ≡ TooManyCells (index_of v)))))
+    rw (p.1, p.2)
+    (subst (λ (v : View). (c.in_err-add_batch.field-0.0 ≡ Memory)
+    ⊎ ((c.in_err-add_batch.field-0.0 ≡ Device)
+    ⊎ ((c.in_err-add_batch.field-0.0 ≡ BadLayout) ⊎ (c.in_err-add_batch.field-0.0 ≡ TooManyCells (index_of v)))))
     c.loop-before.invariant.view c.in_err-add_batch.ensures.causes)
 
 pub returns-in_err-cells-clause-large : goal.returns-in_err-cells-clause-large
 returns-in_err-cells-clause-large g c =
     let p = err_from_is_err_and c.from_residual.result c.from_residual.ensures.1 in
     rw (p.1, p.2) (λ is k w laid rooted same no_modes.
-    let none : Memory ≡ TooManyCells (index_of c.args.view) = sym c.in_err-cells.ensures.memory ∙ err_fault c.in_err-cells.field-0.0 (TooManyCells (index_of c.args.view)) is in absurd cc)
+    let none : Memory ≡ TooManyCells (index_of c.args.view) = sym c.in_err-cells.ensures.memory
+    ∙ err_fault c.in_err-cells.field-0.0 (TooManyCells (index_of c.args.view)) is in absurd cc)
 
 pub returns-in_err-cells-clause-refused : goal.returns-in_err-cells-clause-refused
 returns-in_err-cells-clause-refused g c =
     let p = err_from_is_err_and c.from_residual.result c.from_residual.ensures.1 in
     rw (p.1, p.2) (λ is k w laid rooted same no_modes.
-    let none : Memory ≡ BadLayout = sym c.in_err-cells.ensures.memory ∙ err_fault c.in_err-cells.field-0.0 BadLayout is in absurd cc)
+    let none : Memory ≡ BadLayout = sym c.in_err-cells.ensures.memory
+    ∙ err_fault c.in_err-cells.field-0.0 BadLayout is in absurd cc)
 
-pub returns-in_err-cells-clause-leaves : goal.returns-in_err-cells-clause-leaves
-returns-in_err-cells-clause-leaves g c = c.is_broken-usable.ensures.leaves c.requires.fine
-
-pub returns-in_err-cells-clause-device : goal.returns-in_err-cells-clause-device
-returns-in_err-cells-clause-device g c =
-    let p = err_from_is_err_and c.from_residual.result c.from_residual.ensures.1 in
-    rw (p.1, p.2) (λ is. let none : Memory ≡ Device = sym c.in_err-cells.ensures.memory ∙ err_fault c.in_err-cells.field-0.0 Device is in absurd cc)
+pub returns-in_err-cells-clause-reads : goal.returns-in_err-cells-clause-reads
+returns-in_err-cells-clause-reads g c = record {
+  leaves = c.is_broken-usable.ensures.leaves c.requires.fine;
+  stays = search rules;
+  device = let p = err_from_is_err_and c.from_residual.result c.from_residual.ensures.1 in
+      rw (p.1, p.2) (λ is. let none : Memory ≡ Device = sym c.in_err-cells.ensures.memory
+      ∙ err_fault c.in_err-cells.field-0.0 Device is in absurd cc);
+}
 
 pub returns-in_err-cells-clause-causes : goal.returns-in_err-cells-clause-causes
 returns-in_err-cells-clause-causes g c =
@@ -168,34 +184,36 @@ returns-in_err-cells-clause-causes g c =
 
 pub returns-clause-large : goal.returns-clause-large
 returns-clause-large g c is =
-    let none : TooManyCells (index_of c.args.view) ≡ Memory = of_fault _ c.finish.result (TooManyCells (index_of c.args.view)) c.finish.ensures.memory is in absurd cc
+    let none : TooManyCells (index_of c.args.view) ≡ Memory =
+    of_fault _ c.finish.result (TooManyCells (index_of c.args.view)) c.finish.ensures.memory is in absurd cc
 
 pub returns-clause-refused : goal.returns-clause-refused
 returns-clause-refused g c is =
     let none : BadLayout ≡ Memory = of_fault _ c.finish.result BadLayout c.finish.ensures.memory is in absurd cc
 
-pub returns-clause-device : goal.returns-clause-device
-returns-clause-device g c is =
-    let none : Device ≡ Memory = of_fault _ c.finish.result Device c.finish.ensures.memory is in absurd cc
+pub returns-clause-reads : goal.returns-clause-reads
+returns-clause-reads g c =
+    has_read g.D.Sectors c.args.store.now c.loop-before.store c.finish.result
+    (λ is. let none : Device ≡ Memory = of_fault _ c.finish.result Device c.finish.ensures.memory is in absurd cc)
+    c.loop-before.invariant.still c.loop-before.invariant.leaves
 
 pub returns-clause-causes : goal.returns-clause-causes
 returns-clause-causes g c = IfErr-weaker c.finish.result _ _ (λ fault memory. inl memory) c.finish.ensures.memory
 
-pub returns-clause-leaves : goal.returns-clause-leaves
-returns-clause-leaves g c = c.loop-before.invariant.leaves
-
-pub returns-clause-stays : goal.returns-clause-stays
-returns-clause-stays g c other = c.loop-before.invariant.still
-
 pub returns-clause-ok : goal.returns-clause-ok
 returns-clause-ok g c =
-    let ends : c.loop-before.before ≡ c.args.span.to = omega (arith, c.loop-before-test.false, c.loop-before.auto.before-end, c.requires.order) in
+    let ends : c.loop-before.before ≡ c.args.span.to =
+    omega (arith, c.loop-before-test.false, c.loop-before.auto.before-end, c.requires.order) in
     IfOk-weaker c.finish.result _ _ (λ cells is k w laid same.
-    subst (λ (plain : PlainCells). RepresentRows w.rows [] (between w.batches c.args.span.from c.args.span.to) plain) (sym is)
-    (subst (λ (rows : DimRows). RepresentRows rows [] (between w.batches c.args.span.from c.args.span.to) (grown c.loop-before.cells)) same
-    (subst (λ (n : ℕ). RepresentRows c.args.dims.now [] (between w.batches c.args.span.from n) (grown c.loop-before.cells)) ends (c.loop-before.invariant.own k w laid))))
+    subst (λ (plain : PlainCells). RepresentRows w.rows [] (between w.batches c.args.span.from c.args.span.to) plain)
+    (sym is)
+    (subst (λ (rows : DimRows). RepresentRows rows [] (between w.batches c.args.span.from c.args.span.to)
+    (grown c.loop-before.cells)) same
+    (subst (λ (n : ℕ). RepresentRows c.args.dims.now [] (between w.batches c.args.span.from n)
+    (grown c.loop-before.cells)) ends (c.loop-before.invariant.own k w laid))))
     c.finish.ensures.ok
 
 pub returns-clause-view : goal.returns-clause-view
 returns-clause-view g c =
-    IfOk-weaker c.finish.result _ _ (λ cells is. ap (λ (plain : PlainCells). plain.view) is ∙ c.loop-before.invariant.view) c.finish.ensures.ok
+    IfOk-weaker c.finish.result _ _ (λ cells is. ap (λ (plain : PlainCells). plain.view) is
+    ∙ c.loop-before.invariant.view) c.finish.ensures.ok

@@ -17,6 +17,7 @@ invariant-loop-before g l =
       leaves : Leaves (disk_of g.D.Sectors l.initial.store) (disk_of g.D.Sectors l.store) (λ c. c ≡ first);
       view : (grown l.cells).view ≡ l.fn.view;
       some : RepresentSomeRows l.dims (grown l.cells);
-      own : g.D.Sectors.keeps_word (device_of l.store) → (w : Warehouse) → IsLaidOut first w → RepresentRows l.dims [] (between w.batches l.fn.span.from l.before) (grown l.cells);
+      own : g.D.Sectors.keeps_word (device_of l.store) → (w : Warehouse) → IsLaidOut first w
+          → RepresentRows l.dims [] (between w.batches l.fn.span.from l.before) (grown l.cells);
       over : GrowOver l.dims l.cells;
     }

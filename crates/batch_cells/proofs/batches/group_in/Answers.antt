@@ -10,11 +10,16 @@ use Rattle.batch_cells.proofs.batches.group_in.Goals as goal
 pub returns-clause-ok : goal.returns-clause-ok
 returns-clause-ok c =
     ok_so _ _ c.add_rows.result (λ more. record {
-      represent = λ so_far represent. subst (λ (rows : List LineOrder). RepresentRows c.args.dims.now [] (so_far ++ rows) (grown c.add_rows.new.self)) c.of-rows.ensures (more so_far represent);
+      represent =
+          λ so_far represent. subst
+          (λ (rows : List LineOrder). RepresentRows c.args.dims.now [] (so_far ++ rows) (grown c.add_rows.new.self))
+          c.of-rows.ensures (more so_far represent);
     }) c.add_rows.ensures.ok
 
 pub returns-clause-refused : goal.returns-clause-refused
 returns-clause-refused c =
     IfErr-weaker c.add_rows.result _ _
-    (λ fault why so_far represent. subst (λ (rows : List LineOrder). IsAddFault c.args.dims.now [] (grown c.args.cells.now).view (so_far ++ rows) fault) c.of-rows.ensures (why so_far represent))
+    (λ fault why so_far represent. subst
+    (λ (rows : List LineOrder). IsAddFault c.args.dims.now [] (grown c.args.cells.now).view (so_far ++ rows) fault)
+    c.of-rows.ensures (why so_far represent))
     c.add_rows.ensures.refused

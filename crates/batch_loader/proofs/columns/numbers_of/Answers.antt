@@ -15,4 +15,5 @@ loop-place-init g c = record {
 
 pub returns-clause-numbers : goal.returns-clause-numbers
 returns-clause-numbers g c =
-    IsRead-numbers c.args.line g.row.N c.args.columns.now (texts_of c.args.fields.now) c.loop-place.numbers c.loop-place.place (omega (arith, c.loop-place-test.false)) c.loop-place.invariant
+    IsRead-numbers c.args.line g.row.N c.args.columns.now (texts_of c.args.fields.now) c.loop-place.numbers
+    c.loop-place.place (omega (arith, c.loop-place-test.false)) c.loop-place.invariant

@@ -9,12 +9,16 @@ pub returns-clause-ok : goal.returns-clause-ok
 returns-clause-ok c =
     let exact : to_z w64 (of_z w64 c.args.as_of) ≡ c.args.as_of = to_z-of_z c.ranges.as_of in
     IfOk-weaker c.answer.result _ _
-    (λ text has. reports c.args.image.now (benchmark_words c.args.number.now) c.args.format.now c.args.as_of c.in_ok-prefix.prefix c.in_ok-layout.layout c.in_ok-asked.asked (c.in_ok-prefix.ensures.ok ∙ ap prefix_of exact) c.in_ok-layout.ensures.ok c.in_ok-asked.ensures.ok text.items has)
+    (λ text has. reports c.args.image.now (benchmark_words c.args.number.now) c.args.format.now c.args.as_of
+    c.in_ok-prefix.prefix c.in_ok-layout.layout c.in_ok-asked.asked (c.in_ok-prefix.ensures.ok ∙ ap prefix_of exact)
+    c.in_ok-layout.ensures.ok c.in_ok-asked.ensures.ok text.items has)
     c.answer.ensures.answers
 
 pub returns-clause-refused : goal.returns-clause-refused
 returns-clause-refused c =
     let exact : to_z w64 (of_z w64 c.args.as_of) ≡ c.args.as_of = to_z-of_z c.ranges.as_of in
     IfErr-weaker c.answer.result _ _
-    (λ fault why. refuses c.args.image.now (benchmark_words c.args.number.now) c.args.format.now c.args.as_of c.in_ok-prefix.prefix c.in_ok-layout.layout c.in_ok-asked.asked (c.in_ok-prefix.ensures.ok ∙ ap prefix_of exact) c.in_ok-layout.ensures.ok c.in_ok-asked.ensures.ok fault why)
+    (λ fault why. refuses c.args.image.now (benchmark_words c.args.number.now) c.args.format.now c.args.as_of
+    c.in_ok-prefix.prefix c.in_ok-layout.layout c.in_ok-asked.asked (c.in_ok-prefix.ensures.ok ∙ ap prefix_of exact)
+    c.in_ok-layout.ensures.ok c.in_ok-asked.ensures.ok fault why)
     c.answer.ensures.refused

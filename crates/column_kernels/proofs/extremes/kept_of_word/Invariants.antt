@@ -6,4 +6,5 @@ use Rattle.column_kernels.proofs.extremes.kept_of_word.Given as goal
 abbrev pub invariant-loop-i : goal.invariant-loop-i
 invariant-loop-i g l =
     (before : List ℤ) → l.fn.before ≡ kept_of before
-    → l.kept ≡ kept_of (before ++ selected (bits_of l.i l.word) (take l.i (drop l.first (g.C.WholeColumn.wholes l.column))))
+    → l.kept ≡ kept_of
+    (before ++ selected (bits_of l.i l.word) (take l.i (drop l.first (g.C.WholeColumn.wholes l.column))))

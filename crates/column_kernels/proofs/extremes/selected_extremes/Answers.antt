@@ -25,8 +25,10 @@ returns g c =
     let rest : ℕ = c.words-bits.result.1 in
     let n : ℕ = c.words-bits.result.2 in
     let blocks : List ℤ = selected (flat_map (bits_of 32) words) (take (32 * length words) wholes) in
-    let behind : List ℤ = selected (bits_of n rest) (take n (drop (32 * length words) wholes)) in
+    let after : List ℤ = selected (bits_of n rest) (take n (drop (32 * length words) wholes)) in
     let long = ap (λ (l : List Bool). length l) c.words-bits.ensures.bits in
     let room : length wholes ≡ 32 * length words + n = omega (arith, c.requires.rows, long, view_long words rest n) in
-    let all : blocks ++ behind ≡ selected c.args.mask.now wholes = kept_whole words rest n wholes room ∙ ap (λ (l : List Bool). selected l wholes) (sym c.words-bits.ensures.bits) in
-    c.found.ensures (blocks ++ behind) (c.kept_of_word.ensures blocks c.kept_of_blocks-kept.ensures) ∙ ap extremes_of all
+    let all : blocks ++ after ≡ selected c.args.mask.now wholes = kept_whole words rest n wholes room
+    ∙ ap (λ (l : List Bool). selected l wholes) (sym c.words-bits.ensures.bits) in
+    c.found.ensures (blocks ++ after) (c.kept_of_word.ensures blocks c.kept_of_blocks-kept.ensures)
+    ∙ ap extremes_of all

@@ -13,10 +13,18 @@ overflow_add-result c =
     let word : ℕ = c.from.result in
     let lanes : List ℕ = c.args.lanes in
     let kept : List ℕ = sel_l (bits_of 32 word) lanes (replicate 32 0) in
-    let is : sum_l kept ≡ sum (selected (bits_of 32 word) lanes) = chosen_sum (bits_of 32 word) lanes 32 (length-bits_of 32 word) c.requires.lanes in
+    let is : sum_l kept ≡ sum (selected (bits_of 32 word) lanes) =
+    chosen_sum (bits_of 32 word) lanes 32 (length-bits_of 32 word) c.requires.lanes in
     let room : 0 + sum_l kept < 2 ^ 64
-    = omega (arith, is, sum_is (selected (bits_of 32 word) lanes), selected-le (bits_of 32 word) lanes, c.requires.small) in
-    subst (λ (marks : List Bool). Steps (λ (s x : ℕ). Fits w64 (s + x)) (λ (s x : ℕ). s + x) 0 (sel_l marks lanes (replicate 32 0)))
+    = omega (
+      arith,
+      is,
+      sum_is (selected (bits_of 32 word) lanes),
+      selected-le (bits_of 32 word) lanes,
+      c.requires.small,
+    ) in
+    subst (λ (marks : List Bool). Steps (λ (s x : ℕ). Fits w64 (s + x)) (λ (s x : ℕ). s + x) 0
+    (sel_l marks lanes (replicate 32 0)))
     (sym (chosen_lanes word)) (sum_fits w64 0 kept room)
 
 pub returns : goal.returns

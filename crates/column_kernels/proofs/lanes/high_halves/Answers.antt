@@ -8,4 +8,5 @@ returns-clause-value c = shifted_high c.args.lanes c.requires
 
 pub returns-clause-small : goal.returns-clause-small
 returns-clause-small c =
-    subst (λ (l : List ℕ). Each1 (λ half. half < 4294967296) l) (sym (shifted_high c.args.lanes c.requires)) (high_small c.args.lanes c.fits-lanes.1)
+    subst (λ (l : List ℕ). Each1 (λ half. half < 4294967296) l) (sym (shifted_high c.args.lanes c.requires))
+    (high_small c.args.lanes c.fits-lanes.1)

@@ -8,4 +8,5 @@ returns-clause-value c = masked_low c.args.lanes c.requires
 
 pub returns-clause-small : goal.returns-clause-small
 returns-clause-small c =
-    subst (λ (l : List ℕ). Each1 (λ half. half < 4294967296) l) (sym (masked_low c.args.lanes c.requires)) (low_small c.args.lanes)
+    subst (λ (l : List ℕ). Each1 (λ half. half < 4294967296) l) (sym (masked_low c.args.lanes c.requires))
+    (low_small c.args.lanes)

@@ -5,4 +5,5 @@ use Rattle.column_kernels.proofs.mask.sum_of_blocks.Given as goal
 
 abbrev pub invariant-loop-i : goal.invariant-loop-i
 invariant-loop-i g l =
-    (l.sum ≡ sum (selected (flat_map (bits_of 32) (take l.i l.words)) (take (32 * l.i) (g.C.Column.numbers l.column)))) × (l.sum ≤ l.i * 2 ^ 97)
+    (l.sum ≡ sum (selected (flat_map (bits_of 32) (take l.i l.words)) (take (32 * l.i) (g.C.Column.numbers l.column))))
+    × (l.sum ≤ l.i * 2 ^ 97)

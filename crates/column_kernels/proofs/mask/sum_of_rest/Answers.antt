@@ -13,13 +13,14 @@ pub loop-i-preserved : goal.loop-i-preserved
 loop-i-preserved g c =
     let numbers : List ℕ = g.C.Column.numbers c.args.column.now in
     let first : ℕ = 32 * c.args.blocks in
-    let behind : List ℕ = drop first numbers in
+    let after : List ℕ = drop first numbers in
     let i : ℕ = c.loop-i.i in
     let word : ℕ = c.args.word in
-    let lt : i < length behind = omega (arith, length-drop first numbers, c.requires.rows, c.loop-i-test.true) in
-    let number : c.number.result ≡ get_or behind i 0 = c.number.ensures.value ∙ sym (get_or-drop first numbers i 0) in
-    let added : c.number_if-sum.result ≡ cond (bit_at word i == 1) (get_or behind i 0) 0
-    = c.number_if-sum.ensures.value ∙ ap (λ (b : Bool). cond b c.number.result 0) c.is_set.ensures ∙ ap (λ (n : ℕ). cond (bit_at word i == 1) n 0) number in (
-      omega (arith, c.loop-i.invariant.0, added, more_rest word i behind lt),
+    let lt : i < length after = omega (arith, length-drop first numbers, c.requires.rows, c.loop-i-test.true) in
+    let number : c.number.result ≡ get_or after i 0 = c.number.ensures.value ∙ sym (get_or-drop first numbers i 0) in
+    let added : c.number_if-sum.result ≡ cond (bit_at word i == 1) (get_or after i 0) 0
+    = c.number_if-sum.ensures.value ∙ ap (λ (b : Bool). cond b c.number.result 0) c.is_set.ensures
+    ∙ ap (λ (n : ℕ). cond (bit_at word i == 1) n 0) number in (
+      omega (arith, c.loop-i.invariant.0, added, more_rest word i after lt),
       omega (arith, c.loop-i.invariant.1, c.number_if-sum.ensures.small, c.number.ensures.small),
     )

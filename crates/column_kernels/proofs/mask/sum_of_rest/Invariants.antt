@@ -5,4 +5,5 @@ use Rattle.column_kernels.proofs.mask.sum_of_rest.Given as goal
 
 abbrev pub invariant-loop-i : goal.invariant-loop-i
 invariant-loop-i g l =
-    (l.sum ≡ sum (selected (bits_of l.i l.word) (take l.i (drop (32 * l.blocks) (g.C.Column.numbers l.column))))) × (l.sum ≤ l.i * 2 ^ 97)
+    (l.sum ≡ sum (selected (bits_of l.i l.word) (take l.i (drop (32 * l.blocks) (g.C.Column.numbers l.column)))))
+    × (l.sum ≤ l.i * 2 ^ 97)

@@ -7,7 +7,8 @@ use Rattle.column_kernels.proofs.mask.whole_words.Goals as goal
 
 pub loop-i-preserved : goal.loop-i-preserved
 loop-i-preserved c =
-    let f : List ℕ → List ℕ → ℕ = λ quantities discounts. mask_l (zip2 (lies_in c.args.quantity c.args.discount) quantities discounts) in
+    let f : List ℕ → List ℕ
+    → ℕ = λ quantities discounts. mask_l (zip2 (lies_in c.args.quantity c.args.discount) quantities discounts) in
     let ones : List (List ℕ) = c.args.quantities.now in
     let others : List (List ℕ) = c.args.discounts.now in
     let i : ℕ = c.loop-i.i in
@@ -18,6 +19,9 @@ loop-i-preserved c =
 
 pub returns-clause-ok : goal.returns-clause-ok
 returns-clause-ok c =
-    let f : List ℕ → List ℕ → ℕ = λ quantities discounts. mask_l (zip2 (lies_in c.args.quantity c.args.discount) quantities discounts) in
+    let f : List ℕ → List ℕ
+    → ℕ = λ quantities discounts. mask_l (zip2 (lies_in c.args.quantity c.args.discount) quantities discounts) in
     let words : List ℕ = zip2 f c.args.quantities.now c.args.discounts.now in
-    c.loop-i.invariant ∙ take_all c.loop-i.i words (omega (arith, zip2_left f c.args.quantities.now c.args.discounts.now, c.loop-i-test.false))
+    c.loop-i.invariant
+    ∙ take_all c.loop-i.i words
+    (omega (arith, zip2_left f c.args.quantities.now c.args.discounts.now, c.loop-i-test.false))

@@ -4,4 +4,5 @@ use Rattle.column_segment.specs.Encoding.{HaveTexts}
 use Rattle.column_segment.proofs.encoding.push_texts.Given as goal
 
 abbrev pub invariant-loop-place : goal.invariant-loop-place
-invariant-loop-place l = (before : List LineOrder) → HaveTexts before l.initial.texts → HaveTexts (before ++ take l.place l.rows) l.texts
+invariant-loop-place l = (before : List LineOrder) → HaveTexts before l.initial.texts
+    → HaveTexts (before ++ take l.place l.rows) l.texts

@@ -12,13 +12,21 @@ returns-clause-found g c keeps text at enough =
     let room = c.requires.holds.room in
     let outside : StaysOutside (12 + place_of column * rows) (width_of column * rows) old new =
     subst (λ (width : ℕ). StaysOutside (12 + place_of column * rows) (width * rows) old new) c.width_of.ensures
-    (subst (λ (place : ℕ). StaysOutside (12 + place * rows) (c.width_of.result * rows) old new) c.place_of.ensures.value c.read_over.ensures.outside) in
-    let inside : (place : ℕ) → place < width_of column * rows → slice_index new (12 + place_of column * rows + place) ≡ slice_index text (12 + place_of column * rows + place) =
-    subst (λ (width : ℕ). (place : ℕ) → place < width * rows → slice_index new (12 + place_of column * rows + place) ≡ slice_index text (12 + place_of column * rows + place)) c.width_of.ensures
-    (subst (λ (start : ℕ). (place : ℕ) → place < c.width_of.result * rows → slice_index new (12 + start * rows + place) ≡ slice_index text (12 + start * rows + place)) c.place_of.ensures.value
+    (subst (λ (place : ℕ). StaysOutside (12 + place * rows) (c.width_of.result * rows) old new) c.place_of.ensures.value
+    c.read_over.ensures.outside) in
+    let inside : (place : ℕ) → place < width_of column * rows → slice_index new (12 + place_of column * rows + place)
+    ≡ slice_index text (12 + place_of column * rows + place) =
+    subst (λ (width : ℕ). (place : ℕ) → place < width * rows → slice_index new (12 + place_of column * rows + place)
+    ≡ slice_index text (12 + place_of column * rows + place)) c.width_of.ensures
+    (subst (λ (start : ℕ). (place : ℕ) → place < c.width_of.result * rows
+    → slice_index new (12 + start * rows + place) ≡ slice_index text (12 + start * rows + place))
+    c.place_of.ensures.value
     (c.in_ok-read_over.ensures.inside keeps text at)) in
-    let own = shares old new rows column room outside text enough inside in
-    (own, fits_shared text new rows column (sym own) (c.fits_column.ensures.0 c.if-not-fits_column.false), still_shares old new rows column room outside text enough inside)
+    let own = shares old new rows column room outside text enough inside in (
+      own,
+      fits_shared text new rows column (sym own) (c.fits_column.ensures.0 c.if-not-fits_column.false),
+      still_shares old new rows column room outside text enough inside,
+    )
 
 pub returns-then-not-fits_column-clause-refused : goal.returns-then-not-fits_column-clause-refused
 returns-then-not-fits_column-clause-refused g c = λ err keeps text at has.
@@ -28,10 +36,17 @@ returns-then-not-fits_column-clause-refused g c = λ err keeps text at has.
     let column = c.args.column in
     let outside : StaysOutside (12 + place_of column * rows) (width_of column * rows) old new =
     subst (λ (width : ℕ). StaysOutside (12 + place_of column * rows) (width * rows) old new) c.width_of.ensures
-    (subst (λ (place : ℕ). StaysOutside (12 + place * rows) (c.width_of.result * rows) old new) c.place_of.ensures.value c.read_over.ensures.outside) in
-    let inside : (place : ℕ) → place < width_of column * rows → slice_index new (12 + place_of column * rows + place) ≡ slice_index text (12 + place_of column * rows + place) =
-    subst (λ (width : ℕ). (place : ℕ) → place < width * rows → slice_index new (12 + place_of column * rows + place) ≡ slice_index text (12 + place_of column * rows + place)) c.width_of.ensures
-    (subst (λ (start : ℕ). (place : ℕ) → place < c.width_of.result * rows → slice_index new (12 + start * rows + place) ≡ slice_index text (12 + start * rows + place)) c.place_of.ensures.value
+    (subst (λ (place : ℕ). StaysOutside (12 + place * rows) (c.width_of.result * rows) old new) c.place_of.ensures.value
+    c.read_over.ensures.outside) in
+    let inside : (place : ℕ) → place < width_of column * rows → slice_index new (12 + place_of column * rows + place)
+    ≡ slice_index text (12 + place_of column * rows + place) =
+    subst (λ (width : ℕ). (place : ℕ) → place < width * rows → slice_index new (12 + place_of column * rows + place)
+    ≡ slice_index text (12 + place_of column * rows + place)) c.width_of.ensures
+    (subst (λ (start : ℕ). (place : ℕ) → place < c.width_of.result * rows
+    → slice_index new (12 + start * rows + place) ≡ slice_index text (12 + start * rows + place))
+    c.place_of.ensures.value
     (c.in_ok-read_over.ensures.inside keeps text at)) in
-    let fits = fits_shared new text rows column (shares old new rows column c.requires.holds.room outside text has.room inside) (λ amount is. has.amounts amount) in
+    let fits = fits_shared new text rows column
+    (shares old new rows column c.requires.holds.room outside text has.room inside)
+    (λ amount is. has.amounts amount) in
     true≢false (sym (c.fits_column.ensures.1 fits) ∙ c.if-not-fits_column.true)

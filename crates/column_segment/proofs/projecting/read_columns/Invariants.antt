@@ -9,8 +9,10 @@ abbrev pub invariant-loop-i : goal.invariant-loop-i
 invariant-loop-i g l = record {
   holds : HoldsColumns l.bytes l.rows;
   read : HasRead g.S.Source l.initial.source l.source;
-  shared : g.S.Source.keeps_word l.source → (text : List ℕ) → g.S.Source.texts l.initial.source l.id ≡ Some text → 12 + 63 * l.rows ≤ length text
+  shared : g.S.Source.keeps_word l.source → (text : List ℕ) → g.S.Source.texts l.initial.source l.id ≡ Some text
+      → 12 + 63 * l.rows ≤ length text
       → AllByRecursion (ShareColumn l.rows l.bytes text) (take l.i l.columns);
-  fit : g.S.Source.keeps_word l.source → (text : List ℕ) → g.S.Source.texts l.initial.source l.id ≡ Some text → 12 + 63 * l.rows ≤ length text
+  fit : g.S.Source.keeps_word l.source → (text : List ℕ) → g.S.Source.texts l.initial.source l.id ≡ Some text
+      → 12 + 63 * l.rows ≤ length text
       → AllByRecursion (FitsColumnIn text l.rows) (take l.i l.columns);
 }

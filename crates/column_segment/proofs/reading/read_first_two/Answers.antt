@@ -12,5 +12,6 @@ returns-in_err-orderpriority-clause-refused c =
 pub returns-in_err-shippriority-clause-refused : goal.returns-in_err-shippriority-clause-refused
 returns-in_err-shippriority-clause-refused c =
     refused c.from_residual-in_err-shippriority.result _ c.from_residual-in_err-shippriority.ensures.1
-    (none_second c.args.bytes.now c.args.rows (12 + 63 * c.args.rows) (λ k. (c.type_inv.bytes k).fits) c.requires.few c.in_ok-orderpriority.orderpriority c.in_ok-orderpriority.ensures.ok)
+    (none_second c.args.bytes.now c.args.rows (12 + 63 * c.args.rows) (λ k. (c.type_inv.bytes k).fits) c.requires.few
+    c.in_ok-orderpriority.orderpriority c.in_ok-orderpriority.ensures.ok)
     c.in_err-shippriority.ensures.refused

@@ -14,4 +14,5 @@ loop-i-preserved c =
     ∙ ap (λ (l : List LineOrder). l ++ c.in_ok-row.row ∷ []) c.loop-i.invariant
     ∙ append_assoc old done (c.in_ok-row.row ∷ [])
     ∙ ap (λ (r : LineOrder). old ++ (done ++ r ∷ [])) c.in_ok-row.ensures.ok
-    ∙ ap (λ (l : List LineOrder). old ++ l) (sym (map-range_with_len_more row c.args.first c.loop-i.i (c.args.first + c.loop-i.i) refl))
+    ∙ ap (λ (l : List LineOrder). old ++ l)
+    (sym (map-range_with_len_more row c.args.first c.loop-i.i (c.args.first + c.loop-i.i) refl))

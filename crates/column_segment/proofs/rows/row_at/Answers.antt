@@ -1,4 +1,5 @@
-use Rattle.column_segment.specs.declared.columns.TextColumn.TheVariants.{OrderPriority, ShipPriority, CommitDate, ShipMode}
+use Rattle.column_segment.specs.declared.columns.TextColumn.TheVariants.{OrderPriority, ShipPriority, CommitDate}
+use Rattle.column_segment.specs.declared.columns.TextColumn.TheVariants.{ShipMode}
 use Rattle.column_segment.proofs.rows.row_at.Goals as goal
 
 pub two_texts-requires-clause-one : goal.two_texts-requires-clause-one

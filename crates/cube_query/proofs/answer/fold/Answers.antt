@@ -14,14 +14,16 @@ returns-clause-answer c =
     let takes = c.in_ok-add_rows.ensures.ok in
     let rows = c.args.rows.now in
     let query : c.add_rows.new.self.query ≡ c.args.query.now = takes.query ∙ begun.query_is in
-    IfOk-weaker c.finish.result _ _ (λ found all. all rows (takes.represents [] begun.represents) ∙ ap (λ q. answer q c.args.dims.now rows) query) c.finish.ensures.answer
+    IfOk-weaker c.finish.result _ _ (λ found all. all rows (takes.represents [] begun.represents)
+    ∙ ap (λ q. answer q c.args.dims.now rows) query) c.finish.ensures.answer
 
 pub returns-clause-refused : goal.returns-clause-refused
 returns-clause-refused c = λ bad proper. never_improper c.finish.result c.finish.ensures.only bad
 
 pub returns-clause-unfolded : goal.returns-clause-unfolded
 returns-clause-unfolded c = λ bad foldable.
-    c.finish.ensures.refused bad (c.args.rows.now, (c.in_ok-add_rows.ensures.ok.represents [] c.in_ok-state.ensures.ok.represents, foldable))
+    c.finish.ensures.refused bad
+    (c.args.rows.now, (c.in_ok-add_rows.ensures.ok.represents [] c.in_ok-state.ensures.ok.represents, foldable))
 
 pub returns-clause-only : goal.returns-clause-only
 returns-clause-only c = IfErr-weaker c.finish.result _ _ (λ fault either other. either) c.finish.ensures.only

@@ -13,9 +13,12 @@ loop-column-preserved c =
     let asks = is_asked c.args.query.now in
     let column : FactColumn = get_or fact_columns at (Amount OrderKey) in
     let lt : at < length fact_columns = omega (arith, c.loop-column-test.true) in
-    c.in_ok-push_if_asked.ensures ∙ ap (λ (l : List FactColumn). l ++ cond (asks column) (column ∷ []) []) c.loop-column.invariant ∙ sym (filter_more asks fact_columns at (Amount OrderKey) lt)
+    c.in_ok-push_if_asked.ensures
+    ∙ ap (λ (l : List FactColumn). l ++ cond (asks column) (column ∷ []) []) c.loop-column.invariant
+    ∙ sym (filter_more asks fact_columns at (Amount OrderKey) lt)
 
 pub returns : goal.returns
 returns c =
-    let ends : c.loop-column.column-index ≡ 13 = omega (arith, c.loop-column-test.false, c.loop-column.auto.column-index-end) in
+    let ends : c.loop-column.column-index ≡ 13 =
+    omega (arith, c.loop-column-test.false, c.loop-column.auto.column-index-end) in
     c.loop-column.invariant ∙ ap (λ n. filter (is_asked c.args.query.now) (take n fact_columns)) ends

@@ -24,7 +24,8 @@ returns-in_err-merge_in_column-clause-refused c =
     let here = room_in c.args.slot cells aggs c.args.columns.now c.requires room i c.loop-i-test.true Count column in
     let is : c.in_err-merge_in_column.field-0.0 ≡ BadLayout = cc bad in
     c.in_err-merge_in_column.ensures.refused (ap (λ fault. Err fault) is)
-    (subst (λ (own : Vec Tally Global). HasRoomFor (get_or aggs i Count) cells (tally_at own.items c.args.slot)) (sym (c.loop-i.invariant.below.kept i (omega arith) column)) here))
+    (subst (λ (own : Vec Tally Global). HasRoomFor (get_or aggs i Count) cells (tally_at own.items c.args.slot))
+    (sym (c.loop-i.invariant.below.kept i (omega arith) column)) here))
 
 pub loop-i-preserved : goal.loop-i-preserved
 loop-i-preserved c =
@@ -39,10 +40,14 @@ loop-i-preserved c =
     record {
       below = AreMergedBelow-set cells slots aggs c.args.columns.now now i new c.requires h c.loop-i.invariant.below
           (λ agg first.
-          subst (λ (a : Agg). MergesCells a cells slots (get_or now i first).items new.items) (get_or_default aggs i Count agg h)
-          (subst (λ (old : Vec Tally Global). MergesCells (get_or aggs i Count) cells slots old.items new.items) (get_or_default now i c.index-columns-i.result first in_columns) c.in_ok-merge_in_column.ensures.merged));
+          subst (λ (a : Agg). MergesCells a cells slots (get_or now i first).items new.items)
+          (get_or_default aggs i Count agg h)
+          (subst (λ (old : Vec Tally Global). MergesCells (get_or aggs i Count) cells slots old.items new.items)
+          (get_or_default now i c.index-columns-i.result first in_columns) c.in_ok-merge_in_column.ensures.merged));
       others = λ other apart.
-          tallies-set now i new other (λ first. c.merge_in_column.ensures.others other apart ∙ ap (λ (own : Vec Tally Global). tally_at own.items other) (get_or_default now i c.index-columns-i.result first in_columns))
+          tallies-set now i new other (λ first. c.merge_in_column.ensures.others other apart
+          ∙ ap (λ (own : Vec Tally Global). tally_at own.items other)
+          (get_or_default now i c.index-columns-i.result first in_columns))
           ∙ c.loop-i.invariant.others other apart;
     }
 
@@ -53,9 +58,12 @@ returns-in_err-merge_in_column-clause-others c = λ other apart.
     let new = c.merge_in_column.new.column in
     let h : i < length c.args.aggs.now = c.loop-i-test.true in
     let in_columns : i < length now = omega (arith, h, c.loop-i.invariant.below.same_length, c.requires) in
-    tallies-set now i new other (λ first. c.merge_in_column.ensures.others other apart ∙ ap (λ (own : Vec Tally Global). tally_at own.items other) (get_or_default now i c.index-columns-i.result first in_columns))
+    tallies-set now i new other (λ first. c.merge_in_column.ensures.others other apart
+    ∙ ap (λ (own : Vec Tally Global). tally_at own.items other)
+    (get_or_default now i c.index-columns-i.result first in_columns))
     ∙ c.loop-i.invariant.others other apart
 
 pub returns-clause-merged : goal.returns-clause-merged
 returns-clause-merged c =
-    all_columns_merged (c.args.cell.now ∷ []) (Some c.args.slot ∷ []) c.args.aggs.now c.args.columns.now c.loop-i.columns c.loop-i.i c.requires (omega (arith, c.loop-i-test.false)) c.loop-i.invariant.below
+    all_columns_merged (c.args.cell.now ∷ []) (Some c.args.slot ∷ []) c.args.aggs.now c.args.columns.now
+    c.loop-i.columns c.loop-i.i c.requires (omega (arith, c.loop-i-test.false)) c.loop-i.invariant.below

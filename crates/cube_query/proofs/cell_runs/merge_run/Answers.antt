@@ -72,7 +72,8 @@ loop-source-preserved g c =
       head = c.read_wanted.ensures.head ∙ so_far.head;
       cover = c.merge_cells.ensures.cover;
       grow = c.merge_cells.ensures.grow (entries_of c.args.slots.now) so_far.grow;
-      fresh = λ slot h. c.merge_cells.ensures.fresh (entries_of c.args.slots.now) so_far.grow slot h ∙ so_far.fresh slot (omega (arith, h, more.longer));
+      fresh = λ slot h. c.merge_cells.ensures.fresh (entries_of c.args.slots.now) so_far.grow slot h
+          ∙ so_far.fresh slot (omega (arith, h, more.longer));
       merged = λ keeps cells left.
           let kept = step.stays.word keeps in
           let same = ap (λ (n : ℕ). g.S.Source.texts c.loop-source.source n) so_far.id
@@ -108,7 +109,8 @@ returns-in_err-read_wanted-clause-run g c =
 
 pub returns-in_err-merge_cells-clause-refused : goal.returns-in_err-merge_cells-clause-refused
 returns-in_err-merge_cells-clause-refused g c =
-    let p = err_from_is_err_and c.from_residual-in_err-merge_cells.result c.from_residual-in_err-merge_cells.ensures.1 in
+    let p = err_from_is_err_and c.from_residual-in_err-merge_cells.result
+    c.from_residual-in_err-merge_cells.ensures.1 in
     rw (p.1, p.2) (λ bad keeps cells left.
     let asked = c.args.numbers.now in
     let aggs = c.args.aggs.now in
@@ -133,8 +135,10 @@ returns-in_err-merge_cells-clause-fresh g c = λ slot h.
     let bound = group_count c.args.numbers.now.dimensions c.args.numbers.now.query.columns in
     let so_far = c.loop-source.invariant in
     let was = entries_of c.loop-source.slots in
-    let more : Grow bound was (entries_of c.merge_cells.new.slots) = c.merge_cells.ensures.grow was (Grow-same bound was so_far.grow.slots) in
-    c.merge_cells.ensures.fresh (entries_of c.args.slots.now) so_far.grow slot h ∙ so_far.fresh slot (omega (arith, h, more.longer))
+    let more : Grow bound was (entries_of c.merge_cells.new.slots) =
+    c.merge_cells.ensures.grow was (Grow-same bound was so_far.grow.slots) in
+    c.merge_cells.ensures.fresh (entries_of c.args.slots.now) so_far.grow slot h
+    ∙ so_far.fresh slot (omega (arith, h, more.longer))
 
 pub returns-in_err-merge_cells-clause-grow : goal.returns-in_err-merge_cells-clause-grow
 returns-in_err-merge_cells-clause-grow g c =
@@ -145,7 +149,8 @@ returns-in_err-merge_cells-clause-run g c =
     ran_own g.S.Source c.args.source.now c.read_wanted.new.source
     (HasRead-then g.S.Source g.met.S.Source.reads_on c.args.source.now c.loop-source.source c.read_wanted.new.source
     c.loop-source.invariant.read c.in_ok-read_wanted.ensures.run)
-    c.from_residual-in_err-merge_cells.result _ c.from_residual-in_err-merge_cells.ensures.1 c.in_err-merge_cells.ensures.only
+    c.from_residual-in_err-merge_cells.result _ c.from_residual-in_err-merge_cells.ensures.1
+    c.in_err-merge_cells.ensures.only
 
 pub returns-clause-merged : goal.returns-clause-merged
 returns-clause-merged g c = λ keeps cells left.

@@ -20,7 +20,8 @@ invariant-loop-source g l =
       head : l.run.head ≡ l.initial.run.head;
       cover : Cover bound l.slots;
       grow : Grow bound (entries_of l.initial.slots) (entries_of l.slots);
-      fresh : (slot : ℕ) → length (entries_of l.slots) ≤ slot → tallies_at l.columns slot ≡ tallies_at l.initial.columns slot;
+      fresh : (slot : ℕ) → length (entries_of l.slots) ≤ slot
+          → tallies_at l.columns slot ≡ tallies_at l.initial.columns slot;
       merged : g.S.Source.keeps_word l.source → (cells : List Cell) → AreLeft text l.initial.run cells
           → AreMergedTo l.numbers l.aggs (entries_of l.slots) text cells l.run l.initial.columns l.columns;
     }

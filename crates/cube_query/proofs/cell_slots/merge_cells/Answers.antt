@@ -1,4 +1,5 @@
-use Rattle.std.proofs.Common.{◌≡◌, ℕ, ◌+◌, ◌≤◌, ◌∙◌, ◌++◌, ◌∷◌, List, [], Err, inl, inr, ap, refl, sym, subst, take, length, get_or, arith}
+use Rattle.std.proofs.Common.{◌≡◌, ℕ, ◌+◌, ◌≤◌, ◌∙◌, ◌++◌, ◌∷◌, List, [], Err, inl, inr, ap, refl, sym, subst, take}
+use Rattle.std.proofs.Common.{length, get_or, arith}
 use Rattle.std.proofs.lemmas.List.{take_more}
 use Rattle.std.proofs.lemmas.List.Elements.{Contains-get_or}
 use Rattle.std.proofs.lemmas.Result.{err_from_is_err_and}
@@ -16,9 +17,12 @@ use Rattle.cube_query.proofs.CellSlots.{none_yet, one_more, rooms_next}
 use Rattle.cube_query.proofs.cell_slots.merge_cells.Goals as goal
 
 -- what is so after the last of fewer slots is so after the last of more
-still : (asked : AskedOfCells) (old new : Slots) (first : List (ℕ × ℕ)) → Grow (group_count asked.dimensions asked.query.columns) first (entries_of old)
-    → ((start : List (ℕ × ℕ)) → Grow (group_count asked.dimensions asked.query.columns) start (entries_of old) → Grow (group_count asked.dimensions asked.query.columns) start (entries_of new))
-    → (slot : ℕ) → length (entries_of new) ≤ slot → {a b c : List Tally} → a ≡ b → (length (entries_of old) ≤ slot → b ≡ c) → a ≡ c
+still : (asked : AskedOfCells) (old new : Slots) (first : List (ℕ × ℕ))
+    → Grow (group_count asked.dimensions asked.query.columns) first (entries_of old)
+    → ((start : List (ℕ × ℕ)) → Grow (group_count asked.dimensions asked.query.columns) start (entries_of old)
+    → Grow (group_count asked.dimensions asked.query.columns) start (entries_of new))
+    → (slot : ℕ) → length (entries_of new) ≤ slot → {a b c : List Tally} → a ≡ b
+    → (length (entries_of old) ≤ slot → b ≡ c) → a ≡ c
 still asked old new first grown grow slot h {a} {b} {c} one other =
     let bound = group_count asked.dimensions asked.query.columns in
     let more = grow (entries_of old) (Grow-same bound (entries_of old) grown.slots) in
@@ -40,15 +44,19 @@ loop-place-preserved c =
     let place = c.loop-place.place in
     let all = c.args.cells.now in
     let new = entries_of c.merge_one.new.slots in
-    let cells : take (place + 1) all ≡ take place all ++ get_or all place no_cell ∷ [] = take_more all place no_cell c.loop-place-test.true in (
+    let cells : take (place + 1) all ≡ take place all ++ get_or all place no_cell ∷ [] =
+    take_more all place no_cell c.loop-place-test.true in (
       subst (λ (cs : List Cell). AreMergedIn asked aggs new cs c.args.columns.now c.merge_one.new.columns) (sym cells)
-          (one_more asked aggs (entries_of c.loop-place.slots) new c.merge_one.ensures.keep (take place all) (get_or all place no_cell) c.args.columns.now c.loop-place.columns c.merge_one.new.columns
+          (one_more asked aggs (entries_of c.loop-place.slots) new c.merge_one.ensures.keep (take place all)
+          (get_or all place no_cell) c.args.columns.now c.loop-place.columns c.merge_one.new.columns
           c.loop-place.invariant.0 c.in_ok-merge_one.ensures.merged),
       c.merge_one.auto.columns ∙ c.loop-place.invariant.1,
       c.merge_one.ensures.cover,
       λ first grown. c.merge_one.ensures.grow first (c.loop-place.invariant.3 first grown),
-      λ first grown slot h. still c.args.numbers.now c.loop-place.slots c.merge_one.new.slots first (c.loop-place.invariant.3 first grown) c.merge_one.ensures.grow slot h
-          (c.merge_one.ensures.fresh first (c.loop-place.invariant.3 first grown) slot h) (c.loop-place.invariant.4 first grown slot),
+      λ first grown slot h. still c.args.numbers.now c.loop-place.slots c.merge_one.new.slots first
+          (c.loop-place.invariant.3 first grown) c.merge_one.ensures.grow slot h
+          (c.merge_one.ensures.fresh first (c.loop-place.invariant.3 first grown) slot h)
+          (c.loop-place.invariant.4 first grown slot),
     )
 
 pub returns-in_err-merge_one-clause-refused : goal.returns-in_err-merge_one-clause-refused
@@ -59,12 +67,21 @@ returns-in_err-merge_one-clause-refused c =
     let place = c.loop-place.place in
     let all = c.args.cells.now in
     elim (c.in_err-merge_one.ensures.refused (ap (λ fault. Err fault) is)) [
-      | inl none ↦ inl (record { cell = get_or all place no_cell; among = Contains-get_or all place no_cell c.loop-place-test.true; none = none })
+      | inl none ↦
+          inl (record {
+            cell = get_or all place no_cell;
+            among = Contains-get_or all place no_cell c.loop-place-test.true;
+            none = none;
+          })
       | inr full ↦ inr (λ room.
-          full (rooms_next c.args.numbers.now c.args.aggs.now (entries_of c.loop-place.slots) (entries_of c.merge_one.new.slots) all place c.loop-place-test.true c.args.columns.now c.loop-place.columns c.loop-place.invariant.0 room))
+          full (rooms_next c.args.numbers.now c.args.aggs.now (entries_of c.loop-place.slots)
+          (entries_of c.merge_one.new.slots) all place c.loop-place-test.true c.args.columns.now
+          c.loop-place.columns c.loop-place.invariant.0 room))
     ])
 
 pub returns-in_err-merge_one-clause-fresh : goal.returns-in_err-merge_one-clause-fresh
 returns-in_err-merge_one-clause-fresh c = λ first grown slot h.
-    still c.args.numbers.now c.loop-place.slots c.merge_one.new.slots first (c.loop-place.invariant.3 first grown) c.merge_one.ensures.grow slot h
-    (c.merge_one.ensures.fresh first (c.loop-place.invariant.3 first grown) slot h) (c.loop-place.invariant.4 first grown slot)
+    still c.args.numbers.now c.loop-place.slots c.merge_one.new.slots first (c.loop-place.invariant.3 first grown)
+    c.merge_one.ensures.grow slot h
+    (c.merge_one.ensures.fresh first (c.loop-place.invariant.3 first grown) slot h)
+    (c.loop-place.invariant.4 first grown slot)

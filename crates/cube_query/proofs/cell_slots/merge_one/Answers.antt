@@ -16,12 +16,16 @@ returns-in_err-slot-clause-refused c =
 pub returns-in-None-clause-merged : goal.returns-in-None-clause-merged
 returns-in-None-clause-merged c = record {
   group_slot = None;
-  own = subst (λ (slot : Option ℕ). IsCellSlot c.args.numbers.now (entries_of c.cell_slot_of.new.slots) c.args.cell.now slot) c.in-None.is c.in_ok-slot.ensures.group_slot;
+  own = subst
+      (λ (slot : Option ℕ). IsCellSlot c.args.numbers.now (entries_of c.cell_slot_of.new.slots) c.args.cell.now slot)
+      c.in-None.is c.in_ok-slot.ensures.group_slot;
   merged = columns_without_it c.args.cell.now c.args.aggs.now c.args.columns.now c.requires.columns;
 }
 
 pub returns-in-Some-clause-fresh : goal.returns-in-Some-clause-fresh
 returns-in-Some-clause-fresh c = λ first grown other h.
-    let own = subst (λ (slot : Option ℕ). IsCellSlot c.args.numbers.now (entries_of c.cell_slot_of.new.slots) c.args.cell.now slot) c.in-Some.is c.in_ok-slot.ensures.group_slot in
+    let own = subst
+    (λ (slot : Option ℕ). IsCellSlot c.args.numbers.now (entries_of c.cell_slot_of.new.slots) c.args.cell.now slot)
+    c.in-Some.is c.in_ok-slot.ensures.group_slot in
     let within = (c.cell_slot_of.ensures.grow first grown).slots.within own.slot.0 c.in-Some.slot own.slot.2 in
     c.merge_cell.ensures.others other (omega (arith, within, h))

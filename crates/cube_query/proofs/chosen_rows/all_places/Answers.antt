@@ -10,5 +10,6 @@ loop-place-preserved c =
     let room : place < length places = omega (arith, c.loop-place-test.true, c.loop-place.invariant.long) in
     record {
       long = length-set places place place ∙ c.loop-place.invariant.long;
-      front = take_more_set places place place room ∙ ap (λ (l : List ℕ). l ++ place ∷ []) c.loop-place.invariant.front ∙ sym (range_next place);
+      front = take_more_set places place place room ∙ ap (λ (l : List ℕ). l ++ place ∷ []) c.loop-place.invariant.front
+          ∙ sym (range_next place);
     }

@@ -10,4 +10,5 @@ sources_of-requires-clause-below c =
     let bound = group_count c.args.plan.now.dimensions c.args.plan.now.query.columns in
     let old = entries_of c.args.slots.now in
     let below = each_number (λ n. n < bound) old c.requires.numbers.sorted c.requires.numbers.below in
-    subst (All (λ (entry : ℕ × ℕ). entry.0 < bound)) (sym (c.as_slice.ensures.value ∙ c.in_ok-entries.ensures)) (All-numbers (λ n. n < bound) old below)
+    subst (All (λ (entry : ℕ × ℕ). entry.0 < bound)) (sym (c.as_slice.ensures.value ∙ c.in_ok-entries.ensures))
+    (All-numbers (λ n. n < bound) old below)

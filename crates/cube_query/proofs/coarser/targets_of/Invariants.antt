@@ -5,6 +5,7 @@ use Rattle.group_plan.specs.Numbers.{group_count}
 use Rattle.cube_query.proofs.coarser.targets_of.Given as goal
 
 abbrev pub invariant-loop-i : goal.invariant-loop-i
-invariant-loop-i l = AreTargets l.plan.dimensions l.plan.query.columns l.column (entries_of l.slots) (take l.i l.sources) l.targets.items
+invariant-loop-i l =
+    AreTargets l.plan.dimensions l.plan.query.columns l.column (entries_of l.slots) (take l.i l.sources) l.targets.items
     × Cover (group_count l.plan.dimensions l.plan.query.columns) l.slots
     × Grow (group_count l.plan.dimensions l.plan.query.columns) (entries_of l.initial.slots) (entries_of l.slots)

@@ -14,11 +14,14 @@ loop-i-preserved c = λ slot.
     let column = c.index-columns-i.result in
     let read = λ (v : Vec Tally Global). tally_at v.items slot in
     let here : read one ≡ read (get_or columns i column) =
-    ap (λ items. tally_at items slot) (c.in_ok-from_slice.ensures.items ∙ c.as_slice.ensures.value ∙ ap (λ (v : Vec Tally Global). v.items) c.index-columns-i.is) in
+    ap (λ items. tally_at items slot) (c.in_ok-from_slice.ensures.items ∙ c.as_slice.ensures.value
+    ∙ ap (λ (v : Vec Tally Global). v.items) c.index-columns-i.is) in
     ap (λ cs. tallies_at cs slot) c.in_ok-push.ensures.items
     ∙ map-append read c.loop-i.copy.items (one ∷ [])
     ∙ (λ j. c.loop-i.invariant slot j ++ here j ∷ [])
-    ∙ sym (ap (λ cs. tallies_at cs slot) (take_more columns i column c.loop-i-test.true) ∙ map-append read (take i columns) (get_or columns i column ∷ []))
+    ∙ sym (ap (λ cs. tallies_at cs slot) (take_more columns i column c.loop-i-test.true)
+    ∙ map-append read (take i columns) (get_or columns i column ∷ []))
 
 pub returns : goal.returns
-returns c = λ slot. c.loop-i.invariant slot ∙ ap (λ cs. tallies_at cs slot) (take_all c.loop-i.i c.args.columns.now (omega (arith, c.loop-i-test.false)))
+returns c = λ slot. c.loop-i.invariant slot
+    ∙ ap (λ cs. tallies_at cs slot) (take_all c.loop-i.i c.args.columns.now (omega (arith, c.loop-i-test.false)))

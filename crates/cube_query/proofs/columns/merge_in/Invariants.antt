@@ -7,4 +7,5 @@ use Rattle.cube_query.proofs.columns.merge_in.Given as goal
 abbrev pub invariant-loop-place : goal.invariant-loop-place
 invariant-loop-place l = (length l.column ≡ length l.initial.column)
     × ((agg : Agg) (part : ℕ × ℕ → List LineOrder) → CanMerge agg l.initial.column l.sources l.targets part
-    → AddsIn agg (λ slot. gathered slot part (take l.place l.sources) (take l.place l.targets)) l.initial.column l.column)
+    → AddsIn agg (λ slot. gathered slot part (take l.place l.sources) (take l.place l.targets)) l.initial.column
+    l.column)

@@ -6,4 +6,5 @@ use Rattle.cube_query.proofs.columns.no_columns.Goals as goal
 pub loop-agg-preserved : goal.loop-agg-preserved
 loop-agg-preserved c = λ slot.
     ap (λ columns. tallies_at columns slot) c.in_ok-push.ensures.items
-    ∙ no_columns-next c.args.aggs.now c.loop-agg.columns.items c.new.result c.loop-agg._agg-index slot c.loop-agg-test.true c.new.ensures.items (c.loop-agg.invariant slot)
+    ∙ no_columns-next c.args.aggs.now c.loop-agg.columns.items c.new.result c.loop-agg._agg-index slot
+    c.loop-agg-test.true c.new.ensures.items (c.loop-agg.invariant slot)

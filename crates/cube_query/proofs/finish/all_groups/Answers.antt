@@ -27,14 +27,19 @@ returns-clause-lines c = λ rows given.
     let q = c.args.plan.now.query in
     let entries = entries_of c.args.slots.now in
     let columns = c.args.columns.now.items in
-    let count : c.len-count.result ≡ length q.columns = c.len-count.ensures ∙ ap (λ query. length query.columns) c.requires.query in
+    let count : c.len-count.result ≡ length q.columns = c.len-count.ensures
+    ∙ ap (λ query. length query.columns) c.requires.query in
     let can = c.in_ok-coarsen_all.ensures.can in
     let new = entries_of c.coarsen_all.new.slots in
     let all = c.coarsen_all.new.columns.items in
-    let begun : AreTalliedFrom d q c.len-count.result entries columns rows = subst (λ n. AreTalliedFrom d q n entries columns rows) (sym count) given in
-    let ended : AreTallied d q new all rows = all_groups d q new all rows (c.in_ok-coarsen_all.ensures.tallied rows begun) in
+    let begun : AreTalliedFrom d q c.len-count.result entries columns rows =
+    subst (λ n. AreTalliedFrom d q n entries columns rows) (sym count) given in
+    let ended : AreTallied d q new all rows =
+    all_groups d q new all rows (c.in_ok-coarsen_all.ensures.tallied rows begun) in
     ap (λ cs. lines_by d q cs c.in_ok-groups.groups.items) (sym c.as_slice.ensures.value)
-    ∙ c.in_ok-groups.ensures.lines rows (subst (λ cs. seen_groups (key_at d q.columns) (tallies_at cs) new ≡ groups_of d q rows) (sym c.as_slice.ensures.value)
+    ∙ c.in_ok-groups.ensures.lines rows
+    (subst (λ cs. seen_groups (key_at d q.columns) (tallies_at cs) new ≡ groups_of d q rows)
+    (sym c.as_slice.ensures.value)
     (seen_are d q new all rows can.proper.some_aggregate can.rising can.numbers ended))
 
 pub returns-in_err-coarsen_all-clause-refused : goal.returns-in_err-coarsen_all-clause-refused
@@ -45,7 +50,9 @@ returns-in_err-coarsen_all-clause-refused c =
     let q = c.args.plan.now.query in
     let entries = entries_of c.args.slots.now in
     let columns = c.args.columns.now.items in
-    let count : c.len-count.result ≡ length q.columns = c.len-count.ensures ∙ ap (λ query. length query.columns) c.requires.query in
-    let begun : AreTalliedFrom d q c.len-count.result entries columns rows = subst (λ n. AreTalliedFrom d q n entries columns rows) (sym count) given in
+    let count : c.len-count.result ≡ length q.columns = c.len-count.ensures
+    ∙ ap (λ query. length query.columns) c.requires.query in
+    let begun : AreTalliedFrom d q c.len-count.result entries columns rows =
+    subst (λ n. AreTalliedFrom d q n entries columns rows) (sym count) given in
     let fault : c.in_err-coarsen_all.field-0.0 ≡ BadLayout = cc bad in
     c.in_err-coarsen_all.ensures.refused (ap (λ f. Err f) fault) rows begun foldable)

@@ -14,6 +14,7 @@ returns-in-Plain-clause-lines c =
     let plain = ap (λ query. query.kind) (sym c.requires.query) ∙ c.in-Plain.is in
     IfOk-weaker c.finest_lines.result _ _
     (λ lines is rows tallied. is rows (
-    seen_are d (finest q) (entries_of c.args.slots.now) c.args.columns.now rows fold.proper.some_aggregate fold.rising fold.numbers tallied
+    seen_are d (finest q) (entries_of c.args.slots.now) c.args.columns.now rows fold.proper.some_aggregate fold.rising
+    fold.numbers tallied
     ∙ plain_groups d q plain rows))
     c.finest_lines.ensures.lines

@@ -34,7 +34,8 @@ returns-clause-lines c =
     let same_entries : entries_of c.in_ok-slots.slots ≡ entries = c.in_ok-slots.ensures.entries in
     IfOk-weaker c.all_lines.result _ _
     (λ lines is rows first.
-    is rows (subst (λ es. AreTalliedFrom d q (length q.columns) es copy rows) (sym same_entries) (start d q entries columns copy rows c.in_ok-columns.ensures first)))
+    is rows (subst (λ es. AreTalliedFrom d q (length q.columns) es copy rows) (sym same_entries)
+    (start d q entries columns copy rows c.in_ok-columns.ensures first)))
     c.all_lines.ensures.lines
 
 pub returns-clause-refused : goal.returns-clause-refused
@@ -47,4 +48,5 @@ returns-clause-refused c =
     let same_entries : entries_of c.in_ok-slots.slots ≡ entries = c.in_ok-slots.ensures.entries in
     λ bad rows first foldable.
     c.all_lines.ensures.refused bad rows
-    (subst (λ es. AreTalliedFrom d q (length q.columns) es copy rows) (sym same_entries) (start d q entries columns copy rows c.in_ok-columns.ensures first)) foldable
+    (subst (λ es. AreTalliedFrom d q (length q.columns) es copy rows) (sym same_entries)
+    (start d q entries columns copy rows c.in_ok-columns.ensures first)) foldable

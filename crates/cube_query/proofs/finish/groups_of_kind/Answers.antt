@@ -16,7 +16,8 @@ pub returns-in_ok-groups-in-Plain-clause-groups : goal.returns-in_ok-groups-in-P
 returns-in_ok-groups-in-Plain-clause-groups c =
     let d = c.args.plan.now.dimensions in
     let q = c.args.plan.now.query in
-    subst (λ cs. HaveLines d q cs c.in_ok-groups-in-Plain.groups.items) c.as_slice.ensures.value c.in_ok-groups-in-Plain.ensures.groups
+    subst (λ cs. HaveLines d q cs c.in_ok-groups-in-Plain.groups.items) c.as_slice.ensures.value
+    c.in_ok-groups-in-Plain.ensures.groups
 
 pub returns-in_ok-groups-in-Plain-clause-lines : goal.returns-in_ok-groups-in-Plain-clause-lines
 returns-in_ok-groups-in-Plain-clause-lines c = λ rows tallied.
@@ -27,13 +28,22 @@ returns-in_ok-groups-in-Plain-clause-lines c = λ rows tallied.
     let fold = c.requires.fold in
     let plain = ap (λ query. query.kind) (sym c.requires.query) ∙ c.in-Plain.is in
     ap (λ cs. lines_by d q cs c.in_ok-groups-in-Plain.groups.items) (sym c.as_slice.ensures.value)
-    ∙ c.in_ok-groups-in-Plain.ensures.lines rows (subst (λ cs. seen_groups (key_at d q.columns) (tallies_at cs) entries ≡ groups_of d q rows) (sym c.as_slice.ensures.value)
-    (seen_are d (finest q) entries columns rows fold.proper.some_aggregate fold.rising fold.numbers tallied ∙ plain_groups d q plain rows))
+    ∙ c.in_ok-groups-in-Plain.ensures.lines rows
+    (subst (λ cs. seen_groups (key_at d q.columns) (tallies_at cs) entries ≡ groups_of d q rows)
+    (sym c.as_slice.ensures.value)
+    (seen_are d (finest q) entries columns rows fold.proper.some_aggregate fold.rising fold.numbers tallied
+    ∙ plain_groups d q plain rows))
 
 pub all_groups-requires-clause-can : goal.all_groups-requires-clause-can
 all_groups-requires-clause-can c =
     let fold = c.requires.fold in
-    record { proper = fold.proper; rising = fold.rising; numbers = fold.numbers; cover = fold.cover; count = fold.count }
+    record {
+      proper = fold.proper;
+      rising = fold.rising;
+      numbers = fold.numbers;
+      cover = fold.cover;
+      count = fold.count;
+    }
 
 pub returns-in-Rollup-clause-lines : goal.returns-in-Rollup-clause-lines
 returns-in-Rollup-clause-lines c =

@@ -18,10 +18,13 @@ loop-place-preserved g c =
     let group_slot = c.in_ok-group_slot.group_slot in
     let in_rows : place < length all = omega (arith, c.loop-place-test.true, c.count-place-end.ensures) in
     let rows : take (place + 1) all ≡ front ++ row ∷ [] = take_more all place no_row in_rows in
-    let kept = AreGroupSlots-keep dimensions query (entries_of c.loop-place.slots) new c.group_slot_of.ensures.keep front c.loop-place.group_slots.items c.loop-place.invariant.0 in
-    let pushed = AreGroupSlots-push dimensions query new front c.loop-place.group_slots.items row group_slot kept c.in_ok-group_slot.ensures.group_slot in (
+    let kept = AreGroupSlots-keep dimensions query (entries_of c.loop-place.slots) new c.group_slot_of.ensures.keep
+    front c.loop-place.group_slots.items c.loop-place.invariant.0 in
+    let pushed = AreGroupSlots-push dimensions query new front c.loop-place.group_slots.items row group_slot kept
+    c.in_ok-group_slot.ensures.group_slot in (
       subst (λ rs. AreGroupSlots dimensions query new rs c.push.new.self.items) (sym rows)
-          (subst (λ ms. AreGroupSlots dimensions query new (front ++ row ∷ []) ms) (sym c.in_ok-push.ensures.items) pushed),
+          (subst (λ ms. AreGroupSlots dimensions query new (front ++ row ∷ []) ms) (sym c.in_ok-push.ensures.items)
+          pushed),
       c.group_slot_of.ensures.cover,
       c.group_slot_of.ensures.grow (entries_of c.args.slots.now) c.loop-place.invariant.2,
     )

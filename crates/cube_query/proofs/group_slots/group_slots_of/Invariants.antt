@@ -5,6 +5,8 @@ use Rattle.cube_query.specs.FoldInvariant.{AreGroupSlots}
 use Rattle.cube_query.proofs.group_slots.group_slots_of.Given as goal
 
 abbrev pub invariant-loop-place : goal.invariant-loop-place
-invariant-loop-place g l = AreGroupSlots l.plan.dimensions l.plan.query (entries_of l.slots) (take l.place (g.F.FactRows.rows l.rows)) l.group_slots.items
+invariant-loop-place g l =
+    AreGroupSlots l.plan.dimensions l.plan.query (entries_of l.slots) (take l.place (g.F.FactRows.rows l.rows))
+    l.group_slots.items
     × Cover (group_count l.plan.dimensions l.plan.query.columns) l.slots
     × Grow (group_count l.plan.dimensions l.plan.query.columns) (entries_of l.initial.slots) (entries_of l.slots)

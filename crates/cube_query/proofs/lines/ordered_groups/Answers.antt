@@ -47,8 +47,10 @@ returns-in_ok-sorted-in-Some-clause-groups c =
     let entries = entries_of c.args.slots.now in
     let seen : c.in_ok-groups.groups.items ≡ seen_entries (tallies_at columns) entries = c.in_ok-groups.ensures in
     let same : IsPermutation (seen_entries (tallies_at columns) entries) c.in_ok-sorted-in-Some.sorted.items =
-    subst (λ all. IsPermutation all c.in_ok-sorted-in-Some.sorted.items) (c.as_slice.ensures.value ∙ seen) c.in_ok-sorted-in-Some.ensures.same in
-    All-permutation (HasLine dims query columns) (seen_entries (tallies_at columns) entries) c.in_ok-sorted-in-Some.sorted.items same (seen_have_lines dims query columns entries c.requires.numbers)
+    subst (λ all. IsPermutation all c.in_ok-sorted-in-Some.sorted.items) (c.as_slice.ensures.value ∙ seen)
+    c.in_ok-sorted-in-Some.ensures.same in
+    All-permutation (HasLine dims query columns) (seen_entries (tallies_at columns) entries)
+    c.in_ok-sorted-in-Some.sorted.items same (seen_have_lines dims query columns entries c.requires.numbers)
 
 pub returns-in_ok-sorted-in-Some-clause-lines : goal.returns-in_ok-sorted-in-Some-clause-lines
 returns-in_ok-sorted-in-Some-clause-lines c = λ rows represents.
@@ -58,17 +60,21 @@ returns-in_ok-sorted-in-Some-clause-lines c = λ rows represents.
     let columns = c.args.columns.now in
     let entries = entries_of c.args.slots.now in
     let seen : c.in_ok-groups.groups.items ≡ seen_entries (tallies_at columns) entries = c.in_ok-groups.ensures in
-    let aggregates : c.as_slice-aggregates.result.now ≡ aggs = c.as_slice-aggregates.ensures ∙ ap (λ q. q.aggregates) c.requires.query in
+    let aggregates : c.as_slice-aggregates.result.now ≡ aggs = c.as_slice-aggregates.ensures
+    ∙ ap (λ q. q.aggregates) c.requires.query in
     let asked = ap (λ q. q.order) (sym c.requires.query) ∙ c.in-Some.is in
     let same : IsPermutation (seen_entries (tallies_at columns) entries) c.in_ok-sorted-in-Some.sorted.items =
-    subst (λ all. IsPermutation all c.in_ok-sorted-in-Some.sorted.items) (c.as_slice.ensures.value ∙ seen) c.in_ok-sorted-in-Some.ensures.same in
+    subst (λ all. IsPermutation all c.in_ok-sorted-in-Some.sorted.items) (c.as_slice.ensures.value ∙ seen)
+    c.in_ok-sorted-in-Some.ensures.same in
     let key = key_at dims query.columns in
     let order = c.in-Some.order in
     let sorted = c.in_ok-sorted-in-Some.sorted.items in
     let rising : IsAscending (line_cmp order) (map (entry_line key aggs columns) sorted) =
-    subst (λ all. IsAscending (line_cmp order) (map (entry_line key all columns) sorted)) aggregates c.in_ok-sorted-in-Some.ensures.rising in
+    subst (λ all. IsAscending (line_cmp order) (map (entry_line key all columns) sorted)) aggregates
+    c.in_ok-sorted-in-Some.ensures.rising in
     sorted_answer dims query rows order asked c.answer_is_the_one.ensures
-    (map (entry_line key aggs columns) (seen_entries (tallies_at columns) entries)) (map (entry_line key aggs columns) sorted)
+    (map (entry_line key aggs columns) (seen_entries (tallies_at columns) entries))
+    (map (entry_line key aggs columns) sorted)
     (seen_lines key aggs columns entries ∙ ap (map (line_with aggs)) represents ∙ unordered_lines dims query rows)
     (IsPermutation-map (entry_line key aggs columns) (seen_entries (tallies_at columns) entries) sorted same)
     rising
@@ -81,7 +87,8 @@ in_order-requires-clause-aggregate c =
     let columns = c.args.columns.now in
     let entries = entries_of c.args.slots.now in
     let seen : c.in_ok-groups.groups.items ≡ seen_entries (tallies_at columns) entries = c.in_ok-groups.ensures in
-    let aggregates : c.as_slice-aggregates.result.now ≡ aggs = c.as_slice-aggregates.ensures ∙ ap (λ q. q.aggregates) c.requires.query in
+    let aggregates : c.as_slice-aggregates.result.now ≡ aggs = c.as_slice-aggregates.ensures
+    ∙ ap (λ q. q.aggregates) c.requires.query in
     let asked = ap (λ q. q.order) (sym c.requires.query) ∙ c.in-Some.is in
     let fit = fit_order query c.in-Some.order c.requires.proper asked in
     subst (λ all. c.in-Some.order.aggregate < length all) (sym aggregates) fit.1
@@ -94,7 +101,8 @@ in_order-requires-clause-whole c =
     let columns = c.args.columns.now in
     let entries = entries_of c.args.slots.now in
     let seen : c.in_ok-groups.groups.items ≡ seen_entries (tallies_at columns) entries = c.in_ok-groups.ensures in
-    let aggregates : c.as_slice-aggregates.result.now ≡ aggs = c.as_slice-aggregates.ensures ∙ ap (λ q. q.aggregates) c.requires.query in
+    let aggregates : c.as_slice-aggregates.result.now ≡ aggs = c.as_slice-aggregates.ensures
+    ∙ ap (λ q. q.aggregates) c.requires.query in
     let asked = ap (λ q. q.order) (sym c.requires.query) ∙ c.in-Some.is in
     let fit = fit_order query c.in-Some.order c.requires.proper asked in
     subst (λ all. is_average (get_or all c.in-Some.order.aggregate Count) ≡ false) (sym aggregates) fit.2
@@ -108,7 +116,8 @@ in_order-requires-clause-below c =
     let entries = entries_of c.args.slots.now in
     let seen : c.in_ok-groups.groups.items ≡ seen_entries (tallies_at columns) entries = c.in_ok-groups.ensures in
     subst (All (λ (group : ℕ × ℕ). group.0 < group_count dims query.columns)) (sym (c.as_slice.ensures.value ∙ seen))
-    (seen_below (group_count dims query.columns) (tallies_at columns) entries c.requires.numbers.sorted c.requires.numbers.below)
+    (seen_below (group_count dims query.columns) (tallies_at columns) entries c.requires.numbers.sorted
+    c.requires.numbers.below)
 
 pub in_order-requires-clause-apart : goal.in_order-requires-clause-apart
 in_order-requires-clause-apart c =
@@ -118,4 +127,5 @@ in_order-requires-clause-apart c =
     let columns = c.args.columns.now in
     let entries = entries_of c.args.slots.now in
     let seen : c.in_ok-groups.groups.items ≡ seen_entries (tallies_at columns) entries = c.in_ok-groups.ensures in
-    subst (λ all. IsDistinct (eq_by_cmp nat_cmp) (map (λ (group : ℕ × ℕ). group.0) all)) (sym (c.as_slice.ensures.value ∙ seen)) (seen_apart (tallies_at columns) entries c.requires.numbers.sorted)
+    subst (λ all. IsDistinct (eq_by_cmp nat_cmp) (map (λ (group : ℕ × ℕ). group.0) all))
+    (sym (c.as_slice.ensures.value ∙ seen)) (seen_apart (tallies_at columns) entries c.requires.numbers.sorted)

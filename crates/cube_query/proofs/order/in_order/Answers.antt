@@ -23,7 +23,8 @@ returns-clause-same c =
     IsPermutation-map (λ (r : Rank). r.2) c.in_ok-ranked.ranked.items ranks c.sort_unstable.ensures.permutation in
     IfOk-weaker c.unranked.result _ _
     (λ sorted is.
-    subst (λ all. IsPermutation c.args.groups.now all) (sym (is ∙ ap (map (λ (r : Rank). r.2)) c.as_slice.ensures.value))
+    subst (λ all. IsPermutation c.args.groups.now all)
+    (sym (is ∙ ap (map (λ (r : Rank). r.2)) c.as_slice.ensures.value))
     (subst (λ all. IsPermutation all (map (λ (r : Rank). r.2) ranks)) c.in_ok-ranked.ensures.groups moved))
     c.unranked.ensures
 
@@ -35,14 +36,21 @@ returns-clause-rising c =
     let line = entry_line (key_at dims attrs) c.args.aggregates.now c.args.columns.now in
     let first = c.in_ok-ranked.ranked.items in
     let ranks = c.sort_unstable.new.self.items in
-    let are : All (IsRank dims attrs order line) ranks = All-permutation (IsRank dims attrs order line) first ranks c.sort_unstable.ensures.permutation c.in_ok-ranked.ensures.ranks in
+    let are : All (IsRank dims attrs order line) ranks =
+    All-permutation (IsRank dims attrs order line) first ranks c.sort_unstable.ensures.permutation
+    c.in_ok-ranked.ensures.ranks in
     let numbers : map (λ (r : Rank). r.2.0) first ≡ map (λ (g : ℕ × ℕ). g.0) c.args.groups.now =
-    sym (map-map (λ (g : ℕ × ℕ). g.0) (λ (r : Rank). r.2) first) ∙ ap (map (λ (g : ℕ × ℕ). g.0)) c.in_ok-ranked.ensures.groups in
+    sym (map-map (λ (g : ℕ × ℕ). g.0) (λ (r : Rank). r.2) first)
+    ∙ ap (map (λ (g : ℕ × ℕ). g.0)) c.in_ok-ranked.ensures.groups in
     let apart : IsDistinct (eq_by_cmp nat_cmp) (map (λ (r : Rank). r.2.0) ranks) =
-    IsDistinct-IsPermutation (eq_by_cmp nat_cmp) (eq_by_cmp_equiv nat_cmp_total).symm (map (λ (r : Rank). r.2.0) first) (map (λ (r : Rank). r.2.0) ranks)
-    (IsPermutation-map (λ (r : Rank). r.2.0) first ranks c.sort_unstable.ensures.permutation) (subst (IsDistinct (eq_by_cmp nat_cmp)) (sym numbers) c.requires.apart) in
+    IsDistinct-IsPermutation (eq_by_cmp nat_cmp) (eq_by_cmp_equiv nat_cmp_total).symm (map (λ (r : Rank). r.2.0) first)
+    (map (λ (r : Rank). r.2.0) ranks)
+    (IsPermutation-map (λ (r : Rank). r.2.0) first ranks c.sort_unstable.ensures.permutation)
+    (subst (IsDistinct (eq_by_cmp nat_cmp)) (sym numbers) c.requires.apart) in
     let rising : IsAscending (line_cmp order) (map line (map (λ (r : Rank). r.2) ranks)) =
-    sorted_lines dims attrs (keys_rise dims attrs) order line (λ e i. key_at dims attrs e.0) ranks are c.sort_unstable.ensures.sorted apart in
+    sorted_lines dims attrs (keys_rise dims attrs) order line (λ e i. key_at dims attrs e.0) ranks are
+    c.sort_unstable.ensures.sorted apart in
     IfOk-weaker c.unranked.result _ _
-    (λ sorted is. subst (λ all. IsAscending (line_cmp order) (map line all)) (sym (is ∙ ap (map (λ (r : Rank). r.2)) c.as_slice.ensures.value)) rising)
+    (λ sorted is. subst (λ all. IsAscending (line_cmp order) (map line all))
+    (sym (is ∙ ap (map (λ (r : Rank). r.2)) c.as_slice.ensures.value)) rising)
     c.unranked.ensures

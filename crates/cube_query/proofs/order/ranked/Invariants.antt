@@ -7,4 +7,5 @@ use Rattle.cube_query.proofs.order.ranked.Given as goal
 
 abbrev pub invariant-loop-i : goal.invariant-loop-i
 invariant-loop-i l = (map (λ rank. rank.2) l.ranked.items ≡ take l.i l.groups)
-    × All (IsRank l.plan.dimensions l.plan.query.columns l.order (entry_line (key_at l.plan.dimensions l.plan.query.columns) l.aggregates l.columns)) l.ranked.items
+    × All (IsRank l.plan.dimensions l.plan.query.columns l.order
+    (entry_line (key_at l.plan.dimensions l.plan.query.columns) l.aggregates l.columns)) l.ranked.items

@@ -15,8 +15,11 @@ returns-then-not-has_room g c =
     let column = c.index-columns-i.result in (
       λ t. absurd (cc t),
       λ all.
-          let here = subst (λ (other : Vec Tally Global). HasRoom (get_or c.args.aggs.now i Count) other.items rows c.args.group_slots.now) (sym c.index-columns-i.is) (all i c.loop-i-test.true Count column) in
-          let room = subst (λ items. HasRoom (get_or c.args.aggs.now i Count) items rows c.args.group_slots.now) (sym c.as_slice.ensures.value) here in
+          let here = subst
+          (λ (other : Vec Tally Global). HasRoom (get_or c.args.aggs.now i Count) other.items rows
+          c.args.group_slots.now) (sym c.index-columns-i.is) (all i c.loop-i-test.true Count column) in
+          let room = subst (λ items. HasRoom (get_or c.args.aggs.now i Count) items rows c.args.group_slots.now)
+          (sym c.as_slice.ensures.value) here in
           let yes = c.has_room.ensures.1 room in
           absurd (cc (yes, c.if-not-has_room.true)),
     )
@@ -32,10 +35,14 @@ loop-i-preserved g c =
     let in_columns : i < length columns = omega (arith, c.loop-i-test.true, c.requires.columns) in
     let room = c.has_room.ensures.0 c.if-not-has_room.false in
     let here = subst (λ items. HasRoom (get_or aggs i Count) items rows group_slots) c.as_slice.ensures.value room in
-    below_more (λ k. (agg : Agg) (column : Vec Tally Global) → HasRoom (get_or aggs k agg) (get_or columns k column).items rows group_slots) i c.loop-i.invariant
+    below_more (λ k. (agg : Agg) (column : Vec Tally Global)
+    → HasRoom (get_or aggs k agg) (get_or columns k column).items rows group_slots) i c.loop-i.invariant
     (λ agg column.
-    subst (λ a. HasRoom a (get_or columns i column).items rows group_slots) (get_or_default aggs i Count agg c.loop-i-test.true)
-    (subst (λ (other : Vec Tally Global). HasRoom (get_or aggs i Count) other.items rows group_slots) (c.index-columns-i.is ∙ get_or_default columns i first column in_columns) here))
+    subst (λ a. HasRoom a (get_or columns i column).items rows group_slots)
+    (get_or_default aggs i Count agg c.loop-i-test.true)
+    (subst (λ (other : Vec Tally Global). HasRoom (get_or aggs i Count) other.items rows group_slots)
+    (c.index-columns-i.is ∙ get_or_default columns i first column in_columns) here))
 
 pub returns : goal.returns
-returns g c = (λ t k h agg column. c.loop-i.invariant k (omega (arith, h, c.loop-i-test.false)) agg column, λ all. search rules)
+returns g c =
+    (λ t k h agg column. c.loop-i.invariant k (omega (arith, h, c.loop-i-test.false)) agg column, λ all. search rules)

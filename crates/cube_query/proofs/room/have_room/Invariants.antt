@@ -8,4 +8,5 @@ use Rattle.cube_query.proofs.room.have_room.Given as goal
 
 abbrev pub invariant-loop-i : goal.invariant-loop-i
 invariant-loop-i g l = (k : ℕ) → k < l.i → (agg : Agg) (column : Vec Tally Global)
-    → HasRoom (slice_index_or l.aggs k agg) (slice_index_or l.columns k column).items (g.F.FactRows.rows l.rows) l.group_slots
+    → HasRoom (slice_index_or l.aggs k agg) (slice_index_or l.columns k column).items (g.F.FactRows.rows l.rows)
+    l.group_slots

@@ -10,5 +10,6 @@ begin_by-requires c = subst IsProper (sym c.in_ok-plan.ensures.query) c.requires
 pub returns : goal.returns
 returns c =
     IfOk-weaker c.begin_by.result _ _
-    (λ fold is. subst (λ q. Begins c.args.dims.now q fold) c.in_ok-plan.ensures.query (is c.args.dims.now c.in_ok-plan.ensures.over))
+    (λ fold is. subst (λ q. Begins c.args.dims.now q fold) c.in_ok-plan.ensures.query
+    (is c.args.dims.now c.in_ok-plan.ensures.over))
     c.begin_by.ensures

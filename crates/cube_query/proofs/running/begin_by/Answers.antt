@@ -12,7 +12,9 @@ invariant_of-result c =
     let plan = c.args.plan in
     let slots = c.in_ok-slots.slots in
     let columns = c.in_ok-columns.columns.items in
-    let none = λ (slot : ℕ). (let here : tallies_at columns slot ≡ tallies_of (query_of plan).aggregates [] = c.in_ok-columns.ensures slot ∙ ap (λ aggs. tallies_of aggs []) (c.as_slice.ensures ∙ ap (λ q. q.aggregates) c.query.ensures) in here) in
+    let none = λ (slot : ℕ).
+    (let here : tallies_at columns slot ≡ tallies_of (query_of plan).aggregates [] = c.in_ok-columns.ensures slot
+    ∙ ap (λ aggs. tallies_of aggs []) (c.as_slice.ensures ∙ ap (λ q. q.aggregates) c.query.ensures) in here) in
     record {
       proper = c.requires;
       numbers = subst (λ n. AreSlots n (entries_of slots)) c.group_count.ensures c.in_ok-slots.ensures.numbers;
@@ -25,10 +27,15 @@ returns c =
     let plan = c.args.plan in
     let slots = c.in_ok-slots.slots in
     let columns = c.in_ok-columns.columns.items in
-    let none = λ (slot : ℕ). (let here : tallies_at columns slot ≡ tallies_of (query_of plan).aggregates [] = c.in_ok-columns.ensures slot ∙ ap (λ aggs. tallies_of aggs []) (c.as_slice.ensures ∙ ap (λ q. q.aggregates) c.query.ensures) in here) in
+    let none = λ (slot : ℕ).
+    (let here : tallies_at columns slot ≡ tallies_of (query_of plan).aggregates [] = c.in_ok-columns.ensures slot
+    ∙ ap (λ aggs. tallies_of aggs []) (c.as_slice.ensures ∙ ap (λ q. q.aggregates) c.query.ensures) in here) in
     λ dims over.
     let made = plan_of_over dims plan over in
     record {
       query_is = refl;
-      represents = begun dims plan over slots columns (subst (λ n. AreSlots n (entries_of slots)) (c.group_count.ensures ∙ made.counted) c.in_ok-slots.ensures.numbers) none;
+      represents =
+          begun dims plan over slots columns
+          (subst (λ n. AreSlots n (entries_of slots)) (c.group_count.ensures ∙ made.counted)
+          c.in_ok-slots.ensures.numbers) none;
     }

@@ -20,7 +20,8 @@ returns-clause-refused g c = λ bad keeps cells left.
     elim (c.merge_run.ensures.refused bad keeps cells left) [
       | inl none ↦
           (let asked = subst (λ (own : AskedOfCells). HaveNoRepresentative own cells) c.in_ok-numbers.ensures none in
-          inl (subst (λ (head : RunHead). HaveNoRepresentative (asked_of dims query head.view modes) cells) c.head.ensures
+          inl (subst (λ (head : RunHead). HaveNoRepresentative (asked_of dims query head.view modes) cells)
+          c.head.ensures
           asked))
       | inr full ↦ inr (λ room. full
           (subst (λ (aggs : List Agg). GroupsHaveRoomFor entries aggs cells c.args.columns.now) (sym aggregates) room))

@@ -7,7 +7,8 @@ pub loop-number-preserved : goal.loop-number-preserved
 loop-number-preserved c =
     let i = c.loop-number.number in
     let rest = numbers_from (i + 1) (c.args.count - (i + 1)) in
-    ap (λ entries. entries ++ rest) (c.in_ok-push.ensures.items ∙ ap (λ number. c.loop-number.entries.items ++ (number, i) ∷ []) c.from.ensures)
+    ap (λ entries. entries ++ rest)
+    (c.in_ok-push.ensures.items ∙ ap (λ number. c.loop-number.entries.items ++ (number, i) ∷ []) c.from.ensures)
     ∙ append_assoc c.loop-number.entries.items ((i, i) ∷ []) rest
     ∙ sym (ap (λ more. c.loop-number.entries.items ++ more) (numbers_from-next i c.args.count c.loop-number-test.true))
     ∙ c.loop-number.invariant

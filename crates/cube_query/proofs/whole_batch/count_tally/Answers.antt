@@ -11,4 +11,5 @@ returns c =
     let rows = c.args.batch.now in
     let all : Tally = record { count = c.count_of.result; sum = pos 0; least = pos 0; greatest = pos 0 } in
     let same : _ ≡ all = search rules in
-    same ∙ tally_noughts (selected mask rows) c.count_of.result (c.count_of.ensures ∙ count_selected mask rows c.requires)
+    same ∙ tally_noughts (selected mask rows) c.count_of.result
+    (c.count_of.ensures ∙ count_selected mask rows c.requires)

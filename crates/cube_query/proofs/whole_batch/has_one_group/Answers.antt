@@ -8,4 +8,5 @@ pub returns-then-is_empty : goal.returns-then-is_empty
 returns-then-is_empty c =
     let query = c.args.query.now in
     let none : (length query.columns == 0) ≡ true = grind (arith, nat_tests, c.if-is_empty.ensures) in
-    c.are_on_rows.ensures ∙ ap (list_all is_on_row) c.as_slice.ensures ∙ sym (ap (λ (b : Bool). b && list_all is_on_row query.conditions) none)
+    c.are_on_rows.ensures ∙ ap (list_all is_on_row) c.as_slice.ensures
+    ∙ sym (ap (λ (b : Bool). b && list_all is_on_row query.conditions) none)

@@ -1,6 +1,6 @@
 use Rattle.std.proofs.Common.{◌∙◌, rules, FitsSigned, w64}
 use Rattle.std.proofs.lemmas.Result.{on_ok_weaker}
-use Rattle.cuboid_cells.proofs.Behind.{summary_put, three_put}
+use Rattle.cuboid_cells.proofs.After.{summary_put, three_put}
 use Rattle.cuboid_cells.proofs.encoding.push_summary.Goals as goal
 
 pub returns-clause-ok : goal.returns-clause-ok

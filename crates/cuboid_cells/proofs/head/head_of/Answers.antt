@@ -13,7 +13,8 @@ returns-in_default-clause-none c = λ text many gives span plain is.
 pub returns-in-None-clause-none : goal.returns-in-None-clause-none
 returns-in-None-clause-none c = λ text many gives span plain is.
     let header = c.in-Ok.header in
-    let reads = subst (λ (bytes : List ℕ). ReadsHeader bytes c.read_header.new.cursor header) c.new-cursor.ensures c.in-Ok.ensures.ok in
+    let reads = subst (λ (bytes : List ℕ). ReadsHeader bytes c.read_header.new.cursor header) c.new-cursor.ensures
+    c.in-Ok.ensures.ok in
     let own = on_text text c.args.bytes.now c.read_header.new.cursor header gives reads in
     c.in-None.ensures.none plain.view (subst (λ (n : ℕ). IsHeaderOf n header plain.view) many
     (header_is_of text (c.read_header.new.cursor ++ drop (length c.args.bytes.now) text) header own span plain is))

@@ -8,7 +8,8 @@ use Rattle.warehouse_objects.specs.Warehouse.{Warehouse}
 use Rattle.warehouse_objects.specs.Represents as represents
 use Rattle.warehouse_objects.specs.Represents.{Represents, said_of}
 use Rattle.warehouse_objects.proofs.Batches.{get_within}
-use Rattle.cuboid_commits.proofs.Turns.{AreReached, all_done, leaves_first, leaves_more, lower_reached, none_yet, one_more, rows_kept, same, still_reached, then_more}
+use Rattle.cuboid_commits.proofs.Turns.{AreReached, all_done, leaves_first, leaves_more, lower_reached, none_yet}
+use Rattle.cuboid_commits.proofs.Turns.{one_more, rows_kept, same, still_reached, then_more}
 use Rattle.cuboid_commits.proofs.catching.catch_up.Goals as goal
 
 pub loop-place-init : goal.loop-place-init
@@ -22,13 +23,17 @@ loop-place-init g c =
       at = λ w at dims. (w, same w, at, λ k. none_yet w);
       leaves = λ w at dims.
           leaves_first w (stores.disk_of g.D.Sectors s) (stores.disk_of g.D.Sectors s)
-          (leaves_weaker (λ (x : Content). x ≡ stores.content_of g.D.Sectors s) (λ (x : Content). Represents x w) (stores.disk_of g.D.Sectors s) (stores.disk_of g.D.Sectors s)
-          (λ k x e. subst (λ (y : Content). Represents y w) (sym e) (at.represents k)) (c.is_broken-usable.ensures.leaves c.requires.fine));
+          (leaves_weaker (λ (x : Content). x ≡ stores.content_of g.D.Sectors s) (λ (x : Content). Represents x w)
+          (stores.disk_of g.D.Sectors s) (stores.disk_of g.D.Sectors s)
+          (λ k x e. subst (λ (y : Content). Represents y w) (sym e) (at.represents k))
+          (c.is_broken-usable.ensures.leaves c.requires.fine));
     }
 
 -- as many cuboids as the root says
-many_there : (w : Warehouse) (root : PlainRoot) (count : ℕ) → represents.root_of w ≡ root → length root.cuboids ≡ count → length w.cuboids ≡ count
-many_there w root count root_is many = sym (length-map w.cuboids said_of) ∙ ap (λ (r : PlainRoot). length r.cuboids) root_is ∙ many
+many_there : (w : Warehouse) (root : PlainRoot) (count : ℕ) → represents.root_of w ≡ root → length root.cuboids ≡ count
+    → length w.cuboids ≡ count
+many_there w root count root_is many = sym (length-map w.cuboids said_of)
+    ∙ ap (λ (r : PlainRoot). length r.cuboids) root_is ∙ many
 
 pub loop-place-preserved : goal.loop-place-preserved
 loop-place-preserved g c =
@@ -40,47 +45,58 @@ loop-place-preserved g c =
       failures = c.in-Ok.ensures.failures ∙ so_far.failures;
       many = c.bring_on.ensures.many ∙ so_far.many;
       word = λ k. so_far.word (c.bring_on.ensures.word k);
-      loaded = λ k rows is. c.bring_on.ensures.loaded c.in-Ok.ensures.fine k rows (so_far.loaded (c.bring_on.ensures.word k) rows is);
+      loaded = λ k rows is. c.bring_on.ensures.loaded c.in-Ok.ensures.fine k rows
+          (so_far.loaded (c.bring_on.ensures.word k) rows is);
       at = λ w at dims.
           let was = so_far.at w at dims in
-          let known : g.D.Sectors.keeps_word (stores.device_of c.loop-place.store) → c.args.dims.now ≡ was.0.rows = λ k. dims (so_far.word k) ∙ sym (rows_kept w was.0 was.1.kept) in
+          let known : g.D.Sectors.keeps_word (stores.device_of c.loop-place.store) → c.args.dims.now ≡ was.0.rows =
+          λ k. dims (so_far.word k) ∙ sym (rows_kept w was.0 was.1.kept) in
           let now = c.in-Ok.ensures.stays (λ is. absurd cc) was.0 was.2 known in (
             now.0,
             then_more w was.0 now.0 was.1 now.1,
             now.2,
             λ k.
                 let there = get_within now.0.cuboids c.loop-place.place
-                (let many = many_there now.0 c.bring_on.new.root (length c.cuboids-count.result.now) (now.2.root_is k) (c.bring_on.ensures.many ∙ so_far.many) in omega (arith, many, c.loop-place-test.true)) in
+                (let many = many_there now.0 c.bring_on.new.root (length c.cuboids-count.result.now) (now.2.root_is k)
+                (c.bring_on.ensures.many ∙ so_far.many) in omega (arith, many, c.loop-place-test.true)) in
                 subst (λ f. AreReached (c.loop-place.place + 1) f now.0) (sym c.or-first.ensures)
                 (one_more now.0 c.loop-place.place c.loop-place.first c.in-Ok.passed there.0 there.1
-                (still_reached was.0 now.0 c.loop-place.place c.loop-place.first now.1 (was.3 (c.bring_on.ensures.word k)))
-                (c.in-Ok.ensures.reached now.0 now.2 k (known (c.bring_on.ensures.word k) ∙ sym (rows_kept was.0 now.0 now.1.kept)) there.0 there.1)),
+                (still_reached was.0 now.0 c.loop-place.place c.loop-place.first now.1
+                (was.3 (c.bring_on.ensures.word k)))
+                (c.in-Ok.ensures.reached now.0 now.2 k
+                (known (c.bring_on.ensures.word k) ∙ sym (rows_kept was.0 now.0 now.1.kept)) there.0 there.1)),
           );
       leaves = λ w at dims.
           let was = so_far.at w at dims in
-          let known : g.D.Sectors.keeps_word (stores.device_of c.loop-place.store) → c.args.dims.now ≡ was.0.rows = λ k. dims (so_far.word k) ∙ sym (rows_kept w was.0 was.1.kept) in
-          leaves_more w was.0 (stores.disk_of g.D.Sectors start) (stores.disk_of g.D.Sectors mid) (stores.disk_of g.D.Sectors new) was.1 (so_far.leaves w at dims) (c.bring_on.ensures.leaves was.0 was.2 known);
+          let known : g.D.Sectors.keeps_word (stores.device_of c.loop-place.store) → c.args.dims.now ≡ was.0.rows =
+          λ k. dims (so_far.word k) ∙ sym (rows_kept w was.0 was.1.kept) in
+          leaves_more w was.0 (stores.disk_of g.D.Sectors start) (stores.disk_of g.D.Sectors mid)
+          (stores.disk_of g.D.Sectors new) was.1 (so_far.leaves w at dims)
+          (c.bring_on.ensures.leaves was.0 was.2 known);
     }
 
 pub returns-in-Err-clause-leaves : goal.returns-in-Err-clause-leaves
 returns-in-Err-clause-leaves g c w at dims =
     let so_far = c.loop-place.invariant in
     let was = so_far.at w at dims in
-    leaves_more w was.0 (stores.disk_of g.D.Sectors c.args.store.now) (stores.disk_of g.D.Sectors c.loop-place.store) (stores.disk_of g.D.Sectors c.bring_on.new.store) was.1 (so_far.leaves w at dims)
+    leaves_more w was.0 (stores.disk_of g.D.Sectors c.args.store.now) (stores.disk_of g.D.Sectors c.loop-place.store)
+    (stores.disk_of g.D.Sectors c.bring_on.new.store) was.1 (so_far.leaves w at dims)
     (c.bring_on.ensures.leaves was.0 was.2 (λ k. dims (so_far.word k) ∙ sym (rows_kept w was.0 was.1.kept)))
 
 pub returns-in-Err-clause-stays : goal.returns-in-Err-clause-stays
 returns-in-Err-clause-stays g c other w at dims =
     let so_far = c.loop-place.invariant in
     let was = so_far.at w at dims in
-    let now = c.in-Err.ensures.stays other was.0 was.2 (λ k. dims (so_far.word k) ∙ sym (rows_kept w was.0 was.1.kept)) in
+    let now = c.in-Err.ensures.stays other was.0 was.2
+    (λ k. dims (so_far.word k) ∙ sym (rows_kept w was.0 was.1.kept)) in
     (now.0, then_more w was.0 now.0 was.1 now.1, now.2)
 
 pub returns-in-Err-clause-reason : goal.returns-in-Err-clause-reason
 returns-in-Err-clause-reason g c no_device no_memory w at dims =
     let so_far = c.loop-place.invariant in
     let was = so_far.at w at dims in
-    let known : g.D.Sectors.keeps_word (stores.device_of c.loop-place.store) → c.args.dims.now ≡ was.0.rows = λ k. dims (so_far.word k) ∙ sym (rows_kept w was.0 was.1.kept) in (
+    let known : g.D.Sectors.keeps_word (stores.device_of c.loop-place.store) → c.args.dims.now ≡ was.0.rows =
+    λ k. dims (so_far.word k) ∙ sym (rows_kept w was.0 was.1.kept) in (
       was.0,
       was.1,
       c.in-Err.ensures.refused no_device was.0 was.2,
@@ -88,7 +104,8 @@ returns-in-Err-clause-reason g c no_device no_memory w at dims =
           let refused = c.in-Err.ensures.reason no_device no_memory k was.0 was.2 known in
           let before = c.bring_on.ensures.word k in record {
             next = refused.0;
-            lower = lower_reached was.0 c.loop-place.place c.loop-place.first refused.0.old (was.2.represents before).root.proper.ascending refused.1 (was.3 before);
+            lower = lower_reached was.0 c.loop-place.place c.loop-place.first refused.0.old
+                (was.2.represents before).root.proper.ascending refused.1 (was.3 before);
           },
     )
 
@@ -113,6 +130,8 @@ returns-clause-ok g c w at dims =
       now.1,
       now.2,
       λ k.
-          let many = many_there now.0 c.loop-place.root (length c.cuboids-count.result.now) (now.2.root_is k) c.loop-place.invariant.many in
-          all_done now.0 c.loop-place.place c.loop-place.first (now.2.represents k).root.proper.ascending (omega (arith, many, c.loop-place-test.false)) (now.3 k),
+          let many = many_there now.0 c.loop-place.root (length c.cuboids-count.result.now) (now.2.root_is k)
+          c.loop-place.invariant.many in
+          all_done now.0 c.loop-place.place c.loop-place.first (now.2.represents k).root.proper.ascending
+          (omega (arith, many, c.loop-place-test.false)) (now.3 k),
     )

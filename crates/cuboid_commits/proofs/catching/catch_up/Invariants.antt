@@ -18,11 +18,15 @@ invariant-loop-place g l =
       failures : (disk_of g.D.Sectors l.store).failures ≡ (disk_of g.D.Sectors start).failures;
       many : length l.root.cuboids ≡ l.count;
       word : keeps (device_of l.store) → keeps (device_of start);
-      loaded : keeps (device_of l.store) → (rows : DimRows) → IsLoaded (content_of g.D.Sectors start) rows l.initial.root → IsLoaded (content_of g.D.Sectors l.store) rows l.root;
+      loaded : keeps (device_of l.store) → (rows : DimRows)
+          → IsLoaded (content_of g.D.Sectors start) rows l.initial.root
+          → IsLoaded (content_of g.D.Sectors l.store) rows l.root;
       at :
           (w : Warehouse) → StoreAt g.D.Sectors start l.initial.root w → (keeps (device_of start) → dims ≡ w.rows)
-          → (v : Warehouse) × IsCaughtUp w v × StoreAt g.D.Sectors l.store l.root v × (keeps (device_of l.store) → AreReached l.place l.first v);
+          → (v : Warehouse) × IsCaughtUp w v × StoreAt g.D.Sectors l.store l.root v
+          × (keeps (device_of l.store) → AreReached l.place l.first v);
       leaves :
           (w : Warehouse) → StoreAt g.D.Sectors start l.initial.root w → (keeps (device_of start) → dims ≡ w.rows)
-          → Leaves (disk_of g.D.Sectors start) (disk_of g.D.Sectors l.store) (λ c. (v : Warehouse) × IsCaughtUp w v × Represents c v);
+          → Leaves (disk_of g.D.Sectors start) (disk_of g.D.Sectors l.store)
+          (λ c. (v : Warehouse) × IsCaughtUp w v × Represents c v);
     }

@@ -12,11 +12,13 @@ loop-run-preserved c =
     let next : suc (run - 1) ≡ run + 1 - 1 = omega (arith, c.loop-run.invariant.0) in (
       omega (arith, c.loop-run.invariant.0),
       omega (arith, c.loop-run.invariant.0, c.loop-run-test.true),
-      c.in_ok-push.ensures.items ∙ ap (λ (l : List ℕ). l ++ c.run_id.result ∷ []) c.loop-run.invariant.2 ∙ ap (λ (n : ℕ). range_with_len first (run - 1) ++ n ∷ []) id_is
+      c.in_ok-push.ensures.items ∙ ap (λ (l : List ℕ). l ++ c.run_id.result ∷ []) c.loop-run.invariant.2
+          ∙ ap (λ (n : ℕ). range_with_len first (run - 1) ++ n ∷ []) id_is
           ∙ sym (range_more first (run - 1)) ∙ ap (λ (n : ℕ). range_with_len first n) next,
     )
 
 pub returns-clause-ok : goal.returns-clause-ok
 returns-clause-ok c =
-    let many : c.loop-run.run - 1 ≡ c.args.cuboid.runs - 1 = omega (arith, c.loop-run.invariant.0, c.loop-run.invariant.1, c.loop-run-test.false) in
+    let many : c.loop-run.run - 1 ≡ c.args.cuboid.runs - 1 =
+    omega (arith, c.loop-run.invariant.0, c.loop-run.invariant.1, c.loop-run-test.false) in
     c.loop-run.invariant.2 ∙ ap (λ (n : ℕ). range_with_len (run_id c.args.cuboid.view 1) n) many

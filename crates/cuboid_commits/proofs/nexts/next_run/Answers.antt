@@ -18,7 +18,8 @@ returns-in-Ok-clause-ok g c =
     let some : span.from ≤ span.to = omega (arith, c.requires.some) in
     IfOk-weaker c.replaced.result _ _
     (λ next is. next_weaker _ _ c.args.root.now c.args.cuboid span.to next
-    (λ w old has less. whole_rows (λ (rows : List LineOrder). RepresentRows w.rows (modes_of w) rows c.in-Ok.cells) w.batches span c.args.cuboid.mark c.requires.from some
+    (λ w old has less. whole_rows (λ (rows : List LineOrder). RepresentRows w.rows (modes_of w) rows c.in-Ok.cells)
+    w.batches span c.args.cuboid.mark c.requires.from some
     (c.in-Ok.ensures.ok less.0 w old (rows_in w.batches span) less.1 has.found has.said_is less.2)) is)
     c.replaced.ensures.ok
 
@@ -26,14 +27,20 @@ pub returns-in-Err-clause-large : goal.returns-in-Err-clause-large
 returns-in-Err-clause-large g c is k w stored represents has represent =
     let span = c.args.span in
     let some : span.from ≤ span.to = omega (arith, c.requires.some) in
-    whole_rows (λ (rows : List LineOrder). HaveTooMany w.rows (modes_of w) c.args.tail.now.view rows) w.batches span c.args.cuboid.mark c.requires.from some
-    (c.in-Err.ensures.large (ap (λ (f : Fault). Err f) (err_fault c.in-Err.fault _ is)) k w stored (rows_in w.batches span) represents has.found has.said_is represent)
+    whole_rows (λ (rows : List LineOrder). HaveTooMany w.rows (modes_of w) c.args.tail.now.view rows) w.batches span
+    c.args.cuboid.mark c.requires.from some
+    (c.in-Err.ensures.large (ap (λ (f : Fault). Err f) (err_fault c.in-Err.fault _ is)) k w stored
+    (rows_in w.batches span) represents has.found has.said_is represent)
 
 pub returns-in-Err-clause-refused : goal.returns-in-Err-clause-refused
 returns-in-Err-clause-refused g c is k w stored represents has represent =
     let span = c.args.span in
     let some : span.from ≤ span.to = omega (arith, c.requires.some) in
-    let within : span.to ≤ length w.batches = omega (arith, c.requires.to, count_of c.args.root.now c.args.cuboid w stored has) in
-    c.in-Err.ensures.refused (ap (λ (f : Fault). Err f) (err_fault c.in-Err.fault _ is)) k w stored (rows_in w.batches span) represents has.found has.said_is represent
-    (subst (λ (n : ℕ). AreInRange (all_rows (take n w.batches) ++ rows_in w.batches span)) c.requires.from (whole_in_range w represents.batches span some within))
-    (subst (λ (n : ℕ). length (all_rows (take n w.batches) ++ rows_in w.batches span) < 2 ^ 63) c.requires.from (whole_few w represents.batches span some within))
+    let within : span.to ≤ length w.batches =
+    omega (arith, c.requires.to, count_of c.args.root.now c.args.cuboid w stored has) in
+    c.in-Err.ensures.refused (ap (λ (f : Fault). Err f) (err_fault c.in-Err.fault _ is)) k w stored
+    (rows_in w.batches span) represents has.found has.said_is represent
+    (subst (λ (n : ℕ). AreInRange (all_rows (take n w.batches) ++ rows_in w.batches span)) c.requires.from
+    (whole_in_range w represents.batches span some within))
+    (subst (λ (n : ℕ). length (all_rows (take n w.batches) ++ rows_in w.batches span) < 2 ^ 63) c.requires.from
+    (whole_few w represents.batches span some within))

@@ -9,7 +9,8 @@ use Rattle.cuboid_commits.proofs.replacing.replace_root.Goals as goal
 
 pub commit-requires-clause-root : goal.commit-requires-clause-root
 commit-requires-clause-root g c =
-    subst (λ (b : List ℕ). length b ≤ most_root_bytes) (sym c.as_slice.ensures.value) (root_is_short c.in-Ok.bytes.items c.args.next c.in-Ok.ensures.ok)
+    subst (λ (b : List ℕ). length b ≤ most_root_bytes) (sym c.as_slice.ensures.value)
+    (root_is_short c.in-Ok.bytes.items c.args.next c.in-Ok.ensures.ok)
 
 pub commit-requires-clause-few : goal.commit-requires-clause-few
 commit-requires-clause-few g c =
@@ -19,6 +20,8 @@ commit-requires-clause-few g c =
 pub returns-in-Ok-commit-clause-loaded : goal.returns-in-Ok-commit-clause-loaded
 returns-in-Ok-commit-clause-loaded g c k rows is =
     let before = stores.content_of g.D.Sectors c.args.store.now in
-    let after = c.in-Ok-commit.ensures.ok k ∙ replaced_by before c.args.drops.now c.as_slice.result.now c.number.result c.args.next (c.as_slice.ensures.value ∙ c.in-Ok.ensures.ok.spelled) c.number.ensures in
+    let after = c.in-Ok-commit.ensures.ok k
+    ∙ replaced_by before c.args.drops.now c.as_slice.result.now c.number.result c.args.next
+    (c.as_slice.ensures.value ∙ c.in-Ok.ensures.ok.spelled) c.number.ensures in
     subst (λ (x : Content). IsLoaded x rows c.args.next) (sym after)
     (loaded_replaced before c.args.drops.now c.args.next c.requires.runs rows c.args.root.now c.requires.layout is)

@@ -8,13 +8,15 @@ use Rattle.warehouse_root.specs.declared.cuboid.StoredCuboid.{StoredCuboid}
 use Rattle.warehouse_objects.specs.Represents.{root_of}
 use Rattle.warehouse_objects.specs.Warehouse.{aimed}
 use Rattle.cuboid_commits.proofs.Turns.{kept_same}
-use Rattle.cuboid_commits.proofs.Upkept.{all_whole, from_aimed, leaves_aimed, leaves_both, leaves_same, memory_or, target_is, whole_by_root}
+use Rattle.cuboid_commits.proofs.Upkept.{all_whole, from_aimed, leaves_aimed, leaves_both, leaves_same, memory_or}
+use Rattle.cuboid_commits.proofs.Upkept.{target_is, whole_by_root}
 use Rattle.cuboid_commits.proofs.upkeep.keep_up.Goals as goal
 
 pub returns-then-are_whole-clause-leaves : goal.returns-then-are_whole-clause-leaves
 returns-then-are_whole-clause-leaves g c w at dims =
     let s = c.args.store.now in
-    leaves_same w (stores.content_of g.D.Sectors s) (stores.disk_of g.D.Sectors s) (stores.disk_of g.D.Sectors s) at.represents (c.is_broken-usable.ensures.leaves c.requires.fine)
+    leaves_same w (stores.content_of g.D.Sectors s) (stores.disk_of g.D.Sectors s) (stores.disk_of g.D.Sectors s)
+    at.represents (c.is_broken-usable.ensures.leaves c.requires.fine)
 
 pub returns-then-are_whole-clause-stays : goal.returns-then-are_whole-clause-stays
 returns-then-are_whole-clause-stays g c other w at dims = (w, kept_same w, at)
@@ -25,11 +27,14 @@ returns-then-are_whole-clause-ok g c w at dims = (
   kept_same w,
   at,
   λ k. whole_by_root w c.args.root.now _ (at.root_is k) (ap (λ (l : List ℕ). length l) c.batches.ensures)
-      (subst (λ (l : List StoredCuboid). All (λ cuboid. cuboid.mark ≡ length c.batches.result.now) l) c.cuboids.ensures (c.are_whole.ensures.0 c.if-are_whole.true)),
+      (subst (λ (l : List StoredCuboid). All (λ cuboid. cuboid.mark ≡ length c.batches.result.now) l) c.cuboids.ensures
+      (c.are_whole.ensures.0 c.if-are_whole.true)),
 )
 
 pub returns-in-Err-clause-leaves : goal.returns-in-Err-clause-leaves
-returns-in-Err-clause-leaves g c w at dims = leaves_aimed w (stores.disk_of g.D.Sectors c.args.store.now) (stores.disk_of g.D.Sectors c.aim.new.store) (c.aim.ensures.leaves w at)
+returns-in-Err-clause-leaves g c w at dims =
+    leaves_aimed w (stores.disk_of g.D.Sectors c.args.store.now) (stores.disk_of g.D.Sectors c.aim.new.store)
+    (c.aim.ensures.leaves w at)
 
 pub returns-in-Err-clause-stays : goal.returns-in-Err-clause-stays
 returns-in-Err-clause-stays g c other w at dims =
@@ -41,15 +46,19 @@ returns-in-Err-clause-refused g c cause w at dims =
       w,
       kept_same w,
       (c.in-Err.ensures.refused cause w at).0,
-      λ k. inr (inl (subst (λ (x : Content). stores.Refuses x (stores.room_of c.aim.new.store) [] [] (roots.root_of (root_of (aimed w))) c.in-Err.fault) (sym same.content)
-          (subst (λ (room : Room). stores.Refuses (stores.content_of g.D.Sectors c.args.store.now) room [] [] (roots.root_of (root_of (aimed w))) c.in-Err.fault) (sym same.room)
+      λ k. inr (inl
+          (subst (λ (x : Content). stores.Refuses x (stores.room_of c.aim.new.store) [] []
+          (roots.root_of (root_of (aimed w))) c.in-Err.fault) (sym same.content)
+          (subst (λ (room : Room). stores.Refuses (stores.content_of g.D.Sectors c.args.store.now) room [] []
+          (roots.root_of (root_of (aimed w))) c.in-Err.fault) (sym same.room)
           (c.in-Err.ensures.causes cause w at k)))),
     )
 
 pub returns-in-Ok-clause-leaves : goal.returns-in-Ok-clause-leaves
 returns-in-Ok-clause-leaves g c w at dims =
     let mid = c.in_default.ensures.ok w at in
-    leaves_both w (stores.disk_of g.D.Sectors c.args.store.now) (stores.disk_of g.D.Sectors c.aim.new.store) (stores.disk_of g.D.Sectors c.catch_up.new.store)
+    leaves_both w (stores.disk_of g.D.Sectors c.args.store.now) (stores.disk_of g.D.Sectors c.aim.new.store)
+    (stores.disk_of g.D.Sectors c.catch_up.new.store)
     (c.aim.ensures.leaves w at) (c.catch_up.ensures.leaves (aimed w) mid (λ k. dims (c.aim.ensures.word k)))
 
 pub returns-in-Ok-clause-stays : goal.returns-in-Ok-clause-stays
@@ -61,13 +70,19 @@ returns-in-Ok-clause-stays g c other w at dims =
 pub returns-in-Ok-clause-ok : goal.returns-in-Ok-clause-ok
 returns-in-Ok-clause-ok g c w at dims =
     let mid = c.in_default.ensures.ok w at in
-    let now = c.in-Ok.ensures.ok (aimed w) mid (λ k. dims (c.aim.ensures.word k)) in
-    (now.0, from_aimed w now.0 now.1, now.2, λ k. all_whole (stores.content_of g.D.Sectors c.catch_up.new.store) now.0 c.in-Ok.passed (now.2.represents k) (target_is w now.0 now.1) (now.3 k))
+    let now = c.in-Ok.ensures.ok (aimed w) mid (λ k. dims (c.aim.ensures.word k)) in (
+      now.0,
+      from_aimed w now.0 now.1,
+      now.2,
+      λ k. all_whole (stores.content_of g.D.Sectors c.catch_up.new.store) now.0
+          c.in-Ok.passed (now.2.represents k) (target_is w now.0 now.1) (now.3 k),
+    )
 
 pub returns-in-Err-catch_up-clause-leaves : goal.returns-in-Err-catch_up-clause-leaves
 returns-in-Err-catch_up-clause-leaves g c w at dims =
     let mid = c.in_default.ensures.ok w at in
-    leaves_both w (stores.disk_of g.D.Sectors c.args.store.now) (stores.disk_of g.D.Sectors c.aim.new.store) (stores.disk_of g.D.Sectors c.catch_up.new.store)
+    leaves_both w (stores.disk_of g.D.Sectors c.args.store.now) (stores.disk_of g.D.Sectors c.aim.new.store)
+    (stores.disk_of g.D.Sectors c.catch_up.new.store)
     (c.aim.ensures.leaves w at) (c.catch_up.ensures.leaves (aimed w) mid (λ k. dims (c.aim.ensures.word k)))
 
 pub returns-in-Err-catch_up-clause-stays : goal.returns-in-Err-catch_up-clause-stays
@@ -80,7 +95,9 @@ pub returns-in-Err-catch_up-clause-refused : goal.returns-in-Err-catch_up-clause
 returns-in-Err-catch_up-clause-refused g c cause w at dims =
     let mid = c.in_default.ensures.ok w at in
     ⊎_elim
-    (λ memory. let now = c.in-Err-catch_up.ensures.stays (λ is. let e : c.in-Err-catch_up.fault ≡ Device = cc is in cause e) (aimed w) mid (λ k. dims (c.aim.ensures.word k)) in
+    (λ memory. let now = c.in-Err-catch_up.ensures.stays
+    (λ is. let e : c.in-Err-catch_up.fault ≡ Device = cc is in cause e) (aimed w) mid
+    (λ k. dims (c.aim.ensures.word k)) in
     (now.0, from_aimed w now.0 now.1, now.2, λ k. inl memory))
     (λ other. let now = c.in-Err-catch_up.ensures.reason cause other (aimed w) mid (λ k. dims (c.aim.ensures.word k)) in
     (now.0, from_aimed w now.0 now.1, now.2, λ k. inr (inr (now.3 k))))

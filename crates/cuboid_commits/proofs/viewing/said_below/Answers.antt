@@ -14,9 +14,13 @@ loop-number-preserved c = elim c.if-is_among.branch [
       rw w.said-is
       (w.in_ok-push.ensures.items
       ∙ ap (λ (said : List StoredCuboid). said ++ w.said_or_new.result ∷ []) c.loop-number.invariant
-      ∙ ap (λ (one : StoredCuboid). said_below c.loop-number.number c.args.views.now c.args.cuboids.now ++ one ∷ []) w.said_or_new.ensures
-      ∙ sym (said_more c.args.views.now c.args.cuboids.now c.loop-number.number (sym c.is_among.ensures ∙ w.if-is_among.true)))
+      ∙ ap (λ (one : StoredCuboid). said_below c.loop-number.number c.args.views.now c.args.cuboids.now ++ one ∷ [])
+      w.said_or_new.ensures
+      ∙ sym (said_more c.args.views.now c.args.cuboids.now c.loop-number.number
+      (sym c.is_among.ensures ∙ w.if-is_among.true)))
   | else-is_among w ↦
       rw w.said-is
-      (c.loop-number.invariant ∙ sym (said_same c.args.views.now c.args.cuboids.now c.loop-number.number (sym c.is_among.ensures ∙ w.if-is_among.false)))
+      (c.loop-number.invariant
+      ∙ sym (said_same c.args.views.now c.args.cuboids.now c.loop-number.number
+      (sym c.is_among.ensures ∙ w.if-is_among.false)))
 ]

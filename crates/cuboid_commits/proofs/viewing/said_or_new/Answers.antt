@@ -7,10 +7,14 @@ use Rattle.cuboid_commits.proofs.viewing.said_or_new.Goals as goal
 
 pub returns-in-Some : goal.returns-in-Some
 returns-in-Some c =
-    let found = find_from_yields_List (λ (cuboid : StoredCuboid). cuboid.view == c.args.number) _ _ c.find.result c.find.ensures.ran (YieldsList-from_slice c.args.cuboids.now c.iter.ensures.rest) (λ x b q k. search (rules, tests)) in
+    let found = find_from_yields_List (λ (cuboid : StoredCuboid). cuboid.view == c.args.number) _ _ c.find.result
+    c.find.ensures.ran (YieldsList-from_slice c.args.cuboids.now c.iter.ensures.rest)
+    (λ x b q k. search (rules, tests)) in
     ap (said_or_new c.args.number) (sym (ap (option_map (λ (r : Bor StoredCuboid). r.now)) c.in-Some.is) ∙ found)
 
 pub returns-in-None : goal.returns-in-None
 returns-in-None c =
-    let found = find_from_yields_List (λ (cuboid : StoredCuboid). cuboid.view == c.args.number) _ _ c.find.result c.find.ensures.ran (YieldsList-from_slice c.args.cuboids.now c.iter.ensures.rest) (λ x b q k. search (rules, tests)) in
+    let found = find_from_yields_List (λ (cuboid : StoredCuboid). cuboid.view == c.args.number) _ _ c.find.result
+    c.find.ensures.ran (YieldsList-from_slice c.args.cuboids.now c.iter.ensures.rest)
+    (λ x b q k. search (rules, tests)) in
     ap (said_or_new c.args.number) (sym (ap (option_map (λ (r : Bor StoredCuboid). r.now)) c.in-None.is) ∙ found)

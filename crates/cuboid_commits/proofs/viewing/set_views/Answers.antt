@@ -6,25 +6,32 @@ use Rattle.warehouse_objects.specs.Warehouse.{dropped_ids, with_views}
 use Rattle.cuboid_commits.specs.Keeping.{StoreAt}
 use Rattle.cuboid_commits.specs.Nexts.{first_run}
 use Rattle.cuboid_commits.specs.Replacing.{dropped_of}
-use Rattle.cuboid_commits.proofs.Replaced.{before_at, before_leaves, drops_high, generation_replaced, makes_views, replaced_at, replaced_causes, replaced_leaves, viewed_drops}
+use Rattle.cuboid_commits.proofs.Replaced.{before_at, before_leaves, drops_high, generation_replaced, makes_views}
+use Rattle.cuboid_commits.proofs.Replaced.{replaced_at, replaced_causes, replaced_leaves, viewed_drops}
 use Rattle.cuboid_commits.proofs.viewing.set_views.Goals as goal
 
 pub replace_root-requires-clause-runs : goal.replace_root-requires-clause-runs
 replace_root-requires-clause-runs g c =
-    subst (λ (l : List ℕ). All (λ id. first_run ≤ id) l) (sym (c.as_slice.ensures.value ∙ c.in-Ok.ensures.ok)) (drops_high c.args.views.now c.cuboids.result.now)
+    subst (λ (l : List ℕ). All (λ id. first_run ≤ id) l) (sym (c.as_slice.ensures.value ∙ c.in-Ok.ensures.ok))
+    (drops_high c.args.views.now c.cuboids.result.now)
 
 pub returns-in-Ok-replace_root-clause-leaves : goal.returns-in-Ok-replace_root-clause-leaves
 returns-in-Ok-replace_root-clause-leaves g c w at =
-    replaced_leaves g.D.Sectors c.args.store.now c.replace_root.new.store w (with_views w c.args.views.now) c.args.root.now c.in-Ok-viewed.next c.as_slice.result.now at
-    (makes_views (stores.content_of g.D.Sectors c.args.store.now) c.args.root.now c.in-Ok-viewed.next w c.args.views.now c.as_slice.result.now c.requires.few c.in-Ok-viewed.ensures.ok
+    replaced_leaves g.D.Sectors c.args.store.now c.replace_root.new.store w (with_views w c.args.views.now)
+    c.args.root.now c.in-Ok-viewed.next c.as_slice.result.now at
+    (makes_views (stores.content_of g.D.Sectors c.args.store.now) c.args.root.now c.in-Ok-viewed.next w c.args.views.now
+    c.as_slice.result.now c.requires.few c.in-Ok-viewed.ensures.ok
     (c.as_slice.ensures.value ∙ c.in-Ok.ensures.ok ∙ ap (dropped_of c.args.views.now) c.cuboids.ensures))
     c.replace_root.ensures.leaves
 
 pub returns-in-Ok-replace_root-clause-ok : goal.returns-in-Ok-replace_root-clause-ok
 returns-in-Ok-replace_root-clause-ok g c w at =
-    subst (λ (r : PlainRoot). StoreAt g.D.Sectors c.replace_root.new.store r (with_views w c.args.views.now)) (sym c.in-Ok-replace_root.ensures.root)
-    (replaced_at g.D.Sectors c.args.store.now c.replace_root.new.store w (with_views w c.args.views.now) c.args.root.now c.in-Ok-viewed.next c.as_slice.result.now at
-    (makes_views (stores.content_of g.D.Sectors c.args.store.now) c.args.root.now c.in-Ok-viewed.next w c.args.views.now c.as_slice.result.now c.requires.few c.in-Ok-viewed.ensures.ok
+    subst (λ (r : PlainRoot). StoreAt g.D.Sectors c.replace_root.new.store r (with_views w c.args.views.now))
+    (sym c.in-Ok-replace_root.ensures.root)
+    (replaced_at g.D.Sectors c.args.store.now c.replace_root.new.store w (with_views w c.args.views.now) c.args.root.now
+    c.in-Ok-viewed.next c.as_slice.result.now at
+    (makes_views (stores.content_of g.D.Sectors c.args.store.now) c.args.root.now c.in-Ok-viewed.next w c.args.views.now
+    c.as_slice.result.now c.requires.few c.in-Ok-viewed.ensures.ok
     (c.as_slice.ensures.value ∙ c.in-Ok.ensures.ok ∙ ap (dropped_of c.args.views.now) c.cuboids.ensures))
     c.in-Ok-replace_root.ensures.fine c.replace_root.ensures.word c.in-Ok-replace_root.ensures.ok)
 
@@ -35,24 +42,31 @@ returns-in-Ok-replace_root-clause-once g c k =
 
 pub returns-clause-leaves : goal.returns-clause-leaves
 returns-clause-leaves g c w at =
-    replaced_leaves g.D.Sectors c.args.store.now c.replace_root.new.store w (with_views w c.args.views.now) c.args.root.now c.in-Ok-viewed.next c.as_slice.result.now at
-    (makes_views (stores.content_of g.D.Sectors c.args.store.now) c.args.root.now c.in-Ok-viewed.next w c.args.views.now c.as_slice.result.now c.requires.few c.in-Ok-viewed.ensures.ok
+    replaced_leaves g.D.Sectors c.args.store.now c.replace_root.new.store w (with_views w c.args.views.now)
+    c.args.root.now c.in-Ok-viewed.next c.as_slice.result.now at
+    (makes_views (stores.content_of g.D.Sectors c.args.store.now) c.args.root.now c.in-Ok-viewed.next w c.args.views.now
+    c.as_slice.result.now c.requires.few c.in-Ok-viewed.ensures.ok
     (c.as_slice.ensures.value ∙ c.in-Ok.ensures.ok ∙ ap (dropped_of c.args.views.now) c.cuboids.ensures))
     c.replace_root.ensures.leaves
 
 pub returns-clause-refused : goal.returns-clause-refused
 returns-clause-refused g c cause w at =
     let same = c.in-Err-replace_root.ensures.refused cause in (
-      subst (λ (r : PlainRoot). StoreAt g.D.Sectors c.replace_root.new.store r w) (sym c.in-Err-replace_root.ensures.kept)
+      subst (λ (r : PlainRoot). StoreAt g.D.Sectors c.replace_root.new.store r w)
+          (sym c.in-Err-replace_root.ensures.kept)
           (before_at g.D.Sectors c.args.store.now c.replace_root.new.store w c.args.root.now at same),
-      before_leaves g.D.Sectors c.args.store.now c.replace_root.new.store w c.args.root.now at same (c.is_broken-usable.ensures.leaves at.fine),
+      before_leaves g.D.Sectors c.args.store.now c.replace_root.new.store w c.args.root.now at same
+          (c.is_broken-usable.ensures.leaves at.fine),
     )
 
 pub returns-clause-causes : goal.returns-clause-causes
 returns-clause-causes g c cause w at k =
-    replaced_causes g.D.Sectors c.args.store.now c.replace_root.new.store w (with_views w c.args.views.now) c.args.root.now c.in-Ok-viewed.next c.as_slice.result.now at
-    (makes_views (stores.content_of g.D.Sectors c.args.store.now) c.args.root.now c.in-Ok-viewed.next w c.args.views.now c.as_slice.result.now c.requires.few c.in-Ok-viewed.ensures.ok
+    replaced_causes g.D.Sectors c.args.store.now c.replace_root.new.store w (with_views w c.args.views.now)
+    c.args.root.now c.in-Ok-viewed.next c.as_slice.result.now at
+    (makes_views (stores.content_of g.D.Sectors c.args.store.now) c.args.root.now c.in-Ok-viewed.next w c.args.views.now
+    c.as_slice.result.now c.requires.few c.in-Ok-viewed.ensures.ok
     (c.as_slice.ensures.value ∙ c.in-Ok.ensures.ok ∙ ap (dropped_of c.args.views.now) c.cuboids.ensures))
     (dropped_ids w c.args.views.now) c.in-Err-replace_root.fault
-    (λ same. c.as_slice.ensures.value ∙ c.in-Ok.ensures.ok ∙ ap (dropped_of c.args.views.now) c.cuboids.ensures ∙ viewed_drops c.args.root.now w c.args.views.now same)
+    (λ same. c.as_slice.ensures.value ∙ c.in-Ok.ensures.ok ∙ ap (dropped_of c.args.views.now) c.cuboids.ensures
+    ∙ viewed_drops c.args.root.now w c.args.views.now same)
     (c.replace_root.ensures.word k) (c.in-Err-replace_root.ensures.causes cause)

@@ -16,19 +16,24 @@ many_views Second = omega arith
 pub with_cuboids-requires-clause-few : goal.with_cuboids-requires-clause-few
 with_cuboids-requires-clause-few c =
     let said : c.in_ok-cuboids.cuboids.items ≡ said_with c.args.views.now c.args.root.now.cuboids =
-    c.in_ok-cuboids.ensures.ok ∙ ap (λ (n : ℕ). said_below n c.args.views.now c.cuboids.result.now) c.views.ensures ∙ ap (said_with c.args.views.now) c.cuboids.ensures in
-    subst (λ (l : List StoredCuboid). length l ≤ most_cuboids) (sym said) (said_few c.args.views.now c.args.root.now.cuboids c.requires.few)
+    c.in_ok-cuboids.ensures.ok ∙ ap (λ (n : ℕ). said_below n c.args.views.now c.cuboids.result.now) c.views.ensures
+    ∙ ap (said_with c.args.views.now) c.cuboids.ensures in
+    subst (λ (l : List StoredCuboid). length l ≤ most_cuboids) (sym said)
+    (said_few c.args.views.now c.args.root.now.cuboids c.requires.few)
 
 pub with_cuboids-requires-clause-each : goal.with_cuboids-requires-clause-each
 with_cuboids-requires-clause-each c =
     let root = c.args.root.now in
     let said : c.in_ok-cuboids.cuboids.items ≡ said_with c.args.views.now root.cuboids =
-    c.in_ok-cuboids.ensures.ok ∙ ap (λ (n : ℕ). said_below n c.args.views.now c.cuboids.result.now) c.views.ensures ∙ ap (said_with c.args.views.now) c.cuboids.ensures in
+    c.in_ok-cuboids.ensures.ok ∙ ap (λ (n : ℕ). said_below n c.args.views.now c.cuboids.result.now) c.views.ensures
+    ∙ ap (said_with c.args.views.now) c.cuboids.ensures in
     subst (λ (l : List StoredCuboid). All (IsProperCuboid root.layout (length root.batches)) l) (sym said)
-    (said_each c.args.views.now root.cuboids root.layout (length root.batches) (many_views root.layout) c.layout-layout.ensures.proper.each)
+    (said_each c.args.views.now root.cuboids root.layout (length root.batches) (many_views root.layout)
+    c.layout-layout.ensures.proper.each)
 
 pub with_cuboids-requires-clause-ascending : goal.with_cuboids-requires-clause-ascending
 with_cuboids-requires-clause-ascending c =
     let said : c.in_ok-cuboids.cuboids.items ≡ said_with c.args.views.now c.args.root.now.cuboids =
-    c.in_ok-cuboids.ensures.ok ∙ ap (λ (n : ℕ). said_below n c.args.views.now c.cuboids.result.now) c.views.ensures ∙ ap (said_with c.args.views.now) c.cuboids.ensures in
+    c.in_ok-cuboids.ensures.ok ∙ ap (λ (n : ℕ). said_below n c.args.views.now c.cuboids.result.now) c.views.ensures
+    ∙ ap (said_with c.args.views.now) c.cuboids.ensures in
     subst (λ (l : List StoredCuboid). AreAscending l) (sym said) (said_ascend c.args.views.now c.args.root.now.cuboids)

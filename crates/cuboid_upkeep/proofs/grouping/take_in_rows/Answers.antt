@@ -23,13 +23,16 @@ loop-place-init g c =
 pub loop-place-preserved : goal.loop-place-preserved
 loop-place-preserved g c =
     let rows = g.F.FactRows.rows c.args.rows.now in
-    let within : c.loop-place.place < length rows = omega (arith, c.loop-place-test.true, c.count-place-end.ensures) in (
+    let within : c.loop-place.place < length rows =
+    omega (arith, c.loop-place-test.true, c.count-place-end.ensures) in (
       c.in_ok-take_in.ensures.keyed,
       λ dims view members are.
           one_more dims [] view rows c.loop-place.place within c.loop-place.numbers.keys c.take_in.new.numbers.keys
-          c.loop-place.cells.items c.take_in.new.cells.items c.in_ok-cell.cell (c.loop-place.invariant.1 dims view members are)
+          c.loop-place.cells.items c.take_in.new.cells.items c.in_ok-cell.cell
+          (c.loop-place.invariant.1 dims view members are)
           (c.in_ok-cell.ensures.ok dims [] view
-          (own_key_in dims view members rows c.loop-place.place within c.args.keys.now c.key_at-key.result c.key_at-key.ensures are).is)
+          (own_key_in dims view members rows c.loop-place.place within c.args.keys.now c.key_at-key.result
+          c.key_at-key.ensures are).is)
           c.in_ok-take_in.ensures.keyed c.in_ok-take_in.ensures.ok,
     )
 
@@ -54,10 +57,12 @@ returns-in_err-take_in-clause-refused g c =
       | inr over ↦ inr (
         over.0,
         λ dims view members are.
-            row_overflows dims [] view rows c.loop-place.place within c.loop-place.numbers.keys c.loop-place.cells.items c.in_ok-cell.cell
+            row_overflows dims [] view rows c.loop-place.place within c.loop-place.numbers.keys c.loop-place.cells.items
+            c.in_ok-cell.cell
             (c.loop-place.invariant.1 dims view members are)
             (c.in_ok-cell.ensures.ok dims [] view
-            (own_key_in dims view members rows c.loop-place.place within c.args.keys.now c.key_at-key.result c.key_at-key.ensures are).is) over.1,
+            (own_key_in dims view members rows c.loop-place.place within c.args.keys.now c.key_at-key.result
+            c.key_at-key.ensures are).is) over.1,
       )
     ])
 
@@ -66,4 +71,5 @@ returns-clause-ok g c =
     let rows = g.F.FactRows.rows c.args.rows.now in
     let all : length rows ≤ c.loop-place.place = omega (arith, c.loop-place-test.false, c.count-place-end.ensures) in
     λ dims view members are.
-    are_grouped dims [] view rows c.loop-place.place all c.loop-place.numbers.keys c.loop-place.cells.items (c.loop-place.invariant.1 dims view members are)
+    are_grouped dims [] view rows c.loop-place.place all c.loop-place.numbers.keys c.loop-place.cells.items
+    (c.loop-place.invariant.1 dims view members are)

@@ -11,5 +11,6 @@ abbrev pub invariant-loop-place : goal.invariant-loop-place
 invariant-loop-place g l =
     let rows = g.F.FactRows.rows l.rows in
     AreKeyed l.numbers.keys l.cells.items
-    × ((dimensions : DimRows) (view : View) (members : ViewMembers) → AreRowKeys dimensions view members rows (length rows) l.keys
+    × ((dimensions : DimRows) (view : View) (members : ViewMembers)
+    → AreRowKeys dimensions view members rows (length rows) l.keys
     → Grouping dimensions [] view (take l.place rows) l.numbers.keys l.cells.items)

@@ -9,15 +9,19 @@ loop-place-init g c = record { many = c.requires.count; each = λ k d before ins
 
 pub loop-place-preserved : goal.loop-place-preserved
 loop-place-preserved g c =
-    one_key_more c.args.dims.now c.args.view c.args.members.now (g.F.FactRows.rows c.args.rows.now) c.loop-place.place c.loop-place.keys c.in-Some.key
+    one_key_more c.args.dims.now c.args.view c.args.members.now (g.F.FactRows.rows c.args.rows.now) c.loop-place.place
+    c.loop-place.keys c.in-Some.key
     c.loop-place.invariant c.in-Some.ensures.some
 
 pub returns-in_default-clause-lacks : goal.returns-in_default-clause-lacks
 returns-in_default-clause-lacks g c is all =
-    c.in_default.ensures.none (all c.loop-place.place no_row (omega (arith, c.loop-place-test.true, c.loop-place.invariant.many)))
+    c.in_default.ensures.none
+    (all c.loop-place.place no_row (omega (arith, c.loop-place-test.true, c.loop-place.invariant.many)))
 
 pub returns-clause-ok : goal.returns-clause-ok
 returns-clause-ok g c is =
     let rows = g.F.FactRows.rows c.args.rows.now in
-    let ends : c.loop-place.place ≡ length rows = omega (arith, c.loop-place-test.false, c.loop-place.invariant.many, c.loop-place.auto.place-end) in
-    subst (λ (n : ℕ). AreRowKeys c.args.dims.now c.args.view c.args.members.now rows n c.loop-place.keys) ends c.loop-place.invariant
+    let ends : c.loop-place.place ≡ length rows =
+    omega (arith, c.loop-place-test.false, c.loop-place.invariant.many, c.loop-place.auto.place-end) in
+    subst (λ (n : ℕ). AreRowKeys c.args.dims.now c.args.view c.args.members.now rows n c.loop-place.keys) ends
+    c.loop-place.invariant

@@ -4,4 +4,5 @@ use Rattle.cuboid_upkeep.proofs.member_keys.first_key.Goals as goal
 
 pub returns-in-len1-up-clause-some : goal.returns-in-len1-up-clause-some
 returns-in-len1-up-clause-some c =
-    first_known c.args.dims.now c.args.axis c.keys.result.now c.keys.ensures.keys c.keys.result.now refl (omega (arith, c.in-len1-up.len_at_least))
+    first_known c.args.dims.now c.args.axis c.keys.result.now c.keys.ensures.keys c.keys.result.now refl
+    (omega (arith, c.in-len1-up.len_at_least))

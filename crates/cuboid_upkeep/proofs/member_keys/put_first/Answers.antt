@@ -6,7 +6,8 @@ pub overflow_sub-result : goal.overflow_sub-result
 overflow_sub-result c =
     let keys = c.args.keys.now in
     let place = c.from-place.result in
-    let none : get_or keys place None ≡ None = nothing_at (get_or keys place None) (sym c.is_some.ensures ∙ c.if-is_some.false) in
+    let none : get_or keys place None ≡ None =
+    nothing_at (get_or keys place None) (sym c.is_some.ensures ∙ c.if-is_some.false) in
     let found = one_found keys place c.args.key (omega (arith, c.requires.code, c.from-place.ensures)) none in
     omega (arith, found, c.requires.missing)
 
@@ -14,6 +15,7 @@ pub returns-clause-missing : goal.returns-clause-missing
 returns-clause-missing c =
     let keys = c.args.keys.now in
     let place = c.from-place.result in
-    let none : get_or keys place None ≡ None = nothing_at (get_or keys place None) (sym c.is_some.ensures ∙ c.if-is_some.false) in
+    let none : get_or keys place None ≡ None =
+    nothing_at (get_or keys place None) (sym c.is_some.ensures ∙ c.if-is_some.false) in
     let found = one_found keys place c.args.key (omega (arith, c.requires.code, c.from-place.ensures)) none in
     omega (arith, found, c.requires.missing)

@@ -10,7 +10,8 @@ loop-place-init c = at_first c.args.dims.now c.args.axis c.args.grouped c.args.k
 
 pub returns-then-missing-eq0-clause-whole : goal.returns-then-missing-eq0-clause-whole
 returns-then-missing-eq0-clause-whole c =
-    none_left c.args.dims.now c.args.axis c.keys-all.result.now c.keys-all.ensures.keys c.args.grouped c.args.keys.now c.loop-place.place c.loop-place.missing c.loop-place.keys c.requires.room
+    none_left c.args.dims.now c.args.axis c.keys-all.result.now c.keys-all.ensures.keys c.args.grouped c.args.keys.now
+    c.loop-place.place c.loop-place.missing c.loop-place.keys c.requires.room
     c.loop-place.invariant c.if-missing-eq0.true
 
 pub read-code-requires : goal.read-code-requires
@@ -30,7 +31,9 @@ put_first-missing-requires-clause-code c =
     let total = row_total dims c.args.axis c.keys-all.result.now c.keys-all.ensures.keys in
     let within : place < row_count_of dims c.args.axis = omega (arith, total, c.loop-place-test.true) in
     let room = c.requires.room place within in
-    let value = c.read-code.ensures (member_code dims c.args.axis c.args.grouped place) ((c.of-codes.ensures c.requires.grouped).leads place within) in
+    let value =
+    c.read-code.ensures (member_code dims c.args.axis c.args.grouped place)
+    ((c.of-codes.ensures c.requires.grouped).leads place within) in
     omega (arith, room, value, c.loop-place.invariant.long)
 
 pub loop-place-preserved : goal.loop-place-preserved
@@ -45,7 +48,12 @@ loop-place-preserved c =
     let total = row_total dims c.args.axis all c.keys-all.ensures.keys in
     let within : place < row_count_of dims c.args.axis = omega (arith, total, c.loop-place-test.true) in
     let room = c.requires.room place within in
-    let value = c.read-code.ensures (member_code dims c.args.axis c.args.grouped place) ((c.of-codes.ensures c.requires.grouped).leads place within) in
-    subst (AreSoFar dims c.args.axis c.args.grouped c.args.keys.now (place + 1) left) (sym c.put_first-missing.ensures.puts)
-    (one_more dims c.args.axis all c.keys-all.ensures.keys c.args.grouped c.requires.good c.args.keys.now place c.loop-place.missing keys c.loop-place.invariant c.loop-place-test.true
-    code key left value (λ i. key) (omega (arith, room, value)) (c.put_first-missing.ensures.missing ∙ ap missing_in c.put_first-missing.ensures.puts))
+    let value =
+    c.read-code.ensures (member_code dims c.args.axis c.args.grouped place)
+    ((c.of-codes.ensures c.requires.grouped).leads place within) in
+    subst (AreSoFar dims c.args.axis c.args.grouped c.args.keys.now (place + 1) left)
+    (sym c.put_first-missing.ensures.puts)
+    (one_more dims c.args.axis all c.keys-all.ensures.keys c.args.grouped c.requires.good c.args.keys.now place
+    c.loop-place.missing keys c.loop-place.invariant c.loop-place-test.true
+    code key left value (λ i. key) (omega (arith, room, value))
+    (c.put_first-missing.ensures.missing ∙ ap missing_in c.put_first-missing.ensures.puts))

@@ -1,14 +1,16 @@
 use Rattle.std.proofs.Common.{◌∙◌, sym, ap, subst, Option, ℕ, List, map, All}
 use Rattle.cube_model.specs.declared.rows.DimRows.{DimRows}
 use Rattle.cuboid_upkeep.specs.MemberParts.{IsOfRow, part_by}
-use Rattle.cuboid_upkeep.proofs.Represented.{every_known, keys_known, parts_behind}
+use Rattle.cuboid_upkeep.proofs.Represented.{every_known, keys_known, parts_after}
 use Rattle.cuboid_upkeep.proofs.member_parts.parts_of_members.Goals as goal
 
 pub parts_by_code-requires : goal.parts_by_code-requires
 parts_by_code-requires c =
-    subst (λ (keys : List (Option ℕ)). All (IsOfRow c.args.plan.now.dimensions c.args.axis) keys) (sym c.as_slice.ensures.value)
+    subst (λ (keys : List (Option ℕ)). All (IsOfRow c.args.plan.now.dimensions c.args.axis) keys)
+    (sym c.as_slice.ensures.value)
     (subst (λ (dims : DimRows). All (IsOfRow dims c.args.axis) c.in_ok-keys.keys.members.items) (sym c.requires)
-    (keys_known c.args.dims.now c.args.axis c.args.grouped c.in_ok-keys.keys c.in_ok-keys.ensures.sound c.in_ok-keys.ensures.few))
+    (keys_known c.args.dims.now c.args.axis c.args.grouped c.in_ok-keys.keys c.in_ok-keys.ensures.sound
+    c.in_ok-keys.ensures.few))
 
 pub part_of-requires : goal.part_of-requires
 part_of-requires c =
@@ -19,6 +21,9 @@ pub returns : goal.returns
 returns c =
     let dims = c.args.dims.now in
     let query = c.args.plan.now.query in
-    parts_behind dims query c.args.axis c.args.grouped c.in_ok-keys.keys (record { every = c.part_of.result; members = c.in_ok-members.members }) c.in_ok-keys.ensures.sound c.in_ok-keys.ensures.whole
+    parts_after dims query c.args.axis c.args.grouped c.in_ok-keys.keys
+    (record { every = c.part_of.result; members = c.in_ok-members.members }) c.in_ok-keys.ensures.sound
+    c.in_ok-keys.ensures.whole
     (c.part_of.ensures ∙ ap (λ (d : DimRows). part_by d query c.args.axis c.in_ok-keys.keys.every) c.requires)
-    (c.in_ok-members.ensures ∙ ap (map (part_by c.args.plan.now.dimensions query c.args.axis)) c.as_slice.ensures.value ∙ ap (λ (d : DimRows). map (part_by d query c.args.axis) c.in_ok-keys.keys.members.items) c.requires)
+    (c.in_ok-members.ensures ∙ ap (map (part_by c.args.plan.now.dimensions query c.args.axis)) c.as_slice.ensures.value
+    ∙ ap (λ (d : DimRows). map (part_by d query c.args.axis) c.in_ok-keys.keys.members.items) c.requires)

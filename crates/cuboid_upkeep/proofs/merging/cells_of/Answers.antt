@@ -10,17 +10,21 @@ use Rattle.cuboid_upkeep.proofs.merging.cells_of.Goals as goal
 pub of-requires : goal.of-requires
 of-requires g c =
     let rows = g.F.FactRows.rows c.args.rows.now in
-    let keyed = subst (λ (l : List Key). AreRowKeys c.args.dims.now c.args.view c.args.members.now rows (length rows) l) (sym c.as_slice.ensures.value) c.in_ok-keys.ensures.ok in
+    let keyed = subst (λ (l : List Key). AreRowKeys c.args.dims.now c.args.view c.args.members.now rows (length rows) l)
+    (sym c.as_slice.ensures.value) c.in_ok-keys.ensures.ok in
     they_are_proper c.args.dims.now [] c.args.view rows c.in_ok-cells.cells.items c.sort.new.cells.items
-    (c.in_ok-cells.ensures.ok c.args.dims.now c.args.view c.args.members.now keyed) c.sort.ensures.same c.in_ok-sort.ensures.order c.requires.batch
+    (c.in_ok-cells.ensures.ok c.args.dims.now c.args.view c.args.members.now keyed) c.sort.ensures.same
+    c.in_ok-sort.ensures.order c.requires.batch
 
 pub returns-clause-ok : goal.returns-clause-ok
 returns-clause-ok g c =
     let rows = g.F.FactRows.rows c.args.rows.now in
-    let keyed = subst (λ (l : List Key). AreRowKeys c.args.dims.now c.args.view c.args.members.now rows (length rows) l) (sym c.as_slice.ensures.value) c.in_ok-keys.ensures.ok in
+    let keyed = subst (λ (l : List Key). AreRowKeys c.args.dims.now c.args.view c.args.members.now rows (length rows) l)
+    (sym c.as_slice.ensures.value) c.in_ok-keys.ensures.ok in
     subst (λ (plain : PlainCells). RepresentRows c.args.dims.now [] rows plain) (sym c.of.ensures)
     (they_represent c.args.dims.now [] c.args.view rows c.in_ok-cells.cells.items c.sort.new.cells.items
-    (c.in_ok-cells.ensures.ok c.args.dims.now c.args.view c.args.members.now keyed) c.sort.ensures.same c.in_ok-sort.ensures.order)
+    (c.in_ok-cells.ensures.ok c.args.dims.now c.args.view c.args.members.now keyed) c.sort.ensures.same
+    c.in_ok-sort.ensures.order)
 
 pub returns-in_err-keys-clause-refused : goal.returns-in_err-keys-clause-refused
 returns-in_err-keys-clause-refused g c =
@@ -34,7 +38,8 @@ pub returns-in_err-cells-clause-refused : goal.returns-in_err-cells-clause-refus
 returns-in_err-cells-clause-refused g c =
     let p = err_from_is_err_and c.from_residual-in_err-cells.result c.from_residual-in_err-cells.ensures.1 in
     let rows = g.F.FactRows.rows c.args.rows.now in
-    let keyed = subst (λ (l : List Key). AreRowKeys c.args.dims.now c.args.view c.args.members.now rows (length rows) l) (sym c.as_slice.ensures.value) c.in_ok-keys.ensures.ok in
+    let keyed = subst (λ (l : List Key). AreRowKeys c.args.dims.now c.args.view c.args.members.now rows (length rows) l)
+    (sym c.as_slice.ensures.value) c.in_ok-keys.ensures.ok in
     rw (p.1, p.2) (elim c.in_err-cells.ensures.refused [
       | inl memory ↦ inl memory
       | inr bad ↦ inr (bad.0, bad.1 c.args.dims.now c.args.view c.args.members.now keyed)

@@ -8,5 +8,6 @@ use Rattle.cuboid_upkeep.proofs.merging.sort.Goals as goal
 pub returns-clause-order : goal.returns-clause-order
 returns-clause-order c =
     on_ok_weaker c.sort_by_cached_key.result
-    (λ sorted. IsNonDecreasingBy-from_sort_by_key (λ (cell : Cell). number_of cell.key) c.sort_by_cached_key.new.self.items sorted (λ a r q k. search rules))
+    (λ sorted. IsNonDecreasingBy-from_sort_by_key (λ (cell : Cell). number_of cell.key)
+    c.sort_by_cached_key.new.self.items sorted (λ a r q k. search rules))
     c.sort_by_cached_key.ensures.sorted

@@ -9,15 +9,17 @@ use Rattle.cuboid_upkeep.proofs.TakenRows.{none_taken, number_of_key, one_passes
 use Rattle.cuboid_upkeep.proofs.table.take_in_rows.Goals as goal
 
 pub loop-place-init : goal.loop-place-init
-loop-place-init g c = none_taken c.args.dims.now c.args.view c.args.members.now (g.F.FactRows.rows c.args.rows.now) c.args.slots.now.items c.requires.slots
+loop-place-init g c = none_taken c.args.dims.now c.args.view c.args.members.now (g.F.FactRows.rows c.args.rows.now)
+    c.args.slots.now.items c.requires.slots
 
 pub key_for-key-requires-clause-slot : goal.key_for-key-requires-clause-slot
 key_for-key-requires-clause-slot g c used =
     let rows = g.F.FactRows.rows c.args.rows.now in
     let within : c.loop-place.place < length rows = omega (arith, c.loop-place-test.true, c.count-place-end.ensures) in
-    let told = c.requires.numbers.each c.loop-place.place within (omega (arith, within, c.requires.numbers.many)) in
-    own_slot c.args.view c.args.members.now c.requires.no_modes c.loop-place.slots.items (slice_index c.args.numbers.now c.loop-place.place) c.index.result.now c.loop-place.invariant.slots
-    (omega (arith, told.below, c.requires.size, c.loop-place.invariant.size)) c.index.ensures used
+    let fact = c.requires.numbers.each c.loop-place.place within (omega (arith, within, c.requires.numbers.many)) in
+    own_slot c.args.view c.args.members.now c.requires.no_modes c.loop-place.slots.items
+    (slice_index c.args.numbers.now c.loop-place.place) c.index.result.now c.loop-place.invariant.slots
+    (omega (arith, fact.below, c.requires.size, c.loop-place.invariant.size)) c.index.ensures used
 
 pub loop-place-preserved : goal.loop-place-preserved
 loop-place-preserved g c =
@@ -28,12 +30,18 @@ loop-place-preserved g c =
     let next = c.take_in.new.slots.items in
     let cell = c.in_ok-cell.cell in
     let within : c.loop-place.place < length rows = omega (arith, c.loop-place-test.true, c.count-place-end.ensures) in
-    let told = c.requires.numbers.each c.loop-place.place within (omega (arith, within, c.requires.numbers.many)) in
-    let is : place_of members key ≡ slice_index c.args.numbers.now c.loop-place.place = number_of_key c.args.dims.now c.args.view members (row_at rows c.loop-place.place) key (slice_index c.args.numbers.now c.loop-place.place) c.key_for-key.ensures told in
-    let low : place_of members key < length now = omega (arith, is, told.below, c.requires.size, c.loop-place.invariant.size) in
-    let takes : TakesAt now (place_of members key) cell next = subst (λ (n : ℕ). TakesAt now n cell next) (sym is) c.in_ok-take_in.ensures.ok in
-    one_taken c.args.dims.now c.args.view members c.requires.no_modes rows c.loop-place.place within key cell c.key_for-key.ensures c.in_ok-cell.ensures.ok
-    c.args.slots.now.items now c.loop-place.invariant low next (ap length takes.is ∙ length-set now (place_of members key) (taken takes.slot cell)) takes
+    let fact = c.requires.numbers.each c.loop-place.place within (omega (arith, within, c.requires.numbers.many)) in
+    let is : place_of members key ≡ slice_index c.args.numbers.now c.loop-place.place =
+    number_of_key c.args.dims.now c.args.view members (row_at rows c.loop-place.place) key
+    (slice_index c.args.numbers.now c.loop-place.place) c.key_for-key.ensures fact in
+    let low : place_of members key < length now =
+    omega (arith, is, fact.below, c.requires.size, c.loop-place.invariant.size) in
+    let takes : TakesAt now (place_of members key) cell next =
+    subst (λ (n : ℕ). TakesAt now n cell next) (sym is) c.in_ok-take_in.ensures.ok in
+    one_taken c.args.dims.now c.args.view members c.requires.no_modes rows c.loop-place.place within key cell
+    c.key_for-key.ensures c.in_ok-cell.ensures.ok
+    c.args.slots.now.items now c.loop-place.invariant low next
+    (ap length takes.is ∙ length-set now (place_of members key) (taken takes.slot cell)) takes
 
 pub returns-in_err-cell-clause-refused : goal.returns-in_err-cell-clause-refused
 returns-in_err-cell-clause-refused g c =
@@ -42,7 +50,8 @@ returns-in_err-cell-clause-refused g c =
     let within : c.loop-place.place < length rows = omega (arith, c.loop-place-test.true, c.count-place-end.ensures) in
     rw (p.1, p.2) (
       c.in_err-cell.ensures.refused.0,
-      λ front represent. none_fits c.args.dims.now [] c.args.view rows c.loop-place.place within front (c.in_err-cell.ensures.refused.1 c.args.dims.now [] c.args.view),
+      λ front represent. none_fits c.args.dims.now [] c.args.view rows c.loop-place.place within front
+          (c.in_err-cell.ensures.refused.1 c.args.dims.now [] c.args.view),
     )
 
 pub returns-in_err-take_in-clause-refused : goal.returns-in_err-take_in-clause-refused
@@ -54,19 +63,26 @@ returns-in_err-take_in-clause-refused g c =
     let now = c.loop-place.slots.items in
     let cell = c.in_ok-cell.cell in
     let within : c.loop-place.place < length rows = omega (arith, c.loop-place-test.true, c.count-place-end.ensures) in
-    let told = c.requires.numbers.each c.loop-place.place within (omega (arith, within, c.requires.numbers.many)) in
-    let is : place_of members key ≡ slice_index c.args.numbers.now c.loop-place.place = number_of_key c.args.dims.now c.args.view members (row_at rows c.loop-place.place) key (slice_index c.args.numbers.now c.loop-place.place) c.key_for-key.ensures told in
-    let low : place_of members key < length now = omega (arith, is, told.below, c.requires.size, c.loop-place.invariant.size) in
-    let past : PassesAt now (place_of members key) cell = subst (λ (n : ℕ). PassesAt now n cell) (sym is) c.in_err-take_in.ensures.refused.1 in
+    let fact = c.requires.numbers.each c.loop-place.place within (omega (arith, within, c.requires.numbers.many)) in
+    let is : place_of members key ≡ slice_index c.args.numbers.now c.loop-place.place =
+    number_of_key c.args.dims.now c.args.view members (row_at rows c.loop-place.place) key
+    (slice_index c.args.numbers.now c.loop-place.place) c.key_for-key.ensures fact in
+    let low : place_of members key < length now =
+    omega (arith, is, fact.below, c.requires.size, c.loop-place.invariant.size) in
+    let past : PassesAt now (place_of members key) cell =
+    subst (λ (n : ℕ). PassesAt now n cell) (sym is) c.in_err-take_in.ensures.refused.1 in
     rw (p.1, p.2) (
       c.in_err-take_in.ensures.refused.0,
       λ front represent.
-          one_passes c.args.dims.now c.args.view members c.requires.no_modes rows c.loop-place.place within key cell c.key_for-key.ensures c.in_ok-cell.ensures.ok
+          one_passes c.args.dims.now c.args.view members c.requires.no_modes rows c.loop-place.place within key cell
+          c.key_for-key.ensures c.in_ok-cell.ensures.ok
           c.args.slots.now.items now c.loop-place.invariant low past front represent,
     )
 
 pub returns-clause-ok : goal.returns-clause-ok
 returns-clause-ok g c =
     let rows = g.F.FactRows.rows c.args.rows.now in
-    let ends : c.loop-place.place ≡ length rows = omega (arith, c.loop-place-test.false, c.count-place-end.ensures, c.loop-place.auto.place-end) in
-    subst (λ (n : ℕ). IsTaken c.args.dims.now c.args.view c.args.members.now rows n c.args.slots.now.items c.loop-place.slots.items) ends c.loop-place.invariant
+    let ends : c.loop-place.place ≡ length rows =
+    omega (arith, c.loop-place-test.false, c.count-place-end.ensures, c.loop-place.auto.place-end) in
+    subst (λ (n : ℕ). IsTaken c.args.dims.now c.args.view c.args.members.now rows n c.args.slots.now.items
+    c.loop-place.slots.items) ends c.loop-place.invariant

@@ -11,16 +11,20 @@ returns-then-next-count c =
     let left : List (List ℕ) = c.split_at.result.1.now in
     let codes : List ℕ = map (from_le_bytes w16) left in
     in_order_is count (map (from_le_bytes w16) c.args.codes.now) c.are_below.result
-    (c.loop-i.invariant ∙ ap (λ (n : ℕ). in_order count n (map (from_le_bytes w16) (drop c.loop-i.i c.args.codes.now))) c.if-next-count.true
+    (c.loop-i.invariant ∙ ap (λ (n : ℕ). in_order count n (map (from_le_bytes w16) (drop c.loop-i.i c.args.codes.now)))
+    c.if-next-count.true
     ∙ sym (ap (λ (l : List (List ℕ)). in_order count count (map (from_le_bytes w16) l)) c.split_at.ensures.back)
-    ∙ all_used count codes ∙ list_all-map (λ code. nat_lt code count) (from_le_bytes w16) left ∙ sym c.are_below.ensures)
+    ∙ all_used count codes ∙ list_all-map (λ code. nat_lt code count) (from_le_bytes w16) left
+    ∙ sym c.are_below.ensures)
 
 pub returns-then-code-next : goal.returns-then-code-next
 returns-then-code-next c =
-    let out : false ≡ in_order c.args.count 0 (map (from_le_bytes w16) c.args.codes.now) = grind (arith, common_steps) in
+    let out : false ≡ in_order c.args.count 0 (map (from_le_bytes w16) c.args.codes.now) =
+    grind (arith, common_steps) in
     in_order_is c.args.count (map (from_le_bytes w16) c.args.codes.now) false (sym out)
 
 pub returns : goal.returns
 returns c =
-    let all : (c.loop-i.next == c.args.count) ≡ in_order c.args.count 0 (map (from_le_bytes w16) c.args.codes.now) = grind (arith, common_steps) in
+    let all : (c.loop-i.next == c.args.count) ≡ in_order c.args.count 0 (map (from_le_bytes w16) c.args.codes.now) =
+    grind (arith, common_steps) in
     in_order_is c.args.count (map (from_le_bytes w16) c.args.codes.now) _ (sym all)

@@ -13,6 +13,7 @@ returns-in-Some-clause-ok c =
 pub returns-in_default-clause-refused : goal.returns-in_default-clause-refused
 returns-in_default-clause-refused c = inr (
   refl,
-  none_read _ _ c.in_ok-text.text.now c.args.found.now c.add_unkept.new.self c.in_ok-code.field-0 c.in_ok-text.ensures.ok c.in_ok-code.ensures.ok
+  none_read _ _ c.in_ok-text.text.now c.args.found.now c.add_unkept.new.self c.in_ok-code.field-0
+      c.in_ok-text.ensures.ok c.in_ok-code.ensures.ok
       (λ is. let same = sym c.in-Some.is ∙ is in let count = c.len-next.ensures.count in c.if-code-next.false (cc)),
 )

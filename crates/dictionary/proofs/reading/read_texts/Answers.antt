@@ -6,4 +6,5 @@ loop-preserved c = each_more _ _ _ _ _ _ _ c.loop.invariant c.in_ok-read_text.en
 
 pub returns-in_err-read_text-clause-refused : goal.returns-in_err-read_text-clause-refused
 returns-in_err-read_text-clause-refused c =
-    handed_on _ _ _ _ c.from_residual.ensures.1 (none_more c.args.count _ _ _ _ _ c.loop.invariant c.loop-test.true) c.in_err-read_text.ensures.refused
+    handed_on _ _ _ _ c.from_residual.ensures.1 (none_more c.args.count _ _ _ _ _ c.loop.invariant c.loop-test.true)
+    c.in_err-read_text.ensures.refused

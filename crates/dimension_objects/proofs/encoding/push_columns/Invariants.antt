@@ -4,4 +4,5 @@ use Rattle.dimension_objects.specs.Spelled.{codes_in_order, parts_of}
 use Rattle.dimension_objects.proofs.encoding.push_columns.Given as goal
 
 abbrev pub invariant-loop-column : goal.invariant-loop-column
-invariant-loop-column l = l.out.items ≡ l.initial.out.items ++ codes_in_order (parts_of l.axis (rows_on l.dims l.axis)).codes (take l.column-index l.columns)
+invariant-loop-column l = l.out.items ≡ l.initial.out.items
+    ++ codes_in_order (parts_of l.axis (rows_on l.dims l.axis)).codes (take l.column-index l.columns)

@@ -4,4 +4,5 @@ use Rattle.dimension_objects.specs.Spelled.{parts_of, texts_in_order}
 use Rattle.dimension_objects.proofs.encoding.push_texts.Given as goal
 
 abbrev pub invariant-loop-column : goal.invariant-loop-column
-invariant-loop-column l = l.out.items ≡ l.initial.out.items ++ texts_in_order (parts_of l.axis (rows_on l.dims l.axis)).texts (take l.column-index l.columns)
+invariant-loop-column l = l.out.items ≡ l.initial.out.items
+    ++ texts_in_order (parts_of l.axis (rows_on l.dims l.axis)).texts (take l.column-index l.columns)

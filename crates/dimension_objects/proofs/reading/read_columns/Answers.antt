@@ -13,10 +13,15 @@ pub returns-in_err-codes-clause-refused : goal.returns-in_err-codes-clause-refus
 returns-in_err-codes-clause-refused c =
     let p = err_from_is_err_and c.from_residual.result c.from_residual.ensures.1 in
     let are = subst (λ (n : ℕ). AreColumns n c.args.order.now) (sym c.requires.count) c.requires.order in
-    let places : c.place_count-places.result ≡ places_of c.args.rows c.loop-column.columns.items (lower_of c.args.axis (get_or c.args.order.now c.loop-column.column-index 0)) =
-    c.place_count-places.ensures ∙ ap (λ (columns : List CodedColumn). places_of c.args.rows columns (lower_of c.args.axis (get_or c.args.order.now c.loop-column.column-index 0))) c.as_slice.ensures.value in
+    let places : c.place_count-places.result ≡ places_of c.args.rows c.loop-column.columns.items
+    (lower_of c.args.axis (get_or c.args.order.now c.loop-column.column-index 0)) =
+    c.place_count-places.ensures
+    ∙ ap (λ (columns : List CodedColumn). places_of c.args.rows columns
+    (lower_of c.args.axis (get_or c.args.order.now c.loop-column.column-index 0))) c.as_slice.ensures.value in
     rw (p.1, p.2) (refused_so c.in_err-codes.field-0.0
-    (λ short. codes_none c.args.axis c.args.rows c.args.order.now c.loop-column.column-index c.loop-column-test.true c.args.cursor.now c.loop-column.cursor c.args.columns.now.items c.loop-column.columns.items c.loop-column.invariant are
+    (λ short. codes_none c.args.axis c.args.rows c.args.order.now c.loop-column.column-index c.loop-column-test.true
+    c.args.cursor.now c.loop-column.cursor c.args.columns.now.items c.loop-column.columns.items
+    c.loop-column.invariant are
     (omega (arith, short, places)))
     c.in_err-codes.ensures.refused)
 
@@ -24,10 +29,20 @@ pub loop-column-preserved : goal.loop-column-preserved
 loop-column-preserved c =
     let are = subst (λ (n : ℕ). AreColumns n c.args.order.now) (sym c.requires.count) c.requires.order in
     let column : ℕ = get_or c.args.order.now c.loop-column.column-index 0 in
-    let places : c.place_count-places.result ≡ places_of c.args.rows c.loop-column.columns.items (lower_of c.args.axis (get_or c.args.order.now c.loop-column.column-index 0)) =
-    c.place_count-places.ensures ∙ ap (λ (columns : List CodedColumn). places_of c.args.rows columns (lower_of c.args.axis column)) c.as_slice.ensures.value in
-    let lt = next_lt c.args.axis c.args.rows c.args.order.now c.loop-column.column-index c.loop-column-test.true c.args.cursor.now c.loop-column.cursor c.args.columns.now.items c.loop-column.columns.items c.loop-column.invariant are in
-    let read = get_or_read c.loop-column.columns.items column c.index_mut.result.now lt c.index_mut.ensures.value no_coded in
-    codes_step c.args.axis c.args.rows c.args.order.now c.loop-column.column-index c.loop-column-test.true c.args.cursor.now c.loop-column.cursor c.args.columns.now.items c.loop-column.columns.items c.loop-column.invariant are
-    (record { texts = c.index_mut.result.now.texts; codes = c.in_ok-codes.codes }) c.read_codes.new.cursor (ap (λ own. own.texts) read)
-    (subst (λ (n : ℕ). ReadsCodes n c.loop-column.cursor c.read_codes.new.cursor c.in_ok-codes.codes) places c.in_ok-codes.ensures.ok)
+    let places : c.place_count-places.result ≡ places_of c.args.rows c.loop-column.columns.items
+    (lower_of c.args.axis (get_or c.args.order.now c.loop-column.column-index 0)) =
+    c.place_count-places.ensures
+    ∙ ap (λ (columns : List CodedColumn). places_of c.args.rows columns (lower_of c.args.axis column))
+    c.as_slice.ensures.value in
+    let lt = next_lt c.args.axis c.args.rows c.args.order.now c.loop-column.column-index c.loop-column-test.true
+    c.args.cursor.now c.loop-column.cursor c.args.columns.now.items c.loop-column.columns.items
+    c.loop-column.invariant are in
+    let read = get_or_read c.loop-column.columns.items column c.index_mut.result.now lt c.index_mut.ensures.value
+    no_coded in
+    codes_step c.args.axis c.args.rows c.args.order.now c.loop-column.column-index c.loop-column-test.true
+    c.args.cursor.now c.loop-column.cursor c.args.columns.now.items c.loop-column.columns.items
+    c.loop-column.invariant are
+    (record { texts = c.index_mut.result.now.texts; codes = c.in_ok-codes.codes }) c.read_codes.new.cursor
+    (ap (λ own. own.texts) read)
+    (subst (λ (n : ℕ). ReadsCodes n c.loop-column.cursor c.read_codes.new.cursor c.in_ok-codes.codes) places
+    c.in_ok-codes.ensures.ok)

@@ -6,4 +6,5 @@ use Rattle.dimension_objects.proofs.reading.read_keys.Goals as goal
 pub returns-clause-ok : goal.returns-clause-ok
 returns-clause-ok c =
     subst (λ (list : List ℕ). ReadsKeys c.args.count c.args.cursor.now c.bytes.new.self list) (sym c.from_vec.ensures)
-    (keys_in_front c.args.count _ c.args.cursor.now c.bytes.new.self _ c.in_ok-keys.keys.items c.in_ok-part.ensures.value c.in_ok-keys.ensures)
+    (keys_in_front c.args.count _ c.args.cursor.now c.bytes.new.self _ c.in_ok-keys.keys.items
+    c.in_ok-part.ensures.value c.in_ok-keys.ensures)

@@ -19,5 +19,6 @@ returns-then-code-next c =
 
 pub returns : goal.returns
 returns c =
-    let all : (c.loop-i.next == c.args.count) ≡ in_order c.args.count 0 c.args.codes.now = grind (arith, common_steps) in
+    let all : (c.loop-i.next == c.args.count) ≡ in_order c.args.count 0 c.args.codes.now =
+    grind (arith, common_steps) in
     in_order_is c.args.count c.args.codes.now _ (sym all)

@@ -4,4 +4,5 @@ use Rattle.dimensions.proofs.key_map.direct_of.Given as goal
 
 abbrev pub invariant-loop-row : goal.invariant-loop-row
 invariant-loop-row l = (vec_len l.direct ≡ l.width)
-    × ((k : ℕ) → k < l.width → entry_row (slice_index l.direct.items k) ≡ position (λ other. other == l.first + k) (take l.row l.keys))
+    × ((k : ℕ) → k < l.width
+    → entry_row (slice_index l.direct.items k) ≡ position (λ other. other == l.first + k) (take l.row l.keys))

@@ -3,4 +3,5 @@ use Rattle.dimensions.specs.Ranked.{AreCodes, texts_of_ranks}
 use Rattle.dimensions.proofs.ranks.ranks_among.Given as goal
 
 abbrev pub invariant-loop-text : goal.invariant-loop-text
-invariant-loop-text l = (texts_of_ranks l.members l.ranks.items ≡ take l.text-index l.texts) × AreCodes (length l.members) l.ranks.items
+invariant-loop-text l = (texts_of_ranks l.members l.ranks.items ≡ take l.text-index l.texts)
+    × AreCodes (length l.members) l.ranks.items

@@ -9,4 +9,6 @@ returns-else-rest-eq0 c =
     let xs = c.args.runs.now.items in
     let next : suc c.args.place ≡ c.args.place + 1 = omega arith in
     let some = gap-of c.args.rest (omega arith) in
-    set_split xs c.args.place c.args.rest (omega (arith, c.args.runs.now.ok.0, c.requires)) ∙ ap (λ n. take c.args.place xs ++ c.args.rest ∷ drop n xs) next ∙ ap (λ g. take c.args.place xs ++ (g ++ drop (c.args.place + 1) xs)) (sym some)
+    set_split xs c.args.place c.args.rest (omega (arith, c.args.runs.now.ok.0, c.requires))
+    ∙ ap (λ n. take c.args.place xs ++ c.args.rest ∷ drop n xs) next
+    ∙ ap (λ g. take c.args.place xs ++ (g ++ drop (c.args.place + 1) xs)) (sym some)

@@ -3,4 +3,6 @@ use Rattle.std.proofs.lemmas.List.Sorted.{IsNonDecreasingBy-from_sort_by_key}
 use Rattle.extents.proofs.gaps.sorted.Goals as goal
 
 pub returns-clause-order : goal.returns-clause-order
-returns-clause-order c = IsNonDecreasingBy-from_sort_by_key (λ extent. extent.first) _ c.sort_unstable_by_key.ensures.sorted (λ a r q k. search rules)
+returns-clause-order c =
+    IsNonDecreasingBy-from_sort_by_key (λ extent. extent.first) _ c.sort_unstable_by_key.ensures.sorted
+    (λ a r q k. search rules)

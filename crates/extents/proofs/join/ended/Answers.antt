@@ -7,13 +7,15 @@ use Rattle.extents.proofs.join.ended.Goals as goal
 pub returns-clause-before : goal.returns-clause-before
 returns-clause-before c k d lt =
     let parted = IsPartitionedBy-ltb (λ (run : Extent). run.first + run.len) c.args.runs.now c.args.sector c.requires in
-    let point = IsPartitionPoint-from_clause (λ (run : Extent). ltb (run.first + run.len) c.args.sector) _ _ c.partition_point.ensures.partitioned parted (λ a r q k. search rules) in
+    let point = IsPartitionPoint-from_clause (λ (run : Extent). ltb (run.first + run.len) c.args.sector) _ _
+    c.partition_point.ensures.partitioned parted (λ a r q k. search rules) in
     let test = point.0 k d (omega arith) lt in
     grind (arith, nat_tests)
 
-pub returns-clause-behind : goal.returns-clause-behind
-returns-clause-behind c k d le lt =
+pub returns-clause-after : goal.returns-clause-after
+returns-clause-after c k d le lt =
     let parted = IsPartitionedBy-ltb (λ (run : Extent). run.first + run.len) c.args.runs.now c.args.sector c.requires in
-    let point = IsPartitionPoint-from_clause (λ (run : Extent). ltb (run.first + run.len) c.args.sector) _ _ c.partition_point.ensures.partitioned parted (λ a r q k. search rules) in
+    let point = IsPartitionPoint-from_clause (λ (run : Extent). ltb (run.first + run.len) c.args.sector) _ _
+    c.partition_point.ensures.partitioned parted (λ a r q k. search rules) in
     let test = point.1 k d le lt in
     grind (arith, nat_tests)

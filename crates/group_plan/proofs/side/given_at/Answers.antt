@@ -21,7 +21,12 @@ part_by-requires-clause-fits c =
     let columns = c.args.query.now.columns in
     let is : part_by dims c.args.place c.args.digits.now ≡ part_at dims c.args.axis c.args.place columns =
     ap (part_by dims c.args.place) c.requires.digits ∙ part_by-digits_on dims c.args.axis c.args.place columns in
-    omega (arith, is, part_below dims c.args.axis c.args.place c.requires.place columns (some_groups dims columns), c.requires.fits)
+    omega (
+      arith,
+      is,
+      part_below dims c.args.axis c.args.place c.requires.place columns (some_groups dims columns),
+      c.requires.fits,
+    )
 
 pub returns-then-all_hold_at : goal.returns-then-all_hold_at
 returns-then-all_hold_at c =
@@ -29,5 +34,6 @@ returns-then-all_hold_at c =
     let columns = c.args.query.now.columns in
     let holds : list_all (holds_at dims c.args.axis c.args.place) c.args.query.now.conditions ≡ true = search rules in
     let is : c.part_by.result ≡ part_at dims c.args.axis c.args.place columns =
-    c.part_by.ensures ∙ ap (part_by dims c.args.place) c.requires.digits ∙ part_by-digits_on dims c.args.axis c.args.place columns in
+    c.part_by.ensures ∙ ap (part_by dims c.args.place) c.requires.digits
+    ∙ part_by-digits_on dims c.args.axis c.args.place columns in
     λ i. cond (sym holds i) (Some (is i)) None

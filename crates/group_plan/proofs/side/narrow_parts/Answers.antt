@@ -9,4 +9,5 @@ narrow-requires c =
     let dims = c.args.dims.now in
     let i = c.loop-place.place-index in
     subst (λ part. IfSome part (λ number. number < 2 ^ 32)) (sym c.given_at.ensures)
-    (given_below dims c.args.query.now c.args.axis (get_or c.args.places.now i 0) (2 ^ 32) (c.requires.places i c.loop-place-test.true) (some_groups dims c.args.query.now.columns) c.requires.narrow)
+    (given_below dims c.args.query.now c.args.axis (get_or c.args.places.now i 0) (2 ^ 32)
+    (c.requires.places i c.loop-place-test.true) (some_groups dims c.args.query.now.columns) c.requires.narrow)

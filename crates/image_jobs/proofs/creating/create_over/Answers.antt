@@ -12,7 +12,8 @@ returns-in-Ok-clause-creates g c =
     let before = calls_of c.in-Some.device in
     let after = calls_of (device_of c.in-Ok.session) in (
       c.into_calls.ensures.within,
-      creates c.prefix_is_left.ensures image before after c.into_calls.result.items c.in-Some.ensures.none_yet (c.into_calls.ensures.calls ∙ ap calls_of c.close.ensures) c.args.dims
+      creates c.prefix_is_left.ensures image before after c.into_calls.result.items c.in-Some.ensures.none_yet
+          (c.into_calls.ensures.calls ∙ ap calls_of c.close.ensures) c.args.dims
           c.in-Ok.ensures.ok.all (λ blank. (c.in-Ok.ensures.leaves blank).moments tt),
     )
 
@@ -21,4 +22,5 @@ returns-clause-refused g c =
     let image = g.O.Origin.image in
     let before = calls_of c.in-Some.device in
     subst (λ (f : Fault). CreateRefuses image c.args.dims f) (sym c.named.ensures)
-    (not_created image c.args.dims before c.in-Err.fault c.in-Some.ensures.none_yet c.in-Err.ensures.causes (c.in-Err.ensures.not_already tt) c.in-Err.ensures.size c.in-Err.ensures.full)
+    (not_created image c.args.dims before c.in-Err.fault c.in-Some.ensures.none_yet c.in-Err.ensures.causes
+    (c.in-Err.ensures.not_already tt) c.in-Err.ensures.size c.in-Err.ensures.full)

@@ -12,8 +12,10 @@ returns-in-Ok-clause-loads g c =
     let before = calls_of c.in-Some.device in (
       c.into_calls.ensures.within,
       λ facts holds.
-          let done = c.in-Ok.ensures.loads (λ d. tt) facts (at_first image before (ShowsSome (MayRepresent facts None)) c.in-Some.ensures.none_yet holds) in
-          loads c.prefix_is_left.ensures image before (calls_of c.in-Ok.device) c.into_calls.result.items c.in-Some.ensures.none_yet c.into_calls.ensures.calls
+          let done = c.in-Ok.ensures.loads (λ d. tt) facts
+          (at_first image before (ShowsSome (MayRepresent facts None)) c.in-Some.ensures.none_yet holds) in
+          loads c.prefix_is_left.ensures image before (calls_of c.in-Ok.device) c.into_calls.result.items
+          c.in-Some.ensures.none_yet c.into_calls.ensures.calls
           facts c.args.first c.args.rows c.args.lineorder.now done.all done.represents (done.leaves.moments tt),
     )
 
@@ -21,4 +23,5 @@ pub returns-in-Err-clause-refused : goal.returns-in-Err-clause-refused
 returns-in-Err-clause-refused g c facts holds =
     let image = g.O.Origin.image in
     let before = calls_of c.in-Some.device in
-    inr (c.in-Err.ensures.refused (λ d. tt) facts (at_first image before (ShowsSome (MayRepresent facts None)) c.in-Some.ensures.none_yet holds))
+    inr (c.in-Err.ensures.refused (λ d. tt) facts
+    (at_first image before (ShowsSome (MayRepresent facts None)) c.in-Some.ensures.none_yet holds))

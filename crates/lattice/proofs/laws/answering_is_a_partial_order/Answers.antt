@@ -1,4 +1,4 @@
-use Rattle.lattice.proofs.Order.{answers_itself, answers_through, same_index, answers_told}
+use Rattle.lattice.proofs.Order.{answers_itself, answers_through, same_index, answers_decided}
 use Rattle.lattice.proofs.Places.{one_view}
 use Rattle.lattice.proofs.laws.answering_is_a_partial_order.Goals as goal
 
@@ -7,5 +7,5 @@ returns c = record {
   itself = answers_itself;
   through = answers_through;
   both_ways = λ view other up down. one_view view other (same_index view other up down);
-  told = answers_told;
+  decided = answers_decided;
 }

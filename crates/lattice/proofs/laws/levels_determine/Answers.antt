@@ -4,4 +4,5 @@ use Rattle.lattice.proofs.laws.levels_determine.Goals as goal
 
 pub returns : goal.returns
 returns c = λ dimensions attr level key other member valid small other_small.
-    tells dimensions ((c.valid_rows_keep_the_rules.ensures dimensions).0 valid) key other (omega (arith, small)) (omega (arith, other_small)) member attr level
+    tells dimensions ((c.valid_rows_keep_the_rules.ensures dimensions).0 valid) key other (omega (arith, small))
+    (omega (arith, other_small)) member attr level

@@ -10,7 +10,8 @@ returns-in-Some-clause-none t c =
     let first = c.condition-item.result in
     let others = take (length conditions - 1) (drop 1 conditions) in
     let whole : conditions ≡ first ∷ others =
-    drop_more conditions 0 first (omega (arith, c.in-len1-up.len_at_least)) ∙ (λ i. sym c.condition-item.is i ∷ sym (take_rest conditions 1) i) in
+    drop_more conditions 0 first (omega (arith, c.in-len1-up.len_at_least))
+    ∙ (λ i. sym c.condition-item.is i ∷ sym (take_rest conditions 1) i) in
     none_others first others conditions c.with_conditions.result whole c.with_conditions.ensures.none
 
 pub returns-in-None-clause-none : goal.returns-in-None-clause-none
@@ -19,5 +20,6 @@ returns-in-None-clause-none t c =
     let first = c.condition-item.result in
     let others = take (length conditions - 1) (drop 1 conditions) in
     let whole : conditions ≡ first ∷ others =
-    drop_more conditions 0 first (omega (arith, c.in-len1-up.len_at_least)) ∙ (λ i. sym c.condition-item.is i ∷ sym (take_rest conditions 1) i) in
+    drop_more conditions 0 first (omega (arith, c.in-len1-up.len_at_least))
+    ∙ (λ i. sym c.condition-item.is i ∷ sym (take_rest conditions 1) i) in
     none_first first others conditions whole c.in-None.ensures.none

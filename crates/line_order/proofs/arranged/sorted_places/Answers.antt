@@ -15,6 +15,8 @@ returns g c =
     let sorting = c.args.sorting in
     let found = c.sort_unstable_by.new.self.items in
     sorted_places_are sorting lines found
-    (subst (λ (all : List ℕ). IsPermutation all found) (c.in_ok-places.ensures ∙ ap (range_with_len 0) c.count.ensures) c.sort_unstable_by.ensures.permutation)
-    (c.sort_unstable_by.ensures.sorted (λ left right. is_lt (place_cmp sorting lines left right)) (ranks_by (place_cmp_total sorting lines) (λ place. place))
+    (subst (λ (all : List ℕ). IsPermutation all found) (c.in_ok-places.ensures ∙ ap (range_with_len 0) c.count.ensures)
+    c.sort_unstable_by.ensures.permutation)
+    (c.sort_unstable_by.ensures.sorted (λ left right. is_lt (place_cmp sorting lines left right))
+    (ranks_by (place_cmp_total sorting lines) (λ place. place))
     (always_returns_same _ _ _ (λ a r f k. search rules)))

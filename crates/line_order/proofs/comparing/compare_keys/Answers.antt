@@ -11,6 +11,13 @@ returns g c =
     let left = (line_at lines c.args.left).key in
     let right = (line_at lines c.args.right).key in
     let end : c.loop-column.column ≡ min (length left) (length right) =
-    omega (arith, c.loop-column.auto.column-end, c.loop-column-test.false, c.min-column-end.ensures, c.columns_at-left_count.ensures, c.columns_at-right_count.ensures) in
+    omega (
+      arith,
+      c.loop-column.auto.column-end,
+      c.loop-column-test.false,
+      c.min-column-end.ensures,
+      c.columns_at-left_count.ensures,
+      c.columns_at-right_count.ensures,
+    ) in
     c.cmp.ensures ∙ (λ i. nat_cmp (c.columns_at-left_count.ensures i) (c.columns_at-right_count.ensures i))
     ∙ sym (at_end member_cmp left right c.loop-column.column end) ∙ sym c.loop-column.invariant

@@ -7,4 +7,5 @@ use Rattle.member_lists.proofs.listing.write_lines.Given as goal
 
 abbrev pub invariant-loop-rank : goal.invariant-loop-rank
 invariant-loop-rank g l =
-    Appends (g.W.Write.contents l.initial.out) (g.W.Write.contents l.out) (flat_map (member_line l.dims l.attr) (take l.rank (attr_members l.dims l.attr)))
+    Appends (g.W.Write.contents l.initial.out) (g.W.Write.contents l.out)
+    (flat_map (member_line l.dims l.attr) (take l.rank (attr_members l.dims l.attr)))

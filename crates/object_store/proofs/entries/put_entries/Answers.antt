@@ -1,7 +1,7 @@
 use Rattle.std.proofs.Common.{◌+◌, List, drop, sym, subst, ap, ◌∙◌}
 use Rattle.std.proofs.lemmas.List.{drop_more}
-use Rattle.catalogue.specs.declared.entry.Entry.{Entry}
-use Rattle.catalogue.specs.Catalogue.{AreAscending}
+use Rattle.object_store.specs.declared.catalogue.entry.Entry.{Entry}
+use Rattle.object_store.specs.Catalogue.{AreAscending}
 use Rattle.object_store.specs.Commit.{put_each}
 use Rattle.object_store.proofs.Lists.{ascending-put_by}
 use Rattle.object_store.proofs.entries.put_entries.Goals as goal
@@ -19,6 +19,7 @@ loop-k-preserved c =
       ascending = subst AreAscending (sym put) (ascending-put_by (λ (e : Entry). e.id) _ old so_far.ascending);
       rest =
           ap (λ (l : List Entry). put_each (λ e. e.id) (drop (c.loop-k.k + 1) placed) l) put
-          ∙ ap (λ (l : List Entry). put_each (λ e. e.id) l old) (sym (drop_more placed c.loop-k.k no_entry c.loop-k-test.true))
+          ∙ ap (λ (l : List Entry). put_each (λ e. e.id) l old)
+          (sym (drop_more placed c.loop-k.k no_entry c.loop-k-test.true))
           ∙ so_far.rest;
     }

@@ -1,5 +1,5 @@
 use Rattle.std.proofs.Common.{◌≡◌, drop}
-use Rattle.catalogue.specs.Catalogue.{AreAscending}
+use Rattle.object_store.specs.Catalogue.{AreAscending}
 use Rattle.object_store.specs.Commit.{drop_each}
 use Rattle.object_store.proofs.entries.without.Given as goal
 

@@ -19,6 +19,9 @@ returns-clause-written g c =
     let mid = (state c.write_run.new.self).reads in
     let some : 0 < length c.split_at.result.1.now = grind (arith, nat_tests, c.is_empty.ensures, c.if-is_empty.false) in
     on_ok_weaker c.write.result (λ last w.
-    written_rest c.args.bytes.now c.args.first mid (state c.write.new.self).reads _ (omega (arith, some, c.split_at.ensures.back_len)) (omega (arith, c.split_at.ensures.front_len))
-    (subst (λ (l : List ℕ). HasRun mid c.args.first l) c.split_at.ensures.front (c.in_ok-write_run.ensures.written (c.write.ensures.word w)))
-    (c.write.ensures.writes w).others (last w ∙ c.block.ensures ∙ ap padded c.split_at.ensures.back)) c.write.ensures.written
+    written_rest c.args.bytes.now c.args.first mid (state c.write.new.self).reads _
+    (omega (arith, some, c.split_at.ensures.back_len)) (omega (arith, c.split_at.ensures.front_len))
+    (subst (λ (l : List ℕ). HasRun mid c.args.first l) c.split_at.ensures.front
+    (c.in_ok-write_run.ensures.written (c.write.ensures.word w)))
+    (c.write.ensures.writes w).others (last w ∙ c.block.ensures ∙ ap padded c.split_at.ensures.back))
+    c.write.ensures.written

@@ -14,7 +14,9 @@ returns-then-superblock-count-clause-nothing g c layout w =
     let s1 = g.D.Sectors.state c.newest.new.device in
     let found = rw c.in-Ok-Some.field-0-is at c.in-Ok-Some.ensures.found in
     let super = c.in-Ok-Some.superblock in
-    nothing_sized s0.size s0.reads super (newest_same s1.reads s0.reads (λ slot lt. (c.newest.ensures.only w).others slot (λ none. none)) super (found w))
+    nothing_sized s0.size s0.reads super
+    (newest_same s1.reads s0.reads (λ slot lt. (c.newest.ensures.only w).others slot (λ none. none)) super
+    (found w))
     (λ e. c.if-superblock-count.true (e ∙ sym c.newest.ensures.size ∙ sym c.count.ensures))
 
 pub returns-in_err-catalogue-clause-nothing : goal.returns-in_err-catalogue-clause-nothing
@@ -31,7 +33,9 @@ returns-in_err-catalogue-clause-nothing g c =
     let sized : super.sectors ≡ s0.size = c.if-superblock-count.false ∙ c.count.ensures ∙ c.newest.ensures.size in
     ⊎_elim (λ memory. absurd (false≢true (sym (ap (λ (f : Fault). is_of_layout f) memory) ∙ layout)))
     (λ other. ⊎_elim (λ device. absurd (false≢true (sym (ap (λ (f : Fault). is_of_layout f) device) ∙ layout)))
-    (λ bad. nothing_spelled s0.size s0.reads super newest sized (subst (λ (l : List ℕ). SpellNone super l) (bytes_same s1.reads s0.reads super.catalogue super.bytes (λ i held. same i)) (bad.1 w))) other)
+    (λ bad. nothing_spelled s0.size s0.reads super newest sized
+    (subst (λ (l : List ℕ). SpellNone super l)
+    (bytes_same s1.reads s0.reads super.catalogue super.bytes (λ i held. same i)) (bad.1 w))) other)
     c.in_err-catalogue.ensures.refused)
 
 pub returns-then-superblock-count-clause-explained : goal.returns-then-superblock-count-clause-explained
@@ -55,7 +59,9 @@ returns-in_err-catalogue-clause-explained g c =
     let found = rw c.in-Ok-Some.field-0-is at c.in-Ok-Some.ensures.found in
     let super = c.in-Ok-Some.superblock in
     let w1 = c.read_catalogue.ensures.word w in
-    let newest : IsNewest s0.reads super = newest_same s1.reads s0.reads (λ slot lt. (c.newest.ensures.only w1).others slot (λ none. none)) super (found w1) in
+    let newest : IsNewest s0.reads super =
+    newest_same s1.reads s0.reads (λ slot lt. (c.newest.ensures.only w1).others slot (λ none. none)) super
+    (found w1) in
     let sized : super.sectors ≡ s0.size = c.if-superblock-count.false ∙ c.count.ensures ∙ c.newest.ensures.size in
     ⊎_elim (λ memory. subst (λ (f : Fault). Explains f s0.size s0.reads) (sym memory) tt)
     (λ other. ⊎_elim (λ device. subst (λ (f : Fault). Explains f s0.size s0.reads) (sym device) tt)

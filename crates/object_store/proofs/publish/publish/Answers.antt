@@ -9,7 +9,8 @@ use Rattle.object_store.proofs.publish.publish.Goals as goal
 pub returns-in_err-write_texts-clause-moments : goal.returns-in_err-write_texts-clause-moments
 returns-in_err-write_texts-clause-moments g c w1 =
     let w0 = c.write_texts.ensures.word w1 in
-    writing c.args.plan.now (puts_of c.args.puts.now) (g.D.Sectors.state c.args.device.now) (c.requires.settled w0) (g.D.Sectors.state c.write_texts.new.device) (c.write_texts.ensures.within w1)
+    writing c.args.plan.now (puts_of c.args.puts.now) (g.D.Sectors.state c.args.device.now) (c.requires.settled w0)
+    (g.D.Sectors.state c.write_texts.new.device) (c.write_texts.ensures.within w1)
 
 pub returns-in_err-sync-clause-moments : goal.returns-in_err-sync-clause-moments
 returns-in_err-sync-clause-moments g c w2 =
@@ -19,7 +20,8 @@ returns-in_err-sync-clause-moments g c w2 =
     let s1 = g.D.Sectors.state c.write_texts.new.device in
     let s2 = g.D.Sectors.state c.sync.new.self in
     writing c.args.plan.now (puts_of c.args.puts.now) s0 (c.requires.settled w0) s2
-    (synced_within (SomeHolds (written_by c.args.plan.now)) s0 s1 s2 (c.write_texts.ensures.within w1) (c.sync.ensures.syncs w2))
+    (synced_within (SomeHolds (written_by c.args.plan.now)) s0 s1 s2 (c.write_texts.ensures.within w1)
+    (c.sync.ensures.syncs w2))
 
 pub returns-in_err-write-clause-moments : goal.returns-in_err-write-clause-moments
 returns-in_err-write-clause-moments g c w3 =
@@ -30,8 +32,10 @@ returns-in_err-write-clause-moments g c w3 =
     let s1 = g.D.Sectors.state c.write_texts.new.device in
     let s2 = g.D.Sectors.state c.sync.new.self in
     let s3 = g.D.Sectors.state c.write.new.self in
-    switching c.args.plan.now (puts_of c.args.puts.now) s0 (c.requires.settled w0) s0.size c.requires.laid_out s1 s2 s3 (c.write_texts.ensures.within w1)
-    (c.in_ok-write_texts.ensures.objects w1) (c.in_ok-write_texts.ensures.catalogue w1) (c.sync.ensures.syncs w2) (c.in_ok-sync.ensures.settled w2) c.encode.result c.encode.ensures (c.write.ensures.writes w3)
+    switching c.args.plan.now (puts_of c.args.puts.now) s0 (c.requires.settled w0) s0.size c.requires.laid_out s1 s2 s3
+    (c.write_texts.ensures.within w1)
+    (c.in_ok-write_texts.ensures.objects w1) (c.in_ok-write_texts.ensures.catalogue w1) (c.sync.ensures.syncs w2)
+    (c.in_ok-sync.ensures.settled w2) c.encode.result c.encode.ensures (c.write.ensures.writes w3)
 
 pub returns-clause-moments : goal.returns-clause-moments
 returns-clause-moments g c w4 =
@@ -43,8 +47,10 @@ returns-clause-moments g c w4 =
     let s1 = g.D.Sectors.state c.write_texts.new.device in
     let s2 = g.D.Sectors.state c.sync.new.self in
     let s3 = g.D.Sectors.state c.write.new.self in
-    ended c.args.plan.now (puts_of c.args.puts.now) s0 (c.requires.settled w0) s0.size c.requires.laid_out s1 s2 s3 (c.write_texts.ensures.within w1)
-    (c.in_ok-write_texts.ensures.objects w1) (c.in_ok-write_texts.ensures.catalogue w1) (c.sync.ensures.syncs w2) (c.in_ok-sync.ensures.settled w2) c.encode.result c.encode.ensures (c.write.ensures.writes w3)
+    ended c.args.plan.now (puts_of c.args.puts.now) s0 (c.requires.settled w0) s0.size c.requires.laid_out s1 s2 s3
+    (c.write_texts.ensures.within w1)
+    (c.in_ok-write_texts.ensures.objects w1) (c.in_ok-write_texts.ensures.catalogue w1) (c.sync.ensures.syncs w2)
+    (c.in_ok-sync.ensures.settled w2) c.encode.result c.encode.ensures (c.write.ensures.writes w3)
     (g.D.Sectors.state c.sync-2.new.self) (c.sync-2.ensures.syncs w4)
 
 pub returns-clause-written : goal.returns-clause-written
@@ -58,6 +64,9 @@ returns-clause-written g c =
     let s1 = g.D.Sectors.state c.write_texts.new.device in
     let s2 = g.D.Sectors.state c.sync.new.self in
     let s3 = g.D.Sectors.state c.write.new.self in
-    has_written c.args.plan.now (puts_of c.args.puts.now) s0 (c.requires.settled w0) s0.size c.requires.laid_out s1 s2 s3 (c.write_texts.ensures.within w1)
-    (c.in_ok-write_texts.ensures.objects w1) (c.in_ok-write_texts.ensures.catalogue w1) (c.sync.ensures.syncs w2) (c.in_ok-sync.ensures.settled w2) c.encode.result c.encode.ensures (c.write.ensures.writes w3)
-    (g.D.Sectors.state c.sync-2.new.self) (c.sync-2.ensures.syncs w4) (c.in_ok-write.ensures.written w3)) c.sync-2.ensures.settled
+    has_written c.args.plan.now (puts_of c.args.puts.now) s0 (c.requires.settled w0) s0.size c.requires.laid_out s1 s2
+    s3 (c.write_texts.ensures.within w1)
+    (c.in_ok-write_texts.ensures.objects w1) (c.in_ok-write_texts.ensures.catalogue w1) (c.sync.ensures.syncs w2)
+    (c.in_ok-sync.ensures.settled w2) c.encode.result c.encode.ensures (c.write.ensures.writes w3)
+    (g.D.Sectors.state c.sync-2.new.self) (c.sync-2.ensures.syncs w4) (c.in_ok-write.ensures.written w3))
+    c.sync-2.ensures.settled

@@ -3,7 +3,7 @@ use Rattle.std.proofs.lemmas.Result.{on_ok_weaker}
 use Rattle.std.proofs.lemmas.List.Elements.{All-head}
 use Rattle.sector_device.specs.Moments.{within_more, within_then}
 use Rattle.extents.specs.Extents.{Holds, SomeHolds, AreApart, IsInRange, AreLaidOut}
-use Rattle.catalogue.specs.declared.entry.Entry.{Entry}
+use Rattle.object_store.specs.declared.catalogue.entry.Entry.{Entry}
 use Rattle.object_store.specs.Places.{bytes_at, extent_of, extents_of, objects_at}
 use Rattle.object_store.specs.Publish.{written_by}
 use Rattle.object_store.proofs.Lists.{AllPairs-head}
@@ -14,29 +14,39 @@ use Rattle.object_store.proofs.publish.write_texts.Goals as goal
 pub write_objects-requires-clause-laid_out : goal.write_objects-requires-clause-laid_out
 write_objects-requires-clause-laid_out g c =
     let plan = c.args.plan.now in
-    subst (λ (l : List Entry). AreLaidOut (g.D.Sectors.state c.args.device.now).size (extents_of l)) (sym c.deref.ensures.value)
-    (laid_out_tail (g.D.Sectors.state c.args.device.now).size (extent_of plan.superblock.catalogue plan.superblock.bytes) (extents_of plan.placed.items) c.requires.laid_out)
+    subst (λ (l : List Entry). AreLaidOut (g.D.Sectors.state c.args.device.now).size (extents_of l))
+    (sym c.deref.ensures.value)
+    (laid_out_tail (g.D.Sectors.state c.args.device.now).size
+    (extent_of plan.superblock.catalogue plan.superblock.bytes) (extents_of plan.placed.items) c.requires.laid_out)
 
 pub write_extent-requires-clause-in_range : goal.write_extent-requires-clause-in_range
 write_extent-requires-clause-in_range g c =
     let plan = c.args.plan.now in
     let size = (g.D.Sectors.state c.args.device.now).size in
-    subst (λ (n : ℕ). IsInRange n (extent_of plan.superblock.catalogue (length c.deref-2.result.now))) (sym c.write_objects.ensures.size)
-    (subst (λ (n : ℕ). IsInRange size (extent_of plan.superblock.catalogue n)) (c.requires.bytes ∙ ap length (sym c.deref-2.ensures.value))
-    (All-head (IsInRange size) (extent_of plan.superblock.catalogue plan.superblock.bytes) (extents_of plan.placed.items) c.requires.laid_out.in_range))
+    subst (λ (n : ℕ). IsInRange n (extent_of plan.superblock.catalogue (length c.deref-2.result.now)))
+    (sym c.write_objects.ensures.size)
+    (subst (λ (n : ℕ). IsInRange size (extent_of plan.superblock.catalogue n))
+    (c.requires.bytes ∙ ap length (sym c.deref-2.ensures.value))
+    (All-head (IsInRange size) (extent_of plan.superblock.catalogue plan.superblock.bytes)
+    (extents_of plan.placed.items) c.requires.laid_out.in_range))
 
 pub returns-in_err-write_objects-clause-within : goal.returns-in_err-write_objects-clause-within
 returns-in_err-write_objects-clause-within g c w =
     within_more (SomeHolds (extents_of c.deref.result.now)) (SomeHolds (written_by c.args.plan.now)) _ _
-    (λ i held. inr (subst (λ (l : List Entry). SomeHolds (extents_of l) i) c.deref.ensures.value held)) (c.write_objects.ensures.within w)
+    (λ i held. inr (subst (λ (l : List Entry). SomeHolds (extents_of l) i) c.deref.ensures.value held))
+    (c.write_objects.ensures.within w)
 
 pub returns-clause-within : goal.returns-clause-within
 returns-clause-within g c w =
     let plan = c.args.plan.now in
-    within_then (SomeHolds (written_by plan)) (Holds (extent_of plan.superblock.catalogue (length c.deref-2.result.now))) _ _ _
-    (λ i held. inl (subst (λ (n : ℕ). Holds (extent_of plan.superblock.catalogue n) i) (ap length c.deref-2.ensures.value ∙ sym c.requires.bytes) held))
+    within_then (SomeHolds (written_by plan))
+    (Holds (extent_of plan.superblock.catalogue (length c.deref-2.result.now))) _ _ _
+    (λ i held. inl
+    (subst (λ (n : ℕ). Holds (extent_of plan.superblock.catalogue n) i)
+    (ap length c.deref-2.ensures.value ∙ sym c.requires.bytes) held))
     (within_more (SomeHolds (extents_of c.deref.result.now)) (SomeHolds (written_by plan)) _ _
-    (λ i held. inr (subst (λ (l : List Entry). SomeHolds (extents_of l) i) c.deref.ensures.value held)) (c.write_objects.ensures.within (c.write_extent.ensures.word w)))
+    (λ i held. inr (subst (λ (l : List Entry). SomeHolds (extents_of l) i) c.deref.ensures.value held))
+    (c.write_objects.ensures.within (c.write_extent.ensures.word w)))
     (c.write_extent.ensures.within w)
 
 pub returns-clause-objects : goal.returns-clause-objects
@@ -44,15 +54,23 @@ returns-clause-objects g c =
     on_ok_weaker c.write_extent.result (λ written w.
     let plan = c.args.plan.now in
     let cat = extent_of plan.superblock.catalogue plan.superblock.bytes in
-    let apart = apart_from cat (extents_of plan.placed.items) (AllPairs-head AreApart cat (extents_of plan.placed.items) c.requires.laid_out.apart) in
-    objects_same (g.D.Sectors.state c.write_extent.new.device).reads (g.D.Sectors.state c.write_objects.new.device).reads plan.placed.items
-    (λ i held. (c.write_extent.ensures.within w).others i (λ here. apart i (subst (λ (n : ℕ). Holds (extent_of plan.superblock.catalogue n) i) (ap length c.deref-2.ensures.value ∙ sym c.requires.bytes) here) held))
-    ∙ ap (λ (l : List Entry). objects_at (g.D.Sectors.state c.write_objects.new.device).reads l) (sym c.deref.ensures.value)
+    let apart =
+    apart_from cat (extents_of plan.placed.items)
+    (AllPairs-head AreApart cat (extents_of plan.placed.items) c.requires.laid_out.apart) in
+    objects_same (g.D.Sectors.state c.write_extent.new.device).reads
+    (g.D.Sectors.state c.write_objects.new.device).reads plan.placed.items
+    (λ i held. (c.write_extent.ensures.within w).others i
+    (λ here. apart i
+    (subst (λ (n : ℕ). Holds (extent_of plan.superblock.catalogue n) i)
+    (ap length c.deref-2.ensures.value ∙ sym c.requires.bytes) here) held))
+    ∙ ap (λ (l : List Entry). objects_at (g.D.Sectors.state c.write_objects.new.device).reads l)
+    (sym c.deref.ensures.value)
     ∙ c.in_ok-write_objects.ensures.objects (c.write_extent.ensures.word w)) c.write_extent.ensures.written
 
 pub returns-clause-catalogue : goal.returns-clause-catalogue
 returns-clause-catalogue g c =
     on_ok_weaker c.write_extent.result (λ written w.
     let plan = c.args.plan.now in
-    ap (λ (n : ℕ). bytes_at (g.D.Sectors.state c.write_extent.new.device).reads plan.superblock.catalogue n) (c.requires.bytes ∙ ap length (sym c.deref-2.ensures.value))
+    ap (λ (n : ℕ). bytes_at (g.D.Sectors.state c.write_extent.new.device).reads plan.superblock.catalogue n)
+    (c.requires.bytes ∙ ap length (sym c.deref-2.ensures.value))
     ∙ written w ∙ c.deref-2.ensures.value) c.write_extent.ensures.written

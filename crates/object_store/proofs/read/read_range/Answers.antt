@@ -21,16 +21,22 @@ loop-done-preserved g c =
     let new = c.read_some.new.to in
     let sub : List ℕ = take (length to - done) (drop done to) in
     let len : length to ≡ length c.args.to.now = c.loop-done.auto.to in
-    let left : length sub ≡ length to - done = length-take-le (length to - done) (drop done to) (omega (arith, length-drop done to)) in record {
-      within = part_within done n to new (length to - done) (omega (arith, c.loop-done-test.true)) (omega (arith, c.in_ok-done.ensures.many.1, left)) (c.read_some.auto.to ∙ left);
+    let left : length sub ≡ length to - done =
+    length-take-le (length to - done) (drop done to) (omega (arith, length-drop done to)) in record {
+      within = part_within done n to new (length to - done) (omega (arith, c.loop-done-test.true))
+          (omega (arith, c.in_ok-done.ensures.many.1, left)) (c.read_some.auto.to ∙ left);
       size = c.read_some.ensures.size ∙ so_far.size;
       failures = c.in_ok-done.ensures.failures ∙ so_far.failures;
       word = λ w. so_far.word (earlier w);
-      only = λ w. within_then (λ _. ⊥) (λ _. ⊥) s0 s1 (g.D.Sectors.state c.read_some.new.device) (λ i none. none) (so_far.only (earlier w)) (c.read_some.ensures.only w);
+      only = λ w. within_then (λ _. ⊥) (λ _. ⊥) s0 s1 (g.D.Sectors.state c.read_some.new.device) (λ i none. none)
+          (so_far.only (earlier w)) (c.read_some.ensures.only w);
       bytes = λ w total enough.
-          let same : bytes_at s1.reads first total ≡ bytes_at s0.reads first total = bytes_same s1.reads s0.reads first total (λ i held. (so_far.only (earlier w)).others i (λ none. none)) in
-          range_grows (bytes_at s0.reads first total) to sub new _ (post_of done (length to - done) to) at done n (omega (arith, c.loop-done-test.true)) c.in_ok-done.ensures.many.1 c.read_some.auto.to
+          let same : bytes_at s1.reads first total ≡ bytes_at s0.reads first total =
+          bytes_same s1.reads s0.reads first total (λ i held. (so_far.only (earlier w)).others i (λ none. none)) in
+          range_grows (bytes_at s0.reads first total) to sub new _ (post_of done (length to - done) to) at done n
+          (omega (arith, c.loop-done-test.true)) c.in_ok-done.ensures.many.1 c.read_some.auto.to
           (so_far.bytes (earlier w) total enough)
-          (c.in_ok-done.ensures.bytes w total (omega (arith, left, len, enough, c.loop-done-test.true)) ∙ ap (λ (l : List ℕ). take n (drop (at + done) l) ++ drop n sub) same)
+          (c.in_ok-done.ensures.bytes w total (omega (arith, left, len, enough, c.loop-done-test.true))
+          ∙ ap (λ (l : List ℕ). take n (drop (at + done) l) ++ drop n sub) same)
           refl;
     }

@@ -12,7 +12,8 @@ invariant-loop-done g l =
       failures : g.D.Sectors.failed l.device ≡ g.D.Sectors.failed l.initial.device;
       word : g.D.Sectors.keeps_word l.device → g.D.Sectors.keeps_word l.initial.device;
       only : g.D.Sectors.keeps_word l.device → IsOnlyRead first now;
-      bytes : g.D.Sectors.keeps_word l.device → (total : ℕ) → l.at + length l.initial.to ≤ total → take l.done l.to ≡ take l.done (drop l.at (bytes_at first.reads l.first total));
+      bytes : g.D.Sectors.keeps_word l.device → (total : ℕ) → l.at + length l.initial.to ≤ total
+          → take l.done l.to ≡ take l.done (drop l.at (bytes_at first.reads l.first total));
     }
 
 abbrev pub decreases-loop-done : goal.decreases-loop-done

@@ -12,10 +12,13 @@ returns-then-to-ge512-clause-bytes g c =
     let place = c.args.place in
     IfOk-both c.read_whole.result _ _ _ (λ n many bytes w total enough.
     let w0 = c.read_whole.ensures.word w in
-    let piece : take n (drop place (bytes_at reads first total)) ≡ run_bytes reads (first + place / 512) (length to / 512) =
+    let piece : take n (drop place (bytes_at reads first total))
+    ≡ run_bytes reads (first + place / 512) (length to / 512) =
     ap (λ (k : ℕ). take k (drop place (bytes_at reads first total))) many
     ∙ run_within reads first place (length to / 512) total c.if-place-eq0.true (omega (arith, enough))
-    (λ k lt. g.met.D.Sectors.whole device (first + k) (reads (first + k)) w0 (omega (arith, lt, c.requires.in_range, c.if-place-eq0.true)) (g.met.D.Sectors.read_may_stay device (first + k) w0)) in
+    (λ k lt. g.met.D.Sectors.whole device (first + k) (reads (first + k)) w0
+    (omega (arith, lt, c.requires.in_range, c.if-place-eq0.true))
+    (g.met.D.Sectors.read_may_stay device (first + k) w0)) in
     bytes w ∙ ap (λ (l : List ℕ). l ++ drop n to) (sym piece)) c.read_whole.ensures.many c.read_whole.ensures.bytes
 
 pub returns-clause-bytes : goal.returns-clause-bytes
@@ -28,5 +31,8 @@ returns-clause-bytes g c =
     IfOk-both c.read_piece.result _ _ _ (λ n many bytes w total enough.
     let w0 = c.read_piece.ensures.word w in
     bytes w ∙ ap (λ (l : List ℕ). l ++ drop n to)
-    (sym (piece_is reads first place n total (omega (arith, many, c.requires.some)) (omega (arith, many)) (omega (arith, many, enough))
-    (λ k le. g.met.D.Sectors.whole device (first + k) (reads (first + k)) w0 (omega (arith, le, c.requires.in_range, c.requires.some)) (g.met.D.Sectors.read_may_stay device (first + k) w0))))) c.read_piece.ensures.many c.read_piece.ensures.bytes
+    (sym (piece_is reads first place n total (omega (arith, many, c.requires.some)) (omega (arith, many))
+    (omega (arith, many, enough))
+    (λ k le. g.met.D.Sectors.whole device (first + k) (reads (first + k)) w0
+    (omega (arith, le, c.requires.in_range, c.requires.some))
+    (g.met.D.Sectors.read_may_stay device (first + k) w0))))) c.read_piece.ensures.many c.read_piece.ensures.bytes

@@ -9,4 +9,5 @@ returns-clause-bytes g c w =
     let n : ℕ = length to / 512 in
     let long : length c.read_run.new.to ≡ n * 512 = c.read_run.auto.to ∙ length-take-le (n * 512) to (omega arith) in
     ap (λ (l : List ℕ). l ++ drop (n * 512) to)
-    (run_is n c.read_run.new.to (g.D.Sectors.state c.args.device.now).reads c.args.first long (λ k lt. c.in_ok-read_run.ensures.bytes w k (omega (arith, lt, long))))
+    (run_is n c.read_run.new.to (g.D.Sectors.state c.args.device.now).reads c.args.first long
+    (λ k lt. c.in_ok-read_run.ensures.bytes w k (omega (arith, lt, long))))

@@ -10,8 +10,12 @@ use Rattle.partial_reports.proofs.fields.whole_number.Goals as goal
 pub returns-in-Ok : goal.returns-in-Ok
 returns-in-Ok c =
     λ number small is. c.ok.ensures.value
-    ∙ ap result_ok (parse-signed_decimal w64 number c.in-Ok.text.now c.parse.result (record { sfits = small }) small (c.in-Ok.ensures.cases.0 ∙ is) c.parse.ensures.value.0)
+    ∙ ap result_ok
+    (parse-signed_decimal w64 number c.in-Ok.text.now c.parse.result (record { sfits = small }) small
+    (c.in-Ok.ensures.cases.0 ∙ is) c.parse.ensures.value.0)
 
 pub returns-in-Err : goal.returns-in-Err
 returns-in-Err c =
-    λ number small is. absurd (c.in-Err.ensures.cases.0 (subst IsUtf8 (sym is) (IsUtf8-from_ascii (signed_decimal number) (IsAscii-signed number small))))
+    λ number small is. absurd
+    (c.in-Err.ensures.cases.0
+    (subst IsUtf8 (sym is) (IsUtf8-from_ascii (signed_decimal number) (IsAscii-signed number small))))

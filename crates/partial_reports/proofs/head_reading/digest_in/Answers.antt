@@ -10,4 +10,7 @@ returns-in_err-digits c = λ digest is e. absurd (c.in_err-digits.ensures.begins
 pub returns : goal.returns
 returns c =
     λ digest is e. c.ok.ensures.value
-    ∙ ap result_ok (c.from_hex.ensures ∙ ap (λ (l : List ℕ). decode_sized l 32) (c.in_ok-digits.ensures.begins (encode_lower digest) e) ∙ decode_sized-encode_lower digest 32 is.size is.bytes)
+    ∙ ap result_ok
+    (c.from_hex.ensures
+    ∙ ap (λ (l : List ℕ). decode_sized l 32) (c.in_ok-digits.ensures.begins (encode_lower digest) e)
+    ∙ decode_sized-encode_lower digest 32 is.size is.bytes)

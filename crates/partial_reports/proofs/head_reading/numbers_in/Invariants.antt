@@ -5,7 +5,8 @@ use Rattle.partial_reports.proofs.head_reading.numbers_in.Given as goal
 
 abbrev pub invariant-loop-field : goal.invariant-loop-field
 invariant-loop-field l =
-    (numbers : List ℕ) → 0 < length numbers → AreShort numbers → l.fields ≡ numbers_text numbers → NumbersLeft numbers l.numbers l.left
+    (numbers : List ℕ) → 0 < length numbers → AreShort numbers → l.fields ≡ numbers_text numbers
+    → NumbersLeft numbers l.numbers l.left
 
 abbrev pub decreases-loop-field : goal.decreases-loop-field
 decreases-loop-field l = length l.left

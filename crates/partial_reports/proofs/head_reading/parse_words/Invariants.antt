@@ -7,5 +7,6 @@ use Rattle.partial_reports.proofs.head_reading.parse_words.Given as goal
 
 abbrev pub invariant-loop-taken : goal.invariant-loop-taken
 invariant-loop-taken l =
-    (words : List Word) (left : List ℕ) → list_all is_short_word words ≡ true → l.fn.lines.left.now ≡ flat_map word_text words ++ 10 ∷ left
+    (words : List Word) (left : List ℕ) → list_all is_short_word words ≡ true
+    → l.fn.lines.left.now ≡ flat_map word_text words ++ 10 ∷ left
     → WordsLeft words l.words l.lines.left.now left l._taken (length l.fn.lines.left.now)

@@ -8,7 +8,8 @@ use Rattle.partial_reports.proofs.head_reading.part_in.Goals as goal
 
 pub returns-in_default-cut : goal.returns-in_default-cut
 returns-in_default-cut c = λ head proper is.
-    absurd (c.in_default-cut.ensures.found (numbers_text head.numbers) (decimal head.parts) (no_slash head (short_head head proper))
+    absurd (c.in_default-cut.ensures.found (numbers_text head.numbers) (decimal head.parts)
+    (no_slash head (short_head head proper))
     (c.in-Some.ensures.begins (numbers_text head.numbers ++ 47 ∷ decimal head.parts) is))
 
 pub returns-in_default-number_in : goal.returns-in_default-number_in
@@ -31,6 +32,7 @@ returns c = λ head proper is.
     let short = short_head head proper in
     let halves = c.in-Some-cut.ensures.found (numbers_text head.numbers) (decimal head.parts) (no_slash head short)
     (c.in-Some.ensures.begins (numbers_text head.numbers ++ 47 ∷ decimal head.parts) is) in
-    let parts = same_Some c.in-Some-number_in.parts head.parts (c.in-Some-number_in.ensures head.parts short.parts halves.1) in
+    let parts =
+    same_Some c.in-Some-number_in.parts head.parts (c.in-Some-number_in.ensures head.parts short.parts halves.1) in
     let numbers = c.in_ok-numbers.ensures head.numbers short.some short.numbers halves.0 in
     λ i. Some (numbers i, parts i)

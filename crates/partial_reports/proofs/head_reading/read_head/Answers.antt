@@ -17,11 +17,13 @@ returns-then-not-is_proper-clause-complete c = λ head digest left proper is e.
 pub returns-in-Some-clause-complete : goal.returns-in-Some-clause-complete
 returns-in-Some-clause-complete c = λ head digest left proper is e.
     let read = c.in_ok-head.ensures head digest left proper is e in
-    let spelled : c.as_slice.result.now ≡ head_text head digest = c.as_slice.ensures.value ∙ c.in_ok-spelled.ensures.ok ∙ (λ i. head_text (read.0 i) (read.1 i)) in
+    let spelled : c.as_slice.result.now ≡ head_text head digest = c.as_slice.ensures.value ∙ c.in_ok-spelled.ensures.ok
+    ∙ (λ i. head_text (read.0 i) (read.1 i)) in
     (read.0, read.1, c.in-Some.ensures.begins left (e ∙ ap (λ (t : List ℕ). t ++ left) (sym spelled)))
 
 pub returns-clause-complete : goal.returns-clause-complete
 returns-clause-complete c = λ head digest left proper is e.
     let read = c.in_ok-head.ensures head digest left proper is e in
-    let spelled : c.as_slice.result.now ≡ head_text head digest = c.as_slice.ensures.value ∙ c.in_ok-spelled.ensures.ok ∙ (λ i. head_text (read.0 i) (read.1 i)) in
+    let spelled : c.as_slice.result.now ≡ head_text head digest = c.as_slice.ensures.value ∙ c.in_ok-spelled.ensures.ok
+    ∙ (λ i. head_text (read.0 i) (read.1 i)) in
     absurd (c.in-None.ensures.begins left (e ∙ ap (λ (t : List ℕ). t ++ left) (sym spelled)))

@@ -6,4 +6,5 @@ use Rattle.partial_reports.proofs.members.is_plain_line.Given as goal
 
 abbrev pub invariant-loop-column : goal.invariant-loop-column
 invariant-loop-column g l =
-    list_all is_plain_member (line_at (g.L.Lines.lines l.lines) l.place).key ≡ list_all is_plain_member (drop l.column (line_at (g.L.Lines.lines l.lines) l.place).key)
+    list_all is_plain_member (line_at (g.L.Lines.lines l.lines) l.place).key
+    ≡ list_all is_plain_member (drop l.column (line_at (g.L.Lines.lines l.lines) l.place).key)

@@ -10,4 +10,5 @@ returns-in_default-cmp-clause-refused c = λ rise.
     c.in_default-cmp.not-Less
     (c.cmp.ensures
     ∙ last_less c.in-Some.field-0-1.now c.in-Some.last.now c.args.line.now
-    (subst (λ (lines : List Line). IsAscending (answer_cmp None) (lines ++ c.args.line.now ∷ [])) c.in-Some.ensures.cases.0 rise))
+    (subst (λ (lines : List Line). IsAscending (answer_cmp None) (lines ++ c.args.line.now ∷ []))
+    c.in-Some.ensures.cases.0 rise))

@@ -7,4 +7,6 @@ use Rattle.partial_reports.proofs.readable.check_readable.Goals as goal
 
 pub returns-then-not-are_plain-clause-refused : goal.returns-then-not-are_plain-clause-refused
 returns-then-not-are_plain-clause-refused c = λ is.
-    both_ways c.are_plain.result c.if-not-are_plain.true (c.are_plain.ensures ∙ ap (list_all is_plain_member) c.as_slice.ensures ∙ members_plain c.args.line.now.key is.plain)
+    both_ways c.are_plain.result c.if-not-are_plain.true
+    (c.are_plain.ensures ∙ ap (list_all is_plain_member) c.as_slice.ensures
+    ∙ members_plain c.args.line.now.key is.plain)

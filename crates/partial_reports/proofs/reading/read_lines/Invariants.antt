@@ -10,5 +10,6 @@ abbrev pub invariant-loop-taken : goal.invariant-loop-taken
 invariant-loop-taken l = record {
   are : AreLinesOf l.query l.lines;
   spelled : l.text ≡ flat_map line_text l.lines ++ l.left;
-  left : (all : List Line) → SpellsLines l.query l.text all → LinesLeft l.query all l.lines l.left l._taken (length l.text);
+  left : (all : List Line) → SpellsLines l.query l.text all
+      → LinesLeft l.query all l.lines l.left l._taken (length l.text);
 }

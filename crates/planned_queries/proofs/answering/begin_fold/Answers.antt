@@ -13,15 +13,19 @@ pub returns-in_err-done-clause-refused : goal.returns-in_err-done-clause-refused
 returns-in_err-done-clause-refused g c =
     let p = err_from_is_err_and c.from_residual-in_err-done.result c.from_residual-in_err-done.ensures.1 in
     rw (p.1, p.2) (λ is k w represents rooted same.
-    c.in_err-done.ensures.refused (ap (λ (f : Fault). Err f) (err_fault c.in_err-done.field-0.0 BadLayout is)) k w represents rooted same
-    (of_cuboid (content_of g.D.Sectors c.args.store.now) w c.args.as_of c.args.query.now c.in_ok-plan.plan represents (c.in_ok-plan.ensures.plan w rooted)))
+    c.in_err-done.ensures.refused (ap (λ (f : Fault). Err f) (err_fault c.in_err-done.field-0.0 BadLayout is)) k w
+    represents rooted same
+    (of_cuboid (content_of g.D.Sectors c.args.store.now) w c.args.as_of c.args.query.now c.in_ok-plan.plan represents
+    (c.in_ok-plan.ensures.plan w rooted)))
 
 pub returns-clause-begun : goal.returns-clause-begun
 returns-clause-begun g c k w represents rooted same =
     let plan = c.in_ok-plan.ensures.plan w rooted in
-    let own = of_cuboid (content_of g.D.Sectors c.args.store.now) w c.args.as_of c.args.query.now c.in_ok-plan.plan represents plan in (
+    let own = of_cuboid (content_of g.D.Sectors c.args.store.now) w c.args.as_of c.args.query.now c.in_ok-plan.plan
+    represents plan in (
       c.in_ok-plan.plan,
       plan,
       c.in_ok-done.ensures.from,
-      subst (λ (n : ℕ). RepresentsRows c.args.dims.now c.begin_by_plan.new.fold (all_rows (take n w.batches))) (sym c.in_ok-done.ensures.from) (c.in_ok-done.ensures.ok k w represents rooted same own),
+      subst (λ (n : ℕ). RepresentsRows c.args.dims.now c.begin_by_plan.new.fold (all_rows (take n w.batches)))
+          (sym c.in_ok-done.ensures.from) (c.in_ok-done.ensures.ok k w represents rooted same own),
     )

@@ -17,7 +17,9 @@ returns-in_ok-fold_by_plan-in-Ok-clause-answer g c =
     let dims = c.args.dims.now.value in
     let fold = c.fold_by_plan.new.fold in
     let rows = all_rows (take c.args.as_of w.batches) in
-    let folded : RepresentsRows dims fold rows = subst (λ (d : DimRows). RepresentsRows d fold rows) c.deref-rows.ensures (c.in_ok-fold_by_plan-in-Ok.ensures.ok k w represents rooted (c.deref-rows.ensures ∙ same)) in
+    let folded : RepresentsRows dims fold rows =
+    subst (λ (d : DimRows). RepresentsRows d fold rows) c.deref-rows.ensures
+    (c.in_ok-fold_by_plan-in-Ok.ensures.ok k w represents rooted (c.deref-rows.ensures ∙ same)) in
     is rows folded ∙ ap (λ (q : Query). answer q dims rows) c.in_ok-fold_by_plan-in-Ok.ensures.query)
     c.of.ensures.answer
 
@@ -26,7 +28,12 @@ returns-in_ok-fold_by_plan-in-Ok-clause-refused g c = λ is k w represents roote
     let dims = c.args.dims.now.value in
     let fold = c.fold_by_plan.new.fold in
     let rows = all_rows (take c.args.as_of w.batches) in
-    let folded : RepresentsRows dims fold rows = subst (λ (d : DimRows). RepresentsRows d fold rows) c.deref-rows.ensures (c.in_ok-fold_by_plan-in-Ok.ensures.ok k w represents rooted (c.deref-rows.ensures ∙ same)) in
-    let within : c.args.as_of ≤ length w.batches = omega (arith, c.requires.few, ap (λ r. length r.batches) rooted, length-map w.batches length) in
-    let all : AreFoldable dims rows = subst (λ (d : DimRows). AreFoldable d rows) (sym same) (foldable w.rows w.batches represents.batches c.args.as_of within) in
+    let folded : RepresentsRows dims fold rows =
+    subst (λ (d : DimRows). RepresentsRows d fold rows) c.deref-rows.ensures
+    (c.in_ok-fold_by_plan-in-Ok.ensures.ok k w represents rooted (c.deref-rows.ensures ∙ same)) in
+    let within : c.args.as_of ≤ length w.batches =
+    omega (arith, c.requires.few, ap (λ r. length r.batches) rooted, length-map w.batches length) in
+    let all : AreFoldable dims rows =
+    subst (λ (d : DimRows). AreFoldable d rows) (sym same)
+    (foldable w.rows w.batches represents.batches c.args.as_of within) in
     c.of.ensures.refused is (rows, (folded, all))

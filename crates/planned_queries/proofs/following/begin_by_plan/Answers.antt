@@ -7,5 +7,7 @@ use Rattle.planned_queries.proofs.following.begin_by_plan.Goals as goal
 
 pub returns-in_ok-add_cuboid-in-Cells-clause-ok : goal.returns-in_ok-add_cuboid-in-Cells-clause-ok
 returns-in_ok-add_cuboid-in-Cells-clause-ok g c = λ k w represents rooted same.
-    subst (λ (plan : Plan). IsOfCuboid w plan → RepresentsRows c.args.dims.now c.add_cuboid.new.fold (all_rows (take (mark_of plan) w.batches))) (sym c.in-Cells.is)
+    subst (λ (plan : Plan). IsOfCuboid w plan
+    → RepresentsRows c.args.dims.now c.add_cuboid.new.fold (all_rows (take (mark_of plan) w.batches)))
+    (sym c.in-Cells.is)
     (λ has. c.in_ok-add_cuboid-in-Cells.ensures.ok k w represents rooted same has)

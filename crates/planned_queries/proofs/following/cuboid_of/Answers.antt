@@ -6,4 +6,6 @@ use Rattle.planned_queries.proofs.following.cuboid_of.Goals as goal
 
 pub returns : goal.returns
 returns c =
-    c.copied.ensures ∙ find_from_yields_List (λ (cuboid : StoredCuboid). cuboid.view == c.args.number) _ _ c.find.result c.find.ensures.ran (YieldsList-from_slice c.args.cuboids.now c.iter.ensures.rest) (λ x b q k. search (rules, tests))
+    c.copied.ensures ∙ find_from_yields_List (λ (cuboid : StoredCuboid). cuboid.view == c.args.number) _ _ c.find.result
+    c.find.ensures.ran (YieldsList-from_slice c.args.cuboids.now c.iter.ensures.rest)
+    (λ x b q k. search (rules, tests))

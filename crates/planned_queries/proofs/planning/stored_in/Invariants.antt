@@ -6,4 +6,5 @@ use Rattle.planned_queries.proofs.planning.stored_in.Given as goal
 
 -- the cuboids so far
 abbrev pub invariant-loop-cuboid : goal.invariant-loop-cuboid
-invariant-loop-cuboid l = (w : Warehouse) → l.initial.root ≡ root_of w → l.stored.items ≡ map seen_of (take l.cuboid-index w.cuboids)
+invariant-loop-cuboid l = (w : Warehouse) → l.initial.root ≡ root_of w
+    → l.stored.items ≡ map seen_of (take l.cuboid-index w.cuboids)

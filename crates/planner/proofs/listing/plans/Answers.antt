@@ -23,21 +23,35 @@ loop-one-preserved c =
           let better = w.in_ok-add.ensures.first first.0 first.1 in
           let serves = c.serves.ensures.0 w.if-serves.true in
           let plan = ap (λ (other : Priced). other.plan) w.by_cells.ensures in
-          subst (λ (plans : List Priced). HasCheapestFirst query (take (i + 1) stored) rows as_of plans × ((one : Priced) → Contains plans one ↔ AnswersAt query (take (i + 1) stored) rows as_of one.plan one.cost)) (sym (ap (λ p. p.items) w.plans-is)) (
+          subst (λ (plans : List Priced). HasCheapestFirst query (take (i + 1) stored) rows as_of plans
+          × ((one : Priced) → Contains plans one
+          ↔ AnswersAt query (take (i + 1) stored) rows as_of one.plan one.cost))
+          (sym (ap (λ p. p.items) w.plans-is)) (
             (
               better.0,
               better.1,
-              taken_at query rows as_of stored i _ c.loop-one-test.true first.0 better.0 w.by_cells.result.cost (ap (λ (other : Priced). other.cost) w.by_cells.ensures) serves first.2
-                  (subst (λ (p : Plan). (better.0 ≡ first.0) ⊎ (better.0 ≡ record { plan = p; cost = w.by_cells.result.cost })) plan better.2)
+              taken_at query rows as_of stored i _ c.loop-one-test.true first.0 better.0 w.by_cells.result.cost
+                  (ap (λ (other : Priced). other.cost) w.by_cells.ensures) serves first.2
+                  (subst (λ (p : Plan). (better.0 ≡ first.0)
+                  ⊎ (better.0 ≡ record { plan = p; cost = w.by_cells.result.cost })) plan better.2)
                   better.3
-                  (subst (λ (p : Plan). ComesFirst better.0 (record { plan = p; cost = w.by_cells.result.cost })) plan better.4),
+                  (subst (λ (p : Plan). ComesFirst better.0 (record { plan = p; cost = w.by_cells.result.cost })) plan
+                  better.4),
             ),
-            λ one. iff_through (w.in_ok-add.ensures.each one) (iff_through (or_through (so_far.1 one)) (listed_more_at query rows as_of stored i _ c.loop-one-test.true one serves w.by_cells.result w.by_cells.ensures)),
+            λ one. iff_through (w.in_ok-add.ensures.each one)
+                (iff_through (or_through (so_far.1 one))
+                (listed_more_at query rows as_of stored i _ c.loop-one-test.true one serves w.by_cells.result
+                w.by_cells.ensures)),
           )
       | else-serves w ↦
-          let unable : ServesAsOf query as_of (get_or stored i _) → ⊥ = λ serves. untrue c.serves.result (c.serves.ensures.1 serves) w.if-serves.false in
-          subst (λ (plans : List Priced). HasCheapestFirst query (take (i + 1) stored) rows as_of plans × ((one : Priced) → Contains plans one ↔ AnswersAt query (take (i + 1) stored) rows as_of one.plan one.cost)) (sym (ap (λ p. p.items) w.plans-is)) (
+          let unable : ServesAsOf query as_of (get_or stored i _)
+          → ⊥ = λ serves. untrue c.serves.result (c.serves.ensures.1 serves) w.if-serves.false in
+          subst (λ (plans : List Priced). HasCheapestFirst query (take (i + 1) stored) rows as_of plans
+          × ((one : Priced) → Contains plans one
+          ↔ AnswersAt query (take (i + 1) stored) rows as_of one.plan one.cost))
+          (sym (ap (λ p. p.items) w.plans-is)) (
             (first.0, first.1, passed_at query rows as_of stored i _ c.loop-one-test.true first.0 first.2 unable),
-            λ one. iff_through (so_far.1 one) (listed_passed_at query rows as_of stored i _ c.loop-one-test.true one unable),
+            λ one. iff_through (so_far.1 one)
+                (listed_passed_at query rows as_of stored i _ c.loop-one-test.true one unable),
           )
     ]

@@ -13,16 +13,21 @@ returns-in_default-taken c =
         inr
             (c.in-Some.sign, c.in-Some.rest.now, c.in-Some.ensures),
       ),
-      λ agg spelled. let parts = taken_in c.args.word.now c.in-Some.name.now c.in-Some.sign c.in-Some.rest.now agg c.in-Some.ensures
+      λ agg spelled. let parts = taken_in c.args.word.now c.in-Some.name.now c.in-Some.sign c.in-Some.rest.now agg
+          c.in-Some.ensures
           spelled in c.in_default-taken.ensures parts.taken parts.name_is,
     )
 
 pub returns-in-None : goal.returns-in-None
-returns-in-None c = not_closed c.args.word c.in-Some.name.now c.in-Some.sign c.in-Some.rest.now c.of-in-None.result c.in-Some.ensures
-    c.if-sign-eq58.false (strip_suffix_char 41 c.in-Some.rest.now None c.in-None.ensures.cases (lit< tt)) c.of-in-None.ensures
+returns-in-None c = not_closed c.args.word c.in-Some.name.now c.in-Some.sign c.in-Some.rest.now c.of-in-None.result
+    c.in-Some.ensures
+    c.if-sign-eq58.false (strip_suffix_char 41 c.in-Some.rest.now None c.in-None.ensures.cases (lit< tt))
+    c.of-in-None.ensures
 
 pub returns-in-Some-strip_suffix : goal.returns-in-Some-strip_suffix
-returns-in-Some-strip_suffix c = reads_brackets c.args.word.now c.in-Some.name.now c.in-Some.sign c.in-Some.rest.now c.in-Some-taken.taken
-    c.in-Some-strip_suffix.name.now c.of_measure-in-Some-strip_suffix.result c.in-Some.ensures c.in-Some-taken.ensures c.if-sign-eq58.false
+returns-in-Some-strip_suffix c = reads_brackets c.args.word.now c.in-Some.name.now c.in-Some.sign c.in-Some.rest.now
+    c.in-Some-taken.taken
+    c.in-Some-strip_suffix.name.now c.of_measure-in-Some-strip_suffix.result c.in-Some.ensures c.in-Some-taken.ensures
+    c.if-sign-eq58.false
     (strip_suffix_char 41 c.in-Some.rest.now (Some c.in-Some-strip_suffix.name) c.in-Some-strip_suffix.ensures.cases
     (lit< tt)) c.of_measure-in-Some-strip_suffix.ensures

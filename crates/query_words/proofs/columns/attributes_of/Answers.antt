@@ -12,6 +12,7 @@ returns-in_default c = inr (
         (omega arith),
     λ name. c.in_default.ensures name.0 name.1,
   ),
-  λ values e. names_none attr_name (λ name. name.now) c.args.names.now c.loop-name.name-index (record { ref_ptr = (0, 0); now = [] })
+  λ values e. names_none attr_name (λ name. name.now) c.args.names.now c.loop-name.name-index
+      (record { ref_ptr = (0, 0); now = [] })
       (omega arith) c.in_default.ensures values e,
 )

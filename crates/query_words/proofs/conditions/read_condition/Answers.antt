@@ -14,9 +14,11 @@ returns-in_default-subject c = inr (
 )
 
 pub returns-then-sign-eq61 : goal.returns-then-sign-eq61
-returns-then-sign-eq61 c = reads_list c.args.word.now c.in-Some.name.now c.in-Some.sign c.in-Some.members.now c.in-Some-subject.subject
+returns-then-sign-eq61 c = reads_list c.args.word.now c.in-Some.name.now c.in-Some.sign c.in-Some.members.now
+    c.in-Some-subject.subject
     c.read_list.result c.in-Some.ensures c.in-Some-subject.ensures c.if-sign-eq61.true c.read_list.ensures
 
 pub returns-else-sign-eq61 : goal.returns-else-sign-eq61
-returns-else-sign-eq61 c = reads_range c.args.word.now c.in-Some.name.now c.in-Some.sign c.in-Some.members.now c.in-Some-subject.subject
+returns-else-sign-eq61 c = reads_range c.args.word.now c.in-Some.name.now c.in-Some.sign c.in-Some.members.now
+    c.in-Some-subject.subject
     c.read_range.result c.in-Some.ensures c.in-Some-subject.ensures c.if-sign-eq61.false c.read_range.ensures

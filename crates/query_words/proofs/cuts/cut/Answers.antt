@@ -6,11 +6,13 @@ returns-in-None-None c = cut_neither c.args.one c.args.other c.args.word.now c.r
     c.in-None-None.ensures.cases c.in-None-None.ensures'.cases
 
 pub returns-in-None-Some : goal.returns-in-None-Some
-returns-in-None-Some c = cut_other c.args.one c.args.other c.args.word.now c.in-None-Some.name c.in-None-Some.rest c.requires.one_byte
+returns-in-None-Some c = cut_other c.args.one c.args.other c.args.word.now c.in-None-Some.name c.in-None-Some.rest
+    c.requires.one_byte
     c.requires.other_byte c.in-None-Some.ensures.cases c.in-None-Some.ensures'.cases
 
 pub returns-in-Some-None : goal.returns-in-Some-None
-returns-in-Some-None c = cut_one c.args.one c.args.other c.args.word.now c.in-Some-None.name c.in-Some-None.rest c.requires.one_byte
+returns-in-Some-None c = cut_one c.args.one c.args.other c.args.word.now c.in-Some-None.name c.in-Some-None.rest
+    c.requires.one_byte
     c.requires.other_byte c.in-Some-None.ensures.cases c.in-Some-None.ensures'.cases
 
 pub returns-then-name-longer : goal.returns-then-name-longer

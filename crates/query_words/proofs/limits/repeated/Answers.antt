@@ -6,12 +6,14 @@ use Rattle.query_words.proofs.limits.repeated.Goals as goal
 
 pub returns-then-contains : goal.returns-then-contains
 returns-then-contains c =
-    let again : Contains (take c.loop-place.place c.args.columns.now) (get_or c.args.columns.now c.loop-place.place CustomerCity) = search
+    let again : Contains (take c.loop-place.place c.args.columns.now)
+    (get_or c.args.columns.now c.loop-place.place CustomerCity) = search
     rules in
     occurs_twice c.args.columns.now c.loop-place.place CustomerCity (omega arith) again
 
 pub loop-place-preserved : goal.loop-place-preserved
 loop-place-preserved c =
-    let new : Contains (take c.loop-place.place c.args.columns.now) (get_or c.args.columns.now c.loop-place.place CustomerCity)
+    let new : Contains (take c.loop-place.place c.args.columns.now)
+    (get_or c.args.columns.now c.loop-place.place CustomerCity)
     → ⊥ = search rules in
     free_next c.args.columns.now c.loop-place.place CustomerCity (omega arith) c.loop-place.invariant new

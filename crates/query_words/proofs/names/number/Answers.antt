@@ -1,5 +1,6 @@
 use Rattle.std.proofs.Common.{◌≡◌, sym, arith}
-use Rattle.ssb_reports.specs.declared.number.QNumber.TheVariants.{Q11, Q12, Q13, Q21, Q22, Q23, Q31, Q32, Q33, Q34, Q41, Q42, Q43}
+use Rattle.ssb_reports.specs.declared.number.QNumber.TheVariants.{Q11, Q12, Q13, Q21, Q22, Q23, Q31, Q32, Q33, Q34, Q41}
+use Rattle.ssb_reports.specs.declared.number.QNumber.TheVariants.{Q42, Q43}
 use Rattle.ssb_reports.specs.Benchmark.{number_text}
 use Rattle.query_words.proofs.names.number.Goals as goal
 

@@ -29,7 +29,8 @@ returns-in-None c =
       aggregates = c.in_ok-aggregates.aggregates;
       order = None;
     } in
-    let are : ArePartsOf (text_in c.args.set) (text_in c.args.by) c.args.agg.now (texts_in c.args.conditions.now) query = record {
+    let are : ArePartsOf (text_in c.args.set) (text_in c.args.by) c.args.agg.now (texts_in c.args.conditions.now)
+    query = record {
       kind =
           c.in_ok-kind.ensures;
       columns = c.in_ok-columns.ensures;
@@ -38,7 +39,8 @@ returns-in-None c =
           c.in_ok-aggregates.ensures;
       order = refl;
     } in
-    within (text_in c.args.set) (text_in c.args.by) c.args.agg.now (texts_in c.args.conditions.now) query are c.in-None.ensures
+    within (text_in c.args.set) (text_in c.args.by) c.args.agg.now (texts_in c.args.conditions.now) query are
+    c.in-None.ensures
 
 pub returns : goal.returns
 returns c =
@@ -49,7 +51,8 @@ returns c =
       aggregates = c.in_ok-aggregates.aggregates;
       order = None;
     } in
-    let are : ArePartsOf (text_in c.args.set) (text_in c.args.by) c.args.agg.now (texts_in c.args.conditions.now) query = record {
+    let are : ArePartsOf (text_in c.args.set) (text_in c.args.by) c.args.agg.now (texts_in c.args.conditions.now)
+    query = record {
       kind =
           c.in_ok-kind.ensures;
       columns = c.in_ok-columns.ensures;
@@ -58,5 +61,6 @@ returns c =
           c.in_ok-aggregates.ensures;
       order = refl;
     } in
-    exceeds (text_in c.args.set) (text_in c.args.by) c.args.agg.now (texts_in c.args.conditions.now) query c.in-Some.refused are
+    exceeds (text_in c.args.set) (text_in c.args.by) c.args.agg.now (texts_in c.args.conditions.now) query
+    c.in-Some.refused are
     c.in-Some.ensures

@@ -6,7 +6,8 @@ use Rattle.report_formats.proofs.cells.write_after.Goals as goal
 
 pub returns-in_err-write_bytes : goal.returns-in_err-write_bytes
 returns-in_err-write_bytes g c =
-    Writes-stop _ _ _ _ c.args.name.now (value_text c.args.value) _ (err_from_is_err_and _ c.from_residual.ensures.1) c.in_err-write_bytes.ensures refl
+    Writes-stop _ _ _ _ c.args.name.now (value_text c.args.value) _ (err_from_is_err_and _ c.from_residual.ensures.1)
+    c.in_err-write_bytes.ensures refl
 
 pub returns : goal.returns
 returns g c =

@@ -7,8 +7,10 @@ use Rattle.report_formats.proofs.cells.write_member_field.Goals as goal
 
 pub returns-in_err-write_name : goal.returns-in_err-write_name
 returns-in_err-write_name g c =
-    Writes-stop _ _ _ _ (name_text c.args.format (attr_name c.args.column)) _ _ (err_from_is_err_and _ c.from_residual.ensures.1) c.in_err-write_name.ensures refl
+    Writes-stop _ _ _ _ (name_text c.args.format (attr_name c.args.column)) _ _
+    (err_from_is_err_and _ c.from_residual.ensures.1) c.in_err-write_name.ensures refl
 
 pub returns : goal.returns
 returns g c =
-    Writes-on _ _ _ _ (name_text c.args.format (attr_name c.args.column)) _ _ c.in_ok-write_name.ensures c.write_member.ensures refl
+    Writes-on _ _ _ _ (name_text c.args.format (attr_name c.args.column)) _ _ c.in_ok-write_name.ensures
+    c.write_member.ensures refl

@@ -7,8 +7,12 @@ use Rattle.report_formats.proofs.cells.write_value_field.Goals as goal
 
 pub returns-in_err-write_name : goal.returns-in_err-write_name
 returns-in_err-write_name g c =
-    Writes-stop _ _ _ _ (name_text c.args.layout.format (agg_name c.args.agg)) (counted_text c.args.layout c.args.count (c.args.agg, c.args.value)) _ (err_from_is_err_and _ c.from_residual.ensures.1) c.in_err-write_name.ensures refl
+    Writes-stop _ _ _ _ (name_text c.args.layout.format (agg_name c.args.agg))
+    (counted_text c.args.layout c.args.count (c.args.agg, c.args.value)) _
+    (err_from_is_err_and _ c.from_residual.ensures.1) c.in_err-write_name.ensures refl
 
 pub returns : goal.returns
 returns g c =
-    Writes-on _ _ _ _ (name_text c.args.layout.format (agg_name c.args.agg)) (counted_text c.args.layout c.args.count (c.args.agg, c.args.value)) _ c.in_ok-write_name.ensures c.write_counted.ensures refl
+    Writes-on _ _ _ _ (name_text c.args.layout.format (agg_name c.args.agg))
+    (counted_text c.args.layout c.args.count (c.args.agg, c.args.value)) _ c.in_ok-write_name.ensures
+    c.write_counted.ensures refl

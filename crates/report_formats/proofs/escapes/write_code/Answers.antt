@@ -6,7 +6,8 @@ use Rattle.report_formats.proofs.escapes.write_code.Goals as goal
 
 pub returns-in_err-write_bytes : goal.returns-in_err-write_bytes
 returns-in_err-write_bytes g c =
-    Writes-stop _ _ _ _ c.args.beginning.now (hex c.args.byte) _ (err_from_is_err_and _ c.from_residual.ensures.1) c.in_err-write_bytes.ensures refl
+    Writes-stop _ _ _ _ c.args.beginning.now (hex c.args.byte) _ (err_from_is_err_and _ c.from_residual.ensures.1)
+    c.in_err-write_bytes.ensures refl
 
 pub returns : goal.returns
 returns g c =

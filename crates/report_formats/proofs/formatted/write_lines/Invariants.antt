@@ -6,4 +6,5 @@ use Rattle.report_formats.proofs.formatted.write_lines.Given as goal
 
 abbrev pub invariant-loop-place : goal.invariant-loop-place
 invariant-loop-place g l =
-    Appends (g.W.Write.contents l.initial.out) (g.W.Write.contents l.out) (flat_map (line_text l.asked) (take l.place (g.L.Lines.lines l.lines)))
+    Appends (g.W.Write.contents l.initial.out) (g.W.Write.contents l.out)
+    (flat_map (line_text l.asked) (take l.place (g.L.Lines.lines l.lines)))

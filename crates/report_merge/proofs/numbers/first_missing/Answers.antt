@@ -12,10 +12,12 @@ loop-number-preserved c =
     let number = get_or numbers place 0 in
     let rest = drop (place + 1) numbers in
     let left : drop place numbers ≡ number ∷ rest = left_from numbers place c.loop-number-test.true in
-    let is = next low c.args.parts number rest (subst (λ (all : List ℕ). ascend_between low c.args.parts all ≡ true) left c.loop-number.invariant.ascend) in
+    let is = next low c.args.parts number rest
+    (subst (λ (all : List ℕ). ascend_between low c.args.parts all ≡ true) left c.loop-number.invariant.ascend) in
     let up : number ≡ low + 1 = omega (arith, is.above, c.if-number-low-gt1.false) in
     record {
-      are_in = one_more numbers rest low number up (c.loop-number.invariant.are_in ∙ ap (λ (all : List ℕ). range_with_len 1 low ++ all) left);
+      are_in = one_more numbers rest low number up
+          (c.loop-number.invariant.are_in ∙ ap (λ (all : List ℕ). range_with_len 1 low ++ all) left);
       ascend = is.ascend;
       within = is.within;
     }

@@ -12,7 +12,9 @@ first_in_both-requires c = increase 0 c.args.parts c.args.ones.now c.requires.on
 pub returns-clause-ascend : goal.returns-clause-ascend
 returns-clause-ascend c =
     let found = c.sort_unstable.new.self.items in
-    let moved : IsPermutation (c.args.ones.now ++ c.args.others.now) found = first_of (search rules, grind (arith, common_steps)) in
+    let moved : IsPermutation (c.args.ones.now ++ c.args.others.now) found =
+    first_of (search rules, grind (arith, common_steps)) in
     let rises = IsNonDecreasingBy-from_sort (λ x. x) found c.sort_unstable.ensures.sorted in
-    let ascend = merged_ascend c.args.parts c.args.ones.now c.args.others.now found c.requires.ones c.requires.others c.in_default.ensures.none moved rises in
+    let ascend = merged_ascend c.args.parts c.args.ones.now c.args.others.now found c.requires.ones c.requires.others
+    c.in_default.ensures.none moved rises in
     subst (λ (all : List ℕ). ascend_between 0 c.args.parts all ≡ true) (sym c.from_vec.ensures) ascend

@@ -14,6 +14,8 @@ returns c =
     let found = c.sort_unstable_by.new.self.items in
     c.from_vec.ensures
     ∙ sorted_lines order c.args.lines c.requires found
-    (subst (λ (all : List Line). IsPermutation all found) c.into_vec-lines.ensures c.sort_unstable_by.ensures.permutation)
-    (c.sort_unstable_by.ensures.sorted (λ left right. is_lt (line_cmp order left right)) (ranks_by (line_cmp_total order) (λ line. line))
+    (subst (λ (all : List Line). IsPermutation all found) c.into_vec-lines.ensures
+    c.sort_unstable_by.ensures.permutation)
+    (c.sort_unstable_by.ensures.sorted (λ left right. is_lt (line_cmp order left right))
+    (ranks_by (line_cmp_total order) (λ line. line))
     (always_returns_same _ _ _ (λ a r f k. search rules)))

@@ -7,7 +7,8 @@ use Rattle.report_merge.proofs.readers.add_one.Goals as goal
 pub returns-clause-ok : goal.returns-clause-ok
 returns-clause-ok g c =
     IfOk-weaker c.add.result _ _
-    (λ next adds text e. subst (λ one. Adds c.args.merge one next) (c.as_slice.ensures.value ∙ c.in_ok-text.ensures.ok text e) adds)
+    (λ next adds text e. subst (λ one. Adds c.args.merge one next)
+    (c.as_slice.ensures.value ∙ c.in_ok-text.ensures.ok text e) adds)
     c.add.ensures.ok
 
 pub returns-in_err-text-clause-complete : goal.returns-in_err-text-clause-complete
@@ -17,5 +18,8 @@ returns-in_err-text-clause-complete g c = λ text other e is alike apart.
 
 pub returns-clause-complete : goal.returns-clause-complete
 returns-clause-complete g c = λ text other e is alike apart.
-    let found = c.add.ensures.complete other (subst (λ (one : List ℕ). IsPartialReport one other) (sym (c.as_slice.ensures.value ∙ c.in_ok-text.ensures.ok text e)) is) alike apart in
+    let found =
+    c.add.ensures.complete other
+    (subst (λ (one : List ℕ). IsPartialReport one other)
+    (sym (c.as_slice.ensures.value ∙ c.in_ok-text.ensures.ok text e)) is) alike apart in
     MatchResult-weaker c.add.result found (λ next merged. tt) outside

@@ -11,5 +11,8 @@ returns-in_err-text-clause-complete g c = λ text part e is.
 
 pub returns-clause-complete : goal.returns-clause-complete
 returns-clause-complete g c = λ text part e is.
-    let found = c.new.ensures.complete part (subst (λ (one : List ℕ). IsPartialReport one part) (sym (c.as_slice.ensures.value ∙ c.in_ok-text.ensures.ok text e)) is) in
+    let found =
+    c.new.ensures.complete part
+    (subst (λ (one : List ℕ). IsPartialReport one part)
+    (sym (c.as_slice.ensures.value ∙ c.in_ok-text.ensures.ok text e)) is) in
     MatchResult-weaker c.new.result found (λ merge same. tt) outside

@@ -10,9 +10,11 @@ use Rattle.report_formats.specs.Asked.{asked_for}
 use Rattle.report_words.specs.Words.{IsReportOf}
 use Rattle.report_words.proofs.asking.asked_in.Goals as goal
 
-is_report : (words : Words) (layout : Layout) (query : Query) (result : Result Asked Fault) → SpellsQuery words query → IfOk result (λ asked. asked ≡ asked_for layout query) → IfOk result (IsReportOf words layout)
+is_report : (words : Words) (layout : Layout) (query : Query) (result : Result Asked Fault) → SpellsQuery words query
+    → IfOk result (λ asked. asked ≡ asked_for layout query) → IfOk result (IsReportOf words layout)
 is_report words layout query (Ok asked) spelled is = (query, spelled, is)
 is_report words layout query (Err fault) spelled is = tt
 
 pub returns-in-Ok-clause-ok : goal.returns-in-Ok-clause-ok
-returns-in-Ok-clause-ok c = is_report (words_of c.args.words.now) c.args.layout c.in-Ok.query c.new.result c.in-Ok.ensures.0 c.new.ensures.ok
+returns-in-Ok-clause-ok c =
+    is_report (words_of c.args.words.now) c.args.layout c.in-Ok.query c.new.result c.in-Ok.ensures.0 c.new.ensures.ok

@@ -4,7 +4,8 @@ use Rattle.sector_device.proofs.crash.count_replaced.Given as goal
 
 abbrev pub invariant-loop-last : goal.invariant-loop-last
 invariant-loop-last l =
-    (i : ℕ) → i < length l.counts → slice_index l.counts i + length (replaced (reverse l.rest) i) ≡ length (replaced (reverse l.log) i)
+    (i : ℕ) → i < length l.counts → slice_index l.counts i + length (replaced (reverse l.rest) i)
+    ≡ length (replaced (reverse l.log) i)
 
 abbrev pub decreases-loop-last : goal.decreases-loop-last
 decreases-loop-last l = length l.rest

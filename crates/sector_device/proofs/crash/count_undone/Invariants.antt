@@ -9,5 +9,6 @@ invariant-loop-i l = record {
   ahead : (k : ℕ) → l.i ≤ k → slice_index l.counts k ≡ slice_index l.fn.counts k;
   undone : (k : ℕ) → k < l.i →
       slice_index l.counts k
-      ≡ slice_index l.fn.counts k - slice_index l.picks (several_below (λ j. slice_index l.fn.counts j + 1) k) % (slice_index l.fn.counts k + 1);
+      ≡ slice_index l.fn.counts k - slice_index l.picks (several_below (λ j. slice_index l.fn.counts j + 1) k) %
+      (slice_index l.fn.counts k + 1);
 }

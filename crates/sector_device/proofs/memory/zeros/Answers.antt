@@ -6,4 +6,5 @@ pub loop-preserved : goal.loop-preserved
 loop-preserved c =
     let zero_sector : List ℕ = replicate 512 0 in
     let more : c.push.new.self.items ≡ c.loop.sectors.items ++ zero_sector ∷ [] = c.in_ok-push.ensures.items in
-    more ∙ ap (λ (l : List (List ℕ)). l ++ zero_sector ∷ []) c.loop.invariant ∙ replicate-append-replicate c.loop.counter 1 zero_sector
+    more ∙ ap (λ (l : List (List ℕ)). l ++ zero_sector ∷ []) c.loop.invariant
+    ∙ replicate-append-replicate c.loop.counter 1 zero_sector

@@ -4,4 +4,5 @@ use Rattle.self_test.specs.Printed.{sound_line}
 use Rattle.self_test.proofs.outcome.write_sound.Goals as goal
 
 pub returns : goal.returns
-returns g c = Writes-flushed _ (g.W.Write.contents c.write_sound_line.new.out) _ _ (sound_line c.args.crashes) (search rules) c.flush.ensures.bytes c.flush.ensures.fault
+returns g c = Writes-flushed _ (g.W.Write.contents c.write_sound_line.new.out) _ _ (sound_line c.args.crashes)
+    (search rules) c.flush.ensures.bytes c.flush.ensures.fault

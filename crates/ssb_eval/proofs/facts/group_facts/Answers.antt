@@ -12,7 +12,8 @@ returns-in_err-fold_lines-clause-answer g c = λ text known.
     let query = c.args.query.now in
     let fault = c.in_err-fold_lines.field-0.0 in
     gives-no_groups query dims text fault _ (err_from_is_err_and _ c.from_residual-in_err-fold_lines.ensures.1)
-    (subst (λ q. Gives (answer_of q dims text) (Err fault)) c.in_ok-fold.ensures.ok.query_is (c.in_err-fold_lines.ensures.facts text known))
+    (subst (λ q. Gives (answer_of q dims text) (Err fault)) c.in_ok-fold.ensures.ok.query_is
+    (c.in_err-fold_lines.ensures.facts text known))
 
 pub into_groups-requires : goal.into_groups-requires
 into_groups-requires g c = c.in_ok-fold_lines.ensures.folded.folded.over
@@ -26,4 +27,5 @@ returns-clause-answer g c = λ text known.
     gives-groups query dims text fold c.into_groups.result (done.query_is ∙ c.in_ok-fold.ensures.ok.query_is)
     (c.in_ok-fold_lines.ensures.facts text known)
     c.into_groups.ensures.answer
-    (memory_alone c.into_groups.result (IsFoldable dims fold) (done.rows, (done.folded, done.foldable)) c.into_groups.ensures.refused c.into_groups.ensures.only)
+    (memory_alone c.into_groups.result (IsFoldable dims fold) (done.rows, (done.folded, done.foldable))
+    c.into_groups.ensures.refused c.into_groups.ensures.only)

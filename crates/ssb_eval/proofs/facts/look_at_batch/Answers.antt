@@ -14,7 +14,8 @@ loop-init g c = (
   IsTaking-start lineorder_row most_batch_rows c.args.lines.now c.requires.fault,
   λ batches taken.
       let few : length batches ≤ most_batches = omega (arith, c.findings-found.ensures.few, taken.represents.count) in
-      IsBegun-start c.args.dims.now c.args.fold.now.query c.args.admission.now c.args.fold.now batches c.findings-found.result taken few
+      IsBegun-start c.args.dims.now c.args.fold.now.query c.args.admission.now c.args.fold.now batches
+      c.findings-found.result taken few
       (c.findings-found.ensures.found c.args.dims.now) c.findings-found.ensures.clean,
   λ none. none,
 )
@@ -22,9 +23,12 @@ loop-init g c = (
 pub returns-in_err-rows-clause-looks : goal.returns-in_err-rows-clause-looks
 returns-in_err-rows-clause-looks g c = λ batches taken.
     let within : c.loop.counter * 4096 + 4096 ≤ most_batch_rows = omega (arith, c.loop-test.true) in
-    LooksAtNext-refused c.args.dims.now c.args.fold.now.query (all_rows batches) c.args.lines.now c.read_batch_into.new.lines c.loop.fold _ _
-    (RefusesBatch-piece lineorder_row most_batch_rows 4096 c.args.lines.now c.loop.lines c.loop.invariant.0 (c.loop.counter * 4096) _ within
-    (c.in_err-rows.ensures.refused c.loop.invariant.1.fault) c.loop.invariant.1) (err_from_is_err_and _ c.from_residual.ensures.1)
+    LooksAtNext-refused c.args.dims.now c.args.fold.now.query (all_rows batches) c.args.lines.now
+    c.read_batch_into.new.lines c.loop.fold _ _
+    (RefusesBatch-piece lineorder_row most_batch_rows 4096 c.args.lines.now c.loop.lines c.loop.invariant.0
+    (c.loop.counter * 4096) _ within
+    (c.in_err-rows.ensures.refused c.loop.invariant.1.fault) c.loop.invariant.1)
+    (err_from_is_err_and _ c.from_residual.ensures.1)
 
 pub returns-then-len-lt-PIECE_ROWS-clause-looks : goal.returns-then-len-lt-PIECE_ROWS-clause-looks
 returns-then-len-lt-PIECE_ROWS-clause-looks g c = λ batches taken.
@@ -32,9 +36,11 @@ returns-then-len-lt-PIECE_ROWS-clause-looks g c = λ batches taken.
     let short : length c.in_ok-rows.rows < 4096 = omega (arith, c.if-len-lt-PIECE_ROWS.true, c.len.ensures) in (
       c.loop.invariant.0 ++ c.in_ok-rows.rows,
       record {
-        read = TakesBatch-last lineorder_row most_batch_rows 4096 c.args.lines.now c.loop.lines c.read_batch_into.new.lines c.loop.invariant.0 c.in_ok-rows.rows (c.loop.counter * 4096) within short
+        read = TakesBatch-last lineorder_row most_batch_rows 4096 c.args.lines.now c.loop.lines
+            c.read_batch_into.new.lines c.loop.invariant.0 c.in_ok-rows.rows (c.loop.counter * 4096) within short
             c.in_ok-rows.ensures.taken c.loop.invariant.1;
-        begun = begun_more c.args.dims.now c.args.fold.now.query (all_rows batches) c.loop.invariant.0 c.in_ok-rows.rows c.loop.found c.in_ok-found.found c.loop.fold c.look_at_piece.new.fold
+        begun = begun_more c.args.dims.now c.args.fold.now.query (all_rows batches) c.loop.invariant.0 c.in_ok-rows.rows
+            c.loop.found c.in_ok-found.found c.loop.fold c.look_at_piece.new.fold
             (c.loop.invariant.2 batches taken) (rw c.as_slice.ensures at c.in_ok-found.ensures.ok);
       },
     )
@@ -42,14 +48,18 @@ returns-then-len-lt-PIECE_ROWS-clause-looks g c = λ batches taken.
 pub loop-preserved : goal.loop-preserved
 loop-preserved g c =
     let within : c.loop.counter * 4096 + 4096 ≤ most_batch_rows = omega (arith, c.loop-test.true) in
-    let whole : length c.in_ok-rows.rows ≡ 4096 = omega (arith, c.if-len-lt-PIECE_ROWS.false, c.len.ensures, c.in_ok-rows.ensures.taken.few) in
+    let whole : length c.in_ok-rows.rows ≡ 4096 =
+    omega (arith, c.if-len-lt-PIECE_ROWS.false, c.len.ensures, c.in_ok-rows.ensures.taken.few) in
     let same : c.loop.counter * 4096 + 4096 ≡ (c.loop.counter + 1) * 4096 = omega arith in (
       c.loop.invariant.0 ++ c.in_ok-rows.rows,
-      subst (λ count. IsTaking lineorder_row most_batch_rows c.args.lines.now c.read_batch_into.new.lines (c.loop.invariant.0 ++ c.in_ok-rows.rows) count) same
-          (IsTaking-piece lineorder_row most_batch_rows 4096 c.args.lines.now c.loop.lines c.read_batch_into.new.lines c.loop.invariant.0 c.in_ok-rows.rows (c.loop.counter * 4096) within whole
+      subst (λ count. IsTaking lineorder_row most_batch_rows c.args.lines.now c.read_batch_into.new.lines
+          (c.loop.invariant.0 ++ c.in_ok-rows.rows) count) same
+          (IsTaking-piece lineorder_row most_batch_rows 4096 c.args.lines.now c.loop.lines c.read_batch_into.new.lines
+          c.loop.invariant.0 c.in_ok-rows.rows (c.loop.counter * 4096) within whole
           c.in_ok-rows.ensures.taken c.loop.invariant.1),
       λ batches taken.
-          begun_more c.args.dims.now c.args.fold.now.query (all_rows batches) c.loop.invariant.0 c.in_ok-rows.rows c.loop.found c.in_ok-found.found c.loop.fold c.look_at_piece.new.fold
+          begun_more c.args.dims.now c.args.fold.now.query (all_rows batches) c.loop.invariant.0 c.in_ok-rows.rows
+          c.loop.found c.in_ok-found.found c.loop.fold c.look_at_piece.new.fold
           (c.loop.invariant.2 batches taken) (rw c.as_slice.ensures at c.in_ok-found.ensures.ok),
       λ none. c.keep_unknown.ensures (c.loop.invariant.3 none),
     )
@@ -59,7 +69,8 @@ returns-clause-looks g c = λ batches taken.
     let all : c.loop.counter * 4096 ≡ most_batch_rows = omega (arith, c.loop-test.false, c.loop.auto.counter-end) in (
       c.loop.invariant.0,
       record {
-        read = IsTaking-whole lineorder_row most_batch_rows c.args.lines.now c.loop.lines c.loop.invariant.0 (c.loop.counter * 4096) all c.loop.invariant.1;
+        read = IsTaking-whole lineorder_row most_batch_rows c.args.lines.now c.loop.lines c.loop.invariant.0
+            (c.loop.counter * 4096) all c.loop.invariant.1;
         begun = c.loop.invariant.2 batches taken;
       },
     )

@@ -8,20 +8,23 @@ use Rattle.ssb_eval.proofs.formatting.eval_formatted.Goals as goal
 pub returns-in_err-found-clause-proper : goal.returns-in_err-found-clause-proper
 returns-in_err-found-clause-proper g c = λ proper texts unread.
     reports-stop _ _ _ _ (err_from_is_err_and _ c.from_residual-in_err-found.ensures.1)
-    (eval-refused (formatted c.args.asked.now) c.args.asked.now.query texts _ (c.in_err-found.ensures.evaluates texts unread))
+    (eval-refused (formatted c.args.asked.now) c.args.asked.now.query texts _
+    (c.in_err-found.ensures.evaluates texts unread))
 
 pub returns-in_err-write_formatted-clause-proper : goal.returns-in_err-write_formatted-clause-proper
 returns-in_err-write_formatted-clause-proper g c = λ proper texts unread.
     let found = c.in_ok-found.ensures.evaluates texts unread in
     reports-unfinished _ _ _ _ _ _ (err_from_is_err_and _ c.from_residual-in_err-write_formatted.ensures.1)
-    (eval-is (formatted c.args.asked.now) c.args.asked.now.query texts c.in_ok-found.found.dims (answer_over c.in_ok-found.found.dims c.in_ok-found.found.groups) found.0 found.1)
+    (eval-is (formatted c.args.asked.now) c.args.asked.now.query texts c.in_ok-found.found.dims
+    (answer_over c.in_ok-found.found.dims c.in_ok-found.found.groups) found.0 found.1)
     (rw c.over.ensures at c.in_err-write_formatted.ensures.writes)
 
 pub returns-clause-proper : goal.returns-clause-proper
 returns-clause-proper g c = λ proper texts unread.
     let found = c.in_ok-found.ensures.evaluates texts unread in (
       _,
-      eval-is (formatted c.args.asked.now) c.args.asked.now.query texts c.in_ok-found.found.dims (answer_over c.in_ok-found.found.dims c.in_ok-found.found.groups) found.0 found.1,
+      eval-is (formatted c.args.asked.now) c.args.asked.now.query texts c.in_ok-found.found.dims
+          (answer_over c.in_ok-found.found.dims c.in_ok-found.found.groups) found.0 found.1,
       (rw c.over.ensures at c.in_ok-write_formatted.ensures.writes),
     )
 
@@ -33,7 +36,8 @@ returns-in_err-check-clause-cause g c = λ fresh. keeps-nothing _ _ fresh
 
 pub returns-in_err-found-clause-cause : goal.returns-in_err-found-clause-cause
 returns-in_err-found-clause-cause g c = λ fresh.
-    keeps-refused _ _ _ (err_from_is_err_and _ c.from_residual-in_err-found.ensures.1) (c.in_err-found.ensures.cause fresh)
+    keeps-refused _ _ _ (err_from_is_err_and _ c.from_residual-in_err-found.ensures.1)
+    (c.in_err-found.ensures.cause fresh)
 
 pub returns-in_err-write_formatted-clause-cause : goal.returns-in_err-write_formatted-clause-cause
 returns-in_err-write_formatted-clause-cause g c = λ fresh.

@@ -15,7 +15,8 @@ returns-in_err-found-clause-proper g c = λ proper texts unread.
 pub returns-in_err-head-clause-proper : goal.returns-in_err-head-clause-proper
 returns-in_err-head-clause-proper g c = λ proper texts unread.
     reports-stop _ _ _ _ (err_from_is_err_and _ c.from_residual-in_err-head.ensures.1)
-    (partial-not_plain c.args.asked.now texts c.in_ok-found.found.dims (answer_over c.in_ok-found.found.dims c.in_ok-found.found.groups) _
+    (partial-not_plain c.args.asked.now texts c.in_ok-found.found.dims
+    (answer_over c.in_ok-found.found.dims c.in_ok-found.found.groups) _
     (c.in_ok-found.ensures.evaluates texts unread).0
     (c.in_ok-found.ensures.evaluates texts unread).1
     (rw c.over.ensures at c.in_err-head.ensures.refused))
@@ -23,19 +24,27 @@ returns-in_err-head-clause-proper g c = λ proper texts unread.
 pub returns-in_err-write_partial-clause-proper : goal.returns-in_err-write_partial-clause-proper
 returns-in_err-write_partial-clause-proper g c = λ proper texts unread.
     reports-unwritten _ _ _ _ _ _ (err_from_is_err_and _ c.from_residual-in_err-write_partial.ensures.1)
-    (partial-is c.args.asked.now texts c.in_ok-found.found.dims (answer_over c.in_ok-found.found.dims c.in_ok-found.found.groups) _
+    (partial-is c.args.asked.now texts c.in_ok-found.found.dims
+    (answer_over c.in_ok-found.found.dims c.in_ok-found.found.groups) _
     (c.in_ok-found.ensures.evaluates texts unread).0
     (c.in_ok-found.ensures.evaluates texts unread).1
-    (rw c.over.ensures at c.in_ok-head.ensures.plain) (ap (λ l. l ++ report_of c.args.asked.now.query (answer_over c.in_ok-found.found.dims c.in_ok-found.found.groups)) (c.as_slice.ensures.value ∙ c.in_ok-head.ensures.ok)))
+    (rw c.over.ensures at c.in_ok-head.ensures.plain)
+    (ap (λ l. l
+    ++ report_of c.args.asked.now.query (answer_over c.in_ok-found.found.dims c.in_ok-found.found.groups))
+    (c.as_slice.ensures.value ∙ c.in_ok-head.ensures.ok)))
     (rw c.over-2.ensures at c.in_err-write_partial.ensures)
 
 pub returns-clause-proper : goal.returns-clause-proper
 returns-clause-proper g c = λ proper texts unread. (
   _,
-  (partial-is c.args.asked.now texts c.in_ok-found.found.dims (answer_over c.in_ok-found.found.dims c.in_ok-found.found.groups) _
+  (partial-is c.args.asked.now texts c.in_ok-found.found.dims
+      (answer_over c.in_ok-found.found.dims c.in_ok-found.found.groups) _
       (c.in_ok-found.ensures.evaluates texts unread).0
       (c.in_ok-found.ensures.evaluates texts unread).1
-      (rw c.over.ensures at c.in_ok-head.ensures.plain) (ap (λ l. l ++ report_of c.args.asked.now.query (answer_over c.in_ok-found.found.dims c.in_ok-found.found.groups)) (c.as_slice.ensures.value ∙ c.in_ok-head.ensures.ok))),
+      (rw c.over.ensures at c.in_ok-head.ensures.plain)
+      (ap (λ l. l
+      ++ report_of c.args.asked.now.query (answer_over c.in_ok-found.found.dims c.in_ok-found.found.groups))
+      (c.as_slice.ensures.value ∙ c.in_ok-head.ensures.ok))),
   (rw c.over-2.ensures at c.in_ok-write_partial.ensures),
 )
 
@@ -48,7 +57,8 @@ returns-in_err-check-clause-cause g c = λ fresh. keeps-nothing _ _ fresh
 
 pub returns-in_err-found-clause-cause : goal.returns-in_err-found-clause-cause
 returns-in_err-found-clause-cause g c = λ fresh.
-    keeps-refused _ _ _ (err_from_is_err_and _ c.from_residual-in_err-found.ensures.1) (c.in_err-found.ensures.cause fresh)
+    keeps-refused _ _ _ (err_from_is_err_and _ c.from_residual-in_err-found.ensures.1)
+    (c.in_err-found.ensures.cause fresh)
 
 pub returns-in_err-head-clause-cause : goal.returns-in_err-head-clause-cause
 returns-in_err-head-clause-cause g c = λ fresh.

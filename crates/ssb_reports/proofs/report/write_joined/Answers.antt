@@ -10,5 +10,5 @@ returns-in_err-write_fields g c =
 
 pub returns : goal.returns
 returns g c =
-    Writes-on _ _ _ _ _ _ _ c.in_ok-write_fields.ensures (rw c.lead_behind.ensures at c.write_fields-2.ensures)
+    Writes-on _ _ _ _ _ _ _ c.in_ok-write_fields.ensures (rw c.lead_after.ensures at c.write_fields-2.ensures)
     (joined-append c.args.separator (g.F.Fields.texts c.args.fields.now) (g.G.Fields.texts c.args.others.now))

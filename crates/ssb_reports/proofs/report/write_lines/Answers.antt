@@ -3,7 +3,7 @@ use Rattle.std.proofs.lemmas.List.{get_or_default}
 use Rattle.std.proofs.lemmas.Result.{err_from_is_err_and}
 use Rattle.cube_query.specs.GroupLines.{line_at}
 use Rattle.ssb_reports.specs.Report.{line_text}
-use Rattle.ssb_reports.proofs.Beginnings.{Writes-stop_behind}
+use Rattle.ssb_reports.proofs.Beginnings.{Writes-stop_after}
 use Rattle.ssb_reports.proofs.Rows.{flat_map-around}
 use Rattle.ssb_reports.proofs.report.write_lines.Goals as goal
 
@@ -12,5 +12,6 @@ returns-in_err-write_line g c =
     let lines = g.L.Lines.lines c.args.lines.now in
     let place = c.loop-place.place in
     let within : place < length lines = search rules in
-    Writes-stop_behind _ _ _ _ _ _ (line_text (line_at lines place)) _ _ (err_from_is_err_and _ c.from_residual.ensures.1) c.loop-place.invariant c.in_err-write_line.ensures
+    Writes-stop_after _ _ _ _ _ _ (line_text (line_at lines place)) _ _
+    (err_from_is_err_and _ c.from_residual.ensures.1) c.loop-place.invariant c.in_err-write_line.ensures
     (flat_map-around line_text lines place (line_at lines place) within (get_or_default lines place _ _ within))

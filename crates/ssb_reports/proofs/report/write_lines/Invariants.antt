@@ -6,4 +6,5 @@ use Rattle.ssb_reports.proofs.report.write_lines.Given as goal
 
 abbrev pub invariant-loop-place : goal.invariant-loop-place
 invariant-loop-place g l =
-    Appends (g.W.Write.contents l.initial.out) (g.W.Write.contents l.out) (flat_map line_text (take l.place (g.L.Lines.lines l.lines)))
+    Appends (g.W.Write.contents l.initial.out) (g.W.Write.contents l.out)
+    (flat_map line_text (take l.place (g.L.Lines.lines l.lines)))

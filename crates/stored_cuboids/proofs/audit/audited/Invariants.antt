@@ -12,6 +12,7 @@ invariant-loop-cuboid g l =
       fine : has_failed l.store ≡ false;
       still : IsStill g.D.Sectors l.initial.store l.store;
       leaves : Leaves (disk_of g.D.Sectors l.initial.store) (disk_of g.D.Sectors l.store) (λ c. c ≡ first);
-      own : g.D.Sectors.keeps_word (device_of l.store) → (w : Warehouse) → IsLaidOut first w → l.root ≡ root_of w → l.dims ≡ w.rows
+      own : g.D.Sectors.keeps_word (device_of l.store) → (w : Warehouse) → IsLaidOut first w → l.root ≡ root_of w
+          → l.dims ≡ w.rows
           → (k : ℕ) (d : Cuboid) → k < l.cuboid-index → k < length w.cuboids → IsSound w (get_or w.cuboids k d);
     }

@@ -15,6 +15,7 @@ invariant-loop-run g l =
       leaves : Leaves (disk_of g.D.Sectors l.initial.store) (disk_of g.D.Sectors l.store) (λ c. c ≡ first);
       over : IsOver l.dims l.fold;
       query : l.fold.query ≡ l.initial.fold.query;
-      own : g.D.Sectors.keeps_word (device_of l.store) → (w : Warehouse) (stored : Cuboid) → Represents first w → l.dims ≡ w.rows → cuboid_at l.cuboid.view w.cuboids ≡ Some stored
+      own : g.D.Sectors.keeps_word (device_of l.store) → (w : Warehouse) (stored : Cuboid) → Represents first w
+          → l.dims ≡ w.rows → cuboid_at l.cuboid.view w.cuboids ≡ Some stored
           → said_of stored ≡ l.cuboid → AreCounted w stored l.dims l.run l.fold l.at;
     }

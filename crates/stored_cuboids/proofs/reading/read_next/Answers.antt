@@ -8,5 +8,7 @@ use Rattle.stored_cuboids.proofs.reading.read_next.Goals as goal
 pub returns-in-None-clause-refused : goal.returns-in-None-clause-refused
 returns-in-None-clause-refused g c = λ is k others next goes.
     let content = content_of g.D.Sectors c.args.store.now in
-    c.in-None.ensures.none next (subst (λ (head : RunHead). GoesOn c.args.view c.args.at head next) (sym c.head_of.ensures)
-    (next_one content c.args.id c.args.view c.args.at next c.in_ok-span.span c.in_ok-span.cells others (c.in_ok-span.ensures.ok k) goes).0)
+    c.in-None.ensures.none next
+    (subst (λ (head : RunHead). GoesOn c.args.view c.args.at head next) (sym c.head_of.ensures)
+    (next_one content c.args.id c.args.view c.args.at next c.in_ok-span.span c.in_ok-span.cells others
+    (c.in_ok-span.ensures.ok k) goes).0)

@@ -13,6 +13,7 @@ invariant-loop-run g l =
       still : IsStill g.D.Sectors l.initial.store l.store;
       leaves : Leaves (disk_of g.D.Sectors l.initial.store) (disk_of g.D.Sectors l.store) (λ c. c ≡ first);
       view : l.cells.view ≡ l.fn.view;
-      own : g.D.Sectors.keeps_word (device_of l.store) → (w : Warehouse) (stored : Cuboid) → IsLaidOut first w → cuboid_at l.cuboid.view w.cuboids ≡ Some stored
+      own : g.D.Sectors.keeps_word (device_of l.store) → (w : Warehouse) (stored : Cuboid) → IsLaidOut first w
+          → cuboid_at l.cuboid.view w.cuboids ≡ Some stored
           → said_of stored ≡ l.cuboid → AreMerged stored l.run l.cells l.at;
     }

@@ -11,11 +11,19 @@ pub returns-in-Err-BadLayout-clause-refused : goal.returns-in-Err-BadLayout-clau
 returns-in-Err-BadLayout-clause-refused c =
     let is : c.merge.result ≡ Err BadLayout = cc in
     let cause = of_fault _ c.merge.result BadLayout c.merge.ensures.refused is in
-    inr (refl, no_merge c.args.cells.now c.args.read.now BadLayout c.view.ensures.proper c.view-2.ensures.proper cause (λ (memory : BadLayout ≡ Memory). cc))
+    inr (
+      refl,
+      no_merge c.args.cells.now c.args.read.now BadLayout c.view.ensures.proper c.view-2.ensures.proper cause
+          (λ (memory : BadLayout ≡ Memory). cc),
+    )
 
 pub returns-in-Err-TooManyCells-clause-refused : goal.returns-in-Err-TooManyCells-clause-refused
 returns-in-Err-TooManyCells-clause-refused c =
     let number : ℕ = c.in-Err-TooManyCells.field-0-0 in
     let is : c.merge.result ≡ Err (TooManyCells number) = cc in
     let cause = of_fault _ c.merge.result (TooManyCells number) c.merge.ensures.refused is in
-    inr (refl, no_merge c.args.cells.now c.args.read.now (TooManyCells number) c.view.ensures.proper c.view-2.ensures.proper cause (no_memory number))
+    inr (
+      refl,
+      no_merge c.args.cells.now c.args.read.now (TooManyCells number) c.view.ensures.proper
+          c.view-2.ensures.proper cause (no_memory number),
+    )

@@ -10,10 +10,12 @@ pub returns-clause-grouping : goal.returns-clause-grouping
 returns-clause-grouping g c =
     ok_so _ _ c.merge_all.result (λ cells merge k w stored represents found said.
     let content = content_of g.D.Sectors c.args.store.now in
-    grouping_there c.merges_represent_both.ensures content w c.args.cuboid.view c.args.cuboid.mark stored cells represents found (ap (λ (s : StoredCuboid). s.mark) said)
+    grouping_there c.merges_represent_both.ensures content w c.args.cuboid.view c.args.cuboid.mark stored cells
+    represents found (ap (λ (s : StoredCuboid). s.mark) said)
     (merge k w stored (laid_of content w represents) found said)) c.merge_all.ensures.ok
 
 pub returns-clause-refused : goal.returns-clause-refused
 returns-clause-refused g c = λ is k w stored represents found said.
     let content = content_of g.D.Sectors c.args.store.now in
-    c.merge_all.ensures.unsound is k w stored (laid_of content w represents) found said (sound_at w c.args.cuboid.view stored found (c.kept_cuboids_are_sound.ensures content w represents))
+    c.merge_all.ensures.unsound is k w stored (laid_of content w represents) found said
+    (sound_at w c.args.cuboid.view stored found (c.kept_cuboids_are_sound.ensures content w represents))

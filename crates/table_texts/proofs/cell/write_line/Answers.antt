@@ -7,10 +7,12 @@ use Rattle.table_texts.proofs.cell.write_line.Goals as goal
 
 pub returns-in_err-write_joined : goal.returns-in_err-write_joined
 returns-in_err-write_joined g c =
-    Writes-stop _ _ _ _ (join_with_byte 124 (map cell_text c.args.cells.now ++ map cell_text c.args.others.now)) (codes "\n") _
+    Writes-stop _ _ _ _ (join_with_byte 124 (map cell_text c.args.cells.now ++ map cell_text c.args.others.now))
+    (codes "\n") _
     (err_from_is_err_and _ c.from_residual.ensures.1) c.in_err-write_joined.ensures refl
 
 pub returns : goal.returns
 returns g c =
-    Writes-on _ _ _ _ (join_with_byte 124 (map cell_text c.args.cells.now ++ map cell_text c.args.others.now)) (codes "\n") _
+    Writes-on _ _ _ _ (join_with_byte 124 (map cell_text c.args.cells.now ++ map cell_text c.args.others.now))
+    (codes "\n") _
     c.in_ok-write_joined.ensures c.write_bytes.ensures refl

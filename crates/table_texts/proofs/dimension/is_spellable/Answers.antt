@@ -14,6 +14,8 @@ loop-place-preserved c =
     let next = spellable-next c.args.dims.now c.args.axis c.loop-place.place within in
     elim c.if-is_spellable_at.branch [
       | then-is_spellable_at w ↦
-          w.all-is ∙ c.loop-place.invariant ∙ sym (next ∙ ap (λ b. b && before) (sym c.is_spellable_at.ensures ∙ w.if-is_spellable_at.true))
-      | else-is_spellable_at w ↦ w.all-is ∙ w.if-is_spellable_at.false ∙ sym (next ∙ ap (λ b. b && before) (sym c.is_spellable_at.ensures ∙ w.if-is_spellable_at.false))
+          w.all-is ∙ c.loop-place.invariant
+          ∙ sym (next ∙ ap (λ b. b && before) (sym c.is_spellable_at.ensures ∙ w.if-is_spellable_at.true))
+      | else-is_spellable_at w ↦ w.all-is ∙ w.if-is_spellable_at.false
+          ∙ sym (next ∙ ap (λ b. b && before) (sym c.is_spellable_at.ensures ∙ w.if-is_spellable_at.false))
     ]

@@ -11,7 +11,8 @@ returns c = λ same.
     let one = c.args.one.now in
     let left = c.in_ok-left.left.items in
     let right = c.in_ok-right.right.items in
-    let seen : c.as_slice.result.now ≡ c.as_slice-2.result.now = (slice_eq-Decides Decides-eqb _ _ _ c.eq.ensures).0 same in
+    let seen : c.as_slice.result.now ≡ c.as_slice-2.result.now =
+    (slice_eq-Decides Decides-eqb _ _ _ c.eq.ensures).0 same in
     let is : left ≡ right = sym c.as_slice.ensures.value ∙ seen ∙ c.as_slice-2.ensures.value in
     (c.bytes_are_one_run.ensures right span span one c.args.other.now
     (subst (λ (bytes : List ℕ). IsRun bytes span one) is c.in_ok-left.ensures.ok) c.in_ok-right.ensures.ok).1

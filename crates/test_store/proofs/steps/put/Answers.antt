@@ -7,4 +7,9 @@ pub commit-requires-clause-puts : goal.commit-requires-clause-puts
 commit-requires-clause-puts g c = one_put c.args.id c.args.bytes.now (omega arith) (omega arith)
 
 pub commit-requires-clause-few : goal.commit-requires-clause-few
-commit-requires-clause-few g c = omega (arith, few_after ((c.args.id, c.args.bytes.now) ∷ []) [] [] 1 (content_of g.D.Sectors c.args.store.now), c.objects.ensures)
+commit-requires-clause-few g c =
+    omega (
+      arith,
+      few_after ((c.args.id, c.args.bytes.now) ∷ []) [] [] 1 (content_of g.D.Sectors c.args.store.now),
+      c.objects.ensures,
+    )

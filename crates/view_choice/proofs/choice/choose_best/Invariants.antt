@@ -9,5 +9,7 @@ abbrev pub invariant-loop : goal.invariant-loop
 invariant-loop l = record {
   kept : l.all.items ≡ costed (cuboids_by l.fn.ties l.rows l.counts l.demanded) l.chosen.items;
   count : length l.chosen.items ≡ l.counter;
-  each : (i : ℕ) → i < length l.chosen.items → (default : View) → IsBest (cuboids_by l.fn.ties l.rows l.counts l.demanded) (take i l.chosen.items) (get_or l.chosen.items i default);
+  each : (i : ℕ) → i < length l.chosen.items → (default : View)
+      → IsBest (cuboids_by l.fn.ties l.rows l.counts l.demanded) (take i l.chosen.items)
+      (get_or l.chosen.items i default);
 }

@@ -7,5 +7,8 @@ use Rattle.view_choice.proofs.Guarantee.{guaranteed}
 use Rattle.view_choice.proofs.choice.greedy.Goals as goal
 
 pub returns-clause-guarantee : goal.returns-clause-guarantee
-returns-clause-guarantee c = λ positive. guaranteed (cuboids c.args.rows c.args.counts.now) c.args.k c.choose_best.result positive
-    (subst (λ (asked : List View). IfOk c.choose_best.result (λ chosen. IsGreedy (cuboids_by ToLeast c.args.rows c.args.counts.now asked) c.args.k chosen.items)) (c.as_slice.ensures.value ∙ c.in_ok-demanded.ensures) c.choose_best.ensures.ok)
+returns-clause-guarantee c =
+    λ positive. guaranteed (cuboids c.args.rows c.args.counts.now) c.args.k c.choose_best.result positive
+    (subst (λ (asked : List View). IfOk c.choose_best.result
+    (λ chosen. IsGreedy (cuboids_by ToLeast c.args.rows c.args.counts.now asked) c.args.k chosen.items))
+    (c.as_slice.ensures.value ∙ c.in_ok-demanded.ensures) c.choose_best.ensures.ok)

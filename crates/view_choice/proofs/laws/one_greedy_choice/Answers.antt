@@ -4,4 +4,5 @@ use Rattle.view_choice.proofs.Members.{IsGreedy-unique}
 use Rattle.view_choice.proofs.laws.one_greedy_choice.Goals as goal
 
 pub returns : goal.returns
-returns c = λ rows counts k chosen others greedy also. IsGreedy-unique (cuboids rows counts) one_view k chosen others greedy also
+returns c = λ rows counts k chosen others greedy also. IsGreedy-unique (cuboids rows counts) one_view k chosen others
+    greedy also

@@ -7,7 +7,8 @@ use Rattle.view_words.proofs.reading.read_views.Goals as goal
 pub returns-clause-few : goal.returns-clause-few
 returns-clause-few c =
     let words = take c.loop-place.place c.args.words.now in
-    let many = zip_length Names _ c.loop-place.views.items c.loop-place.invariant.named ∙ length-map words (λ (word : Bor (List ℕ)). word.now) ∙ length-take c.loop-place.place c.args.words.now in
+    let many = zip_length Names _ c.loop-place.views.items c.loop-place.invariant.named
+    ∙ length-map words (λ (word : Bor (List ℕ)). word.now) ∙ length-take c.loop-place.place c.args.words.now in
     omega (arith, many)
 
 pub returns-clause-plain : goal.returns-clause-plain

@@ -4,4 +4,7 @@ use Rattle.std.proofs.lemmas.Iterator.Splits.{YieldsList-from_str_split}
 use Rattle.view_words.proofs.words.parts.Goals as goal
 
 pub returns : goal.returns
-returns c = map_from_collect _ c.collect.ensures.ran (YieldsList-from_str_split 44 c.args.word.now (search rules) c.split.ensures.text c.split.ensures.has_more c.split.ensures.pattern)
+returns c =
+    map_from_collect _ c.collect.ensures.ran
+    (YieldsList-from_str_split 44 c.args.word.now (search rules) c.split.ensures.text c.split.ensures.has_more
+    c.split.ensures.pattern)

@@ -3,4 +3,5 @@ use Rattle.view_words.proofs.Named.{by_levels}
 use Rattle.view_words.proofs.words.read_view.Goals as goal
 
 pub returns-in-None : goal.returns-in-None
-returns-in-None c = IfOk-weaker c.view_of_levels.result _ _ (λ found. by_levels c.args.word.now found c.in-None.ensures) c.view_of_levels.ensures
+returns-in-None c = IfOk-weaker c.view_of_levels.result _ _ (λ found. by_levels c.args.word.now found c.in-None.ensures)
+    c.view_of_levels.ensures

@@ -9,5 +9,6 @@ pub greedy_for-requires : goal.greedy_for-requires
 greedy_for-requires c = record {
   rows = c.requires.rows;
   few = few_asked c.args.k c.in-Some.demanded.now
-      (subst (λ (asked : Option (List View)). AreTooMany c.args.k asked → ⊥) (ap (option_map (λ views. views.now)) c.in-Some.is) c.requires.few);
+      (subst (λ (asked : Option (List View)). AreTooMany c.args.k asked → ⊥)
+      (ap (option_map (λ views. views.now)) c.in-Some.is) c.requires.few);
 }

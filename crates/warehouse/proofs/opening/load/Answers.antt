@@ -7,9 +7,11 @@ use Rattle.warehouse.proofs.opening.load.Goals as goal
 
 pub invariant_of-result : goal.invariant_of-result
 invariant_of-result g c = record {
-  loaded = λ fine k. subst (λ (x : Content). IsLoaded x c.in-Ok.dims.value c.in-Ok.root) (sym (c.in-Ok.ensures.stays.content k)) (c.in-Ok.ensures.loaded k);
+  loaded = λ fine k. subst (λ (x : Content). IsLoaded x c.in-Ok.dims.value c.in-Ok.root)
+      (sym (c.in-Ok.ensures.stays.content k)) (c.in-Ok.ensures.loaded k);
 }
 
 pub returns-in-Err-clause-leaves_err : goal.returns-in-Err-clause-leaves_err
 returns-in-Err-clause-leaves_err g c =
-    subst (λ (d : g.row.D.Denot). Leaves (stores.disk_of g.D.Sectors c.args.store) (disk g.D.Sectors d) (λ x. x ≡ stores.content_of g.D.Sectors c.args.store)) (sym c.close.ensures) c.read.ensures.leaves
+    subst (λ (d : g.row.D.Denot). Leaves (stores.disk_of g.D.Sectors c.args.store) (disk g.D.Sectors d)
+    (λ x. x ≡ stores.content_of g.D.Sectors c.args.store)) (sym c.close.ensures) c.read.ensures.leaves

@@ -11,28 +11,35 @@ use Rattle.warehouse.proofs.opening.open_as_is.Goals as goal
 
 pub returns-in-Ok-load-clause-leaves : goal.returns-in-Ok-load-clause-leaves
 returns-in-Ok-load-clause-leaves g c facts last all =
-    read_leaves g.D.Sectors c.args.device c.in-Ok.store facts last all c.in-Ok.ensures.only c.in-Ok.ensures.found (disk_of g.D.Sectors c.in-Ok-load.session) c.in-Ok-load.ensures.leaves
+    read_leaves g.D.Sectors c.args.device c.in-Ok.store facts last all c.in-Ok.ensures.only c.in-Ok.ensures.found
+    (disk_of g.D.Sectors c.in-Ok-load.session) c.in-Ok-load.ensures.leaves
 
 pub returns-in-Err-load-clause-leaves_err : goal.returns-in-Err-load-clause-leaves_err
 returns-in-Err-load-clause-leaves_err g c facts last all =
-    read_leaves g.D.Sectors c.args.device c.in-Ok.store facts last all c.in-Ok.ensures.only c.in-Ok.ensures.found (disk g.D.Sectors c.in-Err-load.e.1) c.in-Err-load.ensures.leaves_err
+    read_leaves g.D.Sectors c.args.device c.in-Ok.store facts last all c.in-Ok.ensures.only c.in-Ok.ensures.found
+    (disk g.D.Sectors c.in-Err-load.e.1) c.in-Err-load.ensures.leaves_err
 
 pub returns-in-Ok-load-clause-ok : goal.returns-in-Ok-load-clause-ok
 returns-in-Ok-load-clause-ok g c facts last all k =
-    session_may g.D.Sectors c.args.device c.in-Ok.store facts last all c.in-Ok.ensures.only c.in-Ok.ensures.found c.in-Ok-load.session c.in-Ok-load.ensures.fine c.in-Ok-load.ensures.content c.in-Ok-load.ensures.leaves k
+    session_may g.D.Sectors c.args.device c.in-Ok.store facts last all c.in-Ok.ensures.only c.in-Ok.ensures.found
+    c.in-Ok-load.session c.in-Ok-load.ensures.fine c.in-Ok-load.ensures.content c.in-Ok-load.ensures.leaves k
 
 pub returns-in-Err-clause-never : goal.returns-in-Err-clause-never
 returns-in-Err-clause-never g c facts last all k =
     ⊎_elim (λ memory. inl memory)
     (⊎_elim (λ device. inr device)
-    (λ layout. absurd (never_none (disk g.D.Sectors c.args.device) (MayRepresent facts last) all (c.in-Err.ensures.only_err.word k) (c.in-Err.ensures.nothing layout k))))
+    (λ layout. absurd
+    (never_none (disk g.D.Sectors c.args.device) (MayRepresent facts last) all (c.in-Err.ensures.only_err.word k)
+    (c.in-Err.ensures.nothing layout k))))
     c.in-Err.ensures.causes
 
 pub returns-in-Err-load-clause-never : goal.returns-in-Err-load-clause-never
 returns-in-Err-load-clause-never g c facts last all k =
     ⊎_elim (λ memory. inl memory)
     (⊎_elim (λ device. inr device)
-    (λ bad. absurd (never_loaded g.D.Sectors c.args.device c.in-Ok.store facts last all c.in-Ok.ensures.only c.in-Ok.ensures.found (disk g.D.Sectors c.in-Err-load.e.1) c.in-Err-load.ensures.leaves_err k
+    (λ bad. absurd
+    (never_loaded g.D.Sectors c.args.device c.in-Ok.store facts last all c.in-Ok.ensures.only c.in-Ok.ensures.found
+    (disk g.D.Sectors c.in-Err-load.e.1) c.in-Err-load.ensures.leaves_err k
     (c.in-Err-load.ensures.readable bad k))))
     c.in-Err-load.ensures.causes
 
@@ -63,11 +70,13 @@ returns-in-Err-load-clause-blank g c is k blank none =
     let word = c.in-Err-load.ensures.leaves_err.word k in
     let shown = c.in-Ok.ensures.found word in
     let content = stores.content_of g.D.Sectors c.in-Ok.store in
-    blank (c.in-Ok.ensures.only.word word) shown.image shown.is (content.generation % 2) (omega arith) shown.shows.0 shown.shows.2.in_slot
+    blank (c.in-Ok.ensures.only.word word) shown.image shown.is (content.generation % 2) (omega arith) shown.shows.0
+    shown.shows.2.in_slot
 
 pub returns-in-Ok-load-clause-shown : goal.returns-in-Ok-load-clause-shown
 returns-in-Ok-load-clause-shown g c k =
-    subst (λ (x : Content). IsShown (disk g.D.Sectors c.args.device) x) (sym (c.in-Ok-load.ensures.content k)) (c.in-Ok.ensures.found (c.in-Ok-load.ensures.leaves.word k))
+    subst (λ (x : Content). IsShown (disk g.D.Sectors c.args.device) x) (sym (c.in-Ok-load.ensures.content k))
+    (c.in-Ok.ensures.found (c.in-Ok-load.ensures.leaves.word k))
 
 pub returns-in-Ok-load-clause-word : goal.returns-in-Ok-load-clause-word
 returns-in-Ok-load-clause-word g c k = c.in-Ok.ensures.only.word (c.in-Ok-load.ensures.leaves.word k)

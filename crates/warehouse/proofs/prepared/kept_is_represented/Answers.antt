@@ -9,20 +9,48 @@ pub returns-clause-dims : goal.returns-clause-dims
 returns-clause-dims c = subst AreStorable c.deref.ensures c.rows_are_storable.ensures
 
 pub returns-clause-puts : goal.returns-clause-puts
-returns-clause-puts c = c.objects_are_storable.ensures.0 c.args.dims.now.value (subst AreStorable c.deref.ensures c.rows_are_storable.ensures)
+returns-clause-puts c =
+    c.objects_are_storable.ensures.0 c.args.dims.now.value
+    (subst AreStorable c.deref.ensures c.rows_are_storable.ensures)
 
 pub returns-clause-agrees : goal.returns-clause-agrees
 returns-clause-agrees c content w is represents = record {
-  rows_are = c.rows_are_one.ensures content w.rows c.args.dims.now.value represents.rows (subst AreStorable c.deref.ensures c.rows_are_storable.ensures)
-      (record { customers = represents.objects 1; suppliers = represents.objects 2; parts = represents.objects 3; dates = represents.objects 4 }) is.has_rows;
-  root_is = IsRootOf-one First content.root (root_of w) c.args.root.now (record { of_layout = represents.first; is_root = represents.root })
-      (record { of_layout = is.of_layout; is_root = record { spelled = is.root_bytes; proper = c.layout-layout.ensures.proper } });
+  rows_are = c.rows_are_one.ensures content w.rows c.args.dims.now.value represents.rows
+      (subst AreStorable c.deref.ensures c.rows_are_storable.ensures)
+      (record {
+        customers = represents.objects 1;
+        suppliers = represents.objects 2;
+        parts = represents.objects 3;
+        dates = represents.objects 4;
+      }) is.has_rows;
+  root_is = IsRootOf-one First content.root (root_of w) c.args.root.now
+      (record { of_layout = represents.first; is_root = represents.root })
+      (record {
+        of_layout = is.of_layout;
+        is_root = record {
+          spelled = is.root_bytes;
+          proper = c.layout-layout.ensures.proper;
+        };
+      });
 }
 
 pub returns-clause-laid : goal.returns-clause-laid
 returns-clause-laid c content w is represents = record {
-  rows_are = c.rows_are_one.ensures content w.rows c.args.dims.now.value represents.rows (subst AreStorable c.deref.ensures c.rows_are_storable.ensures)
-      (record { customers = represents.objects 1; suppliers = represents.objects 2; parts = represents.objects 3; dates = represents.objects 4 }) is.has_rows;
-  root_is = IsRootOf-one First content.root (root_of w) c.args.root.now (record { of_layout = represents.first; is_root = represents.root })
-      (record { of_layout = is.of_layout; is_root = record { spelled = is.root_bytes; proper = c.layout-layout.ensures.proper } });
+  rows_are = c.rows_are_one.ensures content w.rows c.args.dims.now.value represents.rows
+      (subst AreStorable c.deref.ensures c.rows_are_storable.ensures)
+      (record {
+        customers = represents.objects 1;
+        suppliers = represents.objects 2;
+        parts = represents.objects 3;
+        dates = represents.objects 4;
+      }) is.has_rows;
+  root_is = IsRootOf-one First content.root (root_of w) c.args.root.now
+      (record { of_layout = represents.first; is_root = represents.root })
+      (record {
+        of_layout = is.of_layout;
+        is_root = record {
+          spelled = is.root_bytes;
+          proper = c.layout-layout.ensures.proper;
+        };
+      });
 }

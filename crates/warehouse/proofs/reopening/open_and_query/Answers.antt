@@ -8,13 +8,18 @@ pub returns-in-Ok-query-clause-answers : goal.returns-in-Ok-query-clause-answers
 returns-in-Ok-query-clause-answers g c w v slots earlier later replies others crash k =
     let law = c.later_crash_is_found.ensures w v slots earlier later replies others c.args.device crash in
     let now = c.in-Ok.ensures.ok (facts_in law.1.found) None law.1.represents (c.query.ensures.word k) in
-    let found = c.in-Ok-query.ensures.answer now.0 now.3 k in
-    (now.0, left_by_crash g.D.Sectors w v now.0 earlier later replies others c.args.device law.0 law.1 now.1, found.0, found.1)
+    let found = c.in-Ok-query.ensures.answer now.0 now.3 k in (
+      now.0,
+      left_by_crash g.D.Sectors w v now.0 earlier later replies others c.args.device law.0 law.1 now.1,
+      found.0,
+      found.1,
+    )
 
 pub returns-in-Err-clause-refused : goal.returns-in-Err-clause-refused
 returns-in-Err-clause-refused g c w v slots earlier later replies others crash k =
     let law = c.later_crash_is_found.ensures w v slots earlier later replies others c.args.device crash in
-    ⊎_elim (λ memory. inl memory) (λ device. inr (inl device)) (c.in-Err.ensures.never (facts_in law.1.found) None law.1.represents k)
+    ⊎_elim (λ memory. inl memory) (λ device. inr (inl device))
+    (c.in-Err.ensures.never (facts_in law.1.found) None law.1.represents k)
 
 pub returns-in-Err-query-clause-refused : goal.returns-in-Err-query-clause-refused
 returns-in-Err-query-clause-refused g c w v slots earlier later replies others crash k =

@@ -13,6 +13,8 @@ invariant-loop-said g l =
       fine : has_failed l.store ≡ false;
       still : IsStill g.D.Sectors l.initial.store l.store;
       leaves : Leaves (disk_of g.D.Sectors l.initial.store) (disk_of g.D.Sectors l.store) (λ c. c ≡ first);
-      so_far : AreSoFar (g.D.Sectors.keeps_word (device_of l.store)) first l.dims l.root.batches l.said-index l.admission;
-      own : g.D.Sectors.keeps_word (device_of l.store) → (w : Warehouse) → IsLaidOut first w → l.root ≡ root_of w → l.dims ≡ w.rows → HasAccepted l.admission (take l.said-index w.batches);
+      so_far : AreSoFar (g.D.Sectors.keeps_word (device_of l.store)) first l.dims l.root.batches l.said-index
+          l.admission;
+      own : g.D.Sectors.keeps_word (device_of l.store) → (w : Warehouse) → IsLaidOut first w → l.root ≡ root_of w
+          → l.dims ≡ w.rows → HasAccepted l.admission (take l.said-index w.batches);
     }

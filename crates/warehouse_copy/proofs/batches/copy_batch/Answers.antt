@@ -5,7 +5,8 @@ use Rattle.warehouse_objects.specs.Warehouse.{Warehouse}
 use Rattle.warehouse.specs.Session.{IsAt, content_of}
 use Rattle.warehouse_copy.specs.Copied.{with_first}
 use Rattle.warehouse_copy.proofs.Causes.{memory_or_device}
-use Rattle.warehouse_copy.proofs.Parts.{leaves_part, never_missing, next_first, numbered_here, submit_fault, submit_leaves}
+use Rattle.warehouse_copy.proofs.Parts.{leaves_part, never_missing, next_first, numbered_here, submit_fault}
+use Rattle.warehouse_copy.proofs.Parts.{submit_leaves}
 use Rattle.warehouse_copy.proofs.batches.copy_batch.Goals as goal
 
 pub returns-in_err-found-clause-from_stays : goal.returns-in_err-found-clause-from_stays
@@ -14,15 +15,19 @@ returns-in_err-found-clause-from_stays g c =
     rw (p.1, p.2) (λ other. c.in_err-found.ensures.stays (λ is. other (cc is)))
 
 pub returns-in_err-found-clause-leaves : goal.returns-in_err-found-clause-leaves
-returns-in_err-found-clause-leaves g c w from to k = leaves_part w c.args.before _ _ (c.is_broken-written.ensures.leaves (with_first w c.args.before) to)
+returns-in_err-found-clause-leaves g c w from to k =
+    leaves_part w c.args.before _ _ (c.is_broken-written.ensures.leaves (with_first w c.args.before) to)
 
 pub returns-in_err-found-clause-refused : goal.returns-in_err-found-clause-refused
 returns-in_err-found-clause-refused g c =
     let p = err_from_is_err_and c.from_residual.result c.from_residual.ensures.1 in
-    rw (p.1, p.2) (λ w from lt to k word. memory_or_device c.in_err-found.field-0.0 (λ no. c.in_err-found.ensures.refused no w from k))
+    rw (p.1, p.2)
+    (λ w from lt to k word. memory_or_device c.in_err-found.field-0.0
+    (λ no. c.in_err-found.ensures.refused no w from k))
 
 pub returns-in-None-clause-leaves : goal.returns-in-None-clause-leaves
-returns-in-None-clause-leaves g c w from to k = leaves_part w c.args.before _ _ (c.is_broken-written.ensures.leaves (with_first w c.args.before) to)
+returns-in-None-clause-leaves g c w from to k =
+    leaves_part w c.args.before _ _ (c.is_broken-written.ensures.leaves (with_first w c.args.before) to)
 
 pub returns-in-None-clause-refused : goal.returns-in-None-clause-refused
 returns-in-None-clause-refused g c w from lt to k word =
@@ -31,19 +36,25 @@ returns-in-None-clause-refused g c w from lt to k word =
 pub returns-in-Some-clause-ok : goal.returns-in-Some-clause-ok
 returns-in-Some-clause-ok g c =
     ok_so _ _ c.submit.result (λ ok w from to k.
-    let here = numbered_here w c.args.before c.in_ok-found.found c.in-Some.rows c.in-Some.is (c.in_ok-found.ensures.rows w from k) in
-    subst (λ (v : Warehouse). IsAt g.E.Sectors c.submit.new.self v) (next_first w c.args.before c.in-Some.rows here) (rw c.as_slice.ensures at ((ok (with_first w c.args.before) to).0))) c.submit.ensures.ok
+    let here = numbered_here w c.args.before c.in_ok-found.found c.in-Some.rows c.in-Some.is
+    (c.in_ok-found.ensures.rows w from k) in
+    subst (λ (v : Warehouse). IsAt g.E.Sectors c.submit.new.self v) (next_first w c.args.before c.in-Some.rows here)
+    (rw c.as_slice.ensures at ((ok (with_first w c.args.before) to).0))) c.submit.ensures.ok
 
 pub returns-in-Some-clause-leaves : goal.returns-in-Some-clause-leaves
 returns-in-Some-clause-leaves g c w from to k =
-    let here = numbered_here w c.args.before c.in_ok-found.found c.in-Some.rows c.in-Some.is (c.in_ok-found.ensures.rows w from k) in
-    submit_leaves w c.args.before c.in-Some.rows here _ _ (rw c.as_slice.ensures at (c.submit.ensures.leaves (with_first w c.args.before) to))
+    let here = numbered_here w c.args.before c.in_ok-found.found c.in-Some.rows c.in-Some.is
+    (c.in_ok-found.ensures.rows w from k) in
+    submit_leaves w c.args.before c.in-Some.rows here _ _
+    (rw c.as_slice.ensures at (c.submit.ensures.leaves (with_first w c.args.before) to))
 
 pub returns-in-Some-clause-refused : goal.returns-in-Some-clause-refused
 returns-in-Some-clause-refused g c =
     IfErr-weaker c.submit.result _ _ (λ fault why w from lt to k word.
-    let here = numbered_here w c.args.before c.in_ok-found.found c.in-Some.rows c.in-Some.is (c.in_ok-found.ensures.rows w from k) in
-    submit_fault w c.args.before c.in-Some.rows here g.E.Sectors c.args.to.now (content_of g.D.Sectors c.args.from.now) (from.represents (c.rows_of_batch.ensures.word k)) fault
+    let here = numbered_here w c.args.before c.in_ok-found.found c.in-Some.rows c.in-Some.is
+    (c.in_ok-found.ensures.rows w from k) in
+    submit_fault w c.args.before c.in-Some.rows here g.E.Sectors c.args.to.now (content_of g.D.Sectors c.args.from.now)
+    (from.represents (c.rows_of_batch.ensures.word k)) fault
     (λ no. rw c.as_slice.ensures at (why no (with_first w c.args.before) to word))) c.submit.ensures.causes
 
 pub returns-in-Some-clause-from_stays : goal.returns-in-Some-clause-from_stays

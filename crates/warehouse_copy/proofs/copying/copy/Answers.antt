@@ -6,21 +6,25 @@ use Rattle.sector_device.specs.Device.{IsImage}
 use Rattle.warehouse_objects.specs.Warehouse.{Warehouse, fresh}
 use Rattle.warehouse.specs.Session.{IsAt}
 use Rattle.warehouse_copy.specs.Copied.{HoldsPart, IsCopyFault, with_first}
-use Rattle.warehouse_copy.proofs.Beginning.{back_leaves, back_spared, back_word, filling_leaves, fresh_first, making_leaves}
+use Rattle.warehouse_copy.proofs.Beginning.{back_leaves, back_spared, back_word, filling_leaves, fresh_first}
+use Rattle.warehouse_copy.proofs.Beginning.{making_leaves}
 use Rattle.warehouse_copy.proofs.Causes.{is_fault, of_making}
 use Rattle.warehouse_copy.proofs.copying.copy.Goals as goal
 
 pub returns-in-Err-clause-leaves_err : goal.returns-in-Err-clause-leaves_err
 returns-in-Err-clause-leaves_err g c w from k blank =
-    begins (ShowsSomeOrNone (HoldsPart w)) (disk g.E.Sectors c.args.device) (λ word image. g.met.E.Sectors.only_now c.args.device image word) (λ word image is. inl (blank word image is))
+    begins (ShowsSomeOrNone (HoldsPart w)) (disk g.E.Sectors c.args.device)
+    (λ word image. g.met.E.Sectors.only_now c.args.device image word) (λ word image is. inl (blank word image is))
 
 pub returns-in-Err-clause-spared : goal.returns-in-Err-clause-spared
 returns-in-Err-clause-spared g c some =
-    begins (λ _ image. IsImage (g.E.Sectors.state c.args.device) image) (disk g.E.Sectors c.args.device) (λ word image. g.met.E.Sectors.only_now c.args.device image word) (λ word image is. is)
+    begins (λ _ image. IsImage (g.E.Sectors.state c.args.device) image) (disk g.E.Sectors c.args.device)
+    (λ word image. g.met.E.Sectors.only_now c.args.device image word) (λ word image is. is)
 
 pub returns-in-Err-clause-causes : goal.returns-in-Err-clause-causes
 returns-in-Err-clause-causes g c w from k word =
-    ⊎_elim (λ memory. is_fault c.in-Err.fault Memory tt memory) (λ failed. let no : true ≡ false = sym failed.1 ∙ from.fine in absurd cc) c.in-Err.ensures.refused
+    ⊎_elim (λ memory. is_fault c.in-Err.fault Memory tt memory) (λ failed. let no : true ≡ false = sym failed.1
+    ∙ from.fine in absurd cc) c.in-Err.ensures.refused
 
 pub returns-in-Err-create-clause-leaves_err : goal.returns-in-Err-create-clause-leaves_err
 returns-in-Err-create-clause-leaves_err g c w from k blank =
@@ -32,15 +36,19 @@ returns-in-Err-create-clause-causes g c w from k word = of_making _ c.in-Err-cre
 pub returns-in-Ok-copy_into-clause-ok : goal.returns-in-Ok-copy_into-clause-ok
 returns-in-Ok-copy_into-clause-ok g c w from k =
     let word = c.copy_into.ensures.from_word k in
-    let begun = subst (λ (v : Warehouse). IsAt g.E.Sectors c.in-Ok-create.session v) (fresh_first w c.in-Ok.dims (c.in-Ok.ensures.ok w from word)) c.in-Ok-create.ensures.ok in
+    let begun =
+    subst (λ (v : Warehouse). IsAt g.E.Sectors c.in-Ok-create.session v)
+    (fresh_first w c.in-Ok.dims (c.in-Ok.ensures.ok w from word)) c.in-Ok-create.ensures.ok in
     c.in-Ok-copy_into.ensures.ok w from begun k
 
 pub returns-in-Ok-copy_into-clause-leaves : goal.returns-in-Ok-copy_into-clause-leaves
 returns-in-Ok-copy_into-clause-leaves g c w from k blank =
     let word = c.copy_into.ensures.from_word k in
     let same = c.in-Ok.ensures.ok w from word in
-    let begun = subst (λ (v : Warehouse). IsAt g.E.Sectors c.in-Ok-create.session v) (fresh_first w c.in-Ok.dims same) c.in-Ok-create.ensures.ok in
-    filling_leaves w c.in-Ok.dims same _ _ _ (c.in-Ok-create.ensures.leaves blank) (c.copy_into.ensures.leaves w from begun k)
+    let begun = subst (λ (v : Warehouse). IsAt g.E.Sectors c.in-Ok-create.session v) (fresh_first w c.in-Ok.dims same)
+    c.in-Ok-create.ensures.ok in
+    filling_leaves w c.in-Ok.dims same _ _ _ (c.in-Ok-create.ensures.leaves blank)
+    (c.copy_into.ensures.leaves w from begun k)
 
 pub returns-in-Ok-copy_into-clause-unformatted : goal.returns-in-Ok-copy_into-clause-unformatted
 returns-in-Ok-copy_into-clause-unformatted g c word = c.in-Ok-create.ensures.unformatted (c.copy_into.ensures.word word)
@@ -49,22 +57,28 @@ pub returns-in-Err-copy_into-clause-leaves_err : goal.returns-in-Err-copy_into-c
 returns-in-Err-copy_into-clause-leaves_err g c w from k blank =
     let word = c.copy_into.ensures.from_word k in
     let same = c.in-Ok.ensures.ok w from word in
-    let begun = subst (λ (v : Warehouse). IsAt g.E.Sectors c.in-Ok-create.session v) (fresh_first w c.in-Ok.dims same) c.in-Ok-create.ensures.ok in
+    let begun = subst (λ (v : Warehouse). IsAt g.E.Sectors c.in-Ok-create.session v) (fresh_first w c.in-Ok.dims same)
+    c.in-Ok-create.ensures.ok in
     back_leaves g.E.Sectors c.args.device c.close.result _ c.close.ensures (HoldsPart w)
-    (filling_leaves w c.in-Ok.dims same _ _ _ (c.in-Ok-create.ensures.leaves blank) (c.copy_into.ensures.leaves w from begun k))
+    (filling_leaves w c.in-Ok.dims same _ _ _ (c.in-Ok-create.ensures.leaves blank)
+    (c.copy_into.ensures.leaves w from begun k))
 
 pub returns-in-Err-copy_into-clause-spared : goal.returns-in-Err-copy_into-clause-spared
 returns-in-Err-copy_into-clause-spared g c =
-    back_spared g.E.Sectors c.args.device c.close.result _ c.close.ensures (λ word. c.in-Ok-create.ensures.unformatted (c.copy_into.ensures.word word))
+    back_spared g.E.Sectors c.args.device c.close.result _ c.close.ensures
+    (λ word. c.in-Ok-create.ensures.unformatted (c.copy_into.ensures.word word))
 
 pub returns-in-Err-copy_into-clause-causes : goal.returns-in-Err-copy_into-clause-causes
 returns-in-Err-copy_into-clause-causes g c w from k word =
     let same = c.in-Ok.ensures.ok w from (c.copy_into.ensures.from_word k) in
-    let begun = subst (λ (v : Warehouse). IsAt g.E.Sectors c.in-Ok-create.session v) (fresh_first w c.in-Ok.dims same) c.in-Ok-create.ensures.ok in
-    c.in-Err-copy_into.ensures.refused w from begun k (back_word g.E.Sectors c.args.device c.close.result _ c.close.ensures word)
+    let begun = subst (λ (v : Warehouse). IsAt g.E.Sectors c.in-Ok-create.session v) (fresh_first w c.in-Ok.dims same)
+    c.in-Ok-create.ensures.ok in
+    c.in-Err-copy_into.ensures.refused w from begun k
+    (back_word g.E.Sectors c.args.device c.close.result _ c.close.ensures word)
 
 pub returns-in-Ok-copy_into-clause-from_stays : goal.returns-in-Ok-copy_into-clause-from_stays
 returns-in-Ok-copy_into-clause-from_stays g c w from = c.in-Ok-copy_into.ensures.from_stays (λ is. cc) w from
 
 pub returns-in-Err-copy_into-clause-from_stays_err : goal.returns-in-Err-copy_into-clause-from_stays_err
-returns-in-Err-copy_into-clause-from_stays_err g c other w from = c.in-Err-copy_into.ensures.from_stays (λ is. other (cc is)) w from
+returns-in-Err-copy_into-clause-from_stays_err g c other w from =
+    c.in-Err-copy_into.ensures.from_stays (λ is. other (cc is)) w from

@@ -19,13 +19,17 @@ returns-clause-from_stays g c other = c.in_ok-copy_batches.ensures.from_stays (�
 
 pub returns-clause-ok : goal.returns-clause-ok
 returns-clause-ok g c =
-    ok_so _ _ c.copy_cuboids.result (λ ok w from to k. ok w (c.in_ok-copy_batches.ensures.from_stays (λ is. cc) w from) (c.in_ok-copy_batches.ensures.ok w from to k) k) c.copy_cuboids.ensures.ok
+    ok_so _ _ c.copy_cuboids.result
+    (λ ok w from to k. ok w (c.in_ok-copy_batches.ensures.from_stays (λ is. cc) w from)
+    (c.in_ok-copy_batches.ensures.ok w from to k) k) c.copy_cuboids.ensures.ok
 
 pub returns-clause-leaves : goal.returns-clause-leaves
 returns-clause-leaves g c w from to k =
-    leaves_then (HoldsPart w) _ _ _ (c.in_ok-copy_batches.ensures.leaves w from to k) (c.copy_cuboids.ensures.leaves w (c.in_ok-copy_batches.ensures.ok w from to k))
+    leaves_then (HoldsPart w) _ _ _ (c.in_ok-copy_batches.ensures.leaves w from to k)
+    (c.copy_cuboids.ensures.leaves w (c.in_ok-copy_batches.ensures.ok w from to k))
 
 pub returns-clause-refused : goal.returns-clause-refused
 returns-clause-refused g c =
     IfErr-weaker c.copy_cuboids.result _ _ (λ fault why w from to k word.
-    why w (c.in_ok-copy_batches.ensures.from_stays (λ is. cc) w from) (c.in_ok-copy_batches.ensures.ok w from to k) k word) c.copy_cuboids.ensures.refused
+    why w (c.in_ok-copy_batches.ensures.from_stays (λ is. cc) w from) (c.in_ok-copy_batches.ensures.ok w from to k) k
+    word) c.copy_cuboids.ensures.refused

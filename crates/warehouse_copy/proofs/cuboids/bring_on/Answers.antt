@@ -15,13 +15,20 @@ returns-in-Ok-clause-ok g c w at =
 pub returns-in-Err-clause-ok : goal.returns-in-Err-clause-ok
 returns-in-Err-clause-ok g c =
     ok_so _ _ c.unless_too_large.result (λ large w at.
-    let done = c.in-Err.ensures.refused (λ device. let none : Device ≡ TooManyCells large.0 = sym device ∙ large.1 in absurd cc) w at in
-    (done.0, done.1, done.2, λ k. passed_over g.E.Sectors c.upkeep.new.self done.0 c.in-Err.fault (done.3 k) large.0 large.1)) c.unless_too_large.ensures.passed
+    let done = c.in-Err.ensures.refused (λ device. let none : Device ≡ TooManyCells large.0 = sym device
+    ∙ large.1 in absurd cc) w at in (
+      done.0,
+      done.1,
+      done.2,
+      λ k. passed_over g.E.Sectors c.upkeep.new.self done.0 c.in-Err.fault (done.3 k) large.0
+          large.1,
+    )) c.unless_too_large.ensures.passed
 
 pub returns-in-Err-clause-refused : goal.returns-in-Err-clause-refused
 returns-in-Err-clause-refused g c =
     IfErr-weaker c.unless_too_large.result _ _ (λ other is w at k.
     or_device other (λ no.
     let done = c.in-Err.ensures.refused (λ device. no (is.0 ∙ device)) w at in
-    of_upkeep g.E.Sectors c.upkeep.new.self done.0 other (subst (λ (f : Fault). UpkeepRefuses g.E.Sectors c.upkeep.new.self done.0 f) (sym is.0) (done.3 k))
+    of_upkeep g.E.Sectors c.upkeep.new.self done.0 other
+    (subst (λ (f : Fault). UpkeepRefuses g.E.Sectors c.upkeep.new.self done.0 f) (sym is.0) (done.3 k))
     (λ number large. is.1 number (sym is.0 ∙ large)))) c.unless_too_large.ensures.other

@@ -13,12 +13,14 @@ returns-in_err-view-in-Some-clause-refused c =
     rw (p.1, p.2) (inr (
       high.0,
       λ stored are low.
-          never_high stored c.args.cuboids.now are c.loop-place.place (omega (arith, c.loop-place-test.true)) c.loop-place.views.items (c.loop-place.invariant.first stored are) c.in-Some.said c.in-Some.is high.1 low,
+          never_high stored c.args.cuboids.now are c.loop-place.place (omega (arith, c.loop-place-test.true))
+          c.loop-place.views.items (c.loop-place.invariant.first stored are) c.in-Some.said c.in-Some.is high.1 low,
     ))
 
 pub returns-in-None-clause-views : goal.returns-in-None-clause-views
 returns-in-None-clause-views c stored are =
-    first_all stored c.args.cuboids.now are c.loop-place.place (omega (arith, c.loop-place-test.true)) c.loop-place.views.items (c.loop-place.invariant.first stored are) c.in-None.is
+    first_all stored c.args.cuboids.now are c.loop-place.place (omega (arith, c.loop-place-test.true))
+    c.loop-place.views.items (c.loop-place.invariant.first stored are) c.in-None.is
 
 pub loop-place-preserved : goal.loop-place-preserved
 loop-place-preserved c =
@@ -27,7 +29,11 @@ loop-place-preserved c =
     let found = c.in_ok-view-in-Some.ensures.found in
     let view = c.in_ok-view-in-Some.view in record {
       many = omega (arith, ap length items, length-append c.loop-place.views.items (view ∷ []), so_far.many);
-      low = subst (All (λ (v : View). index_of v < 256)) (sym items) (All-push (λ (v : View). index_of v < 256) c.loop-place.views.items view so_far.low (omega (arith, found.0, found.1)));
+      low = subst (All (λ (v : View). index_of v < 256)) (sym items)
+          (All-push (λ (v : View). index_of v < 256) c.loop-place.views.items view so_far.low
+          (omega (arith, found.0, found.1)));
       first = λ stored are. subst (AreFirst stored (c.loop-place.place + 1)) (sym items)
-          (first_more stored c.args.cuboids.now are c.loop-place.place (omega (arith, c.loop-place-test.true)) c.loop-place.views.items (so_far.first stored are) c.in-Some.said view c.in-Some.is found.0 c.indexes_name_views.ensures);
+          (first_more stored c.args.cuboids.now are c.loop-place.place (omega (arith, c.loop-place-test.true))
+          c.loop-place.views.items (so_far.first stored are) c.in-Some.said view c.in-Some.is found.0
+          c.indexes_name_views.ensures);
     }

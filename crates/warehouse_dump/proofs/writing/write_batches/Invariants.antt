@@ -11,7 +11,8 @@ abbrev pub invariant-loop-before : goal.invariant-loop-before
 invariant-loop-before g l = record {
   word : g.D.Sectors.keeps_word (device_of l.session) → g.D.Sectors.keeps_word (device_of l.initial.session);
   at : (w : Warehouse) → IsAt g.D.Sectors l.initial.session w → IsAt g.D.Sectors l.session w;
-  leaves : (w : Warehouse) → IsAt g.D.Sectors l.initial.session w → Leaves (disk_of g.D.Sectors l.initial.session) (disk_of g.D.Sectors l.session) (λ c. Represents c w);
+  leaves : (w : Warehouse) → IsAt g.D.Sectors l.initial.session w
+      → Leaves (disk_of g.D.Sectors l.initial.session) (disk_of g.D.Sectors l.session) (λ c. Represents c w);
   written : (w : Warehouse) → IsAt g.D.Sectors l.initial.session w → g.D.Sectors.keeps_word (device_of l.session)
       → AreWritten (all_rows (take l.before w.batches)) (g.W.Write.contents l.initial.out) (g.W.Write.contents l.out);
 }

@@ -11,7 +11,8 @@ returns-then-branch-clause-taken g c w at k =
     let status = c.in_ok-status.ensures.ok w at (c.add.ensures.word k) in
     let ok = c.in_ok-add.ensures.ok w at in
     let new : w.additions < c.args.number = omega (arith, c.if-branch.true, status.additions) in
-    takes-added g.D.Sectors w c.args.number c.args.rows.now c.args.session.now c.add.new.self new (ok.1 k) ok.0 (c.add.ensures.leaves w at)
+    takes-added g.D.Sectors w c.args.number c.args.rows.now c.args.session.now c.add.new.self new (ok.1 k) ok.0
+    (c.add.ensures.leaves w at)
 
 pub returns-in_err-add-clause-refused : goal.returns-in_err-add-clause-refused
 returns-in_err-add-clause-refused g c =
@@ -21,7 +22,8 @@ returns-in_err-add-clause-refused g c =
     let new : w.additions < c.args.number = omega (arith, c.if-branch.true, status.additions) in
     refuses-rows g.D.Sectors w c.args.number c.args.rows.now c.args.session.now c.add.new.self c.in_err-add.field-0.0
     (λ e. (c.in_err-add.ensures.device (ap (λ f. Err f) e)).failed)
-    (λ no. (inr (new, c.in_err-add.ensures.causes no w at k), (c.in_err-add.ensures.refused no w at).0)) (c.add.ensures.leaves w at))
+    (λ no. (inr (new, c.in_err-add.ensures.causes no w at k), (c.in_err-add.ensures.refused no w at).0))
+    (c.add.ensures.leaves w at))
 
 pub returns-then-not-has_rows-clause-refused : goal.returns-then-not-has_rows-clause-refused
 returns-then-not-has_rows-clause-refused g c w at k =
@@ -29,8 +31,17 @@ returns-then-not-has_rows-clause-refused g c w at k =
     let there : c.args.number ≤ w.additions = omega (arith, c.if-branch.false, status.additions) in
     let session = c.args.session.now in
     refuses-rows g.D.Sectors w c.args.number c.args.rows.now session session _ (λ e. absurd (cc))
-    (λ other. (inl (refl, there, subst (λ (rows : DimRows). HasRows rows c.args.rows.now → ⊥) (c.dims.ensures w at k) c.if-not-has_rows.ensures.no), at))
-    (only-looked g.D.Sectors w c.args.number c.args.rows.now session session (still g.D.Sectors session w g.met.D.Sectors.only_now at))
+    (λ other. (
+      inl (
+        refl,
+        there,
+        subst (λ (rows : DimRows). HasRows rows c.args.rows.now → ⊥) (c.dims.ensures w at k)
+            c.if-not-has_rows.ensures.no,
+      ),
+      at,
+    ))
+    (only-looked g.D.Sectors w c.args.number c.args.rows.now session session
+    (still g.D.Sectors session w g.met.D.Sectors.only_now at))
 
 pub returns-clause-taken : goal.returns-clause-taken
 returns-clause-taken g c w at k =
@@ -38,4 +49,5 @@ returns-clause-taken g c w at k =
     let there : c.args.number ≤ w.additions = omega (arith, c.if-branch.false, status.additions) in
     let session = c.args.session.now in
     takes-skipped g.D.Sectors w c.args.number c.args.rows.now session session there
-    (subst (λ (rows : DimRows). HasRows rows c.args.rows.now) (c.dims.ensures w at k) c.if-not-has_rows.ensures.yes) at (still g.D.Sectors session w g.met.D.Sectors.only_now at)
+    (subst (λ (rows : DimRows). HasRows rows c.args.rows.now) (c.dims.ensures w at k) c.if-not-has_rows.ensures.yes) at
+    (still g.D.Sectors session w g.met.D.Sectors.only_now at)

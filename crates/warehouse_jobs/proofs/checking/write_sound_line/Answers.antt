@@ -8,6 +8,8 @@ returns g c =
     let batches : c.as_bytes.result.now ≡ decimal c.args.batches = search rules in
     let rows : c.as_bytes-2.result.now ≡ decimal c.args.rows = search rules in
     let cuboids : c.as_bytes-3.result.now ≡ decimal c.args.cuboids = search rules in
-    subst (λ (bytes : List ℕ). Writes (g.W.Write.contents c.args.out.now) (g.W.Write.contents c.write_parts.new.out) c.write_parts.result bytes)
-    (λ i. codes "ok: batches " ++ (batches i ++ (codes ", rows " ++ (rows i ++ (codes ", cuboids " ++ (cuboids i ++ codes "\n"))))))
+    subst (λ (bytes : List ℕ). Writes (g.W.Write.contents c.args.out.now) (g.W.Write.contents c.write_parts.new.out)
+    c.write_parts.result bytes)
+    (λ i. codes "ok: batches "
+    ++ (batches i ++ (codes ", rows " ++ (rows i ++ (codes ", cuboids " ++ (cuboids i ++ codes "\n"))))))
     c.write_parts.ensures

@@ -9,17 +9,25 @@ use Rattle.warehouse_jobs.proofs.choosing.choose_for.Goals as goal
 
 pub returns-in_err-chosen-clause-chooses : goal.returns-in_err-chosen-clause-chooses
 returns-in_err-chosen-clause-chooses g c w at k = record {
-  ends = choose-refused g.D.Sectors w c.args.session.now c.choose_for.new.self (g.W.Write.contents c.args.out.now) (g.W.Write.contents c.args.out.now) (IsChoiceFor w c.args.demanded.now c.args.k) (ChooseForRefuses g.D.Sectors c.args.session.now w c.args.demanded.now c.args.k) _ _
+  ends = choose-refused g.D.Sectors w c.args.session.now c.choose_for.new.self (g.W.Write.contents c.args.out.now)
+      (g.W.Write.contents c.args.out.now) (IsChoiceFor w c.args.demanded.now c.args.k)
+      (ChooseForRefuses g.D.Sectors c.args.session.now w c.args.demanded.now c.args.k) _ _
       (λ e. (c.in_err-chosen.ensures.device (ap (λ f. Err f) e)).failed)
-      (λ no. (c.in_err-chosen.ensures.causes no w at k, (c.in_err-chosen.ensures.refused no w at).0)) (err_from_is_err_and _ c.from_residual.ensures.1);
+      (λ no. (c.in_err-chosen.ensures.causes no w at k, (c.in_err-chosen.ensures.refused no w at).0))
+      (err_from_is_err_and _ c.from_residual.ensures.1);
   leaves = c.choose_for.ensures.leaves w at;
 }
 
 pub returns-clause-chooses : goal.returns-clause-chooses
 returns-clause-chooses g c w at k =
     let ok = c.in_ok-chosen.ensures.ok w at in record {
-      ends = choose-written g.D.Sectors w c.args.session.now c.choose_for.new.self (g.W.Write.contents c.args.out.now) (g.W.Write.contents c.write_choice.new.out) (IsChoiceFor w c.args.demanded.now c.args.k) (ChooseForRefuses g.D.Sectors c.args.session.now w c.args.demanded.now c.args.k) c.in_ok-chosen.chosen.items c.write_choice.result
+      ends = choose-written g.D.Sectors w c.args.session.now c.choose_for.new.self (g.W.Write.contents c.args.out.now)
+          (g.W.Write.contents c.write_choice.new.out) (IsChoiceFor w c.args.demanded.now c.args.k)
+          (ChooseForRefuses g.D.Sectors c.args.session.now w c.args.demanded.now c.args.k) c.in_ok-chosen.chosen.items
+          c.write_choice.result
           (record { choice = ok.2 k; at = ok.0 })
-          (subst (λ (chosen : List Chosen). Writes (g.W.Write.contents c.args.out.now) (g.W.Write.contents c.write_choice.new.out) c.write_choice.result (choice_text chosen)) c.as_slice.ensures.value c.write_choice.ensures);
+          (subst (λ (chosen : List Chosen). Writes (g.W.Write.contents c.args.out.now)
+          (g.W.Write.contents c.write_choice.new.out) c.write_choice.result (choice_text chosen))
+          c.as_slice.ensures.value c.write_choice.ensures);
       leaves = c.choose_for.ensures.leaves w at;
     }

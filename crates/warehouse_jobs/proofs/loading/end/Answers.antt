@@ -3,7 +3,8 @@ use Rattle.warehouse_jobs.proofs.loading.end.Goals as goal
 
 pub returns-in_err-status : goal.returns-in_err-status
 returns-in_err-status g c w at k =
-    let bad : true ≡ false = sym (c.in_err-status.ensures.failed.0 (ap (λ f. Err f) c.in_err-status.ensures.only)) ∙ at.fine in
+    let bad : true ≡ false = sym (c.in_err-status.ensures.failed.0 (ap (λ f. Err f) c.in_err-status.ensures.only))
+    ∙ at.fine in
     absurd (cc)
 
 pub returns : goal.returns

@@ -11,6 +11,7 @@ use Rattle.warehouse_jobs.proofs.loading.fill.Given as goal
 
 abbrev pub invariant-loop-piece : goal.invariant-loop-piece
 invariant-loop-piece g l =
-    (rows : List LineOrder) × IsTaking lineorder_row l.size l.initial.lines l.lines rows (min l.size (l.piece * 1024)) × Grows l.session rows l.batch
+    (rows : List LineOrder) × IsTaking lineorder_row l.size l.initial.lines l.lines rows (min l.size (l.piece * 1024))
+    × Grows l.session rows l.batch
     × ((w : Warehouse) → IsAt g.D.Sectors l.session w → g.D.Sectors.keeps_word (device_of l.session)
     → IfSome l.initial.unknown (IsInNoRow w.rows) → IfSome l.unknown (IsInNoRow w.rows))

@@ -11,7 +11,8 @@ load_batch-requires g c = record { batch = (c.in_ok-batch.ensures.ok.0, c.in_ok-
 
 pub returns-in_err-batch-clause-steps : goal.returns-in_err-batch-clause-steps
 returns-in_err-batch-clause-steps g c w at k =
-    step-unread g.D.Sectors c.args.size w c.args.number c.args.lines.now c.next_batch.new.lines c.args.session.now (g.W.Write.contents c.args.out.now) _ _ c.in_err-batch.ensures.refused
+    step-unread g.D.Sectors c.args.size w c.args.number c.args.lines.now c.next_batch.new.lines c.args.session.now
+    (g.W.Write.contents c.args.out.now) _ _ c.in_err-batch.ensures.refused
     (err_from_is_err_and _ c.from_residual.ensures.1)
 
 pub returns-then-kept-eq0-clause-steps : goal.returns-then-kept-eq0-clause-steps
@@ -32,8 +33,10 @@ returns-in_err-load_batch-clause-steps g c w at k =
     let many = c.row_count-kept.ensures.count _ _ rows c.in_ok-batch.ensures.ok.2 in
     let any : 1 ≤ c.row_count-kept.result = search rules in
     let some : 1 ≤ length rows = omega (arith, any, many) in
-    step-failed g.D.Sectors c.args.size w c.args.number c.args.lines.now c.next_batch.new.lines c.args.session.now c.load_batch.new.session (g.W.Write.contents c.args.out.now) (g.W.Write.contents c.load_batch.new.out)
-    rows _ _ some c.in_ok-batch.ensures.ok.1 (c.in_err-load_batch.ensures.does w rows at c.in_ok-batch.ensures.ok.2 k) (err_from_is_err_and _ c.from_residual-in_err-load_batch.ensures.1)
+    step-failed g.D.Sectors c.args.size w c.args.number c.args.lines.now c.next_batch.new.lines c.args.session.now
+    c.load_batch.new.session (g.W.Write.contents c.args.out.now) (g.W.Write.contents c.load_batch.new.out)
+    rows _ _ some c.in_ok-batch.ensures.ok.1 (c.in_err-load_batch.ensures.does w rows at c.in_ok-batch.ensures.ok.2 k)
+    (err_from_is_err_and _ c.from_residual-in_err-load_batch.ensures.1)
 
 pub returns-clause-steps : goal.returns-clause-steps
 returns-clause-steps g c w at k =

@@ -2,16 +2,18 @@ use Rattle.std.proofs.Common.{rules, ◌++◌, false, refl, codes}
 use Rattle.std.specs.Fmt.{decimal}
 use Rattle.std.proofs.lemmas.Result.{err_from_is_err_and}
 use Rattle.lattice.specs.Names.{view_text}
-use Rattle.ssb_reports.proofs.Beginnings.{Writes-on, Writes-stop, Writes-stop_behind}
+use Rattle.ssb_reports.proofs.Beginnings.{Writes-on, Writes-stop, Writes-stop_after}
 use Rattle.warehouse_jobs.proofs.plan_lines.write_cells.Goals as goal
 
 pub returns-in_err-write_view : goal.returns-in_err-write_view
 returns-in_err-write_view g c =
-    Writes-stop _ _ _ _ (view_text false c.args.view) (codes " mark " ++ decimal c.args.mark) _ (err_from_is_err_and _ c.from_residual.ensures.1) c.in_err-write_view.ensures refl
+    Writes-stop _ _ _ _ (view_text false c.args.view) (codes " mark " ++ decimal c.args.mark) _
+    (err_from_is_err_and _ c.from_residual.ensures.1) c.in_err-write_view.ensures refl
 
 pub returns-in_err-write_bytes : goal.returns-in_err-write_bytes
 returns-in_err-write_bytes g c =
-    Writes-stop_behind _ _ _ _ _ (view_text false c.args.view) (codes " mark ") (decimal c.args.mark) _ (err_from_is_err_and _ c.from_residual-in_err-write_bytes.ensures.1) c.in_ok-write_view.ensures
+    Writes-stop_after _ _ _ _ _ (view_text false c.args.view) (codes " mark ") (decimal c.args.mark) _
+    (err_from_is_err_and _ c.from_residual-in_err-write_bytes.ensures.1) c.in_ok-write_view.ensures
     c.in_err-write_bytes.ensures refl
 
 pub returns : goal.returns

@@ -5,4 +5,5 @@ use Rattle.warehouse_jobs.proofs.printing.write_parts.Given as goal
 
 abbrev pub invariant-loop-part : goal.invariant-loop-part
 invariant-loop-part g l =
-    Appends (g.W.Write.contents l.initial.out) (g.W.Write.contents l.out) (flat_map (λ part. part.now) (take l.part-index l.parts))
+    Appends (g.W.Write.contents l.initial.out) (g.W.Write.contents l.out)
+    (flat_map (λ part. part.now) (take l.part-index l.parts))

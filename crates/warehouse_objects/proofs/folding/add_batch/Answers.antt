@@ -13,9 +13,11 @@ use Rattle.warehouse_objects.proofs.folding.add_batch.Goals as goal
 pub returns-clause-ok : goal.returns-clause-ok
 returns-clause-ok g c =
     on_ok_weaker c.add_columns.result (λ takes k w represents.
-    let found = batch_agrees (content_of g.D.Sectors c.args.store.now) w represents c.args.before (c.args.before + 1) c.segment_id.result refl c.segment_id.ensures (omega (arith, c.requires.few))
+    let found = batch_agrees (content_of g.D.Sectors c.args.store.now) w represents c.args.before (c.args.before + 1)
+    c.segment_id.result refl c.segment_id.ensures (omega (arith, c.requires.few))
     c.args.columns.now c.read.new.self (c.in_ok-read.ensures.ok k) in
-    let agree = subst (λ (rows : List LineOrder). AgreeOn (asked_columns c.args.fold.now.query) rows found.0) (sym c.columns.ensures)
+    let agree = subst (λ (rows : List LineOrder). AgreeOn (asked_columns c.args.fold.now.query) rows found.0)
+    (sym c.columns.ensures)
     (subst (λ (columns : List FactColumn). AgreeOn columns c.read.new.self found.0) c.requires.asked found.2) in
     (found.0, found.1, takes found.0 agree)) c.add_columns.ensures.ok
 
@@ -23,8 +25,10 @@ pub returns-clause-refused : goal.returns-clause-refused
 returns-clause-refused g c = λ is k w represents batch here many keys so_far.
     let before = c.args.before in
     let content = content_of g.D.Sectors c.args.store.now in
-    let found = batch_agrees content w represents before (before + 1) c.segment_id.result refl c.segment_id.ensures (omega (arith, c.requires.few)) c.args.columns.now c.read.new.self (c.in_ok-read.ensures.ok k) in
-    let agree = subst (λ (rows : List LineOrder). AgreeOn (asked_columns c.args.fold.now.query) rows found.0) (sym c.columns.ensures)
+    let found = batch_agrees content w represents before (before + 1) c.segment_id.result refl c.segment_id.ensures
+    (omega (arith, c.requires.few)) c.args.columns.now c.read.new.self (c.in_ok-read.ensures.ok k) in
+    let agree = subst (λ (rows : List LineOrder). AgreeOn (asked_columns c.args.fold.now.query) rows found.0)
+    (sym c.columns.ensures)
     (subst (λ (columns : List FactColumn). AgreeOn columns c.read.new.self found.0) c.requires.asked found.2) in
     c.add_columns.ensures.refused is found.0 agree
     (can_take_there content w represents c.args.dims.now c.args.fold.now before found.0 found.1 keys so_far)
@@ -34,8 +38,10 @@ returns-in_err-read-clause-refused g c =
     let p = err_from_is_err_and c.from_residual.result c.from_residual.ensures.1 in
     rw (p.1, p.2) (λ is k w represents batch here many keys so_far.
     let before = c.args.before in
-    none_there (content_of g.D.Sectors c.args.store.now) w represents before (before + 1) c.segment_id.result refl c.segment_id.ensures (omega (arith, c.requires.few)) batch here
-    (subst (HoldsNoneOf _ (before + 1)) many (c.in_err-read.ensures.refused (ap (λ (f : Fault). Err f) (err_fault c.in_err-read.field-0.0 BadLayout is)) k)))
+    none_there (content_of g.D.Sectors c.args.store.now) w represents before (before + 1) c.segment_id.result refl
+    c.segment_id.ensures (omega (arith, c.requires.few)) batch here
+    (subst (HoldsNoneOf _ (before + 1)) many
+    (c.in_err-read.ensures.refused (ap (λ (f : Fault). Err f) (err_fault c.in_err-read.field-0.0 BadLayout is)) k)))
 
 pub returns-clause-causes : goal.returns-clause-causes
 returns-clause-causes g c = IfErr-weaker c.add_columns.result _ _ of_counts c.add_columns.ensures.only

@@ -14,7 +14,14 @@ add_batch-requires-clause-asked g c = c.deref.ensures.value ∙ c.in_ok-columns.
 
 pub returns-then-before-batches-clause-refused : goal.returns-then-before-batches-clause-refused
 returns-then-before-batches-clause-refused g c = λ is k w represents rooted lt keys so_far.
-    absurd (omega (arith, c.if-before-batches.true, ap length c.batches-batches.ensures, ap (λ r. length r.batches) rooted, length-map w.batches length, lt))
+    absurd (omega (
+      arith,
+      c.if-before-batches.true,
+      ap length c.batches-batches.ensures,
+      ap (λ r. length r.batches) rooted,
+      length-map w.batches length,
+      lt,
+    ))
 
 pub returns-clause-ok : goal.returns-clause-ok
 returns-clause-ok g c =
@@ -23,7 +30,8 @@ returns-clause-ok g c =
     let here = counts k w represents in
     let more : all_rows (take (before + 1) w.batches) ≡ all_rows (take before w.batches) ++ here.0 =
     ap (λ (n : ℕ). all_rows (take n w.batches)) (add-one before) ∙ rows_next w.batches before here.0 here.1 in
-    subst (λ (l : List LineOrder). RepresentsRows c.args.dims.now c.add_batch.new.fold l) (sym more) (here.2.represents (all_rows (take before w.batches)) begun)) c.add_batch.ensures.ok
+    subst (λ (l : List LineOrder). RepresentsRows c.args.dims.now c.add_batch.new.fold l) (sym more)
+    (here.2.represents (all_rows (take before w.batches)) begun)) c.add_batch.ensures.ok
 
 pub returns-clause-refused : goal.returns-clause-refused
 returns-clause-refused g c = λ is k w represents rooted lt keys so_far.

@@ -15,6 +15,7 @@ invariant-loop-before g l =
       leaves : Leaves (disk_of g.D.Sectors l.initial.store) (disk_of g.D.Sectors l.store) (λ c. c ≡ first);
       query : l.fold.query ≡ l.initial.fold.query;
       over : IsOver l.dims l.fold;
-      own : g.D.Sectors.keeps_word (device_of l.store) → (w : Warehouse) → Represents first w → RepresentsRows l.dims l.initial.fold (all_rows (take l.from w.batches))
+      own : g.D.Sectors.keeps_word (device_of l.store) → (w : Warehouse) → Represents first w
+          → RepresentsRows l.dims l.initial.fold (all_rows (take l.from w.batches))
           → RepresentsRows l.dims l.fold (all_rows (take l.before w.batches));
     }

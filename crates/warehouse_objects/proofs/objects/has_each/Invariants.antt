@@ -5,4 +5,5 @@ use Rattle.warehouse_objects.proofs.objects.has_each.Given as goal
 
 abbrev pub invariant-loop-id : goal.invariant-loop-id
 invariant-loop-id g l =
-    g.D.Sectors.keeps_word (device_of l.store) → All (λ id. IsTrue (is_some (bytes_of (content_of g.D.Sectors l.store) id))) (take l.id-index l.ids)
+    g.D.Sectors.keeps_word (device_of l.store)
+    → All (λ id. IsTrue (is_some (bytes_of (content_of g.D.Sectors l.store) id))) (take l.id-index l.ids)

@@ -3,7 +3,9 @@ use Rattle.warehouse_objects.proofs.Roots.{root_found, root_refused}
 use Rattle.warehouse_objects.proofs.reading.read_root.Goals as goal
 
 pub returns-clause-found : goal.returns-clause-found
-returns-clause-found g c = root_found (content_of g.D.Sectors c.args.store.now) c.root.result.now c.decode.result c.root.ensures c.decode.ensures.ok
+returns-clause-found g c = root_found (content_of g.D.Sectors c.args.store.now) c.root.result.now c.decode.result
+    c.root.ensures c.decode.ensures.ok
 
 pub returns-clause-refused : goal.returns-clause-refused
-returns-clause-refused g c = root_refused (content_of g.D.Sectors c.args.store.now) c.root.result.now c.decode.result c.root.ensures c.decode.ensures.refused
+returns-clause-refused g c = root_refused (content_of g.D.Sectors c.args.store.now) c.root.result.now c.decode.result
+    c.root.ensures c.decode.ensures.refused

@@ -4,4 +4,7 @@ use Rattle.wire.proofs.Ascending.{ascending}
 use Rattle.warehouse_root.proofs.decoding.ascend.Goals as goal
 
 pub returns : goal.returns
-returns c = ascending (λ cuboid. cuboid.view) _ _ (c.is_sorted_by.ensures.cases (λ one other. nat_lt one.view other.view) (answers_always _ _ _ (λ f a r k called. search rules)))
+returns c =
+    ascending (λ cuboid. cuboid.view) _ _
+    (c.is_sorted_by.ensures.cases (λ one other. nat_lt one.view other.view)
+    (answers_always _ _ _ (λ f a r k called. search rules)))

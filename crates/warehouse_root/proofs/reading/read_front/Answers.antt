@@ -16,6 +16,9 @@ pub returns-then-not-are_of-clause-refused : goal.returns-then-not-are_of-clause
 returns-then-not-are_of-clause-refused c = (
   refl,
   λ root is.
-      let same = counts_are_of c.args.cursor.now c.read_counts.new.cursor c.in_ok-counts.counts c.in_ok-counts.ensures.ok root is in
-      let yes : IsTrue c.are_of.result = c.are_of.ensures.1 (subst (λ (n : ℕ). AreCountsOf n c.in_ok-counts.counts) (sym c.len-bytes.ensures) same) in cc c.if-not-are_of.true,
+      let same = counts_are_of c.args.cursor.now c.read_counts.new.cursor c.in_ok-counts.counts
+      c.in_ok-counts.ensures.ok root is in
+      let yes : IsTrue c.are_of.result =
+      c.are_of.ensures.1 (subst (λ (n : ℕ). AreCountsOf n c.in_ok-counts.counts) (sym c.len-bytes.ensures) same) in
+      cc c.if-not-are_of.true,
 )

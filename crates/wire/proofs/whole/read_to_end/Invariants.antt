@@ -9,6 +9,7 @@ abbrev pub invariant-loop-at : goal.invariant-loop-at
 invariant-loop-at g l = record {
   within : l.at ≤ l.total;
   read : HasRead g.S.Source l.initial.source l.source;
-  so_far : g.S.Source.keeps_word l.source → g.S.Source.totals l.initial.source l.id ≡ option_map length (g.S.Source.texts l.initial.source l.id)
+  so_far : g.S.Source.keeps_word l.source
+      → g.S.Source.totals l.initial.source l.id ≡ option_map length (g.S.Source.texts l.initial.source l.id)
       → option_map (take l.at) (g.S.Source.texts l.initial.source l.id) ≡ Some l.out.items;
 }

@@ -12,13 +12,16 @@ more-found-requires c =
 pub returns-clause-admits : goal.returns-clause-admits
 returns-clause-admits c = λ batches represents.
     let few : length c.args.rows.now ≤ most_batch_rows = search rules in
-    Admits-found c.args.dims.now c.args.self.now c.args.number c.args.rows.now batches represents c.keep.new.self c.more-found.result c.keep.result
-    c.in_ok-check_number.ensures.cause c.in_ok-check_number.ensures.next.0 (not_long c.args.rows.now few) (c.more-found.ensures c.args.self.now.totals [] (c.findings.ensures.found c.args.dims.now))
+    Admits-found c.args.dims.now c.args.self.now c.args.number c.args.rows.now batches represents c.keep.new.self
+    c.more-found.result c.keep.result
+    c.in_ok-check_number.ensures.cause c.in_ok-check_number.ensures.next.0 (not_long c.args.rows.now few)
+    (c.more-found.ensures c.args.self.now.totals [] (c.findings.ensures.found c.args.dims.now))
     c.keep.ensures.cause c.keep.ensures.ok c.keep.ensures.err
 
 pub returns-clause-follows : goal.returns-clause-follows
 returns-clause-follows c =
     let few : length c.args.rows.now ≤ most_batch_rows = search rules in
     CanFollow-found c.args.dims.now c.args.self.now c.args.number c.args.rows.now c.more-found.result c.keep.result
-    c.in_ok-check_number.ensures.next.0 c.in_ok-check_number.ensures.next.1 few (c.more-found.ensures c.args.self.now.totals [] (c.findings.ensures.found c.args.dims.now))
+    c.in_ok-check_number.ensures.next.0 c.in_ok-check_number.ensures.next.1 few
+    (c.more-found.ensures c.args.self.now.totals [] (c.findings.ensures.found c.args.dims.now))
     c.keep.ensures.cause

@@ -6,5 +6,7 @@ use Rattle.batch_loader.proofs.line_fields.FieldsInPlace.few_digits.Goals as goa
 pub returns : goal.returns
 returns g c =
     c.few_digits_between.ensures
-    ∙ ap (λ start. number_of c.args.limit (slice_range c.args.self.now.line.now start (get_or c.args.self.now.ends.now c.args.place 0))) c.start.ensures.start
+    ∙ ap (λ start. number_of c.args.limit
+    (slice_range c.args.self.now.line.now start (get_or c.args.self.now.ends.now c.args.place 0)))
+    c.start.ensures.start
     ∙ ap (number_of c.args.limit) (part-at c.args.self.now.line.now c.args.self.now.ends.now c.args.place (omega arith))

@@ -1,7 +1,8 @@
 use Rattle.std.proofs.Common.{refl}
-use Rattle.batch_loader.proofs.Windows.{AreBarsBehind-skip}
+use Rattle.batch_loader.proofs.Windows.{AreBarsAfter-skip}
 use Rattle.batch_loader.proofs.line_fields.bars.later_window.Goals as goal
 
 pub loop-window-preserved : goal.loop-window-preserved
 loop-window-preserved c =
-    AreBarsBehind-skip c.args.text.now c.args.from c.loop-window.window.first c.loop-window.window.bars c.bars_at-bars.result _ c.loop-window-test.true refl c.bars_at-bars.ensures c.loop-window.invariant
+    AreBarsAfter-skip c.args.text.now c.args.from c.loop-window.window.first c.loop-window.window.bars
+    c.bars_at-bars.result _ c.loop-window-test.true refl c.bars_at-bars.ensures c.loop-window.invariant

@@ -10,4 +10,6 @@ returns-clause-value c =
     let block : ℕ = c.args.block in
     let lt : block < length column / 32 = omega (arith, c.requires.within) in
     c.sum_of_bytes.ensures.value
-    ∙ ap (λ (l : List ℕ). sum (selected (bits_of 32 c.args.word) l)) (ap (λ (ls : List (List ℕ)). get_or ls block []) c.as_chunks.ensures.front ∙ chunk_at 32 (length column / 32) block column lt)
+    ∙ ap (λ (l : List ℕ). sum (selected (bits_of 32 c.args.word) l))
+    (ap (λ (ls : List (List ℕ)). get_or ls block []) c.as_chunks.ensures.front
+    ∙ chunk_at 32 (length column / 32) block column lt)

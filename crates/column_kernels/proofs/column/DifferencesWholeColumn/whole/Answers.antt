@@ -10,7 +10,13 @@ use Rattle.column_kernels.proofs.column.DifferencesWholeColumn.whole.Goals as go
 pub bounds-self-row : goal.bounds-self-row
 bounds-self-row c =
     let column : List (List ℕ) = c.args.self.now.column.now in
-    omega (arith, c.requires.within, zip2_left (λ (number other : ℕ). pos number -ℤ pos other) (numbers_of column) (numbers_of c.args.self.now.others.now), length-map column (from_le_bytes w64))
+    omega (
+      arith,
+      c.requires.within,
+      zip2_left (λ (number other : ℕ). pos number -ℤ pos other) (numbers_of column)
+          (numbers_of c.args.self.now.others.now),
+      length-map column (from_le_bytes w64),
+    )
 
 pub offset_bounds-self-row : goal.offset_bounds-self-row
 offset_bounds-self-row c =
@@ -20,7 +26,13 @@ offset_bounds-self-row c =
 pub bounds-self-row-2 : goal.bounds-self-row-2
 bounds-self-row-2 c =
     let others : List (List ℕ) = c.args.self.now.others.now in
-    omega (arith, c.requires.within, zip2_right (λ (number other : ℕ). pos number -ℤ pos other) (numbers_of c.args.self.now.column.now) (numbers_of others), length-map others (from_le_bytes w64))
+    omega (
+      arith,
+      c.requires.within,
+      zip2_right (λ (number other : ℕ). pos number -ℤ pos other)
+          (numbers_of c.args.self.now.column.now) (numbers_of others),
+      length-map others (from_le_bytes w64),
+    )
 
 pub offset_bounds-self-row-2 : goal.offset_bounds-self-row-2
 offset_bounds-self-row-2 c =
@@ -33,14 +45,30 @@ returns c =
     let others : List (List ℕ) = c.args.self.now.others.now in
     let row : ℕ = c.args.row in
     let lt : row < length column
-    = omega (arith, c.requires.within, zip2_left (λ (number other : ℕ). pos number -ℤ pos other) (numbers_of column) (numbers_of others), length-map column (from_le_bytes w64)) in
+    = omega (
+      arith,
+      c.requires.within,
+      zip2_left (λ (number other : ℕ). pos number -ℤ pos other) (numbers_of column)
+          (numbers_of others),
+      length-map column (from_le_bytes w64),
+    ) in
     let lt_numbers : row < length (numbers_of column) = omega (arith, lt, length-map column (from_le_bytes w64)) in
     let lt_other : row < length others
-    = omega (arith, c.requires.within, zip2_right (λ (number other : ℕ). pos number -ℤ pos other) (numbers_of column) (numbers_of others), length-map others (from_le_bytes w64)) in
+    = omega (
+      arith,
+      c.requires.within,
+      zip2_right (λ (number other : ℕ). pos number -ℤ pos other) (numbers_of column)
+          (numbers_of others),
+      length-map others (from_le_bytes w64),
+    ) in
     let lt_others : row < length (numbers_of others) = omega (arith, lt_other, length-map others (from_le_bytes w64)) in
-    let number : c.from_le_bytes.result ≡ get_or (numbers_of column) row 0 = c.from_le_bytes.ensures ∙ sym (get_or-map (from_le_bytes w64) column row [] 0 lt) in
-    let other : c.from_le_bytes-2.result ≡ get_or (numbers_of others) row 0 = c.from_le_bytes-2.ensures ∙ sym (get_or-map (from_le_bytes w64) others row [] 0 lt_other) in
+    let number : c.from_le_bytes.result ≡ get_or (numbers_of column) row 0 = c.from_le_bytes.ensures
+    ∙ sym (get_or-map (from_le_bytes w64) column row [] 0 lt) in
+    let other : c.from_le_bytes-2.result ≡ get_or (numbers_of others) row 0 = c.from_le_bytes-2.ensures
+    ∙ sym (get_or-map (from_le_bytes w64) others row [] 0 lt_other) in
     record {
-      value = to_z-of_z w128 c.less.result (record { sfits = c.less.type_inv }) ∙ c.less.ensures ∙ (λ i. pos (number i) -ℤ pos (other i))
-          ∙ sym (get_or-zip2 (λ (number other : ℕ). pos number -ℤ pos other) (numbers_of column) (numbers_of others) row 0 0 (pos 0) lt_numbers lt_others);
+      value = to_z-of_z w128 c.less.result (record { sfits = c.less.type_inv }) ∙ c.less.ensures
+          ∙ (λ i. pos (number i) -ℤ pos (other i))
+          ∙ sym (get_or-zip2 (λ (number other : ℕ). pos number -ℤ pos other) (numbers_of column) (numbers_of others) row
+          0 0 (pos 0) lt_numbers lt_others);
     }

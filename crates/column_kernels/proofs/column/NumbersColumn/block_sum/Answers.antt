@@ -14,5 +14,7 @@ returns-clause-value c =
     let lt : block < length column / 32 = omega (arith, c.requires.within, length-map column (from_le_bytes w64)) in
     let rows : List ℕ → ℕ = λ l. sum (selected (bits_of 32 c.args.word) l) in
     c.sum_of_numbers.ensures.value
-    ∙ ap (λ (l : List (List ℕ)). rows (numbers_of l)) (ap (λ (ls : List (List (List ℕ))). get_or ls block []) c.as_chunks.ensures.front ∙ chunk_at 32 (length column / 32) block column lt)
+    ∙ ap (λ (l : List (List ℕ)). rows (numbers_of l))
+    (ap (λ (ls : List (List (List ℕ))). get_or ls block []) c.as_chunks.ensures.front
+    ∙ chunk_at 32 (length column / 32) block column lt)
     ∙ ap rows (sym (chunk-map (from_le_bytes w64) (32 * block) 32 column))

@@ -8,7 +8,13 @@ use Rattle.column_kernels.proofs.column.ProductsColumn.number.Goals as goal
 
 pub bounds-self-row : goal.bounds-self-row
 bounds-self-row c =
-    omega (arith, c.requires.within, zip2_left (λ (number factor : ℕ). number * factor) (numbers_of c.args.self.now.column.now) c.args.self.now.factors.now, length-map c.args.self.now.column.now (from_le_bytes w64))
+    omega (
+      arith,
+      c.requires.within,
+      zip2_left (λ (number factor : ℕ). number * factor)
+          (numbers_of c.args.self.now.column.now) c.args.self.now.factors.now,
+      length-map c.args.self.now.column.now (from_le_bytes w64),
+    )
 
 pub offset_bounds-self-row : goal.offset_bounds-self-row
 offset_bounds-self-row c =
@@ -16,7 +22,13 @@ offset_bounds-self-row c =
     search rules
 
 pub bounds-self-row-2 : goal.bounds-self-row-2
-bounds-self-row-2 c = omega (arith, c.requires.within, zip2_right (λ (number factor : ℕ). number * factor) (numbers_of c.args.self.now.column.now) c.args.self.now.factors.now)
+bounds-self-row-2 c =
+    omega (
+      arith,
+      c.requires.within,
+      zip2_right (λ (number factor : ℕ). number * factor)
+          (numbers_of c.args.self.now.column.now) c.args.self.now.factors.now,
+    )
 
 pub returns-clause-value : goal.returns-clause-value
 returns-clause-value c =
@@ -24,9 +36,20 @@ returns-clause-value c =
     let factors : List ℕ = c.args.self.now.factors.now in
     let row : ℕ = c.args.row in
     let lt : row < length column
-    = omega (arith, c.requires.within, zip2_left (λ (number factor : ℕ). number * factor) (numbers_of column) factors, length-map column (from_le_bytes w64)) in
+    = omega (
+      arith,
+      c.requires.within,
+      zip2_left (λ (number factor : ℕ). number * factor) (numbers_of column) factors,
+      length-map column (from_le_bytes w64),
+    ) in
     let lt_numbers : row < length (numbers_of column) = omega (arith, lt, length-map column (from_le_bytes w64)) in
-    let other : row < length factors = omega (arith, c.requires.within, zip2_right (λ (number factor : ℕ). number * factor) (numbers_of column) factors) in
+    let other : row < length factors =
+    omega (
+      arith,
+      c.requires.within,
+      zip2_right (λ (number factor : ℕ). number * factor) (numbers_of column)
+          factors,
+    ) in
     let number : c.from.result ≡ get_or (numbers_of column) row 0
     = c.from.ensures ∙ c.from_le_bytes.ensures ∙ sym (get_or-map (from_le_bytes w64) column row [] 0 lt) in
     let factor : c.from-2.result ≡ get_or factors row 0 = c.from-2.ensures in

@@ -9,6 +9,11 @@ returns c =
     let kept : Extremes = c.args.self in
     let is_selected = c.args.is_selected in
     let number = c.args.number in
-    let all : Extremes = record { least = int_min kept.least (cond is_selected number kept.least); greatest = int_max kept.greatest (cond is_selected number kept.greatest) } in
+    let all : Extremes =
+    record {
+      least = int_min kept.least (cond is_selected number kept.least);
+      greatest =
+          int_max kept.greatest (cond is_selected number kept.greatest);
+    } in
     let same : _ ≡ all = search rules in
     same ∙ with_if_is kept is_selected number

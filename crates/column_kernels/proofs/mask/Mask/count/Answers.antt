@@ -12,7 +12,16 @@ returns c =
     let n : ℕ = c.self.inside.rest_rows in
     let count : List Bool → ℕ = count_by (λ (b : Bool). b) in
     let blocks : c.ones.result ≡ count_by (λ (b : Bool). b) (flat_map (bits_of 32) words)
-    = c.ones.ensures.value ∙ ap (λ (l : List ℕ). count_by (λ (b : Bool). b) (flat_map (bits_of 32) l)) c.deref.ensures.value in
-    let seen : count_by (λ (b : Bool). b) (flat_map (bits_of 32) words ++ bits_of n rest) ≡ count_by (λ (b : Bool). b) c.args.self.now
+    = c.ones.ensures.value
+    ∙ ap (λ (l : List ℕ). count_by (λ (b : Bool). b) (flat_map (bits_of 32) l)) c.deref.ensures.value in
+    let seen : count_by (λ (b : Bool). b) (flat_map (bits_of 32) words ++ bits_of n rest)
+    ≡ count_by (λ (b : Bool). b) c.args.self.now
     = ap count c.self.view_is in
-    omega (arith, blocks, ones_of n rest c.self.invariant.1.1, count-append (flat_map (bits_of 32) words) (bits_of n rest), seen)
+    omega (
+      arith,
+      blocks,
+      ones_of n rest c.self.invariant.1.1,
+      count-append (flat_map (bits_of 32) words)
+          (bits_of n rest),
+      seen,
+    )

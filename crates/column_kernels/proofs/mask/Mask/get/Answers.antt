@@ -1,4 +1,5 @@
-use Rattle.std.proofs.Common.{◌≡◌, ◌<◌, ◌≤◌, ◌==◌, ◌+◌, ◌-◌, ◌*◌, ◌/◌, ◌%◌, ℕ, Bool, Some, List, ◌++◌, length, slice_get, sym, ap, ◌∙◌, arith}
+use Rattle.std.proofs.Common.{◌≡◌, ◌<◌, ◌≤◌, ◌==◌, ◌+◌, ◌-◌, ◌*◌, ◌/◌, ◌%◌, ℕ, Bool, Some, List, ◌++◌, length}
+use Rattle.std.proofs.Common.{slice_get, sym, ap, ◌∙◌, arith}
 use Rattle.std.proofs.lemmas.Option.{slice_get_past}
 use Rattle.std.specs.Int.{bit_at}
 use Rattle.std.specs.List.{flat_map}
@@ -22,7 +23,8 @@ pub returns-then-place-self : goal.returns-then-place-self
 returns-then-place-self c =
     let words : List ℕ = c.self.inside.words.items in
     let n : ℕ = c.self.inside.rest_rows in
-    let rows : length c.args.self.now ≡ 32 * length words + n = ap (λ (l : List Bool). length l) (sym c.self.view_is) ∙ view_long words c.self.inside.rest n in
+    let rows : length c.args.self.now ≡ 32 * length words + n = ap (λ (l : List Bool). length l) (sym c.self.view_is)
+    ∙ view_long words c.self.inside.rest n in
     let past : length c.args.self.now ≤ c.args.row
     = omega (arith, rows, c.if-place-self.true, c.len-2.ensures, c.if-block-len.false, c.len.ensures) in
     sym (slice_get_past c.args.self.now c.args.row past)
@@ -36,4 +38,5 @@ returns c =
     let place : ℕ = row - 32 * c.len-2.result in
     let at : 32 * length words + place ≡ row = omega (arith, c.len-2.ensures, c.if-block-len.false, c.len.ensures) in
     ap (λ (b : Bool). Some b) c.is_set-2.ensures ∙ sym (get_rest words rest n place c.if-place-self.false)
-    ∙ ap (slice_get (flat_map (bits_of 32) words ++ bits_of n rest)) at ∙ ap (λ (l : List Bool). slice_get l row) c.self.view_is
+    ∙ ap (slice_get (flat_map (bits_of 32) words ++ bits_of n rest)) at
+    ∙ ap (λ (l : List Bool). slice_get l row) c.self.view_is

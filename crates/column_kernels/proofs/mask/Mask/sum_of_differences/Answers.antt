@@ -13,8 +13,17 @@ returns c =
     let xs : List ℕ = numbers_of c.args.column.now in
     let ys : List ℕ = numbers_of c.args.others.now in
     let long : length xs ≡ length ys
-    = omega (arith, length-map c.args.column.now (from_le_bytes w64), length-map c.args.others.now (from_le_bytes w64), c.requires.rows, c.requires.others) in
+    = omega (
+      arith,
+      length-map c.args.column.now (from_le_bytes w64),
+      length-map c.args.others.now (from_le_bytes w64),
+      c.requires.rows,
+      c.requires.others,
+    ) in
     let fits : FitsSigned w128 c.difference.result
-    = subst (λ (z : ℤ). FitsSigned w128 z) (sym c.difference.ensures) (fits_difference c.sum-sum.result c.sum-other.result c.sum-sum.ensures.small c.sum-other.ensures.small) in
-    to_z-of_z w128 c.difference.result fits ∙ c.difference.ensures ∙ ap (λ (n : ℕ). pos n -ℤ pos c.sum-other.result) c.sum-sum.ensures.value
-    ∙ ap (λ (n : ℕ). pos (sum (selected c.args.self.now xs)) -ℤ pos n) c.sum-other.ensures.value ∙ difference_of_sums c.args.self.now xs ys long
+    = subst (λ (z : ℤ). FitsSigned w128 z) (sym c.difference.ensures)
+    (fits_difference c.sum-sum.result c.sum-other.result c.sum-sum.ensures.small c.sum-other.ensures.small) in
+    to_z-of_z w128 c.difference.result fits ∙ c.difference.ensures
+    ∙ ap (λ (n : ℕ). pos n -ℤ pos c.sum-other.result) c.sum-sum.ensures.value
+    ∙ ap (λ (n : ℕ). pos (sum (selected c.args.self.now xs)) -ℤ pos n) c.sum-other.ensures.value
+    ∙ difference_of_sums c.args.self.now xs ys long

@@ -8,5 +8,9 @@ use Rattle.column_kernels.proofs.mask.Mask.sum_of_products.Goals as goal
 pub sum-requires : goal.sum-requires
 sum-requires c =
     let xs : List ℕ = numbers_of c.args.column.now in
-    let long : length xs ≡ length c.args.self.now = length-map c.args.column.now (from_le_bytes w64) ∙ c.requires.rows in
-    record { rows = length-zip2 (λ (number factor : ℕ). number * factor) xs c.args.factors.now (long ∙ sym c.requires.factors) ∙ long }
+    let long : length xs ≡ length c.args.self.now = length-map c.args.column.now (from_le_bytes w64)
+    ∙ c.requires.rows in
+    record {
+      rows = length-zip2 (λ (number factor : ℕ). number * factor) xs c.args.factors.now
+          (long ∙ sym c.requires.factors) ∙ long;
+    }

@@ -6,5 +6,6 @@ use Rattle.column_segment.proofs.fact_columns.FactColumns.figures.Goals as goal
 
 pub returns : goal.returns
 returns c =
-    c.byte_part.ensures.value ∙ sym (byte_values c.self.inside.bytes.now c.self.inside.layout.now c.self.invariant.room c.args.column)
+    c.byte_part.ensures.value
+    ∙ sym (byte_values c.self.inside.bytes.now c.self.inside.layout.now c.self.invariant.room c.args.column)
     ∙ ap (λ (rows : List LineOrder). map (byte_of c.args.column) rows) c.self.view_is

@@ -9,7 +9,8 @@ returns-clause-count c = sym (rows_many c.self.inside.bytes.now c.self.inside.la
 
 pub returns-clause-few : goal.returns-clause-few
 returns-clause-few c =
-    subst (λ n. n ≤ most_batch_rows) (sym (rows_many c.self.inside.bytes.now c.self.inside.layout.now) ∙ ap length c.self.view_is) c.self.invariant.few
+    subst (λ n. n ≤ most_batch_rows) (sym (rows_many c.self.inside.bytes.now c.self.inside.layout.now)
+    ∙ ap length c.self.view_is) c.self.invariant.few
 
 pub returns-clause-figures : goal.returns-clause-figures
 returns-clause-figures c = subst HaveFigures c.self.view_is c.figures_are_bytes.ensures

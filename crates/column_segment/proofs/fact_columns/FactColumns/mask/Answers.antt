@@ -10,7 +10,9 @@ returns-clause-ok c =
     IfOk-weaker c.of_ranges.result _ _
     (λ mask is.
     is
-    ∙ marks_are c.self.inside.bytes.now c.self.inside.layout.now c.self.invariant c.args.quantity c.args.discount c.byte_part-quantities.result.now c.byte_part-discounts.result.now
+    ∙ marks_are c.self.inside.bytes.now c.self.inside.layout.now c.self.invariant c.args.quantity c.args.discount
+    c.byte_part-quantities.result.now c.byte_part-discounts.result.now
     c.byte_part-quantities.ensures.value c.byte_part-discounts.ensures.value
-    ∙ ap (λ (rows : List LineOrder). map (λ (row : LineOrder). lies_in c.args.quantity c.args.discount row.quantity row.discount) rows) c.self.view_is)
+    ∙ ap (λ (rows : List LineOrder). map
+    (λ (row : LineOrder). lies_in c.args.quantity c.args.discount row.quantity row.discount) rows) c.self.view_is)
     c.of_ranges.ensures.ok

@@ -1,8 +1,9 @@
 use Rattle.std.proofs.lemmas.Result.{on_ok_weaker}
 use Rattle.column_segment.specs.Columns.{amounts, bytes}
-use Rattle.column_segment.specs.declared.columns.AmountColumn.TheVariants.{ExtendedPrice, OrdTotalPrice, Revenue, SupplyCost}
+use Rattle.column_segment.specs.declared.columns.AmountColumn.TheVariants.{ExtendedPrice, OrdTotalPrice, Revenue}
+use Rattle.column_segment.specs.declared.columns.AmountColumn.TheVariants.{SupplyCost}
 use Rattle.column_segment.specs.declared.columns.ByteColumn.TheVariants.{Quantity, Discount, Tax}
-use Rattle.column_segment.proofs.Gathered.{chunks_behind}
+use Rattle.column_segment.proofs.Gathered.{chunks_after}
 use Rattle.column_segment.proofs.gathering.Figures.push.Goals as goal
 
 pub returns-clause-ok : goal.returns-clause-ok
@@ -10,12 +11,19 @@ returns-clause-ok c =
     let rows = c.args.rows.now in
     on_ok_weaker c.put_bytes-3.result
     (λ put before have. record {
-      quantity = chunks_behind (bytes Quantity) before rows c.args.self.now.quantity.items c.put_bytes.new.to.items have.quantity c.in_ok-put_bytes.ensures.ok;
-      extendedprice = chunks_behind (amounts ExtendedPrice) before rows c.args.self.now.extendedprice.items c.put_amounts.new.to.items have.extendedprice c.in_ok-put_amounts.ensures.ok;
-      ordtotalprice = chunks_behind (amounts OrdTotalPrice) before rows c.args.self.now.ordtotalprice.items c.put_amounts-2.new.to.items have.ordtotalprice c.in_ok-put_amounts-2.ensures.ok;
-      discount = chunks_behind (bytes Discount) before rows c.args.self.now.discount.items c.put_bytes-2.new.to.items have.discount c.in_ok-put_bytes-2.ensures.ok;
-      revenue = chunks_behind (amounts Revenue) before rows c.args.self.now.revenue.items c.put_amounts-3.new.to.items have.revenue c.in_ok-put_amounts-3.ensures.ok;
-      supplycost = chunks_behind (amounts SupplyCost) before rows c.args.self.now.supplycost.items c.put_amounts-4.new.to.items have.supplycost c.in_ok-put_amounts-4.ensures.ok;
-      tax = chunks_behind (bytes Tax) before rows c.args.self.now.tax.items c.put_bytes-3.new.to.items have.tax put;
+      quantity = chunks_after (bytes Quantity) before rows c.args.self.now.quantity.items c.put_bytes.new.to.items
+          have.quantity c.in_ok-put_bytes.ensures.ok;
+      extendedprice = chunks_after (amounts ExtendedPrice) before rows c.args.self.now.extendedprice.items
+          c.put_amounts.new.to.items have.extendedprice c.in_ok-put_amounts.ensures.ok;
+      ordtotalprice = chunks_after (amounts OrdTotalPrice) before rows c.args.self.now.ordtotalprice.items
+          c.put_amounts-2.new.to.items have.ordtotalprice c.in_ok-put_amounts-2.ensures.ok;
+      discount = chunks_after (bytes Discount) before rows c.args.self.now.discount.items c.put_bytes-2.new.to.items
+          have.discount c.in_ok-put_bytes-2.ensures.ok;
+      revenue = chunks_after (amounts Revenue) before rows c.args.self.now.revenue.items c.put_amounts-3.new.to.items
+          have.revenue c.in_ok-put_amounts-3.ensures.ok;
+      supplycost =
+          chunks_after (amounts SupplyCost) before rows c.args.self.now.supplycost.items c.put_amounts-4.new.to.items
+          have.supplycost c.in_ok-put_amounts-4.ensures.ok;
+      tax = chunks_after (bytes Tax) before rows c.args.self.now.tax.items c.put_bytes-3.new.to.items have.tax put;
     })
     c.put_bytes-3.ensures.ok

@@ -10,6 +10,7 @@ pub returns-clause-texts : goal.returns-clause-texts
 returns-clause-texts c =
     let layout = c.self.inside.layout in
     ap (map (text_at c.column-coded.result.now.texts.texts)) c.code_chunks.ensures
-    ∙ (λ i. map (text_at (c.column-coded.ensures i).texts.texts) (codes_in (c.deref.ensures.value i) layout.rows (c.column-coded.ensures i).at))
+    ∙ (λ i. map (text_at (c.column-coded.ensures i).texts.texts)
+    (codes_in (c.deref.ensures.value i) layout.rows (c.column-coded.ensures i).at))
     ∙ sym (text_values c.self.inside.bytes.items layout c.args.column)
     ∙ ap (λ (batch : Batch). map (text_of c.args.column) batch.rows) c.self.view_is

@@ -6,7 +6,9 @@ use Rattle.column_segment.proofs.segment.Segment.columns.Goals as goal
 pub of-requires : goal.of-requires
 of-requires c =
     let readable = c.self.invariant.readable in
-    subst (λ (l : List ℕ). HoldsColumns l c.self.inside.layout.rows) (sym c.deref.ensures.value) (record { few = readable.few; room = readable.room })
+    subst (λ (l : List ℕ). HoldsColumns l c.self.inside.layout.rows) (sym c.deref.ensures.value)
+    (record { few = readable.few; room = readable.room })
 
 pub returns : goal.returns
-returns c = c.of.ensures ∙ ap (λ (l : List ℕ). rows_in l c.self.inside.layout) c.deref.ensures.value ∙ ap (λ (batch : Batch). batch.rows) c.self.view_is
+returns c = c.of.ensures ∙ ap (λ (l : List ℕ). rows_in l c.self.inside.layout) c.deref.ensures.value
+    ∙ ap (λ (batch : Batch). batch.rows) c.self.view_is

@@ -13,8 +13,10 @@ returns-clause-ok c =
     let old : List LineOrder = c.args.to.now.items in
     on_ok_weaker c.push_each.result
     (λ put.
-    put ∙ ap (λ (text : List ℕ). old ++ map (row_in text layout) (range_with_len c.args.from c.min.result)) c.deref.ensures.value
+    put ∙ ap (λ (text : List ℕ). old ++ map (row_in text layout) (range_with_len c.args.from c.min.result))
+    c.deref.ensures.value
     ∙ ap (λ (l : List LineOrder). old ++ l)
-    (places (row_in c.self.inside.bytes.items layout) layout.rows c.args.from c.args.most c.min.result (c.min.ensures ∙ ap (min c.args.most) c.saturating_sub-left.ensures))
+    (places (row_in c.self.inside.bytes.items layout) layout.rows c.args.from c.args.most c.min.result
+    (c.min.ensures ∙ ap (min c.args.most) c.saturating_sub-left.ensures))
     ∙ ap (λ (batch : Batch). old ++ take c.args.most (drop c.args.from batch.rows)) c.self.view_is)
     c.push_each.ensures.ok

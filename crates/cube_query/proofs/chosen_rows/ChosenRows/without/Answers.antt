@@ -12,12 +12,15 @@ invariant_of-result c =
     let dims = c.args.plan.now.dimensions in
     let conditions = c.args.plan.now.query.conditions in
     let rows = c.self.inside.rows in
-    let long : length c.keep-kept.new.places ≡ c.self.inside.places.len = c.keep-kept.ensures.length ∙ c.as_mut_slice.ensures.len in
+    let long : length c.keep-kept.new.places ≡ c.self.inside.places.len = c.keep-kept.ensures.length
+    ∙ c.as_mut_slice.ensures.len in
     let left : c.truncate.new.self.items ≡ take c.keep-kept.result c.keep-kept.new.places
-    = c.truncate.ensures.items ∙ ap (take c.keep-kept.result) (with_items_is c.self.inside.places c.keep-kept.new.places long) in
+    = c.truncate.ensures.items
+    ∙ ap (take c.keep-kept.result) (with_items_is c.self.inside.places c.keep-kept.new.places long) in
     let keep : KeepPlaces dims conditions rows c.self.inside.places.items c.truncate.new.self.items
     = subst (λ (l : List ℕ). KeepPlaces dims conditions rows l c.truncate.new.self.items) c.as_mut_slice.ensures.value
-    (subst (λ (l : List ℕ). KeepPlaces dims conditions rows c.as_mut_slice.result.now l) (sym left) c.keep-kept.ensures.kept) in
+    (subst (λ (l : List ℕ). KeepPlaces dims conditions rows c.as_mut_slice.result.now l) (sym left)
+    c.keep-kept.ensures.kept) in
     kept_below dims conditions rows _ _ keep c.self.invariant
 
 pub returns : goal.returns
@@ -25,10 +28,14 @@ returns c =
     let dims = c.args.plan.now.dimensions in
     let conditions = c.args.plan.now.query.conditions in
     let rows = c.self.inside.rows in
-    let long : length c.keep-kept.new.places ≡ c.self.inside.places.len = c.keep-kept.ensures.length ∙ c.as_mut_slice.ensures.len in
+    let long : length c.keep-kept.new.places ≡ c.self.inside.places.len = c.keep-kept.ensures.length
+    ∙ c.as_mut_slice.ensures.len in
     let left : c.truncate.new.self.items ≡ take c.keep-kept.result c.keep-kept.new.places
-    = c.truncate.ensures.items ∙ ap (take c.keep-kept.result) (with_items_is c.self.inside.places c.keep-kept.new.places long) in
+    = c.truncate.ensures.items
+    ∙ ap (take c.keep-kept.result) (with_items_is c.self.inside.places c.keep-kept.new.places long) in
     let keep : KeepPlaces dims conditions rows c.self.inside.places.items c.truncate.new.self.items
     = subst (λ (l : List ℕ). KeepPlaces dims conditions rows l c.truncate.new.self.items) c.as_mut_slice.ensures.value
-    (subst (λ (l : List ℕ). KeepPlaces dims conditions rows c.as_mut_slice.result.now l) (sym left) c.keep-kept.ensures.kept) in
-    subst (λ (all : List LineOrder). KeepSelected dims conditions (map (row_at rows) c.truncate.new.self.items) all) c.self.view_is (kept_places dims conditions rows _ _ keep)
+    (subst (λ (l : List ℕ). KeepPlaces dims conditions rows c.as_mut_slice.result.now l) (sym left)
+    c.keep-kept.ensures.kept) in
+    subst (λ (all : List LineOrder). KeepSelected dims conditions (map (row_at rows) c.truncate.new.self.items) all)
+    c.self.view_is (kept_places dims conditions rows _ _ keep)

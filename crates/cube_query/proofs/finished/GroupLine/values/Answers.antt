@@ -6,4 +6,5 @@ use Rattle.cube_query.proofs.finished.GroupLine.values.Goals as goal
 pub returns : goal.returns
 returns c =
     rw (← c.self.view_is) (c.len.ensures ∙ ap (λ q. length q.aggregates) c.query.ensures
-    ∙ sym (length-values_of c.self.inside.slot (query_of c.self.inside.plan.now).aggregates c.self.inside.columns.now c.self.invariant.1))
+    ∙ sym (length-values_of c.self.inside.slot (query_of c.self.inside.plan.now).aggregates c.self.inside.columns.now
+    c.self.invariant.1))

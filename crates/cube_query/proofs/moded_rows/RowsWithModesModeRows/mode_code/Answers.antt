@@ -10,7 +10,9 @@ pub returns-clause-text : goal.returns-clause-text
 returns-clause-text c =
     let place = c.args.place in
     let own = c.self.inside in
-    subst (λ (m : ModedRows). place < length m.rows → text_at m.modes c.from.result ≡ (row_at m.rows place).shipmode) c.self.view_is
+    subst (λ (m : ModedRows). place < length m.rows → text_at m.modes c.from.result ≡ (row_at m.rows place).shipmode)
+    c.self.view_is
     (λ h. ap (text_at own.modes.now.texts) (c.from.ensures ∙ c.code_at.ensures)
-    ∙ text_at_place (text_at own.modes.now.texts) (map (from_le_bytes w16) own.codes.now) own.rows place c.self.invariant.texts h)
+    ∙ text_at_place (text_at own.modes.now.texts) (map (from_le_bytes w16) own.codes.now) own.rows place
+    c.self.invariant.texts h)
     c.requires

@@ -13,7 +13,7 @@ use Rattle.group_plan.specs.Plans.{query_of}
 use Rattle.cube_query.proofs.AskedRefusals.{known_for, room_same, slots_same}
 use Rattle.cube_query.proofs.Columnwise.{tallies-length}
 use Rattle.cube_query.proofs.Folds.{HaveRoom-ready, kept_count, kept_ready, shown, shown_ready, represents_count}
-use Rattle.cube_query.proofs.Known.{known_behind}
+use Rattle.cube_query.proofs.Known.{known_after}
 use Rattle.cube_query.proofs.Marking.{AreGroupSlots-length}
 use Rattle.cube_query.proofs.running.Fold.add.Goals as goal
 
@@ -24,7 +24,8 @@ returns-in_err-group_slots-clause-err g c =
     let dims = c.args.dims.now in
     let rows = g.F.FactRows.rows c.args.rows.now in
     let over = subst (λ (state : FoldState). IsOver dims state) (sym c.self.view_is) c.requires in
-    rw (p.1) (shown_ready dims inside.plan over inside.slots inside.columns.items c.self.invariant c.ready.new.slots c.ready.new.columns.items c.ready.ensures.cover c.ready.ensures.grow c.ready.ensures.same ∙ c.self.view_is)
+    rw (p.1) (shown_ready dims inside.plan over inside.slots inside.columns.items c.self.invariant c.ready.new.slots
+    c.ready.new.columns.items c.ready.ensures.cover c.ready.ensures.grow c.ready.ensures.same ∙ c.self.view_is)
 
 pub returns-in_err-group_slots-clause-refused : goal.returns-in_err-group_slots-clause-refused
 returns-in_err-group_slots-clause-refused g c =
@@ -37,7 +38,8 @@ returns-in_err-group_slots-clause-refused g c =
     let given = subst (λ (state : FoldState). CanTake dims state others) (sym c.self.view_is) can in
     let alike = subst (λ (state : FoldState). AreSame (is_asked state.query) rows others) (sym c.self.view_is) same in
     let is : c.in_err-group_slots.field-0.0 ≡ BadLayout = cc bad in
-    c.in_err-group_slots.ensures.refused (ap (λ fault. Err fault) is) (known_for dims (query_of inside.plan) rows others alike (known_behind dims 1 given.0 others given.1.1.known)))
+    c.in_err-group_slots.ensures.refused (ap (λ fault. Err fault) is)
+    (known_for dims (query_of inside.plan) rows others alike (known_after dims 1 given.0 others given.1.1.known)))
 
 pub have_room-requires-clause-columns : goal.have_room-requires-clause-columns
 have_room-requires-clause-columns g c =
@@ -46,9 +48,11 @@ have_room-requires-clause-columns g c =
     let rows = g.F.FactRows.rows c.args.rows.now in
     let over = subst (λ (state : FoldState). IsOver dims state) (sym c.self.view_is) c.requires in
     let entries = entries_of c.ready.new.slots in
-    let kept = kept_ready dims inside.plan over inside.slots inside.columns.items c.self.invariant c.ready.new.slots c.ready.new.columns.items c.ready.ensures.cover c.ready.ensures.grow c.ready.ensures.same in
+    let kept = kept_ready dims inside.plan over inside.slots inside.columns.items c.self.invariant c.ready.new.slots
+    c.ready.new.columns.items c.ready.ensures.cover c.ready.ensures.grow c.ready.ensures.same in
     ap length c.as_slice.ensures.value
-    ∙ tallies-length (query_of inside.plan).aggregates c.ready.new.columns.items (length entries) [] (kept.fresh (length entries) (omega arith))
+    ∙ tallies-length (query_of inside.plan).aggregates c.ready.new.columns.items (length entries) []
+    (kept.fresh (length entries) (omega arith))
     ∙ sym (ap length (c.as_slice-aggregates.ensures ∙ ap (λ q. q.aggregates) c.query.ensures))
 
 pub have_room-requires-clause-group_slots : goal.have_room-requires-clause-group_slots
@@ -57,7 +61,9 @@ have_room-requires-clause-group_slots g c =
     let dims = c.args.dims.now in
     let rows = g.F.FactRows.rows c.args.rows.now in
     let over = subst (λ (state : FoldState). IsOver dims state) (sym c.self.view_is) c.requires in
-    ap length c.as_slice-2.ensures.value ∙ AreGroupSlots-length dims (query_of inside.plan) (entries_of c.ready.new.slots) rows c.in_ok-group_slots.group_slots.items c.in_ok-group_slots.ensures.group_slots
+    ap length c.as_slice-2.ensures.value
+    ∙ AreGroupSlots-length dims (query_of inside.plan) (entries_of c.ready.new.slots) rows
+    c.in_ok-group_slots.group_slots.items c.in_ok-group_slots.ensures.group_slots
 
 pub returns-then-not-have_room-clause-err : goal.returns-then-not-have_room-clause-err
 returns-then-not-have_room-clause-err g c =
@@ -65,7 +71,8 @@ returns-then-not-have_room-clause-err g c =
     let dims = c.args.dims.now in
     let rows = g.F.FactRows.rows c.args.rows.now in
     let over = subst (λ (state : FoldState). IsOver dims state) (sym c.self.view_is) c.requires in
-    shown_ready dims inside.plan over inside.slots inside.columns.items c.self.invariant c.ready.new.slots c.ready.new.columns.items c.ready.ensures.cover c.ready.ensures.grow c.ready.ensures.same ∙ c.self.view_is
+    shown_ready dims inside.plan over inside.slots inside.columns.items c.self.invariant c.ready.new.slots
+    c.ready.new.columns.items c.ready.ensures.cover c.ready.ensures.grow c.ready.ensures.same ∙ c.self.view_is
 
 pub returns-then-not-have_room-clause-refused : goal.returns-then-not-have_room-clause-refused
 returns-then-not-have_room-clause-refused g c =
@@ -75,16 +82,21 @@ returns-then-not-have_room-clause-refused g c =
     let over = subst (λ (state : FoldState). IsOver dims state) (sym c.self.view_is) c.requires in
     let longer = c.ready.new.columns.items in
     let group_slots = c.in_ok-group_slots.group_slots.items in
-    let aggregates : c.as_slice-aggregates.result.now ≡ (query_of inside.plan).aggregates = c.as_slice-aggregates.ensures ∙ ap (λ q. q.aggregates) c.query.ensures in
+    let aggregates : c.as_slice-aggregates.result.now ≡ (query_of inside.plan).aggregates =
+    c.as_slice-aggregates.ensures ∙ ap (λ q. q.aggregates) c.query.ensures in
     λ bad others same can.
     let given = subst (λ (state : FoldState). CanTake dims state others) (sym c.self.view_is) can in
     let alike = subst (λ (state : FoldState). AreSame (is_asked state.query) rows others) (sym c.self.view_is) same in
-    let slots = slots_same dims (query_of inside.plan) (entries_of c.ready.new.slots) rows others group_slots alike c.in_ok-group_slots.ensures.group_slots in
+    let slots = slots_same dims (query_of inside.plan) (entries_of c.ready.new.slots) rows others group_slots alike
+    c.in_ok-group_slots.ensures.group_slots in
     let room = room_same (query_of inside.plan) longer rows others group_slots alike
-    (HaveRoom-ready dims inside.plan over inside.slots inside.columns.items c.self.invariant c.ready.new.slots c.ready.new.columns.items c.ready.ensures.cover c.ready.ensures.grow c.ready.ensures.same
+    (HaveRoom-ready dims inside.plan over inside.slots inside.columns.items c.self.invariant c.ready.new.slots
+    c.ready.new.columns.items c.ready.ensures.cover c.ready.ensures.grow c.ready.ensures.same
     others group_slots slots given.0 given.1.0 given.1.1 c.in_ok-group_slots.ensures.long) in
-    let there = subst (λ ms. HaveRoom c.as_slice-aggregates.result.now c.as_slice.result.now rows ms) (sym c.as_slice-2.ensures.value)
-    (subst (λ (columns : List (Vec Tally Global)). HaveRoom c.as_slice-aggregates.result.now columns rows group_slots) (sym c.as_slice.ensures.value)
+    let there = subst (λ ms. HaveRoom c.as_slice-aggregates.result.now c.as_slice.result.now rows ms)
+    (sym c.as_slice-2.ensures.value)
+    (subst (λ (columns : List (Vec Tally Global)). HaveRoom c.as_slice-aggregates.result.now columns rows group_slots)
+    (sym c.as_slice.ensures.value)
     (subst (λ aggs. HaveRoom aggs longer rows group_slots) (sym aggregates) room)) in
     let yes = c.have_room.ensures.1 there in
     absurd (cc (yes, c.if-not-have_room.true))
@@ -96,9 +108,11 @@ count_in_all-requires-clause-columns g c =
     let rows = g.F.FactRows.rows c.args.rows.now in
     let over = subst (λ (state : FoldState). IsOver dims state) (sym c.self.view_is) c.requires in
     let entries = entries_of c.ready.new.slots in
-    let kept = kept_ready dims inside.plan over inside.slots inside.columns.items c.self.invariant c.ready.new.slots c.ready.new.columns.items c.ready.ensures.cover c.ready.ensures.grow c.ready.ensures.same in
+    let kept = kept_ready dims inside.plan over inside.slots inside.columns.items c.self.invariant c.ready.new.slots
+    c.ready.new.columns.items c.ready.ensures.cover c.ready.ensures.grow c.ready.ensures.same in
     ap length c.as_mut_slice.ensures.value
-    ∙ tallies-length (query_of inside.plan).aggregates c.ready.new.columns.items (length entries) [] (kept.fresh (length entries) (omega arith))
+    ∙ tallies-length (query_of inside.plan).aggregates c.ready.new.columns.items (length entries) []
+    (kept.fresh (length entries) (omega arith))
     ∙ sym (ap length (c.as_slice-aggregates.ensures ∙ ap (λ q. q.aggregates) c.query.ensures))
 
 pub count_in_all-requires-clause-group_slots : goal.count_in_all-requires-clause-group_slots
@@ -107,7 +121,9 @@ count_in_all-requires-clause-group_slots g c =
     let dims = c.args.dims.now in
     let rows = g.F.FactRows.rows c.args.rows.now in
     let over = subst (λ (state : FoldState). IsOver dims state) (sym c.self.view_is) c.requires in
-    ap length c.as_slice-3.ensures.value ∙ AreGroupSlots-length dims (query_of inside.plan) (entries_of c.ready.new.slots) rows c.in_ok-group_slots.group_slots.items c.in_ok-group_slots.ensures.group_slots
+    ap length c.as_slice-3.ensures.value
+    ∙ AreGroupSlots-length dims (query_of inside.plan) (entries_of c.ready.new.slots) rows
+    c.in_ok-group_slots.group_slots.items c.in_ok-group_slots.ensures.group_slots
 
 pub count_in_all-requires-clause-room : goal.count_in_all-requires-clause-room
 count_in_all-requires-clause-room g c =
@@ -117,10 +133,13 @@ count_in_all-requires-clause-room g c =
     let over = subst (λ (state : FoldState). IsOver dims state) (sym c.self.view_is) c.requires in
     let longer = c.ready.new.columns.items in
     let group_slots = c.in_ok-group_slots.group_slots.items in
-    let aggregates : c.as_slice-aggregates.result.now ≡ (query_of inside.plan).aggregates = c.as_slice-aggregates.ensures ∙ ap (λ q. q.aggregates) c.query.ensures in
+    let aggregates : c.as_slice-aggregates.result.now ≡ (query_of inside.plan).aggregates =
+    c.as_slice-aggregates.ensures ∙ ap (λ q. q.aggregates) c.query.ensures in
     let room = c.have_room.ensures.0 c.if-not-have_room.false in
-    subst (λ ms. HaveRoom c.as_slice-aggregates.result.now c.as_mut_slice.result.now rows ms) (c.as_slice-2.ensures.value ∙ sym c.as_slice-3.ensures.value)
-    (subst (λ (columns : List (Vec Tally Global)). HaveRoom c.as_slice-aggregates.result.now columns rows c.as_slice-2.result.now) (c.as_slice.ensures.value ∙ sym c.as_mut_slice.ensures.value) room)
+    subst (λ ms. HaveRoom c.as_slice-aggregates.result.now c.as_mut_slice.result.now rows ms)
+    (c.as_slice-2.ensures.value ∙ sym c.as_slice-3.ensures.value)
+    (subst (λ (columns : List (Vec Tally Global)). HaveRoom c.as_slice-aggregates.result.now columns rows
+    c.as_slice-2.result.now) (c.as_slice.ensures.value ∙ sym c.as_mut_slice.ensures.value) room)
 
 pub invariant_of-self-2 : goal.invariant_of-self-2
 invariant_of-self-2 g c =
@@ -130,13 +149,17 @@ invariant_of-self-2 g c =
     let over = subst (λ (state : FoldState). IsOver dims state) (sym c.self.view_is) c.requires in
     let longer = c.ready.new.columns.items in
     let group_slots = c.in_ok-group_slots.group_slots.items in
-    let aggregates : c.as_slice-aggregates.result.now ≡ (query_of inside.plan).aggregates = c.as_slice-aggregates.ensures ∙ ap (λ q. q.aggregates) c.query.ensures in
+    let aggregates : c.as_slice-aggregates.result.now ≡ (query_of inside.plan).aggregates =
+    c.as_slice-aggregates.ensures ∙ ap (λ q. q.aggregates) c.query.ensures in
     let new = c.count_in_all.new.columns in
     let count = subst (λ aggs. CountIn aggs rows group_slots longer new) aggregates
-    (subst (λ (columns : List (Vec Tally Global)). CountIn c.as_slice-aggregates.result.now rows group_slots columns new) c.as_mut_slice.ensures.value
-    (subst (λ ms. CountIn c.as_slice-aggregates.result.now rows ms c.as_mut_slice.result.now new) c.as_slice-3.ensures.value c.count_in_all.ensures)) in
+    (subst (λ (columns : List (Vec Tally Global)). CountIn c.as_slice-aggregates.result.now rows group_slots columns
+    new) c.as_mut_slice.ensures.value
+    (subst (λ ms. CountIn c.as_slice-aggregates.result.now rows ms c.as_mut_slice.result.now new)
+    c.as_slice-3.ensures.value c.count_in_all.ensures)) in
     let len : length new ≡ c.ready.new.columns.len = c.count_in_all.auto.columns ∙ c.as_mut_slice.ensures.len in
-    let kept = kept_count dims inside.plan over inside.slots inside.columns.items c.self.invariant c.ready.new.slots c.ready.new.columns.items c.ready.ensures.cover c.ready.ensures.grow c.ready.ensures.same
+    let kept = kept_count dims inside.plan over inside.slots inside.columns.items c.self.invariant c.ready.new.slots
+    c.ready.new.columns.items c.ready.ensures.cover c.ready.ensures.grow c.ready.ensures.same
     rows group_slots c.in_ok-group_slots.ensures.group_slots new count in
     subst (IsKept inside.plan c.ready.new.slots) (sym (with_items_is c.ready.new.columns new len)) kept
 
@@ -148,16 +171,22 @@ returns-clause-ok g c =
     let over = subst (λ (state : FoldState). IsOver dims state) (sym c.self.view_is) c.requires in
     let longer = c.ready.new.columns.items in
     let group_slots = c.in_ok-group_slots.group_slots.items in
-    let aggregates : c.as_slice-aggregates.result.now ≡ (query_of inside.plan).aggregates = c.as_slice-aggregates.ensures ∙ ap (λ q. q.aggregates) c.query.ensures in
+    let aggregates : c.as_slice-aggregates.result.now ≡ (query_of inside.plan).aggregates =
+    c.as_slice-aggregates.ensures ∙ ap (λ q. q.aggregates) c.query.ensures in
     let new = c.count_in_all.new.columns in
     let count = subst (λ aggs. CountIn aggs rows group_slots longer new) aggregates
-    (subst (λ (columns : List (Vec Tally Global)). CountIn c.as_slice-aggregates.result.now rows group_slots columns new) c.as_mut_slice.ensures.value
-    (subst (λ ms. CountIn c.as_slice-aggregates.result.now rows ms c.as_mut_slice.result.now new) c.as_slice-3.ensures.value c.count_in_all.ensures)) in
+    (subst (λ (columns : List (Vec Tally Global)). CountIn c.as_slice-aggregates.result.now rows group_slots columns
+    new) c.as_mut_slice.ensures.value
+    (subst (λ ms. CountIn c.as_slice-aggregates.result.now rows ms c.as_mut_slice.result.now new)
+    c.as_slice-3.ensures.value c.count_in_all.ensures)) in
     let len : length new ≡ c.ready.new.columns.len = c.count_in_all.auto.columns ∙ c.as_mut_slice.ensures.len in
     record {
       query = ap (λ state. state.query) c.self.view_is;
       represents = λ so_far represents.
-          subst (λ columns. RepresentsRows dims (shown inside.plan c.ready.new.slots columns) (so_far ++ rows)) (sym (with_items_is c.ready.new.columns new len))
-          (represents_count dims inside.plan over inside.slots inside.columns.items c.self.invariant c.ready.new.slots c.ready.new.columns.items c.ready.ensures.cover c.ready.ensures.grow c.ready.ensures.same
-          rows group_slots c.in_ok-group_slots.ensures.group_slots new count so_far (subst (λ (state : FoldState). RepresentsRows dims state so_far) (sym c.self.view_is) represents));
+          subst (λ columns. RepresentsRows dims (shown inside.plan c.ready.new.slots columns) (so_far ++ rows))
+          (sym (with_items_is c.ready.new.columns new len))
+          (represents_count dims inside.plan over inside.slots inside.columns.items c.self.invariant c.ready.new.slots
+          c.ready.new.columns.items c.ready.ensures.cover c.ready.ensures.grow c.ready.ensures.same
+          rows group_slots c.in_ok-group_slots.ensures.group_slots new count so_far
+          (subst (λ (state : FoldState). RepresentsRows dims state so_far) (sym c.self.view_is) represents));
     }

@@ -14,7 +14,7 @@ use Rattle.cube_query.specs.Slots.{entries_of}
 use Rattle.cube_query.specs.declared.tally.Tally.{Tally}
 use Rattle.cube_query.proofs.CellFolds.{kept_merged, room_for_cells, shown_with_slots, represents_merged}
 use Rattle.cube_query.proofs.Columnwise.{tallies-length}
-use Rattle.cube_query.proofs.Known.{known_behind}
+use Rattle.cube_query.proofs.Known.{known_after}
 use Rattle.cube_query.proofs.running.Fold.add_cells.Goals as goal
 
 pub columns_with_cells-requires-clause-columns : goal.columns_with_cells-requires-clause-columns
@@ -22,7 +22,8 @@ columns_with_cells-requires-clause-columns c =
     let inside = c.self.inside in
     let entries = entries_of inside.slots in
     ap length c.as_slice-columns.ensures.value
-    ∙ tallies-length (query_of inside.plan).aggregates inside.columns.items (length entries) [] (c.self.invariant.fresh (length entries) (omega arith))
+    ∙ tallies-length (query_of inside.plan).aggregates inside.columns.items (length entries) []
+    (c.self.invariant.fresh (length entries) (omega arith))
 
 pub returns-in_err-merged-clause-err : goal.returns-in_err-merged-clause-err
 returns-in_err-merged-clause-err c =
@@ -30,7 +31,8 @@ returns-in_err-merged-clause-err c =
     let inside = c.self.inside in
     let dims = c.args.dims.now in
     let over = subst (λ (state : FoldState). IsOver dims state) (sym c.self.view_is) c.requires.over in
-    rw (p.1) (shown_with_slots dims inside.plan over inside.slots inside.columns.items c.self.invariant c.columns_with_cells.new.slots c.columns_with_cells.ensures.cover c.columns_with_cells.ensures.grow
+    rw (p.1) (shown_with_slots dims inside.plan over inside.slots inside.columns.items c.self.invariant
+    c.columns_with_cells.new.slots c.columns_with_cells.ensures.cover c.columns_with_cells.ensures.grow
     ∙ c.self.view_is)
 
 pub returns-in_err-merged-clause-refused : goal.returns-in_err-merged-clause-refused
@@ -43,11 +45,14 @@ returns-in_err-merged-clause-refused c =
     let modes : List (List ℕ) = modes_of (option_map (λ modes. modes.now) c.args.modes) in
     let over = subst (λ (state : FoldState). IsOver dims state) (sym c.self.view_is) c.requires.over in
     let given = subst (λ (state : FoldState). CanTake dims state rows) (sym c.self.view_is) can in
-    let room = room_for_cells dims inside.plan over inside.slots inside.columns.items c.self.invariant c.columns_with_cells.new.slots c.columns_with_cells.ensures.cover c.columns_with_cells.ensures.grow modes plain
+    let room = room_for_cells dims inside.plan over inside.slots inside.columns.items c.self.invariant
+    c.columns_with_cells.new.slots c.columns_with_cells.ensures.cover c.columns_with_cells.ensures.grow modes plain
     rows represent given.0 given.1.0 given.1.1 in
     let is : c.in_err-merged.field-0.0 ≡ BadLayout = cc bad in
-    c.in_err-merged.ensures.refused (ap (λ fault. Err fault) is) rows represent (known_behind dims 1 given.0 rows given.1.1.known)
-    (subst (λ (columns : List (Vec Tally Global)). GroupsHaveRoomFor (entries_of c.columns_with_cells.new.slots) (query_of inside.plan).aggregates plain.cells columns) (sym c.as_slice-columns.ensures.value) room))
+    c.in_err-merged.ensures.refused (ap (λ fault. Err fault) is) rows represent
+    (known_after dims 1 given.0 rows given.1.1.known)
+    (subst (λ (columns : List (Vec Tally Global)). GroupsHaveRoomFor (entries_of c.columns_with_cells.new.slots)
+    (query_of inside.plan).aggregates plain.cells columns) (sym c.as_slice-columns.ensures.value) room))
 
 pub invariant_of-self-2 : goal.invariant_of-self-2
 invariant_of-self-2 c =
@@ -57,9 +62,12 @@ invariant_of-self-2 c =
     let modes : List (List ℕ) = modes_of (option_map (λ modes. modes.now) c.args.modes) in
     let over = subst (λ (state : FoldState). IsOver dims state) (sym c.self.view_is) c.requires.over in
     let merged = c.in_ok-merged.merged.items in
-    let are = subst (λ (columns : List (Vec Tally Global)). AreMergedIn (asked_of dims (query_of inside.plan) plain.view modes) (query_of inside.plan).aggregates (entries_of c.columns_with_cells.new.slots) plain.cells columns merged)
+    let are = subst
+    (λ (columns : List (Vec Tally Global)). AreMergedIn (asked_of dims (query_of inside.plan) plain.view modes)
+    (query_of inside.plan).aggregates (entries_of c.columns_with_cells.new.slots) plain.cells columns merged)
     c.as_slice-columns.ensures.value c.in_ok-merged.ensures.merged in
-    kept_merged dims inside.plan over inside.slots inside.columns.items c.self.invariant c.columns_with_cells.new.slots c.columns_with_cells.ensures.cover c.columns_with_cells.ensures.grow modes plain merged are
+    kept_merged dims inside.plan over inside.slots inside.columns.items c.self.invariant c.columns_with_cells.new.slots
+    c.columns_with_cells.ensures.cover c.columns_with_cells.ensures.grow modes plain merged are
 
 pub returns-clause-ok : goal.returns-clause-ok
 returns-clause-ok c = λ rows represent.
@@ -70,11 +78,16 @@ returns-clause-ok c = λ rows represent.
     let over = subst (λ (state : FoldState). IsOver dims state) (sym c.self.view_is) c.requires.over in
     let serves = subst (λ (state : FoldState). Serves plain.view state.query) (sym c.self.view_is) c.requires.serves in
     let merged = c.in_ok-merged.merged.items in
-    let are = subst (λ (columns : List (Vec Tally Global)). AreMergedIn (asked_of dims (query_of inside.plan) plain.view modes) (query_of inside.plan).aggregates (entries_of c.columns_with_cells.new.slots) plain.cells columns merged)
+    let are = subst
+    (λ (columns : List (Vec Tally Global)). AreMergedIn (asked_of dims (query_of inside.plan) plain.view modes)
+    (query_of inside.plan).aggregates (entries_of c.columns_with_cells.new.slots) plain.cells columns merged)
     c.as_slice-columns.ensures.value c.in_ok-merged.ensures.merged in
     record {
       query = ap (λ state. state.query) c.self.view_is;
       represents = λ so_far represents.
-          represents_merged dims inside.plan over inside.slots inside.columns.items c.self.invariant c.columns_with_cells.new.slots c.columns_with_cells.ensures.cover c.columns_with_cells.ensures.grow modes plain merged are
-          c.one_key_one_group.ensures serves rows represent so_far (subst (λ (state : FoldState). RepresentsRows dims state so_far) (sym c.self.view_is) represents);
+          represents_merged dims inside.plan over inside.slots inside.columns.items c.self.invariant
+          c.columns_with_cells.new.slots c.columns_with_cells.ensures.cover c.columns_with_cells.ensures.grow modes
+          plain merged are
+          c.one_key_one_group.ensures serves rows represent so_far
+          (subst (λ (state : FoldState). RepresentsRows dims state so_far) (sym c.self.view_is) represents);
     }

@@ -20,7 +20,7 @@ use Rattle.cube_query.specs.declared.tally.Tally.{Tally}
 use Rattle.cube_query.proofs.CellFolds.{kept_after, represents_wanted, room_for_cells}
 use Rattle.cube_query.proofs.Columnwise.{tallies-length}
 use Rattle.cube_query.proofs.Folds.{shown}
-use Rattle.cube_query.proofs.Known.{known_behind}
+use Rattle.cube_query.proofs.Known.{known_after}
 use Rattle.cube_query.proofs.running.Fold.add_run.Goals as goal
 
 pub with_run-requires-clause-columns : goal.with_run-requires-clause-columns
@@ -28,11 +28,13 @@ with_run-requires-clause-columns g c =
     let inside = c.self.inside in
     let entries = entries_of inside.slots in
     ap length c.as_mut_slice-columns.ensures.value
-    ∙ tallies-length (query_of inside.plan).aggregates inside.columns.items (length entries) [] (c.self.invariant.fresh (length entries) (omega arith))
+    ∙ tallies-length (query_of inside.plan).aggregates inside.columns.items (length entries) []
+    (c.self.invariant.fresh (length entries) (omega arith))
 
 -- what is written over all of a vector is what it has
 written : (n : ℕ) (new old : List (Vec Tally Global)) → length new ≡ n → take n (new ++ drop (length new) old) ≡ new
-written n new old many = ap (λ (m : ℕ). take m (new ++ drop (length new) old)) (sym many) ∙ take-append_seam new (drop (length new) old)
+written n new old many = ap (λ (m : ℕ). take m (new ++ drop (length new) old)) (sym many)
+    ∙ take-append_seam new (drop (length new) old)
 
 pub invariant_of-self : goal.invariant_of-self
 invariant_of-self g c =
@@ -40,10 +42,14 @@ invariant_of-self g c =
     let dims = c.args.dims.now in
     let over = subst (λ (state : FoldState). IsOver dims state) (sym c.self.view_is) c.requires.over in
     let new = c.with_run.new.columns in
-    let many : length new ≡ inside.columns.len = omega (arith, c.with_run.auto.columns, ap length c.as_mut_slice-columns.ensures.value, inside.columns.ok.0) in
-    subst (λ (columns : List (Vec Tally Global)). IsKept inside.plan c.with_run.new.slots columns) (sym (written inside.columns.len new inside.columns.items many))
-    (kept_after dims inside.plan over inside.slots inside.columns.items c.self.invariant c.with_run.new.slots c.with_run.ensures.cover c.with_run.ensures.grow c.with_run.new.columns
-    (λ slot h. c.with_run.ensures.fresh slot h ∙ ap (λ (columns : List (Vec Tally Global)). tallies_at columns slot) c.as_mut_slice-columns.ensures.value))
+    let many : length new ≡ inside.columns.len =
+    omega (arith, c.with_run.auto.columns, ap length c.as_mut_slice-columns.ensures.value, inside.columns.ok.0) in
+    subst (λ (columns : List (Vec Tally Global)). IsKept inside.plan c.with_run.new.slots columns)
+    (sym (written inside.columns.len new inside.columns.items many))
+    (kept_after dims inside.plan over inside.slots inside.columns.items c.self.invariant c.with_run.new.slots
+    c.with_run.ensures.cover c.with_run.ensures.grow c.with_run.new.columns
+    (λ slot h. c.with_run.ensures.fresh slot h
+    ∙ ap (λ (columns : List (Vec Tally Global)). tallies_at columns slot) c.as_mut_slice-columns.ensures.value))
 
 pub returns-clause-ok : goal.returns-clause-ok
 returns-clause-ok g c =
@@ -59,11 +65,13 @@ returns-clause-ok g c =
     (asked_of dims (query_of inside.plan) view modes) (query_of inside.plan).aggregates (entries_of new) cells
     columns c.with_run.new.columns)
     c.as_mut_slice-columns.ensures.value (merged keeps cells left) in
-    let many : length c.with_run.new.columns ≡ inside.columns.len = omega (arith, c.with_run.auto.columns, ap length c.as_mut_slice-columns.ensures.value, inside.columns.ok.0) in
+    let many : length c.with_run.new.columns ≡ inside.columns.len =
+    omega (arith, c.with_run.auto.columns, ap length c.as_mut_slice-columns.ensures.value, inside.columns.ok.0) in
     record {
       query = ap (λ (state : FoldState). state.query) c.self.view_is;
       represents = λ so_far represents.
-          subst (λ (columns : List (Vec Tally Global)). RepresentsRows dims (shown inside.plan new columns) (so_far ++ rows))
+          subst (λ (columns : List (Vec Tally Global)). RepresentsRows dims (shown inside.plan new columns)
+          (so_far ++ rows))
           (sym (written inside.columns.len c.with_run.new.columns inside.columns.items many))
           (represents_wanted dims inside.plan over inside.slots inside.columns.items c.self.invariant new
           c.with_run.ensures.cover c.with_run.ensures.grow modes (cells_of view cells) c.with_run.new.columns are
@@ -83,11 +91,12 @@ returns-clause-refused g c = λ bad keeps cells left rows represent can.
     let given = subst (λ (state : FoldState). CanTake dims state rows) (sym c.self.view_is) can in
     elim (c.with_run.ensures.refused bad keeps cells left) [
       | inl none ↦
-          (let row = represents_among dims modes plain rows represent (known_behind dims 1 given.0 rows given.1.1.known)
+          (let row = represents_among dims modes plain rows represent (known_after dims 1 given.0 rows given.1.1.known)
           none.cell none.among in
           none.none row.0 row.1)
       | inr full ↦
           full (subst (λ (columns : List (Vec Tally Global)). GroupsHaveRoomFor entries query.aggregates cells columns)
           (sym c.as_mut_slice-columns.ensures.value)
-          (room_for_cells dims inside.plan over inside.slots inside.columns.items c.self.invariant c.with_run.new.slots c.with_run.ensures.cover c.with_run.ensures.grow modes plain rows represent given.0 given.1.0 given.1.1))
+          (room_for_cells dims inside.plan over inside.slots inside.columns.items c.self.invariant c.with_run.new.slots
+          c.with_run.ensures.cover c.with_run.ensures.grow modes plain rows represent given.0 given.1.0 given.1.1))
     ]

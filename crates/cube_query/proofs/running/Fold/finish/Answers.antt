@@ -21,8 +21,10 @@ answer_lines-requires-clause-fold c =
     let inside = c.self.inside in
     let query = query_of inside.plan in
     let over = subst (λ (state : FoldState). IsOver dims state) (sym c.self.view_is) c.requires in
-    let fold : IsFold dims query inside.slots inside.columns.items = fold_over dims inside.plan over inside.slots inside.columns.items c.self.invariant in
-    subst (λ (asked : Asked). IsFold asked.dimensions asked.query inside.slots c.as_slice.result.now) (sym c.over-plan.ensures)
+    let fold : IsFold dims query inside.slots inside.columns.items =
+    fold_over dims inside.plan over inside.slots inside.columns.items c.self.invariant in
+    subst (λ (asked : Asked). IsFold asked.dimensions asked.query inside.slots c.as_slice.result.now)
+    (sym c.over-plan.ensures)
     (subst (IsFold dims query inside.slots) (sym c.as_slice.ensures.value) fold)
 
 pub returns-clause-answer : goal.returns-clause-answer
@@ -33,11 +35,15 @@ returns-clause-answer c = λ rows represents.
     let entries = entries_of inside.slots in
     let over = subst (λ (state : FoldState). IsOver dims state) (sym c.self.view_is) c.requires in
     let here = subst (λ (state : FoldState). RepresentsRows dims state rows) (sym c.self.view_is) represents in
-    let tallied : AreTallied dims (finest query) entries inside.columns.items rows = tallied_for dims inside.plan over inside.slots inside.columns.items c.self.invariant rows here in
+    let tallied : AreTallied dims (finest query) entries inside.columns.items rows =
+    tallied_for dims inside.plan over inside.slots inside.columns.items c.self.invariant rows here in
     let lines : c.in_ok-lines.lines ≡ (answer query dims rows).lines =
-    subst (λ (asked : Asked). AreTallied asked.dimensions (finest asked.query) entries c.as_slice.result.now rows → c.in_ok-lines.lines ≡ (answer asked.query asked.dimensions rows).lines) c.over-plan.ensures (c.in_ok-lines.ensures.lines rows)
+    subst (λ (asked : Asked). AreTallied asked.dimensions (finest asked.query) entries c.as_slice.result.now rows
+    → c.in_ok-lines.lines ≡ (answer asked.query asked.dimensions rows).lines) c.over-plan.ensures
+    (c.in_ok-lines.ensures.lines rows)
     (subst (λ columns. AreTallied dims (finest query) entries columns rows) (sym c.as_slice.ensures.value) tallied) in
-    (λ i. record { lines = lines i }) ∙ ap (λ q. answer q dims rows) (ap (λ (state : FoldState). state.query) c.self.view_is)
+    (λ i. record { lines = lines i })
+    ∙ ap (λ q. answer q dims rows) (ap (λ (state : FoldState). state.query) c.self.view_is)
 
 pub returns-in_err-lines-clause-refused : goal.returns-in_err-lines-clause-refused
 returns-in_err-lines-clause-refused c =
@@ -50,9 +56,11 @@ returns-in_err-lines-clause-refused c =
     let over = subst (λ (state : FoldState). IsOver dims state) (sym c.self.view_is) c.requires in
     let given = subst (λ (state : FoldState). IsFoldable dims state) (sym c.self.view_is) can in
     let rows = given.0 in
-    let tallied : AreTallied dims (finest query) entries inside.columns.items rows = tallied_for dims inside.plan over inside.slots inside.columns.items c.self.invariant rows given.1.0 in
+    let tallied : AreTallied dims (finest query) entries inside.columns.items rows =
+    tallied_for dims inside.plan over inside.slots inside.columns.items c.self.invariant rows given.1.0 in
     let fault : c.in_err-lines.field-0.0 ≡ BadLayout = cc bad in
     c.in_err-lines.ensures.refused (ap (λ f. Err f) fault) rows
-    (subst (λ (asked : Asked). AreTallied asked.dimensions (finest asked.query) entries c.as_slice.result.now rows) (sym c.over-plan.ensures)
+    (subst (λ (asked : Asked). AreTallied asked.dimensions (finest asked.query) entries c.as_slice.result.now rows)
+    (sym c.over-plan.ensures)
     (subst (λ columns. AreTallied dims (finest query) entries columns rows) (sym c.as_slice.ensures.value) tallied))
     (subst (λ (asked : Asked). AreFoldable asked.dimensions rows) (sym c.over-plan.ensures) given.1.1))

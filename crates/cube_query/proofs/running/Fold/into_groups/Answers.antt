@@ -27,7 +27,8 @@ returns-clause-answer c =
     IfOk-weaker c.of.result _ _
     (λ groups is rows represents.
     let here = subst (λ (state : FoldState). RepresentsRows dims state rows) (sym c.self.view_is) represents in
-    let tallied : AreTallied dims (finest (query_of inside.plan)) (entries_of inside.slots) inside.columns.items rows = tallied_for dims inside.plan over inside.slots inside.columns.items c.self.invariant rows here in
+    let tallied : AreTallied dims (finest (query_of inside.plan)) (entries_of inside.slots) inside.columns.items rows =
+    tallied_for dims inside.plan over inside.slots inside.columns.items c.self.invariant rows here in
     is rows tallied ∙ ap (λ q. answer q dims rows) (ap (λ (state : FoldState). state.query) c.self.view_is))
     c.of.ensures.answer
 
@@ -37,5 +38,7 @@ returns-clause-refused c = λ bad can.
     let inside = c.self.inside in
     let over = subst (λ (state : FoldState). IsOver dims state) (sym c.self.view_is) c.requires in
     let given = subst (λ (state : FoldState). IsFoldable dims state) (sym c.self.view_is) can in
-    let tallied : AreTallied dims (finest (query_of inside.plan)) (entries_of inside.slots) inside.columns.items given.0 = tallied_for dims inside.plan over inside.slots inside.columns.items c.self.invariant given.0 given.1.0 in
+    let tallied : AreTallied dims (finest (query_of inside.plan)) (entries_of inside.slots) inside.columns.items
+    given.0 = tallied_for dims inside.plan over inside.slots inside.columns.items c.self.invariant given.0
+    given.1.0 in
     c.of.ensures.refused bad given.0 tallied given.1.1

@@ -11,4 +11,5 @@ returns-clause-ok g c = λ keeps.
     let kept = c.in_ok-refill.ensures.run.stays.word keeps in
     subst (λ (xs : List ℕ). IsAtFirst text (record { id = c.args.id; head = head; done = 0; least = 0; ahead = xs }))
     (sym c.skip.ensures)
-    (opened_text text c.refill.new.self found.1.0 c.in-Some.total c.args.id head (c.in-Some.ensures.text kept) (c.in_ok-refill.ensures.bytes keeps) found.0 (sym c.rest.ensures ∙ found.1.1))
+    (opened_text text c.refill.new.self found.1.0 c.in-Some.total c.args.id head (c.in-Some.ensures.text kept)
+    (c.in_ok-refill.ensures.bytes keeps) found.0 (sym c.rest.ensures ∙ found.1.1))

@@ -3,7 +3,8 @@ use Rattle.std.specs.Option.{option_map}
 use Rattle.cuboid_upkeep.specs.CellNumbers.{AskedOfCells}
 use Rattle.cuboid_upkeep.specs.Codes.{modes_of}
 use Rattle.lattice.specs.declared.level.Level.TheVariants as level
-use Rattle.cuboid_upkeep.proofs.Unwanted.{customer_unselected, date_unselected, part_unselected, supplier_unselected, unwanted_customer, unwanted_date, unwanted_part, unwanted_supplier}
+use Rattle.cuboid_upkeep.proofs.Unwanted.{customer_unselected, date_unselected, part_unselected, supplier_unselected}
+use Rattle.cuboid_upkeep.proofs.Unwanted.{unwanted_customer, unwanted_date, unwanted_part, unwanted_supplier}
 use Rattle.cuboid_upkeep.proofs.cell_numbers.CellNumbers.next_number.Goals as goal
 
 pub returns-then-not-is_all : goal.returns-then-not-is_all

@@ -12,9 +12,16 @@ invariant_of-result c =
     let is : c.args.dims.now ≡ plan.dimensions = sym (ap (λ (asked : Asked). asked.dimensions) c.over-plan.ensures) in
     record {
       noughts = λ row quantity discount.
-          within_bounds plan.query row c.bounds.result c.bounds.ensures 0 0 (sym quantity) (sym discount) (omega arith) (omega arith) ∙ sym c.hold-within.ensures.value;
-      by_customer = subst (λ (dims : DimRows). AreParts dims plan.query Customer c.args.view.customer c.in_ok-customers.customers) is c.in_ok-customers.ensures;
-      by_supplier = subst (λ (dims : DimRows). AreParts dims plan.query Supplier c.args.view.supplier c.in_ok-suppliers.suppliers) is c.in_ok-suppliers.ensures;
-      by_part = subst (λ (dims : DimRows). AreParts dims plan.query Part c.args.view.part c.in_ok-parts.parts) is c.in_ok-parts.ensures;
-      by_date = subst (λ (dims : DimRows). AreParts dims plan.query Date c.args.view.date c.in_ok-dates.dates) is c.in_ok-dates.ensures;
+          within_bounds plan.query row c.bounds.result c.bounds.ensures 0 0 (sym quantity) (sym discount) (omega arith)
+          (omega arith) ∙ sym c.hold-within.ensures.value;
+      by_customer =
+          subst (λ (dims : DimRows). AreParts dims plan.query Customer c.args.view.customer c.in_ok-customers.customers)
+          is c.in_ok-customers.ensures;
+      by_supplier =
+          subst (λ (dims : DimRows). AreParts dims plan.query Supplier c.args.view.supplier c.in_ok-suppliers.suppliers)
+          is c.in_ok-suppliers.ensures;
+      by_part = subst (λ (dims : DimRows). AreParts dims plan.query Part c.args.view.part c.in_ok-parts.parts) is
+          c.in_ok-parts.ensures;
+      by_date = subst (λ (dims : DimRows). AreParts dims plan.query Date c.args.view.date c.in_ok-dates.dates) is
+          c.in_ok-dates.ensures;
     }

@@ -7,4 +7,6 @@ use Rattle.cuboid_upkeep.proofs.table.CellTable.finish.Goals as goal
 
 pub of-requires : goal.of-requires
 of-requires c =
-    subst (λ (l : List Cell). AreProper (record { view = c.args.self.view; cells = l })) (sym (c.in_ok-cells.ensures ∙ ap used c.as_slice.ensures.value)) (table_proper c.requires.0 c.args.self c.requires.1)
+    subst (λ (l : List Cell). AreProper (record { view = c.args.self.view; cells = l }))
+    (sym (c.in_ok-cells.ensures ∙ ap used c.as_slice.ensures.value))
+    (table_proper c.requires.0 c.args.self c.requires.1)

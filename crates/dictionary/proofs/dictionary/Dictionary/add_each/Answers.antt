@@ -8,6 +8,9 @@ loop-text-preserved c =
     let all : List (List ℕ) = map (λ text. text.items) c.args.texts.now in
     let count = length-map c.args.texts.now (λ text. text.items) in
     let at : get_or all c.loop-text.text-index c.deref.result.now ≡ c.deref.result.now =
-    get_or-map (λ text. text.items) c.args.texts.now c.loop-text.text-index c.text-item.result c.deref.result.now c.loop-text-test.true ∙ ap (λ text. text.items) (sym c.text-item.is) ∙ sym c.deref.ensures.value in
-    copy_more all c.args.self.now.limit c.loop-text.text-index c.deref.result.now c.loop-text.self c.add_unkept.new.self c.in_ok-add_unkept.field-0 c.requires.once
-    (omega (arith, count, c.requires.few)) (omega (arith, count, c.loop-text-test.true)) at c.loop-text.invariant c.in_ok-add_unkept.ensures.ok
+    get_or-map (λ text. text.items) c.args.texts.now c.loop-text.text-index c.text-item.result c.deref.result.now
+    c.loop-text-test.true ∙ ap (λ text. text.items) (sym c.text-item.is) ∙ sym c.deref.ensures.value in
+    copy_more all c.args.self.now.limit c.loop-text.text-index c.deref.result.now c.loop-text.self c.add_unkept.new.self
+    c.in_ok-add_unkept.field-0 c.requires.once
+    (omega (arith, count, c.requires.few)) (omega (arith, count, c.loop-text-test.true)) at c.loop-text.invariant
+    c.in_ok-add_unkept.ensures.ok

@@ -7,5 +7,9 @@ use Rattle.dictionary.proofs.dictionary.Dictionary.text.Goals as goal
 pub returns-in-Some-clause-again : goal.returns-in-Some-clause-again
 returns-in-Some-clause-again c =
     let at : slice_get (map (λ v. v.items) c.self.inside.texts.keys) c.args.code ≡ Some c.as_slice.result.now =
-    slice_get-map (λ v. v.items) c.self.inside.texts.keys c.args.code ∙ ap (option_map (λ v. v.items)) (sym c.in-Some.ensures.key) ∙ ap (λ t. Some t) (sym c.as_slice.ensures.value) in
-    rw (← c.self.view_is) (code_again (map (λ v. v.items) c.self.inside.texts.keys) c.args.code c.as_slice.result.now c.self.invariant.2 at)
+    slice_get-map (λ v. v.items) c.self.inside.texts.keys c.args.code
+    ∙ ap (option_map (λ v. v.items)) (sym c.in-Some.ensures.key)
+    ∙ ap (λ t. Some t) (sym c.as_slice.ensures.value) in
+    rw (← c.self.view_is)
+    (code_again (map (λ v. v.items) c.self.inside.texts.keys) c.args.code c.as_slice.result.now c.self.invariant.2
+    at)

@@ -7,11 +7,15 @@ rank-requires c =
     let axis = c.requires.sound.0 in
     let rows = c.requires.sound.1.0 in
     let is = c.requires.sound.1.1 in
-    let lt : c.args.column < length c.args.self.now.ranks.items = omega (arith, c.requires.column, c.args.self.now.ranks.ok.0) in
-    rank_within axis rows c.args.self.now is c.args.column lt c.args.row c.requires.row c.from.result (c.from.ensures ∙ c.code-code.ensures axis rows is.table) c.ranks.result.now c.ranks.ensures
+    let lt : c.args.column < length c.args.self.now.ranks.items =
+    omega (arith, c.requires.column, c.args.self.now.ranks.ok.0) in
+    rank_within axis rows c.args.self.now is c.args.column lt c.args.row c.requires.row c.from.result
+    (c.from.ensures ∙ c.code-code.ensures axis rows is.table) c.ranks.result.now c.ranks.ensures
 
 pub returns : goal.returns
 returns c = λ axis rows is.
-    let lt : c.args.column < length c.args.self.now.ranks.items = omega (arith, c.requires.column, c.args.self.now.ranks.ok.0) in
-    rank_is axis rows c.args.self.now is c.args.column lt c.args.row c.requires.row c.from.result (c.from.ensures ∙ c.code-code.ensures axis rows is.table) c.ranks.result.now c.ranks.ensures
+    let lt : c.args.column < length c.args.self.now.ranks.items =
+    omega (arith, c.requires.column, c.args.self.now.ranks.ok.0) in
+    rank_is axis rows c.args.self.now is c.args.column lt c.args.row c.requires.row c.from.result
+    (c.from.ensures ∙ c.code-code.ensures axis rows is.table) c.ranks.result.now c.ranks.ensures
     c.rank.result c.rank.ensures.below c.rank.ensures.text

@@ -9,6 +9,10 @@ use Rattle.dimensions.proofs.dims.Dims.ranks.Goals as goal
 pub returns-in-Some : goal.returns-in-Some
 returns-in-Some c =
     let has = has_column c.args.self.now c.args.attr c.in-Some.column (sym c.column_of_attr.ensures ∙ c.in-Some.is) in
-    let is : IsDimension (axis_of c.args.attr) (rows_on c.args.self.now (axis_of c.args.attr)) c.dimension.result.now = subst (λ axis. IsDimension axis (rows_on c.args.self.now axis) c.dimension.result.now) c.axis.ensures c.dimension.ensures.are in
-    let lt : c.in-Some.column < length c.dimension.result.now.ranks.items = omega (arith, has.1, is.count, is.table.count) in
-    ap members_of c.ranks.ensures ∙ members_are (axis_of c.args.attr) (rows_on c.args.self.now (axis_of c.args.attr)) c.dimension.result.now is c.in-Some.column lt ∙ ap members_of (sym has.0)
+    let is : IsDimension (axis_of c.args.attr) (rows_on c.args.self.now (axis_of c.args.attr)) c.dimension.result.now =
+    subst (λ axis. IsDimension axis (rows_on c.args.self.now axis) c.dimension.result.now) c.axis.ensures
+    c.dimension.ensures.are in
+    let lt : c.in-Some.column < length c.dimension.result.now.ranks.items =
+    omega (arith, has.1, is.count, is.table.count) in
+    ap members_of c.ranks.ensures ∙ members_are (axis_of c.args.attr) (rows_on c.args.self.now (axis_of c.args.attr))
+    c.dimension.result.now is c.in-Some.column lt ∙ ap members_of (sym has.0)

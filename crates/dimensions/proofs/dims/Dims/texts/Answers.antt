@@ -19,8 +19,12 @@ short_on rows Date short = all_map IsShortRow row_of_date rows.dates short.dates
 
 pub returns-clause-texts : goal.returns-clause-texts
 returns-clause-texts c = ap (λ texts. texts.texts) (c.texts.ensures ∙ ap (λ column. column.texts) c.column.ensures)
-    ∙ table_texts c.args.axis (rows_on c.args.self.now c.args.axis) c.dimension.result.now.table c.dimension.ensures.are.table c.args.column c.requires
+    ∙ table_texts c.args.axis (rows_on c.args.self.now c.args.axis) c.dimension.result.now.table
+    c.dimension.ensures.are.table c.args.column c.requires
 
 pub returns-clause-short : goal.returns-clause-short
-returns-clause-short c = subst (λ texts. AreShort texts.texts) (sym (c.texts.ensures ∙ ap (λ column. column.texts) c.column.ensures))
-    (table_short c.args.axis (rows_on c.args.self.now c.args.axis) c.dimension.result.now.table c.dimension.ensures.are.table c.args.column c.requires (short_on c.args.self.now c.args.axis c.dimension.ensures.short))
+returns-clause-short c =
+    subst (λ texts. AreShort texts.texts) (sym (c.texts.ensures ∙ ap (λ column. column.texts) c.column.ensures))
+    (table_short c.args.axis (rows_on c.args.self.now c.args.axis) c.dimension.result.now.table
+    c.dimension.ensures.are.table c.args.column c.requires
+    (short_on c.args.self.now c.args.axis c.dimension.ensures.short))

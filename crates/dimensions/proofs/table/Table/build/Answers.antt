@@ -9,7 +9,9 @@ extend-requires-clause-sound g c = ([], (c.in_ok-table.ensures.ok, none_at_first
 pub returns-in_err-extend : goal.returns-in_err-extend
 returns-in_err-extend g c =
     let p = err_from_is_err_and c.from_residual-in_err-extend.result c.from_residual-in_err-extend.ensures.1 in
-    rw (p.1, p.2) (not_built c.args.axis (map g.R.TableRow.shown c.args.rows.now) c.extend.new.self c.in_err-extend.field-0.0 (c.in_err-extend.ensures [] (c.in_ok-table.ensures.ok, none_at_first c.args.axis)))
+    rw (p.1, p.2)
+    (not_built c.args.axis (map g.R.TableRow.shown c.args.rows.now) c.extend.new.self c.in_err-extend.field-0.0
+    (c.in_err-extend.ensures [] (c.in_ok-table.ensures.ok, none_at_first c.args.axis)))
 
 pub returns : goal.returns
 returns g c = c.in_ok-extend.ensures [] (c.in_ok-table.ensures.ok, none_at_first c.args.axis)

@@ -10,11 +10,13 @@ returns-then-not-has_room g c = λ old holds.
     let new : List TextRow = map g.R.TableRow.shown c.args.rows.now in
     let count = length-map c.args.rows.now g.R.TableRow.shown in
     let own = holds_count c.args.axis old c.args.self.now holds.0 in
-    let above : row_limit_of c.args.axis < length old + length new = omega (arith, count, own, c.len-before.ensures, c.if-not-has_room.ensures.full) in
+    let above : row_limit_of c.args.axis < length old + length new =
+    omega (arith, count, own, c.len-before.ensures, c.if-not-has_room.ensures.full) in
     inr (too_many (text_rules c.args.axis) old new above)
 
 pub loop-row-init : goal.loop-row-init
-loop-row-init g c = λ old holds. so_far_first c.args.axis old (map g.R.TableRow.shown c.args.rows.now) c.args.self.now holds
+loop-row-init g c = λ old holds. so_far_first c.args.axis old (map g.R.TableRow.shown c.args.rows.now) c.args.self.now
+    holds
 
 pub loop-row-preserved : goal.loop-row-preserved
 loop-row-preserved g c = λ old holds.
@@ -22,10 +24,14 @@ loop-row-preserved g c = λ old holds.
     let row : TextRow = g.R.TableRow.shown c.row-item.result in
     let count = length-map c.args.rows.now g.R.TableRow.shown in
     let own = holds_count c.args.axis old c.args.self.now holds.0 in
-    let few : length old + length new ≤ row_limit_of c.args.axis = omega (arith, count, own, c.len-before.ensures, c.if-not-has_room.ensures.room) in
+    let few : length old + length new ≤ row_limit_of c.args.axis =
+    omega (arith, count, own, c.len-before.ensures, c.if-not-has_room.ensures.room) in
     let lt : c.loop-row.row-index < length new = omega (arith, count, c.loop-row-test.true) in
-    let at : get_or new c.loop-row.row-index row ≡ row = get_or-map g.R.TableRow.shown c.args.rows.now c.loop-row.row-index c.row-item.result row c.loop-row-test.true ∙ ap g.R.TableRow.shown (sym c.row-item.is) in
-    goes_on_after c.args.axis old new few c.loop-row.row-index c.loop-row.self (c.loop-row.invariant old holds) row lt at c.add.new.self (c.in_default.ensures _ (c.loop-row.invariant old holds).0)
+    let at : get_or new c.loop-row.row-index row ≡ row =
+    get_or-map g.R.TableRow.shown c.args.rows.now c.loop-row.row-index c.row-item.result row c.loop-row-test.true
+    ∙ ap g.R.TableRow.shown (sym c.row-item.is) in
+    goes_on_after c.args.axis old new few c.loop-row.row-index c.loop-row.self (c.loop-row.invariant old holds) row lt
+    at c.add.new.self (c.in_default.ensures _ (c.loop-row.invariant old holds).0)
 
 pub returns-in-Err : goal.returns-in-Err
 returns-in-Err g c = λ old holds.
@@ -33,10 +39,15 @@ returns-in-Err g c = λ old holds.
     let row : TextRow = g.R.TableRow.shown c.row-item.result in
     let count = length-map c.args.rows.now g.R.TableRow.shown in
     let own = holds_count c.args.axis old c.args.self.now holds.0 in
-    let few : length old + length new ≤ row_limit_of c.args.axis = omega (arith, count, own, c.len-before.ensures, c.if-not-has_room.ensures.room) in
+    let few : length old + length new ≤ row_limit_of c.args.axis =
+    omega (arith, count, own, c.len-before.ensures, c.if-not-has_room.ensures.room) in
     let lt : c.loop-row.row-index < length new = omega (arith, count, c.loop-row-test.true) in
-    let at : get_or new c.loop-row.row-index row ≡ row = get_or-map g.R.TableRow.shown c.args.rows.now c.loop-row.row-index c.row-item.result row c.loop-row-test.true ∙ ap g.R.TableRow.shown (sym c.row-item.is) in
-    rw c.counted_after.ensures (stops_after c.args.axis old new few c.loop-row.row-index c.loop-row.self (c.loop-row.invariant old holds) row lt at c.add.new.self c.len-before.result c.in-Err.fault (omega (arith, own, c.len-before.ensures))
+    let at : get_or new c.loop-row.row-index row ≡ row =
+    get_or-map g.R.TableRow.shown c.args.rows.now c.loop-row.row-index c.row-item.result row c.loop-row-test.true
+    ∙ ap g.R.TableRow.shown (sym c.row-item.is) in
+    rw c.counted_after.ensures
+    (stops_after c.args.axis old new few c.loop-row.row-index c.loop-row.self (c.loop-row.invariant old holds) row
+    lt at c.add.new.self c.len-before.result c.in-Err.fault (omega (arith, own, c.len-before.ensures))
     (c.in-Err.ensures _ (c.loop-row.invariant old holds).0))
 
 pub returns : goal.returns
@@ -44,6 +55,9 @@ returns g c = λ old holds.
     let new : List TextRow = map g.R.TableRow.shown c.args.rows.now in
     let count = length-map c.args.rows.now g.R.TableRow.shown in
     let own = holds_count c.args.axis old c.args.self.now holds.0 in
-    let few : length old + length new ≤ row_limit_of c.args.axis = omega (arith, count, own, c.len-before.ensures, c.if-not-has_room.ensures.room) in
-    let last : c.loop-row.row-index ≡ length new = omega (arith, count, c.loop-row.auto.row-index-end, c.loop-row-test.false) in
-    done_after c.args.axis old new c.loop-row.row-index c.loop-row.self _ few last (c.loop-row.invariant old holds) c.densify.ensures.keys refl
+    let few : length old + length new ≤ row_limit_of c.args.axis =
+    omega (arith, count, own, c.len-before.ensures, c.if-not-has_room.ensures.room) in
+    let last : c.loop-row.row-index ≡ length new =
+    omega (arith, count, c.loop-row.auto.row-index-end, c.loop-row-test.false) in
+    done_after c.args.axis old new c.loop-row.row-index c.loop-row.self _ few last (c.loop-row.invariant old holds)
+    c.densify.ensures.keys refl

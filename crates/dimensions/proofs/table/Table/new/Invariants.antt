@@ -4,4 +4,9 @@ use Rattle.dimensions.specs.Tables.{no_column}
 use Rattle.dimensions.proofs.table.Table.new.Given as goal
 
 abbrev pub invariant-loop-column : goal.invariant-loop-column
-invariant-loop-column l = (vec_len l.columns ≡ l.column) × ((k : ℕ) → k < l.column → get_or l.columns.items k no_column ≡ record { lower = lower_of l.axis k; texts = record { texts = []; limit = 65535 }; codes = [] })
+invariant-loop-column l = (vec_len l.columns ≡ l.column)
+    × ((k : ℕ) → k < l.column → get_or l.columns.items k no_column ≡ record {
+      lower = lower_of l.axis k;
+      texts = record { texts = []; limit = 65535 };
+      codes = [];
+    })

@@ -10,12 +10,15 @@ use Rattle.extents.proofs.free.Free.from_used.Goals as goal
 
 -- what was refused of the sorted extents holds of those that were given
 refused : (count : ℕ) (used extents : List Extent) → IsPermutation used extents → (fault : Fault)
-    → (fault ≡ Fault.Memory) ⊎ ((fault ≡ Fault.BadLayout) × (¬ AreLaidOut count extents)) → (fault ≡ Fault.Memory) ⊎ ((fault ≡ Fault.BadLayout) × (¬ AreLaidOut count used))
+    → (fault ≡ Fault.Memory) ⊎ ((fault ≡ Fault.BadLayout) × (¬ AreLaidOut count extents)) → (fault ≡ Fault.Memory)
+    ⊎ ((fault ≡ Fault.BadLayout) × (¬ AreLaidOut count used))
 refused count used extents same fault (inl memory) = inl memory
-refused count used extents same fault (inr bad) = inr (bad.0, λ ok. bad.1 (AreLaidOut-permutation count used extents same ok))
+refused count used extents same fault (inr bad) =
+    inr (bad.0, λ ok. bad.1 (AreLaidOut-permutation count used extents same ok))
 
 pub gaps-requires : goal.gaps-requires
-gaps-requires c = subst (IsNonDecreasingBy (λ (extent : Extent). extent.first)) (sym c.deref.ensures.value) c.in_ok-sorted.ensures.order
+gaps-requires c = subst (IsNonDecreasingBy (λ (extent : Extent). extent.first)) (sym c.deref.ensures.value)
+    c.in_ok-sorted.ensures.order
 
 pub returns-in_err-runs-clause-refused : goal.returns-in_err-runs-clause-refused
 returns-in_err-runs-clause-refused c =
@@ -26,9 +29,14 @@ returns-in_err-runs-clause-refused c =
 pub returns-clause-ok : goal.returns-clause-ok
 returns-clause-ok c =
     let same = subst (IsPermutation c.args.used.now) (sym c.deref.ensures.value) c.in_ok-sorted.ensures.same in
-    record { of_device = refl; sectors = IsRest-permutation c.args.count c.args.used.now c.deref.result.now c.in_ok-runs.runs.items same c.in_ok-runs.ensures.rest }
+    record {
+      of_device = refl;
+      sectors = IsRest-permutation c.args.count c.args.used.now c.deref.result.now
+          c.in_ok-runs.runs.items same c.in_ok-runs.ensures.rest;
+    }
 
 pub returns-clause-laid_out : goal.returns-clause-laid_out
 returns-clause-laid_out c =
     let same = subst (IsPermutation c.args.used.now) (sym c.deref.ensures.value) c.in_ok-sorted.ensures.same in
-    AreLaidOut-permutation c.args.count c.deref.result.now c.args.used.now (IsPermutation-sym c.args.used.now c.deref.result.now same) c.in_ok-runs.ensures.laid_out
+    AreLaidOut-permutation c.args.count c.deref.result.now c.args.used.now
+    (IsPermutation-sym c.args.used.now c.deref.result.now same) c.in_ok-runs.ensures.laid_out

@@ -1,5 +1,7 @@
 -- No call: the code makes a value of no bytes.
-use Rattle.file_device.proofs.Steps.{pure_i, group, done, vstruct, vnil, [], ftrue, agg, no_more, ◌∷◌, refl, proved, ‵, raw, ◌$◌, ◌∵◌, !, qed, drop, suffices, enter, returns, alloc_all, pass_all, free_all, look_at, sets, nothing, on_entry, Stays, walk_of, says, ends_at}
+use Rattle.file_device.proofs.Steps.{pure_i, group, done, vstruct, vnil, [], ftrue, agg, no_more, ◌∷◌, refl, proved, ‵}
+use Rattle.file_device.proofs.Steps.{raw, ◌$◌, ◌∵◌, !, qed, drop, suffices, enter, returns, alloc_all, pass_all}
+use Rattle.file_device.proofs.Steps.{free_all, look_at, sets, nothing, on_entry, Stays, walk_of, says, ends_at}
 use Rattle.file_device.specs.contracts.calls.Calls.none as f
 use Rattle.file_device.specs.declared.calls.Calls.{Calls}
 use Rattle.file_device.specs.contracts.calls.Calls.{the_row as C}
@@ -12,7 +14,8 @@ stayed = tt
 pub none_spec : {M : Type 1} → statement M
 none_spec 𝓤 𝓛 𝓜 𝓡 wired =
     let c = f.clauses 𝓛 𝓜.mem 𝓡.returns in let W = walk_of 𝓛 f.ended stayed c in
-    proved 𝓛 f.ended stayed c 𝓜 𝓡 tt f.Key.name code.function (code.unfolded 𝓤 𝓛.H 𝓜 𝓡 wired) (λ κs. tt) (λ κs. tt) (λ κs qs bounds a _ are.
+    proved 𝓛 f.ended stayed c 𝓜 𝓡 tt f.Key.name code.function (code.unfolded 𝓤 𝓛.H 𝓜 𝓡 wired) (λ κs. tt) (λ κs. tt)
+    (λ κs qs bounds a _ are.
     let empty : Calls = record { made = [] } in
     let y : W.Ghost = ((κs, qs, bounds, tt, tt), tt) in
     qed 𝓛 (raw (on_entry 𝓛 f.signature κs qs a y.0.4) ∷ ‵ ftrue ∷ []) ∵ drop ! $ drop ! $

@@ -1,5 +1,9 @@
 -- One call more: the code looks at neither argument, and makes a value of no bytes.
-use Rattle.file_device.proofs.Steps.{pure_i, group, done, vstruct, vnil, [], ftrue, flft, agg, no_more, ◌∷◌, refl, proved, ‵, ◌⊛◌, ◌$◌, ◌∵◌, !, qed, keep, move, split, join, suffices, enter, returns, alloc_all, pass_all, free_all, look_at, sets, nothing, named, yes, ShrRef, shr_vals, shr_Tells, plain, shr_ref_to, Stays, walk_of, says, stay_dropped, Goes-dropped, ends_at}
+use Rattle.file_device.proofs.Steps.{pure_i, group, done, vstruct, vnil, [], ftrue, flft, agg, no_more, ◌∷◌, refl}
+use Rattle.file_device.proofs.Steps.{proved, ‵, ◌⊛◌, ◌$◌, ◌∵◌, !, qed, keep, move, split, join, suffices, enter}
+use Rattle.file_device.proofs.Steps.{returns, alloc_all, pass_all, free_all, look_at, sets, nothing, named, yes, ShrRef}
+use Rattle.file_device.proofs.Steps.{shr_vals, shr_Tells, plain, shr_ref_to, Stays, walk_of, says, stay_dropped}
+use Rattle.file_device.proofs.Steps.{Goes-dropped, ends_at}
 use Rattle.file_device.specs.contracts.calls.Calls.then as f
 use Rattle.file_device.specs.declared.calls.Calls.{Calls}
 use Rattle.file_device.specs.contracts.calls.Calls.{the_row as C}
@@ -16,10 +20,13 @@ then_spec 𝓤 𝓛 𝓜 𝓡 wired =
     let earlier = Goes-dropped 𝓛 2 (shr_ref_to (0 ∷ []) tt (plain (λ _. C))) yes (λ κs x w. refl) in
     let next = Goes-dropped 𝓛 2 (shr_ref_to (1 ∷ []) tt (plain (λ _. E))) yes (λ κs x w. refl) in
     proved 𝓛 f.ended stayed c 𝓜 𝓡 (earlier, (next, tt)) f.Key.name code.function (code.unfolded 𝓤 𝓛.H 𝓜 𝓡 wired)
-    (λ κs. (shr_vals, (shr_vals, tt))) (λ κs. (shr_Tells (named 0) κs.0 C, (shr_Tells (named 1) κs.1.0 E, tt))) (λ κs qs bounds a _ are.
+    (λ κs. (shr_vals, (shr_vals, tt))) (λ κs. (shr_Tells (named 0) κs.0 C, (shr_Tells (named 1) κs.1.0 E, tt)))
+    (λ κs qs bounds a _ are.
     let longer : Calls = record { made = a.1.0.now ∷ a.0.now.made } in
     let tokens = ‵ (flft κs.0 qs.0) ⊛ (‵ (flft κs.1.0 qs.1.0) ⊛ ‵ ftrue) in
-    let borrows = ‵ ((ShrRef (named 0) κs.0 C).own_val a.0 (shr_vals a.0)) ⊛ (‵ ((ShrRef (named 1) κs.1.0 E).own_val a.1.0 (shr_vals a.1.0)) ⊛ ‵ ftrue) in
+    let borrows =
+    ‵ ((ShrRef (named 0) κs.0 C).own_val a.0 (shr_vals a.0)) ⊛
+    (‵ ((ShrRef (named 1) κs.1.0 E).own_val a.1.0 (shr_vals a.1.0)) ⊛ ‵ ftrue) in
     let y : W.Ghost = ((κs, qs, bounds, a, (shr_vals a.0, (shr_vals a.1.0, tt))), tt) in
     qed 𝓛 ((tokens ⊛ borrows) ∷ ‵ ftrue ∷ []) ∵ split ! $ keep ! (0 ∷ []) $
     -- [the tokens of both borrows]

@@ -5,12 +5,15 @@ use Rattle.file_device.proofs.disk.FileDiskSectors.write_run.Goals as goal
 
 pub returns-clause-word : goal.returns-clause-word
 returns-clause-word g c =
-    honest_written g.S.Start.reads c.args.first (sectors_in c.args.from.now) (is_ok c.write_run-outcome.result) _ _ c.write_run-outcome.ensures
+    honest_written g.S.Start.reads c.args.first (sectors_in c.args.from.now) (is_ok c.write_run-outcome.result) _ _
+    c.write_run-outcome.ensures
 
 pub returns-clause-written : goal.returns-clause-written
 returns-clause-written g c =
-    run_if_written c.args.self.now.count g.S.Start.reads g.S.Start.may_hold _ c.counted.result _ c.args.first c.args.from.now _ _ c.counted.ensures.variant c.write_run-outcome.ensures
+    run_if_written c.args.self.now.count g.S.Start.reads g.S.Start.may_hold _ c.counted.result _ c.args.first
+    c.args.from.now _ _ c.counted.ensures.variant c.write_run-outcome.ensures
 
 pub returns-clause-within : goal.returns-clause-within
 returns-clause-within g c word =
-    within_written c.args.self.now.count g.S.Start.reads g.S.Start.may_hold c.args.first c.args.from.now (is_ok c.write_run-outcome.result) _ _ c.write_run-outcome.ensures
+    within_written c.args.self.now.count g.S.Start.reads g.S.Start.may_hold c.args.first c.args.from.now
+    (is_ok c.write_run-outcome.result) _ _ c.write_run-outcome.ensures

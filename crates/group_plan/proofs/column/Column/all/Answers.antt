@@ -6,4 +6,5 @@ use Rattle.group_plan.proofs.column.Column.all.Goals as goal
 pub loop-i-preserved : goal.loop-i-preserved
 loop-i-preserved c =
     subst (AreColumns c.args.dims.now c.args.columns.now (c.loop-i.i + 1)) (sym c.in_ok-push.ensures.items)
-    (AreColumns-next c.args.dims.now c.args.columns.now c.loop-i.i c.loop-i.all.items c.in_ok-column.column c.loop-i.invariant c.in_ok-column.ensures)
+    (AreColumns-next c.args.dims.now c.args.columns.now c.loop-i.i c.loop-i.all.items c.in_ok-column.column
+    c.loop-i.invariant c.in_ok-column.ensures)

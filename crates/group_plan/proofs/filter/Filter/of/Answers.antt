@@ -15,7 +15,8 @@ at-kind-requires c =
 
 pub loop-row-init : goal.loop-row-init
 loop-row-init c =
-    subst (λ l. OnlyShuts (IsShut c.args.dims.now c.args.axis c.args.side.now) c.span_of-first.result.0 l) (sym (c.in_ok-passes.ensures.items_if_clones_equal (λ y e. e)))
+    subst (λ l. OnlyShuts (IsShut c.args.dims.now c.args.axis c.args.side.now) c.span_of-first.result.0 l)
+    (sym (c.in_ok-passes.ensures.items_if_clones_equal (λ y e. e)))
     (shuts_none (IsShut c.args.dims.now c.args.axis c.args.side.now) c.span_of-first.result.0 c.saturating_sub.result)
 
 pub loop-row-preserved : goal.loop-row-preserved
@@ -27,12 +28,15 @@ loop-row-preserved c = λ k e.
     let first = c.span_of-first.result.0 in
     let total = row_total dims axis keys c.keys-keys.ensures.keys in
     let within : row < row_count_of dims axis = omega (arith, c.loop-row-test.true, total) in
-    let good = good_on dims c.valid_rows_keep_the_rules.ensures c.row_count.ensures.valid c.row_count.ensures.short axis in
+    let good = good_on dims c.valid_rows_keep_the_rules.ensures c.row_count.ensures.valid c.row_count.ensures.short
+    axis in
     elim (c.mark.ensures k e) [
       | inl here ↦
-          let own : row_index_of dims axis (first + k) ≡ row = ap (row_index_of dims axis) (sym here.0) ∙ own_row dims axis keys c.keys-keys.ensures.keys good row c.loop-row-test.true in
+          let own : row_index_of dims axis (first + k) ≡ row = ap (row_index_of dims axis) (sym here.0)
+          ∙ own_row dims axis keys c.keys-keys.ensures.keys good row c.loop-row-test.true in
           let nothing : gives c.args.side.now (kind_at dims axis row) ≡ None =
-          ap (gives c.args.side.now) (sym (c.at-kind.ensures ∙ c.of-kinds.ensures.are row within)) ∙ sym c.at-given.ensures ∙ nothing_given c.at-given.result (sym c.is_some.ensures ∙ here.1) in
+          ap (gives c.args.side.now) (sym (c.at-kind.ensures ∙ c.of-kinds.ensures.are row within))
+          ∙ sym c.at-given.ensures ∙ nothing_given c.at-given.result (sym c.is_some.ensures ∙ here.1) in
           (omega (arith, own, within), ap (λ n. gives c.args.side.now (kind_at dims axis n)) own ∙ nothing)
       | inr other ↦ c.loop-row.invariant k other
     ]

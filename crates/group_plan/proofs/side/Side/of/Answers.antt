@@ -5,16 +5,22 @@ use Rattle.group_plan.proofs.Outcomes.{given_unused}
 use Rattle.group_plan.proofs.side.Side.of.Goals as goal
 
 pub returns-then-not-is_used-clause-side : goal.returns-then-not-is_used-clause-side
-returns-then-not-is_used-clause-side c = λ place within. sym (given_unused c.args.dims.now c.args.axis place c.args.query.now (sym c.is_used.ensures ∙ c.if-not-is_used.true))
+returns-then-not-is_used-clause-side c =
+    λ place within. sym
+    (given_unused c.args.dims.now c.args.axis place c.args.query.now (sym c.is_used.ensures ∙ c.if-not-is_used.true))
 
 pub returns-then-count-le-NARROW-clause-side : goal.returns-then-count-le-NARROW-clause-side
 returns-then-count-le-NARROW-clause-side c =
-    kinds_give c.args.dims.now c.valid_rows_keep_the_rules.ensures c.row_count.ensures.valid c.row_count.ensures.short c.args.query.now c.args.axis
+    kinds_give c.args.dims.now c.valid_rows_keep_the_rules.ensures c.row_count.ensures.valid c.row_count.ensures.short
+    c.args.query.now c.args.axis
     c.in_ok-places.places.items c.in_ok-narrow_parts.field-0.items c.in_ok-places.ensures
-    (c.in_ok-narrow_parts.ensures ∙ ap (map (given_at c.args.dims.now c.args.query.now c.args.axis)) c.deref.ensures.value)
+    (c.in_ok-narrow_parts.ensures
+    ∙ ap (map (given_at c.args.dims.now c.args.query.now c.args.axis)) c.deref.ensures.value)
 
 pub returns-clause-side : goal.returns-clause-side
 returns-clause-side c =
-    kinds_give c.args.dims.now c.valid_rows_keep_the_rules.ensures c.row_count.ensures.valid c.row_count.ensures.short c.args.query.now c.args.axis
+    kinds_give c.args.dims.now c.valid_rows_keep_the_rules.ensures c.row_count.ensures.valid c.row_count.ensures.short
+    c.args.query.now c.args.axis
     c.in_ok-places.places.items c.in_ok-wide_parts.field-0.items c.in_ok-places.ensures
-    (c.in_ok-wide_parts.ensures ∙ ap (map (given_at c.args.dims.now c.args.query.now c.args.axis)) c.deref-else-count-le-NARROW.ensures.value)
+    (c.in_ok-wide_parts.ensures
+    ∙ ap (map (given_at c.args.dims.now c.args.query.now c.args.axis)) c.deref-else-count-le-NARROW.ensures.value)

@@ -2,7 +2,9 @@ use Rattle.image_device.proofs.Cut.{reads, whole}
 use Rattle.image_device.proofs.disk.ImageDisk.over.Goals as goal
 
 pub invariant_of-result-clause-whole : goal.invariant_of-result-clause-whole
-invariant_of-result-clause-whole c = whole c.args.image.now c.as_chunks.result.0.now c.as_chunks.ensures.front c.as_chunks.ensures.front_len
+invariant_of-result-clause-whole c =
+    whole c.args.image.now c.as_chunks.result.0.now c.as_chunks.ensures.front c.as_chunks.ensures.front_len
 
 pub returns-clause-reads : goal.returns-clause-reads
-returns-clause-reads c = reads c.args.image.now c.as_chunks.result.0.now c.as_chunks.ensures.front c.as_chunks.ensures.front_len
+returns-clause-reads c =
+    reads c.args.image.now c.as_chunks.result.0.now c.as_chunks.ensures.front c.as_chunks.ensures.front_len

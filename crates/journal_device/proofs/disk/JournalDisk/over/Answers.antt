@@ -11,7 +11,9 @@ pub invariant_of-result : goal.invariant_of-result
 invariant_of-result g c =
     let image = g.O.Origin.image in record {
       over = c.in_ok-under.ensures.sectors ∙ ap sectors_in c.requires.origin;
-      agrees = agrees_at_first image c.new-2.result.items c.new.result.entries c.new-2.ensures.items c.new.ensures.empty;
+      agrees = agrees_at_first image c.new-2.result.items c.new.result.entries c.new-2.ensures.items
+          c.new.ensures.empty;
       whole = subst (AreWhole image) (sym c.new-2.ensures.items) (whole_at_first image);
-      within = subst (λ (l : List Call). All (IsWithin (length (sectors_in image))) l) (sym c.new-2.ensures.items) (All-nil (IsWithin (length (sectors_in image))));
+      within = subst (λ (l : List Call). All (IsWithin (length (sectors_in image))) l) (sym c.new-2.ensures.items)
+          (All-nil (IsWithin (length (sectors_in image))));
     }

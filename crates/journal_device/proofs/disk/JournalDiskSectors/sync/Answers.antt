@@ -19,10 +19,16 @@ invariant_of-self g c =
     let calls = c.args.self.now.calls.items in
     let r = c.record_sync-outcome in record {
       over = c.args.self.now.over;
-      agrees = either (λ (l : List Call). Agrees (content (sectors_in image)) (state_after image l).reads c.args.self.now.latest.entries) r.result calls (calls ++ Sync ∷ []) r.new.calls.items r.ensures.ok r.ensures.err
+      agrees = either
+          (λ (l : List Call). Agrees (content (sectors_in image)) (state_after image l).reads
+          c.args.self.now.latest.entries) r.result calls (calls ++ Sync ∷ []) r.new.calls.items r.ensures.ok
+          r.ensures.err
           (agrees_synced image calls c.args.self.now.latest.entries c.args.self.now.agrees) c.args.self.now.agrees;
-      whole = either (AreWhole image) r.result calls (calls ++ Sync ∷ []) r.new.calls.items r.ensures.ok r.ensures.err (whole_synced image calls c.args.self.now.whole) c.args.self.now.whole;
-      within = either (All (IsWithin size)) r.result calls (calls ++ Sync ∷ []) r.new.calls.items r.ensures.ok r.ensures.err (All-push (IsWithin size) calls Sync c.args.self.now.within (a_sync size)) c.args.self.now.within;
+      whole = either (AreWhole image) r.result calls (calls ++ Sync ∷ []) r.new.calls.items r.ensures.ok r.ensures.err
+          (whole_synced image calls c.args.self.now.whole) c.args.self.now.whole;
+      within = either (All (IsWithin size)) r.result calls (calls ++ Sync ∷ []) r.new.calls.items r.ensures.ok
+          r.ensures.err (All-push (IsWithin size) calls Sync c.args.self.now.within (a_sync size))
+          c.args.self.now.within;
     }
 
 pub returns-clause-syncs : goal.returns-clause-syncs
@@ -30,4 +36,6 @@ returns-clause-syncs g c =
     let image = g.O.Origin.image in
     let calls = c.args.self.now.calls.items in
     let r = c.record_sync-outcome in
-    either (λ (l : List Call). Syncs (state_after image calls) (state_after image l)) r.result calls (calls ++ Sync ∷ []) r.new.calls.items r.ensures.ok r.ensures.err (syncs image calls) (syncs_nothing (state_after image calls))
+    either (λ (l : List Call). Syncs (state_after image calls) (state_after image l)) r.result calls
+    (calls ++ Sync ∷ []) r.new.calls.items r.ensures.ok r.ensures.err (syncs image calls)
+    (syncs_nothing (state_after image calls))

@@ -18,11 +18,17 @@ invariant_of-self g c =
     let r = c.record_write-outcome in
     let more = calls ++ Write c.args.i c.args.from.now ∷ [] in record {
       over = c.args.self.now.over;
-      agrees = agrees_either r.result image calls r.new.calls.items c.args.i c.args.from.now c.args.self.now.latest.entries r.new.latest.entries r.ensures.ok r.ensures.kept r.ensures.err c.args.self.now.agrees;
-      whole = either (AreWhole image) r.result calls more r.new.calls.items r.ensures.ok (no_call r.result calls r.new.calls.items _ r.ensures.err)
-          (whole_written image calls c.args.i c.args.from.now (omega (arith, c.fits-from)) c.args.self.now.whole) c.args.self.now.whole;
-      within = either (All (IsWithin size)) r.result calls more r.new.calls.items r.ensures.ok (no_call r.result calls r.new.calls.items _ r.ensures.err)
-          (All-push (IsWithin size) calls (Write c.args.i c.args.from.now) c.args.self.now.within (a_write size c.args.i c.args.from.now c.requires (omega (arith, c.fits-from)))) c.args.self.now.within;
+      agrees = agrees_either r.result image calls r.new.calls.items c.args.i c.args.from.now
+          c.args.self.now.latest.entries r.new.latest.entries r.ensures.ok r.ensures.kept r.ensures.err
+          c.args.self.now.agrees;
+      whole = either (AreWhole image) r.result calls more r.new.calls.items r.ensures.ok
+          (no_call r.result calls r.new.calls.items _ r.ensures.err)
+          (whole_written image calls c.args.i c.args.from.now (omega (arith, c.fits-from)) c.args.self.now.whole)
+          c.args.self.now.whole;
+      within = either (All (IsWithin size)) r.result calls more r.new.calls.items r.ensures.ok
+          (no_call r.result calls r.new.calls.items _ r.ensures.err)
+          (All-push (IsWithin size) calls (Write c.args.i c.args.from.now) c.args.self.now.within
+          (a_write size c.args.i c.args.from.now c.requires (omega (arith, c.fits-from)))) c.args.self.now.within;
     }
 
 pub returns-clause-writes : goal.returns-clause-writes
@@ -31,5 +37,6 @@ returns-clause-writes g c =
     let calls = c.args.self.now.calls.items in
     let r = c.record_write-outcome in
     let more = calls ++ Write c.args.i c.args.from.now ∷ [] in
-    either (λ (l : List Call). Writes c.args.i c.args.from.now (state_after image calls) (state_after image l)) r.result calls more r.new.calls.items r.ensures.ok (no_call r.result calls r.new.calls.items _ r.ensures.err)
+    either (λ (l : List Call). Writes c.args.i c.args.from.now (state_after image calls) (state_after image l)) r.result
+    calls more r.new.calls.items r.ensures.ok (no_call r.result calls r.new.calls.items _ r.ensures.err)
     (writes image calls c.args.i c.args.from.now) (writes_nothing c.args.i c.args.from.now (state_after image calls))

@@ -7,10 +7,12 @@ use Rattle.lattice.proofs.counts.Counts.view.Goals as goal
 
 pub returns-then-index-view_count : goal.returns-then-index-view_count
 returns-then-index-view_count c =
-    let below : c.args.index < length (lattice_of c.args.self.now) = omega (arith, c.if-index-view_count.true, c.view_count.ensures) in
+    let below : c.args.index < length (lattice_of c.args.self.now) =
+    omega (arith, c.if-index-view_count.true, c.view_count.ensures) in
     c.new.ensures.place ∙ in_lattice (is_some c.args.self.now.ship_modes) c.args.index below
 
 pub returns-else-index-view_count : goal.returns-else-index-view_count
 returns-else-index-view_count c =
-    let past : length (lattice_of c.args.self.now) ≤ c.args.index = omega (arith, c.if-index-view_count.false, c.view_count.ensures) in
+    let past : length (lattice_of c.args.self.now) ≤ c.args.index =
+    omega (arith, c.if-index-view_count.false, c.view_count.ensures) in
     sym (slice_get_past (lattice_of c.args.self.now) c.args.index past)

@@ -7,6 +7,8 @@ returns-clause-bytes g c w =
     let store = c.args.self.now in
     let s = g.D.Sectors.state store.device in
     let w0 = c.read_at.ensures.kept.word w in
-    let within = within_entry s.reads store.entries.items c.args.id c.args.at (length c.args.to.now) s.size store.superblock store.kept.laid_out
-    (λ i lt. g.met.D.Sectors.whole store.device i (s.reads i) w0 lt (g.met.D.Sectors.read_may_stay store.device i w0)) c.requires.within in
+    let within = within_entry s.reads store.entries.items c.args.id c.args.at (length c.args.to.now) s.size
+    store.superblock store.kept.laid_out
+    (λ i lt. g.met.D.Sectors.whole store.device i (s.reads i) w0 lt (g.met.D.Sectors.read_may_stay store.device i w0))
+    c.requires.within in
     c.in_ok-read_at.ensures.bytes ((c.in_ok-read_at.ensures.within w).1 within) w

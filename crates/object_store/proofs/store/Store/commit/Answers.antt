@@ -16,20 +16,32 @@ put_plan-requires-clause-planned g c = record {
 }
 
 pub returns-clause-leaves : goal.returns-clause-leaves
-returns-clause-leaves g c = λ fine. c.put_plan.ensures.leaves c.args.drops.now c.args.root.now c.args.layout c.in_ok-plan.ensures.ok
+returns-clause-leaves g c = λ fine. c.put_plan.ensures.leaves c.args.drops.now c.args.root.now c.args.layout
+    c.in_ok-plan.ensures.ok
 
 pub returns-clause-ok : goal.returns-clause-ok
-returns-clause-ok g c = on_ok_weaker c.put_plan.result (λ made w. made c.args.drops.now c.args.root.now c.args.layout c.in_ok-plan.ensures.ok w) c.put_plan.ensures.ok
+returns-clause-ok g c =
+    on_ok_weaker c.put_plan.result
+    (λ made w. made c.args.drops.now c.args.root.now c.args.layout c.in_ok-plan.ensures.ok w) c.put_plan.ensures.ok
 
 pub returns-clause-fine : goal.returns-clause-fine
-returns-clause-fine g c = on_ok_weaker c.put_plan.result (λ fine. (c.in_ok-plan.ensures.fine, fine)) c.put_plan.ensures.fine
+returns-clause-fine g c =
+    on_ok_weaker c.put_plan.result (λ fine. (c.in_ok-plan.ensures.fine, fine)) c.put_plan.ensures.fine
 
 pub returns-clause-shows : goal.returns-clause-shows
-returns-clause-shows g c = on_ok_weaker c.put_plan.result (λ fine. always_shows g.D.Sectors c.put_plan.new.self fine) c.put_plan.ensures.fine
+returns-clause-shows g c = on_ok_weaker c.put_plan.result (λ fine. always_shows g.D.Sectors c.put_plan.new.self fine)
+    c.put_plan.ensures.fine
 
 pub returns-in_err-plan-clause-leaves : goal.returns-in_err-plan-clause-leaves
 returns-in_err-plan-clause-leaves g c = λ fine.
     let store = c.args.self.now in
     let content = content_of g.D.Sectors store in
-    begins (ShowsSome (IsOneOf content (committed (puts_of c.args.puts.now) c.args.drops.now c.args.root.now c.args.layout content))) (disk_of g.D.Sectors store) (λ w image. g.met.D.Sectors.only_now store.device image w)
-    (λ w image is. (content, ready_shows (g.D.Sectors.state store.device) store.superblock store.entries.items store.root.items (store.ready fine w) image is, inl refl))
+    begins (ShowsSome
+    (IsOneOf content (committed (puts_of c.args.puts.now) c.args.drops.now c.args.root.now c.args.layout content)))
+    (disk_of g.D.Sectors store) (λ w image. g.met.D.Sectors.only_now store.device image w)
+    (λ w image is. (
+      content,
+      ready_shows (g.D.Sectors.state store.device) store.superblock store.entries.items store.root.items
+          (store.ready fine w) image is,
+      inl refl,
+    ))

@@ -8,8 +8,13 @@ use Rattle.object_store.proofs.store.Store.create.Goals as goal
 pub returns-in-Ok-clause-shows : goal.returns-in-Ok-clause-shows
 returns-in-Ok-clause-shows g c w image is =
     let plan = c.in-Ok.plan in
-    let s = g.D.Sectors.state c.create.new.device in
-    (content_from s.reads plan.superblock plan.entries.items plan.root.items, ready_shows s plan.superblock plan.entries.items plan.root.items (c.in-Ok.ensures.ready w) image is, refl)
+    let s = g.D.Sectors.state c.create.new.device in (
+      content_from s.reads plan.superblock plan.entries.items plan.root.items,
+      ready_shows s plan.superblock plan.entries.items plan.root.items (c.in-Ok.ensures.ready w) image is,
+      refl,
+    )
 
 pub returns-in-Err-clause-full : goal.returns-in-Err-clause-full
-returns-in-Err-clause-full g c is = lacks_first (g.D.Sectors.state c.args.device).size (puts_of c.args.puts.now) c.args.root.now (c.in-Err.ensures.full is)
+returns-in-Err-clause-full g c is =
+    lacks_first (g.D.Sectors.state c.args.device).size (puts_of c.args.puts.now) c.args.root.now
+    (c.in-Err.ensures.full is)

@@ -9,26 +9,33 @@ invariant_of-self g c =
     let some = c.requires.planned in
     let s0 = g.D.Sectors.state store.device in
     let s1 = g.D.Sectors.state c.publish.new.device in record {
-      kept = kept_after s0 store.superblock store.entries.items store.root.items store.kept (puts_of c.args.puts.now) some.drops some.root some.layout c.args.plan some.planned s1.size c.publish.ensures.size;
-      ready = λ fine w. ready_after s0 store.superblock store.entries.items store.root.items store.kept (puts_of c.args.puts.now) some.drops some.root some.layout c.args.plan some.planned (store.ready fine (c.publish.ensures.word w))
+      kept = kept_after s0 store.superblock store.entries.items store.root.items store.kept (puts_of c.args.puts.now)
+          some.drops some.root some.layout c.args.plan some.planned s1.size c.publish.ensures.size;
+      ready = λ fine w. ready_after s0 store.superblock store.entries.items store.root.items store.kept
+          (puts_of c.args.puts.now) some.drops some.root some.layout c.args.plan some.planned
+          (store.ready fine (c.publish.ensures.word w))
           s1 c.publish.ensures.size (c.in-Ok.ensures.settled w) (c.in-Ok.ensures.written w);
     }
 
 pub returns-in-Ok-clause-leaves : goal.returns-in-Ok-clause-leaves
 returns-in-Ok-clause-leaves g c drops root layout planned =
     let store = c.args.self.now in
-    commit_leaves (disk g.D.Sectors store.device) (disk g.D.Sectors c.publish.new.device) store.superblock store.entries.items store.root.items store.kept (puts_of c.args.puts.now) drops root layout c.args.plan planned
+    commit_leaves (disk g.D.Sectors store.device) (disk g.D.Sectors c.publish.new.device) store.superblock
+    store.entries.items store.root.items store.kept (puts_of c.args.puts.now) drops root layout c.args.plan planned
     c.publish.ensures.word c.publish.ensures.size (λ w. store.ready c.requires.fine w) c.publish.ensures.moments
 
 pub returns-in-Err-clause-leaves : goal.returns-in-Err-clause-leaves
 returns-in-Err-clause-leaves g c drops root layout planned =
     let store = c.args.self.now in
-    commit_leaves (disk g.D.Sectors store.device) (disk g.D.Sectors c.publish.new.device) store.superblock store.entries.items store.root.items store.kept (puts_of c.args.puts.now) drops root layout c.args.plan planned
+    commit_leaves (disk g.D.Sectors store.device) (disk g.D.Sectors c.publish.new.device) store.superblock
+    store.entries.items store.root.items store.kept (puts_of c.args.puts.now) drops root layout c.args.plan planned
     c.publish.ensures.word c.publish.ensures.size (λ w. store.ready c.requires.fine w) c.publish.ensures.moments
 
 pub returns-in-Ok-clause-ok : goal.returns-in-Ok-clause-ok
 returns-in-Ok-clause-ok g c drops root layout planned w =
     let store = c.args.self.now in
     let s0 = g.D.Sectors.state store.device in
-    content_after s0 store.superblock store.entries.items store.root.items store.kept (puts_of c.args.puts.now) drops root layout c.args.plan planned (store.ready c.requires.fine (c.publish.ensures.word w))
-    (g.D.Sectors.state c.publish.new.device) c.publish.ensures.size (c.in-Ok.ensures.settled w) (c.in-Ok.ensures.written w)
+    content_after s0 store.superblock store.entries.items store.root.items store.kept (puts_of c.args.puts.now) drops
+    root layout c.args.plan planned (store.ready c.requires.fine (c.publish.ensures.word w))
+    (g.D.Sectors.state c.publish.new.device) c.publish.ensures.size (c.in-Ok.ensures.settled w)
+    (c.in-Ok.ensures.written w)

@@ -10,7 +10,9 @@ pub overflow_cast-sectors : goal.overflow_cast-sectors
 overflow_cast-sectors g c =
     let store = c.args.self.now in
     let size = (g.D.Sectors.state store.device).size in
-    let r : IsInRange size (extent_of c.args.entry.first c.args.entry.bytes) = found_range size c.args.id store.superblock store.entries.items c.args.entry c.requires.found store.kept.laid_out in
+    let r : IsInRange size (extent_of c.args.entry.first c.args.entry.bytes) =
+    found_range size c.args.id store.superblock store.entries.items c.args.entry c.requires.found
+    store.kept.laid_out in
     let ends = r.ends in
     let sized = store.kept.sized in
     let few = store.kept.proper in
@@ -20,7 +22,9 @@ pub push_sectors-requires-clause-in_range : goal.push_sectors-requires-clause-in
 push_sectors-requires-clause-in_range g c =
     let store = c.args.self.now in
     let size = (g.D.Sectors.state store.device).size in
-    let r : IsInRange size (extent_of c.args.entry.first c.args.entry.bytes) = found_range size c.args.id store.superblock store.entries.items c.args.entry c.requires.found store.kept.laid_out in
+    let r : IsInRange size (extent_of c.args.entry.first c.args.entry.bytes) =
+    found_range size c.args.id store.superblock store.entries.items c.args.entry c.requires.found
+    store.kept.laid_out in
     let ends = r.ends in
     omega (arith, ends, c.div_ceil-sectors.ensures)
 
@@ -31,17 +35,24 @@ returns-in-Ok-clause-bytes g c w =
     let e = c.args.entry in
     let many : c.div_ceil-sectors.result ≡ sectors_of e.bytes = omega (arith, c.div_ceil-sectors.ensures) in
     let run : c.push_sectors.new.to.items ≡ run_bytes reads e.first (sectors_of e.bytes) =
-    c.in-Ok.ensures.bytes w ∙ ap (λ (l : List ℕ). l ++ run_bytes reads e.first c.div_ceil-sectors.result) c.requires.none ∙ ap (λ (n : ℕ). run_bytes reads e.first n) many in
-    ap (λ (l : List ℕ). Some l) (c.truncate.ensures.items ∙ ap (λ (l : List ℕ). take e.bytes l) run) ∙ sym (bytes_some reads store.entries.items c.args.id e c.requires.found)
+    c.in-Ok.ensures.bytes w
+    ∙ ap (λ (l : List ℕ). l ++ run_bytes reads e.first c.div_ceil-sectors.result) c.requires.none
+    ∙ ap (λ (n : ℕ). run_bytes reads e.first n) many in
+    ap (λ (l : List ℕ). Some l) (c.truncate.ensures.items ∙ ap (λ (l : List ℕ). take e.bytes l) run)
+    ∙ sym (bytes_some reads store.entries.items c.args.id e c.requires.found)
 
 pub returns-in-Ok-clause-leaves : goal.returns-in-Ok-clause-leaves
 returns-in-Ok-clause-leaves g c =
     let store = c.args.self.now in
-    read_leaves (disk g.D.Sectors store.device) (disk g.D.Sectors c.push_sectors.new.device) store.superblock store.entries.items store.root.items
-    c.push_sectors.ensures.word c.push_sectors.ensures.size (λ w. store.ready c.requires.fine w) c.push_sectors.ensures.only
+    read_leaves (disk g.D.Sectors store.device) (disk g.D.Sectors c.push_sectors.new.device) store.superblock
+    store.entries.items store.root.items
+    c.push_sectors.ensures.word c.push_sectors.ensures.size (λ w. store.ready c.requires.fine w)
+    c.push_sectors.ensures.only
 
 pub returns-in-Err-clause-leaves : goal.returns-in-Err-clause-leaves
 returns-in-Err-clause-leaves g c =
     let store = c.args.self.now in
-    read_leaves (disk g.D.Sectors store.device) (disk g.D.Sectors c.push_sectors.new.device) store.superblock store.entries.items store.root.items
-    c.push_sectors.ensures.word c.push_sectors.ensures.size (λ w. store.ready c.requires.fine w) c.push_sectors.ensures.only
+    read_leaves (disk g.D.Sectors store.device) (disk g.D.Sectors c.push_sectors.new.device) store.superblock
+    store.entries.items store.root.items
+    c.push_sectors.ensures.word c.push_sectors.ensures.size (λ w. store.ready c.requires.fine w)
+    c.push_sectors.ensures.only

@@ -8,7 +8,9 @@ pub overflow_mul-result : goal.overflow_mul-result
 overflow_mul-result g c =
     let store = c.args.self.now in
     let size = (g.D.Sectors.state store.device).size in
-    let r : IsInRange size (extent_of c.args.entry.first c.args.entry.bytes) = found_range size c.args.id store.superblock store.entries.items c.args.entry c.requires.found store.kept.laid_out in
+    let r : IsInRange size (extent_of c.args.entry.first c.args.entry.bytes) =
+    found_range size c.args.id store.superblock store.entries.items c.args.entry c.requires.found
+    store.kept.laid_out in
     let ends = r.ends in
     let sized = store.kept.sized in
     let few = store.kept.proper in

@@ -13,7 +13,14 @@ returns-in_ok-dims-in-Ok-clause-begun g c k w represents rooted same =
     let here = c.deref-rows.ensures ∙ same in
     let cells = c.in_ok-done-in-Ok.ensures.begun k w represents rooted here in
     let shared : c.in_ok-dims-in-Ok.dims.value ≡ c.args.dims.now.value = c.in_ok-dims-in-Ok.ensures.cases in
-    let there : c.args.as_of ≤ length w.batches = omega (arith, c.requires.few, ap (λ r. length r.batches) rooted, length-map w.batches length) in
-    begun w c.args.as_of c.args.query.now (record { rows = c.in_ok-dims-in-Ok.dims.value; fold = fold; done = done; as_of = c.args.as_of })
-    (cells.0, cells.1, cells.2, subst (λ (d : DimRows). RepresentsRows d fold (all_rows (take done w.batches))) here cells.3)
+    let there : c.args.as_of ≤ length w.batches =
+    omega (arith, c.requires.few, ap (λ r. length r.batches) rooted, length-map w.batches length) in
+    begun w c.args.as_of c.args.query.now
+    (record { rows = c.in_ok-dims-in-Ok.dims.value; fold = fold; done = done; as_of = c.args.as_of }) (
+      cells.0,
+      cells.1,
+      cells.2,
+      subst (λ (d : DimRows). RepresentsRows d fold (all_rows (take done w.batches))) here
+          cells.3,
+    )
     (shared ∙ same) c.in_ok-done-in-Ok.ensures.query refl c.in_ok-done-in-Ok.ensures.in_time there represents.batches

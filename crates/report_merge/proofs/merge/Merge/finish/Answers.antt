@@ -13,22 +13,31 @@ pub returns-clause-answer : goal.returns-clause-answer
 returns-clause-answer c =
     let inside = c.self.inside in
     subst (λ (part : Part). c.in_ok-answer.answer ≡ finished_for c.args.layout part.query part.answer) c.self.view_is
-    (done c.args.layout inside.query c.in_ok-asked.asked.query c.asks_for_counts-counts.result (lines_of inside.lines.items) (lines_of c.in_ok-lines.lines.items)
-    c.in_ok-answer.answer (ap (λ asked. asked.query) c.in_ok-asked.ensures.ok) c.asks_for_counts-counts.ensures c.in_ok-lines.ensures.lines c.in_ok-answer.ensures.ok)
+    (done c.args.layout inside.query c.in_ok-asked.asked.query c.asks_for_counts-counts.result
+    (lines_of inside.lines.items) (lines_of c.in_ok-lines.lines.items)
+    c.in_ok-answer.answer (ap (λ asked. asked.query) c.in_ok-asked.ensures.ok) c.asks_for_counts-counts.ensures
+    c.in_ok-lines.ensures.lines c.in_ok-answer.ensures.ok)
 
 pub returns-in_err-answer-clause-complete : goal.returns-in_err-answer-clause-complete
 returns-in_err-answer-clause-complete c = λ can.
     let inside = c.self.inside in
     let fine = subst (λ (part : Part). CanBeFinished part.answer) (sym c.self.view_is) can in
     let p = err_from_is_err_and c.from_residual-in_err-answer.result c.from_residual-in_err-answer.ensures.1 in
-    rw p.1 (fine_memory c.in_ok-asked.asked.query.aggregates c.asks_for_counts-counts.result (lines_of inside.lines.items) (lines_of c.in_ok-lines.lines.items) p.0
-    c.in_ok-lines.ensures.lines fine (subst (FinishRefuses c.in_ok-asked.asked.query.aggregates (lines_of c.in_ok-lines.lines.items)) (sym p.2) c.in_err-answer.ensures.refused))
+    rw p.1 (fine_memory c.in_ok-asked.asked.query.aggregates c.asks_for_counts-counts.result
+    (lines_of inside.lines.items) (lines_of c.in_ok-lines.lines.items) p.0
+    c.in_ok-lines.ensures.lines fine
+    (subst (FinishRefuses c.in_ok-asked.asked.query.aggregates (lines_of c.in_ok-lines.lines.items)) (sym p.2)
+    c.in_err-answer.ensures.refused))
 
 pub returns-in_err-answer-clause-refused : goal.returns-in_err-answer-clause-refused
 returns-in_err-answer-clause-refused c =
     let inside = c.self.inside in
     let p = err_from_is_err_and c.from_residual-in_err-answer.result c.from_residual-in_err-answer.ensures.1 in
-    rw p.1 (subst (λ (part : Part). FinishRefuses (query_for c.args.layout part.query).aggregates (partial_for c.args.layout part.query part.answer).lines p.0) c.self.view_is
-    (refused_for c.args.layout inside.query c.in_ok-asked.asked.query c.asks_for_counts-counts.result (lines_of inside.lines.items) (lines_of c.in_ok-lines.lines.items) p.0
+    rw p.1 (subst
+    (λ (part : Part). FinishRefuses (query_for c.args.layout part.query).aggregates
+    (partial_for c.args.layout part.query part.answer).lines p.0) c.self.view_is
+    (refused_for c.args.layout inside.query c.in_ok-asked.asked.query c.asks_for_counts-counts.result
+    (lines_of inside.lines.items) (lines_of c.in_ok-lines.lines.items) p.0
     (ap (λ asked. asked.query) c.in_ok-asked.ensures.ok) c.asks_for_counts-counts.ensures c.in_ok-lines.ensures.lines
-    (subst (FinishRefuses c.in_ok-asked.asked.query.aggregates (lines_of c.in_ok-lines.lines.items)) (sym p.2) c.in_err-answer.ensures.refused)))
+    (subst (FinishRefuses c.in_ok-asked.asked.query.aggregates (lines_of c.in_ok-lines.lines.items)) (sym p.2)
+    c.in_err-answer.ensures.refused)))

@@ -13,7 +13,8 @@ pub invariant_of-self : goal.invariant_of-self
 invariant_of-self c = record {
   counted = c.args.self.now.counted;
   roomy = c.args.self.now.roomy;
-  whole = subst (λ (l : List Change). AreWhole c.args.self.now.sectors.items (reverse l)) (sym c.in_err-noted.ensures.err) c.args.self.now.whole;
+  whole = subst (λ (l : List Change). AreWhole c.args.self.now.sectors.items (reverse l))
+      (sym c.in_err-noted.ensures.err) c.args.self.now.whole;
 }
 
 pub invariant_of-self-2 : goal.invariant_of-self-2
@@ -21,11 +22,13 @@ invariant_of-self-2 c =
     let sectors = c.args.self.now.sectors.items in
     let log = reverse c.args.self.now.log.items in
     let below : c.args.i < length sectors = search rules in
-    let old : c.index-old.result.now ≡ content sectors c.args.i = any_default sectors c.args.i c.index-old.result.now below c.index-old.ensures in
+    let old : c.index-old.result.now ≡ content sectors c.args.i =
+    any_default sectors c.args.i c.index-old.result.now below c.index-old.ensures in
     let is = c.in_ok-noted.ensures.ok ∙ ap (λ (b : List ℕ). Replaced c.args.i b ∷ log) old in record {
       counted = length-set sectors c.args.i c.args.from.now ∙ c.args.self.now.counted;
       roomy = c.args.self.now.roomy;
-      whole = subst (λ (l : List Change). AreWhole (set sectors c.args.i c.args.from.now) l) (sym is) (stay_whole sectors log c.args.i c.args.from.now below (omega (arith, c.fits-from)) c.args.self.now.whole);
+      whole = subst (λ (l : List Change). AreWhole (set sectors c.args.i c.args.from.now) l) (sym is)
+          (stay_whole sectors log c.args.i c.args.from.now below (omega (arith, c.fits-from)) c.args.self.now.whole);
     }
 
 pub returns-clause-writes : goal.returns-clause-writes
@@ -33,14 +36,19 @@ returns-clause-writes c =
     let sectors = c.args.self.now.sectors.items in
     let log = reverse c.args.self.now.log.items in
     let below : c.args.i < length sectors = search rules in
-    let old : c.index-old.result.now ≡ content sectors c.args.i = any_default sectors c.args.i c.index-old.result.now below c.index-old.ensures in
+    let old : c.index-old.result.now ≡ content sectors c.args.i =
+    any_default sectors c.args.i c.index-old.result.now below c.index-old.ensures in
     let is = c.in_ok-noted.ensures.ok ∙ ap (λ (b : List ℕ). Replaced c.args.i b ∷ log) old in
-    subst (λ (l : List Change). Writes c.args.i c.args.from.now (memory_state sectors log) (memory_state (set sectors c.args.i c.args.from.now) l)) (sym is) (writes sectors log c.args.i c.args.from.now below)
+    subst (λ (l : List Change). Writes c.args.i c.args.from.now (memory_state sectors log)
+    (memory_state (set sectors c.args.i c.args.from.now) l)) (sym is)
+    (writes sectors log c.args.i c.args.from.now below)
 
 pub returns-clause-adds : goal.returns-clause-adds
 returns-clause-adds c =
     let sectors = c.args.self.now.sectors.items in
     let log = reverse c.args.self.now.log.items in
     let below : c.args.i < length sectors = search rules in
-    let old : c.index-old.result.now ≡ content sectors c.args.i = any_default sectors c.args.i c.index-old.result.now below c.index-old.ensures in
-    adds c.args.self.now _ c.args.i c.args.from.now below refl (c.in_ok-noted.ensures.ok ∙ ap (λ (b : List ℕ). Replaced c.args.i b ∷ log) old)
+    let old : c.index-old.result.now ≡ content sectors c.args.i =
+    any_default sectors c.args.i c.index-old.result.now below c.index-old.ensures in
+    adds c.args.self.now _ c.args.i c.args.from.now below refl
+    (c.in_ok-noted.ensures.ok ∙ ap (λ (b : List ℕ). Replaced c.args.i b ∷ log) old)

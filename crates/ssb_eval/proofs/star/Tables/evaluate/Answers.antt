@@ -7,28 +7,39 @@ use Rattle.ssb_eval.proofs.star.Tables.evaluate.Goals as goal
 
 pub returns-in_err-groups-clause-evaluates : goal.returns-in_err-groups-clause-evaluates
 returns-in_err-groups-clause-evaluates g c = λ texts unread.
-    evaluates-no_answer c.args.query.now texts c.in_ok-dims.dims _ _ (err_from_is_err_and _ c.from_residual-in_err-groups.ensures.1)
+    evaluates-no_answer c.args.query.now texts c.in_ok-dims.dims _ _
+    (err_from_is_err_and _ c.from_residual-in_err-groups.ensures.1)
     (c.in_ok-dims.ensures.dims texts unread.dimensions)
-    (c.in_err-groups.ensures.answer texts.lineorder (unread-rest _ _ texts.lineorder (ap (λ (t : StarLines). t.lineorder) c.self.view_is ∙ c.in_ok-dims.ensures.rest.0) unread.lineorder))
+    (c.in_err-groups.ensures.answer texts.lineorder
+    (unread-rest _ _ texts.lineorder (ap (λ (t : StarLines). t.lineorder) c.self.view_is
+    ∙ c.in_ok-dims.ensures.rest.0) unread.lineorder))
 
 pub returns-in_err-groups-clause-cause : goal.returns-in_err-groups-clause-cause
 returns-in_err-groups-clause-cause g c = λ fresh.
-    keeps-cause _ _ (subst (λ (t : StarLines). KeepLines t.dimensions) (sym c.self.view_is) (c.in_ok-dims.ensures.lines fresh))
-    (c.in_err-groups.ensures.line (ap (λ (t : StarLines). t.lineorder.fault) c.self.view_is ∙ ap (λ (l : Unread). l.fault) c.in_ok-dims.ensures.rest.0 ∙ fresh.lineorder))
+    keeps-cause _ _
+    (subst (λ (t : StarLines). KeepLines t.dimensions) (sym c.self.view_is) (c.in_ok-dims.ensures.lines fresh))
+    (c.in_err-groups.ensures.line (ap (λ (t : StarLines). t.lineorder.fault) c.self.view_is
+    ∙ ap (λ (l : Unread). l.fault) c.in_ok-dims.ensures.rest.0 ∙ fresh.lineorder))
     (ap (λ (t : StarLines). t.broken) c.self.view_is ∙ c.in_ok-dims.ensures.whole ∙ fresh.broken)
 
 pub returns-in_err-groups-clause-unknown : goal.returns-in_err-groups-clause-unknown
 returns-in_err-groups-clause-unknown g c = λ texts unread.
     keeps-unknown texts c.in_ok-dims.dims _ (c.in_ok-dims.ensures.dims texts unread.dimensions)
-    (c.in_err-groups.ensures.unknown (no_key c.in_ok-dims.dims _ (ap (λ (t : StarLines). t.unknown) c.self.view_is ∙ c.in_ok-dims.ensures.rest.1 ∙ unread.unknown)))
+    (c.in_err-groups.ensures.unknown
+    (no_key c.in_ok-dims.dims _ (ap (λ (t : StarLines). t.unknown) c.self.view_is ∙ c.in_ok-dims.ensures.rest.1
+    ∙ unread.unknown)))
 
 pub returns-clause-evaluates : goal.returns-clause-evaluates
 returns-clause-evaluates g c = λ texts unread. (
   c.in_ok-dims.ensures.dims texts unread.dimensions,
-  c.in_ok-groups.ensures.answer texts.lineorder (unread-rest _ _ texts.lineorder (ap (λ (t : StarLines). t.lineorder) c.self.view_is ∙ c.in_ok-dims.ensures.rest.0) unread.lineorder),
+  c.in_ok-groups.ensures.answer texts.lineorder
+      (unread-rest _ _ texts.lineorder (ap (λ (t : StarLines). t.lineorder) c.self.view_is
+      ∙ c.in_ok-dims.ensures.rest.0) unread.lineorder),
 )
 
 pub returns-clause-unknown : goal.returns-clause-unknown
 returns-clause-unknown g c = λ texts unread.
     keeps-unknown texts c.in_ok-dims.dims _ (c.in_ok-dims.ensures.dims texts unread.dimensions)
-    (c.in_ok-groups.ensures.unknown (no_key c.in_ok-dims.dims _ (ap (λ (t : StarLines). t.unknown) c.self.view_is ∙ c.in_ok-dims.ensures.rest.1 ∙ unread.unknown)))
+    (c.in_ok-groups.ensures.unknown
+    (no_key c.in_ok-dims.dims _ (ap (λ (t : StarLines). t.unknown) c.self.view_is ∙ c.in_ok-dims.ensures.rest.1
+    ∙ unread.unknown)))

@@ -11,19 +11,22 @@ push-requires c =
     record {
       few = (
         few.0,
-        had_columns c.args.dims.now root few.0 c.args.rows.now c.args.self.now c.more-self.result few.1 (c.more-self.ensures (totals_in root) few.0 few.1.found) (search rules),
+        had_columns c.args.dims.now root few.0 c.args.rows.now c.args.self.now c.more-self.result few.1
+            (c.more-self.ensures (totals_in root) few.0 few.1.found) (search rules),
         few.2,
       );
     }
 
 pub returns-then-has_long_text-clause-ok : goal.returns-then-has_long_text-clause-ok
 returns-then-has_long_text-clause-ok c = λ root before grown.
-    grown-long c.args.dims.now root before c.args.rows.now c.args.self.now c.more-self.result grown (c.more-self.ensures (totals_in root) before grown.found) (search rules) c.numbers_fit.ensures
+    grown-long c.args.dims.now root before c.args.rows.now c.args.self.now c.more-self.result grown
+    (c.more-self.ensures (totals_in root) before grown.found) (search rules) c.numbers_fit.ensures
 
 pub returns-clause-ok : goal.returns-clause-ok
 returns-clause-ok c =
     on_ok_weaker c.push.result
     (λ pushed root before grown.
-    grown-more c.args.dims.now root before c.args.rows.now c.args.self.now c.more-self.result grown (c.more-self.ensures (totals_in root) before grown.found) c.push.new.self (search rules) c.numbers_fit.ensures
+    grown-more c.args.dims.now root before c.args.rows.now c.args.self.now c.more-self.result grown
+    (c.more-self.ensures (totals_in root) before grown.found) c.push.new.self (search rules) c.numbers_fit.ensures
     (pushed before))
     c.push.ensures.ok

@@ -7,15 +7,22 @@ returns-in-Err-clause-causes g c cause w at k =
     ⊎_elim (λ refused. inl refused) (λ memory. inr (inl memory)) (c.in-Err.ensures.refused w at k)
 
 pub returns-clause-leaves : goal.returns-clause-leaves
-returns-clause-leaves g c = λ w at. c.put_wider.ensures.leaves w c.args.number c.args.rows.now (c.in-Ok.ensures.ready w at)
+returns-clause-leaves g c =
+    λ w at. c.put_wider.ensures.leaves w c.args.number c.args.rows.now (c.in-Ok.ensures.ready w at)
 
 pub returns-clause-ok : goal.returns-clause-ok
-returns-clause-ok g c = on_ok_weaker c.put_wider.result (λ then w at. then w c.args.number c.args.rows.now (c.in-Ok.ensures.ready w at)) c.put_wider.ensures.ok
+returns-clause-ok g c =
+    on_ok_weaker c.put_wider.result (λ then w at. then w c.args.number c.args.rows.now (c.in-Ok.ensures.ready w at))
+    c.put_wider.ensures.ok
 
 pub returns-clause-refused : goal.returns-clause-refused
 returns-clause-refused g c =
-    IfErr-weaker c.put_wider.result _ _ (λ fault as_before cause w at. as_before cause w c.args.number c.args.rows.now (c.in-Ok.ensures.ready w at)) c.put_wider.ensures.refused
+    IfErr-weaker c.put_wider.result _ _
+    (λ fault as_before cause w at. as_before cause w c.args.number c.args.rows.now (c.in-Ok.ensures.ready w at))
+    c.put_wider.ensures.refused
 
 pub returns-clause-causes : goal.returns-clause-causes
 returns-clause-causes g c =
-    IfErr-weaker c.put_wider.result _ _ (λ fault causes cause w at k. causes cause w c.args.number c.args.rows.now (c.in-Ok.ensures.ready w at) k) c.put_wider.ensures.causes
+    IfErr-weaker c.put_wider.result _ _
+    (λ fault causes cause w at k. causes cause w c.args.number c.args.rows.now (c.in-Ok.ensures.ready w at) k)
+    c.put_wider.ensures.causes

@@ -9,4 +9,6 @@ returns-clause-ok g c =
     let root = c.args.self.now.root in
     on_ok_weaker c.push.result (λ grown before was.
     subst (λ (dims : DimRows). IsGrown dims root (before ++ c.args.rows.now) c.push.new.self) c.deref.ensures
-    (grown root before (subst (λ (dims : DimRows). IsGrown dims root before c.args.batch.now) (sym c.deref.ensures) was))) c.push.ensures.ok
+    (grown root before
+    (subst (λ (dims : DimRows). IsGrown dims root before c.args.batch.now) (sym c.deref.ensures) was)))
+    c.push.ensures.ok

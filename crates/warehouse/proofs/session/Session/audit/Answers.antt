@@ -7,47 +7,58 @@ use Rattle.warehouse.proofs.session.Session.audit.Goals as goal
 pub returns-in-Ok-clause-leaves : goal.returns-in-Ok-clause-leaves
 returns-in-Ok-clause-leaves g c w at =
     let s = c.args.self.now in
-    content_leaves g.D.Sectors w (stores.disk_of g.D.Sectors s.store) (stores.disk_of g.D.Sectors c.audited.new.store) (stores.content_of g.D.Sectors s.store) at.represents c.audited.ensures.leaves
+    content_leaves g.D.Sectors w (stores.disk_of g.D.Sectors s.store) (stores.disk_of g.D.Sectors c.audited.new.store)
+    (stores.content_of g.D.Sectors s.store) at.represents c.audited.ensures.reads.leaves
 
 pub returns-in-Ok-clause-stays : goal.returns-in-Ok-clause-stays
 returns-in-Ok-clause-stays g c other w at =
     let s = c.args.self.now in
-    session_at g.D.Sectors w _ (still_at g.D.Sectors w s.store c.audited.new.store (store_at g.D.Sectors w s at) (c.in-Ok.ensures.stays other))
+    session_at g.D.Sectors w _
+    (still_at g.D.Sectors w s.store c.audited.new.store (store_at g.D.Sectors w s at)
+    (c.in-Ok.ensures.reads.stays other))
 
 pub returns-in-Err-clause-leaves : goal.returns-in-Err-clause-leaves
 returns-in-Err-clause-leaves g c w at =
     let s = c.args.self.now in
-    content_leaves g.D.Sectors w (stores.disk_of g.D.Sectors s.store) (stores.disk_of g.D.Sectors c.audited.new.store) (stores.content_of g.D.Sectors s.store) at.represents c.audited.ensures.leaves
+    content_leaves g.D.Sectors w (stores.disk_of g.D.Sectors s.store) (stores.disk_of g.D.Sectors c.audited.new.store)
+    (stores.content_of g.D.Sectors s.store) at.represents c.audited.ensures.reads.leaves
 
 pub returns-in-Err-clause-stays : goal.returns-in-Err-clause-stays
 returns-in-Err-clause-stays g c other w at =
     let s = c.args.self.now in
-    session_at g.D.Sectors w _ (still_at g.D.Sectors w s.store c.audited.new.store (store_at g.D.Sectors w s at) (c.in-Err.ensures.stays other))
+    session_at g.D.Sectors w _
+    (still_at g.D.Sectors w s.store c.audited.new.store (store_at g.D.Sectors w s at)
+    (c.in-Err.ensures.reads.stays other))
 
 pub returns-in-Ok-clause-answer : goal.returns-in-Ok-clause-answer
 returns-in-Ok-clause-answer g c w at k =
     let s = c.args.self.now in
-    let word = c.audited.ensures.leaves.word in
+    let word = c.audited.ensures.reads.leaves.word in
     let laid = at.laid (word k) in
-    let agree = c.kept_is_represented.ensures.laid (stores.content_of g.D.Sectors s.store) w (s.loaded at.fine (word k)) laid in
+    let agree = c.kept_is_represented.ensures.laid (stores.content_of g.D.Sectors s.store) w (s.loaded at.fine (word k))
+    laid in
     c.in-Ok.ensures.answer k w laid (sym agree.root_is) (c.deref.ensures ∙ sym agree.rows_are)
 
 pub returns-in-Ok-clause-yes : goal.returns-in-Ok-clause-yes
 returns-in-Ok-clause-yes g c w at k =
     let s = c.args.self.now in
     let content = stores.content_of g.D.Sectors s.store in
-    let word = c.audited.ensures.leaves.word in
+    let word = c.audited.ensures.reads.leaves.word in
     let laid = (laid_at g.D.Sectors w s at).laid (word k) in
     let agree = c.kept_is_represented.ensures.laid content w (s.loaded at.fine (word k)) laid in
-    (c.in-Ok.ensures.answer k w laid (sym agree.root_is) (c.deref.ensures ∙ sym agree.rows_are)).1 (c.kept_cuboids_are_sound.ensures content w (at.represents (word k)))
+    (c.in-Ok.ensures.answer k w laid (sym agree.root_is) (c.deref.ensures ∙ sym agree.rows_are)).1
+    (c.kept_cuboids_are_sound.ensures content w (at.represents (word k)))
 
 pub returns-in-Err-clause-refused : goal.returns-in-Err-clause-refused
 returns-in-Err-clause-refused g c cause w at k =
     let s = c.args.self.now in
-    let word = c.audited.ensures.leaves.word in
+    let word = c.audited.ensures.reads.leaves.word in
     let laid = at.laid (word k) in
-    let agree = c.kept_is_represented.ensures.laid (stores.content_of g.D.Sectors s.store) w (s.loaded at.fine (word k)) laid in
+    let agree = c.kept_is_represented.ensures.laid (stores.content_of g.D.Sectors s.store) w (s.loaded at.fine (word k))
+    laid in
     ⊎_elim (λ memory. memory)
     (⊎_elim (λ device. absurd (cause device))
-    (λ bad. absurd (c.in-Err.ensures.refused (ap (λ f. Err f) bad) k w laid (sym agree.root_is) (c.deref.ensures ∙ sym agree.rows_are))))
+    (λ bad. absurd
+    (c.in-Err.ensures.refused (ap (λ f. Err f) bad) k w laid (sym agree.root_is)
+    (c.deref.ensures ∙ sym agree.rows_are))))
     c.in-Err.ensures.causes

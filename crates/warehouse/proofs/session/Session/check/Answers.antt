@@ -8,28 +8,34 @@ use Rattle.warehouse.proofs.session.Session.check.Goals as goal
 pub returns-in-Ok-clause-leaves : goal.returns-in-Ok-clause-leaves
 returns-in-Ok-clause-leaves g c w at =
     let s = c.args.self.now in
-    content_leaves g.D.Sectors w (stores.disk_of g.D.Sectors s.store) (stores.disk_of g.D.Sectors c.checked.new.store) (stores.content_of g.D.Sectors s.store) at.represents c.checked.ensures.leaves
+    content_leaves g.D.Sectors w (stores.disk_of g.D.Sectors s.store) (stores.disk_of g.D.Sectors c.checked.new.store)
+    (stores.content_of g.D.Sectors s.store) at.represents c.checked.ensures.reads.leaves
 
 pub returns-in-Ok-clause-stays : goal.returns-in-Ok-clause-stays
 returns-in-Ok-clause-stays g c other w at =
     let s = c.args.self.now in
-    session_at g.D.Sectors w _ (still_at g.D.Sectors w s.store c.checked.new.store (store_at g.D.Sectors w s at) (c.in-Ok.ensures.stays other))
+    session_at g.D.Sectors w _
+    (still_at g.D.Sectors w s.store c.checked.new.store (store_at g.D.Sectors w s at)
+    (c.in-Ok.ensures.reads.stays other))
 
 pub returns-in-Err-clause-leaves : goal.returns-in-Err-clause-leaves
 returns-in-Err-clause-leaves g c w at =
     let s = c.args.self.now in
-    content_leaves g.D.Sectors w (stores.disk_of g.D.Sectors s.store) (stores.disk_of g.D.Sectors c.checked.new.store) (stores.content_of g.D.Sectors s.store) at.represents c.checked.ensures.leaves
+    content_leaves g.D.Sectors w (stores.disk_of g.D.Sectors s.store) (stores.disk_of g.D.Sectors c.checked.new.store)
+    (stores.content_of g.D.Sectors s.store) at.represents c.checked.ensures.reads.leaves
 
 pub returns-in-Err-clause-stays : goal.returns-in-Err-clause-stays
 returns-in-Err-clause-stays g c other w at =
     let s = c.args.self.now in
-    session_at g.D.Sectors w _ (still_at g.D.Sectors w s.store c.checked.new.store (store_at g.D.Sectors w s at) (c.in-Err.ensures.stays other))
+    session_at g.D.Sectors w _
+    (still_at g.D.Sectors w s.store c.checked.new.store (store_at g.D.Sectors w s at)
+    (c.in-Err.ensures.reads.stays other))
 
 pub returns-in-Ok-clause-sound : goal.returns-in-Ok-clause-sound
 returns-in-Ok-clause-sound g c is k =
     let s = c.args.self.now in
     let content = stores.content_of g.D.Sectors s.store in
-    let word = c.checked.ensures.leaves.word in
+    let word = c.checked.ensures.reads.leaves.word in
     let fine : stores.has_failed s.store ≡ false = sym c.is_broken.ensures.broken ∙ c.if-is_broken.false in record {
       rows = s.dims.value;
       root = s.root;
@@ -43,26 +49,31 @@ returns-in-Ok-clause-sound g c is k =
 pub returns-in-Ok-clause-cuboids : goal.returns-in-Ok-clause-cuboids
 returns-in-Ok-clause-cuboids g c is w at k =
     let s = c.args.self.now in
-    let word = c.checked.ensures.leaves.word in
+    let word = c.checked.ensures.reads.leaves.word in
     let laid = at.laid (word k) in
-    let agree = c.kept_is_represented.ensures.laid (stores.content_of g.D.Sectors s.store) w (s.loaded at.fine (word k)) laid in
+    let agree = c.kept_is_represented.ensures.laid (stores.content_of g.D.Sectors s.store) w (s.loaded at.fine (word k))
+    laid in
     c.in-Ok.ensures.cuboids is k w laid (sym agree.root_is) (c.deref.ensures ∙ sym agree.rows_are)
 
 pub returns-in-Ok-clause-found : goal.returns-in-Ok-clause-found
 returns-in-Ok-clause-found g c is k w represents =
     let s = c.args.self.now in
-    let word = c.checked.ensures.leaves.word in
+    let word = c.checked.ensures.reads.leaves.word in
     let fine : stores.has_failed s.store ≡ false = sym c.is_broken.ensures.broken ∙ c.if-is_broken.false in
-    let agree = c.kept_is_represented.ensures.agrees (stores.content_of g.D.Sectors s.store) w (s.loaded fine (word k)) represents in
+    let agree = c.kept_is_represented.ensures.agrees (stores.content_of g.D.Sectors s.store) w (s.loaded fine (word k))
+    represents in
     c.in-Ok.ensures.found is k w represents (sym agree.root_is) (c.deref.ensures ∙ sym agree.rows_are)
 
 pub returns-in-Ok-clause-none : goal.returns-in-Ok-clause-none
 returns-in-Ok-clause-none g c w at k =
     let s = c.args.self.now in
-    let word = c.checked.ensures.leaves.word in
+    let word = c.checked.ensures.reads.leaves.word in
     let represents = at.represents (word k) in
-    let agree = c.kept_is_represented.ensures.agrees (stores.content_of g.D.Sectors s.store) w (s.loaded at.fine (word k)) represents in
-    none_unless c.in-Ok.found (λ is. c.in-Ok.ensures.found is k w represents (sym agree.root_is) (c.deref.ensures ∙ sym agree.rows_are))
+    let agree =
+    c.kept_is_represented.ensures.agrees (stores.content_of g.D.Sectors s.store) w (s.loaded at.fine (word k))
+    represents in
+    none_unless c.in-Ok.found
+    (λ is. c.in-Ok.ensures.found is k w represents (sym agree.root_is) (c.deref.ensures ∙ sym agree.rows_are))
   where
     none_unless : {X : Type 0} (found : Option X) → (IsTrue (is_some found) → ⊥) → found ≡ None
     none_unless None never = refl
@@ -71,10 +82,14 @@ returns-in-Ok-clause-none g c w at k =
 pub returns-in-Err-clause-refused : goal.returns-in-Err-clause-refused
 returns-in-Err-clause-refused g c cause w at k =
     let s = c.args.self.now in
-    let word = c.checked.ensures.leaves.word in
+    let word = c.checked.ensures.reads.leaves.word in
     let represents = at.represents (word k) in
-    let agree = c.kept_is_represented.ensures.agrees (stores.content_of g.D.Sectors s.store) w (s.loaded at.fine (word k)) represents in
+    let agree =
+    c.kept_is_represented.ensures.agrees (stores.content_of g.D.Sectors s.store) w (s.loaded at.fine (word k))
+    represents in
     ⊎_elim (λ memory. memory)
     (⊎_elim (λ device. absurd (cause device))
-    (λ bad. absurd (c.in-Err.ensures.refused (ap (λ f. Err f) bad) k w represents (sym agree.root_is) (c.deref.ensures ∙ sym agree.rows_are))))
+    (λ bad. absurd
+    (c.in-Err.ensures.refused (ap (λ f. Err f) bad) k w represents (sym agree.root_is)
+    (c.deref.ensures ∙ sym agree.rows_are))))
     c.in-Err.ensures.causes

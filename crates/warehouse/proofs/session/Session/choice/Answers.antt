@@ -17,7 +17,8 @@ use Rattle.warehouse.proofs.session.Session.choice.Goals as goal
 pub of-requires : goal.of-requires
 of-requires g c =
     let proper = c.kept_is_represented.ensures.root in
-    let total : c.row_total-rows.result ≡ sum_by (λ rows. rows) c.args.self.now.root.batches = c.row_total-rows.ensures ∙ ap (λ (l : List ℕ). sum_by (λ rows. rows) l) c.batches.ensures in
+    let total : c.row_total-rows.result ≡ sum_by (λ rows. rows) c.args.self.now.root.batches = c.row_total-rows.ensures
+    ∙ ap (λ (l : List ℕ). sum_by (λ rows. rows) l) c.batches.ensures in
     record {
       rows = omega (arith, total, rows_at_most c.args.self.now.root.batches proper.rows, proper.most_batches);
       few = λ many. false≢true (c.if-are_too_many.ensures.1 many);
@@ -27,14 +28,21 @@ pub returns-in-Ok-clause-ok : goal.returns-in-Ok-clause-ok
 returns-in-Ok-clause-ok g c w at k =
     let s = c.args.self.now in
     let choice = c.in-Ok.choice in
-    let agree = c.kept_is_represented.ensures.agrees (content_of g.D.Sectors s) w (s.loaded at.fine k) (at.represents k) in
+    let agree = c.kept_is_represented.ensures.agrees (content_of g.D.Sectors s) w (s.loaded at.fine k)
+    (at.represents k) in
     let rows : c.row_total-rows.result ≡ length (all_rows w.batches)
-    = c.row_total-rows.ensures ∙ ap (λ (l : List ℕ). sum_by (λ rows. rows) l) (c.batches.ensures ∙ ap (λ (root : PlainRoot). root.batches) (sym agree.root_is)) ∙ rows_together w.batches in
-    let counts : c.counts_of.result ≡ counts_of w.rows = c.counts_of.ensures ∙ ap (λ (r : DimRows). counts_of r) (c.deref.ensures ∙ sym agree.rows_are) in
+    = c.row_total-rows.ensures
+    ∙ ap (λ (l : List ℕ). sum_by (λ rows. rows) l)
+    (c.batches.ensures ∙ ap (λ (root : PlainRoot). root.batches) (sym agree.root_is)) ∙ rows_together w.batches in
+    let counts : c.counts_of.result ≡ counts_of w.rows = c.counts_of.ensures
+    ∙ ap (λ (r : DimRows). counts_of r) (c.deref.ensures ∙ sym agree.rows_are) in
     let asked = option_map (λ views. views.now) c.args.asked in
     let same : lattice_asked c.row_total-rows.result c.counts_of.result asked ≡ choices_asked w asked
-    = ap (λ (n : ℕ). lattice_asked n c.counts_of.result asked) rows ∙ ap (λ (m : Counts). lattice_asked (length (all_rows w.batches)) m asked) counts in record {
+    = ap (λ (n : ℕ). lattice_asked n c.counts_of.result asked) rows
+    ∙ ap (λ (m : Counts). lattice_asked (length (all_rows w.batches)) m asked) counts in record {
       greedy = subst (λ (l : Lattice View). IsGreedy l c.args.k (views_of choice.chosen.items)) same
-          (subst (λ (v : List View). IsGreedy (lattice_asked c.row_total-rows.result c.counts_of.result asked) c.args.k v) c.in-Ok.ensures.views c.in-Ok.ensures.greedy);
-      benefits_are = c.in-Ok.ensures.benefits ∙ ap (λ (l : Lattice View). benefits l choice.views.items) same ∙ ap (λ (v : List View). benefits (choices_asked w asked) v) c.in-Ok.ensures.views;
+          (subst (λ (v : List View). IsGreedy (lattice_asked c.row_total-rows.result c.counts_of.result asked) c.args.k
+          v) c.in-Ok.ensures.views c.in-Ok.ensures.greedy);
+      benefits_are = c.in-Ok.ensures.benefits ∙ ap (λ (l : Lattice View). benefits l choice.views.items) same
+          ∙ ap (λ (v : List View). benefits (choices_asked w asked) v) c.in-Ok.ensures.views;
     }

@@ -6,10 +6,14 @@ use Rattle.warehouse.proofs.session.Session.choose_for.Goals as goal
 
 pub returns-in-Ok-store_views-clause-leaves : goal.returns-in-Ok-store_views-clause-leaves
 returns-in-Ok-store_views-clause-leaves g c w at =
-    leaves_chosen w (disk_of g.D.Sectors c.args.self.now) (disk_of g.D.Sectors c.store_views.new.self) (IsChoiceFor w c.args.demanded.now c.args.k) c.in-Ok.choice.chosen.items c.as_slice.result.now
-    (λ k. c.in-Ok.ensures.ok w at k) (c.as_slice.ensures.value ∙ c.in-Ok.ensures.views) (c.store_views.ensures.leaves w at)
+    leaves_chosen w (disk_of g.D.Sectors c.args.self.now) (disk_of g.D.Sectors c.store_views.new.self)
+    (IsChoiceFor w c.args.demanded.now c.args.k) c.in-Ok.choice.chosen.items c.as_slice.result.now
+    (λ k. c.in-Ok.ensures.ok w at k) (c.as_slice.ensures.value ∙ c.in-Ok.ensures.views)
+    (c.store_views.ensures.leaves w at)
 
 pub returns-in-Err-store_views-clause-leaves : goal.returns-in-Err-store_views-clause-leaves
 returns-in-Err-store_views-clause-leaves g c w at =
-    leaves_chosen w (disk_of g.D.Sectors c.args.self.now) (disk_of g.D.Sectors c.store_views.new.self) (IsChoiceFor w c.args.demanded.now c.args.k) c.in-Ok.choice.chosen.items c.as_slice.result.now
-    (λ k. c.in-Ok.ensures.ok w at k) (c.as_slice.ensures.value ∙ c.in-Ok.ensures.views) (c.store_views.ensures.leaves w at)
+    leaves_chosen w (disk_of g.D.Sectors c.args.self.now) (disk_of g.D.Sectors c.store_views.new.self)
+    (IsChoiceFor w c.args.demanded.now c.args.k) c.in-Ok.choice.chosen.items c.as_slice.result.now
+    (λ k. c.in-Ok.ensures.ok w at k) (c.as_slice.ensures.value ∙ c.in-Ok.ensures.views)
+    (c.store_views.ensures.leaves w at)

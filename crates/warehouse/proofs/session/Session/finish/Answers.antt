@@ -10,7 +10,8 @@ use Rattle.warehouse.proofs.session.Session.finish.Goals as goal
 pub returns-clause-leaves : goal.returns-clause-leaves
 returns-clause-leaves g c w at =
     let tells = c.kept_is_represented.ensures.agrees in
-    c.catch_up-caught.ensures.leaves w (kept_at g.D.Sectors w c.args.self.now at tells) (λ k. c.deref.ensures ∙ dims_are g.D.Sectors w c.args.self.now at tells k)
+    c.catch_up-caught.ensures.leaves w (kept_at g.D.Sectors w c.args.self.now at tells)
+    (λ k. c.deref.ensures ∙ dims_are g.D.Sectors w c.args.self.now at tells k)
 
 pub returns-clause-ok : goal.returns-clause-ok
 returns-clause-ok g c =
@@ -18,11 +19,13 @@ returns-clause-ok g c =
     (λ unit how w at.
     let tells = c.kept_is_represented.ensures.agrees in
     let store_at = kept_at g.D.Sectors w c.args.self.now at tells in
-    let dims = λ (k : (disk_of g.D.Sectors c.args.self.now).keeps_word). c.deref.ensures ∙ dims_are g.D.Sectors w c.args.self.now at tells k in
+    let dims = λ (k : (disk_of g.D.Sectors c.args.self.now).keeps_word). c.deref.ensures
+    ∙ dims_are g.D.Sectors w c.args.self.now at tells k in
     let caught = c.catch_up-caught.result in
     let now = finished_at g.D.Sectors c.catch_up-caught.new.store c.catch_up-caught.new.root w caught how
     (IfOk-weaker caught _ _ (λ passed done. done w store_at dims) c.catch_up-caught.ensures.ok)
-    (IfErr-weaker caught _ _ (λ fault reason device memory. reason device memory w store_at dims) c.catch_up-caught.ensures.reason) in
+    (IfErr-weaker caught _ _ (λ fault reason device memory. reason device memory w store_at dims)
+    c.catch_up-caught.ensures.reason) in
     (now.0, now.1, is_at g.D.Sectors _ now.0 now.2.fine now.2.represents, now.3))
     c.unless_no_room.ensures.ok
 
@@ -30,11 +33,14 @@ pub returns-clause-readable : goal.returns-clause-readable
 returns-clause-readable g c is k w at =
     let tells = c.kept_is_represented.ensures.agrees in
     let bad = of_err c.unless_no_room.result _ BadLayout is c.unless_no_room.ensures.err in
-    c.catch_up-caught.ensures.readable bad.0 k w (kept_at g.D.Sectors w c.args.self.now at tells) (λ k. c.deref.ensures ∙ dims_are g.D.Sectors w c.args.self.now at tells k)
+    c.catch_up-caught.ensures.readable bad.0 k w (kept_at g.D.Sectors w c.args.self.now at tells)
+    (λ k. c.deref.ensures ∙ dims_are g.D.Sectors w c.args.self.now at tells k)
 
 pub returns-clause-causes : goal.returns-clause-causes
 returns-clause-causes g c =
-    IfErr-weaker c.unless_no_room.result _ _ (λ fault how. passed_on fault how.1 how.2 (of_err c.catch_up-caught.result EndsBringing fault how.0 c.catch_up-caught.ensures.causes))
+    IfErr-weaker c.unless_no_room.result _ _
+    (λ fault how. passed_on fault how.1 how.2
+    (of_err c.catch_up-caught.result EndsBringing fault how.0 c.catch_up-caught.ensures.causes))
     c.unless_no_room.ensures.err
 
 pub returns-clause-device : goal.returns-clause-device

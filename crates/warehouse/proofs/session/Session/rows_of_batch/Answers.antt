@@ -8,33 +8,46 @@ use Rattle.warehouse.proofs.session.Session.rows_of_batch.Goals as goal
 pub returns-in-Ok-clause-leaves : goal.returns-in-Ok-clause-leaves
 returns-in-Ok-clause-leaves g c w at =
     let s = c.args.self.now in
-    content_leaves g.D.Sectors w (stores.disk_of g.D.Sectors s.store) (stores.disk_of g.D.Sectors c.read_numbered.new.store) (stores.content_of g.D.Sectors s.store) at.represents c.read_numbered.ensures.leaves
+    content_leaves g.D.Sectors w (stores.disk_of g.D.Sectors s.store)
+    (stores.disk_of g.D.Sectors c.read_numbered.new.store) (stores.content_of g.D.Sectors s.store) at.represents
+    c.read_numbered.ensures.reads.leaves
 
 pub returns-in-Err-clause-leaves : goal.returns-in-Err-clause-leaves
 returns-in-Err-clause-leaves g c w at =
     let s = c.args.self.now in
-    content_leaves g.D.Sectors w (stores.disk_of g.D.Sectors s.store) (stores.disk_of g.D.Sectors c.read_numbered.new.store) (stores.content_of g.D.Sectors s.store) at.represents c.read_numbered.ensures.leaves
+    content_leaves g.D.Sectors w (stores.disk_of g.D.Sectors s.store)
+    (stores.disk_of g.D.Sectors c.read_numbered.new.store) (stores.content_of g.D.Sectors s.store) at.represents
+    c.read_numbered.ensures.reads.leaves
 
 pub returns-in-Ok-clause-stays : goal.returns-in-Ok-clause-stays
 returns-in-Ok-clause-stays g c other w at =
     let s = c.args.self.now in
-    session_at g.D.Sectors w _ (still_at g.D.Sectors w s.store c.read_numbered.new.store (store_at g.D.Sectors w s at) (c.in-Ok.ensures.stays other))
+    session_at g.D.Sectors w _
+    (still_at g.D.Sectors w s.store c.read_numbered.new.store (store_at g.D.Sectors w s at)
+    (c.in-Ok.ensures.reads.stays other))
 
 pub returns-in-Err-clause-stays : goal.returns-in-Err-clause-stays
 returns-in-Err-clause-stays g c other w at =
     let s = c.args.self.now in
-    session_at g.D.Sectors w _ (still_at g.D.Sectors w s.store c.read_numbered.new.store (store_at g.D.Sectors w s at) (c.in-Err.ensures.stays other))
+    session_at g.D.Sectors w _
+    (still_at g.D.Sectors w s.store c.read_numbered.new.store (store_at g.D.Sectors w s at)
+    (c.in-Err.ensures.reads.stays other))
 
 pub returns-in-Ok-clause-rows : goal.returns-in-Ok-clause-rows
 returns-in-Ok-clause-rows g c w at k =
     let s = c.args.self.now in
-    let word = c.read_numbered.ensures.leaves.word in
-    let agree = c.kept_is_represented.ensures.agrees (stores.content_of g.D.Sectors s.store) w (s.loaded at.fine (word k)) (at.represents (word k)) in
+    let word = c.read_numbered.ensures.reads.leaves.word in
+    let agree =
+    c.kept_is_represented.ensures.agrees (stores.content_of g.D.Sectors s.store) w (s.loaded at.fine (word k))
+    (at.represents (word k)) in
     c.in-Ok.ensures.rows k w (at.represents (word k)) (sym agree.root_is)
 
 pub returns-in-Err-clause-refused : goal.returns-in-Err-clause-refused
 returns-in-Err-clause-refused g c other w at k =
     let s = c.args.self.now in
-    let word = c.read_numbered.ensures.leaves.word in
-    let agree = c.kept_is_represented.ensures.agrees (stores.content_of g.D.Sectors s.store) w (s.loaded at.fine (word k)) (at.represents (word k)) in
-    only_memory c.in-Err.fault c.in-Err.ensures.causes other (λ is. c.in-Err.ensures.refused (ap (λ (f : Fault). Err f) is) k w (at.represents (word k)) (sym agree.root_is))
+    let word = c.read_numbered.ensures.reads.leaves.word in
+    let agree =
+    c.kept_is_represented.ensures.agrees (stores.content_of g.D.Sectors s.store) w (s.loaded at.fine (word k))
+    (at.represents (word k)) in
+    only_memory c.in-Err.fault c.in-Err.ensures.causes other
+    (λ is. c.in-Err.ensures.refused (ap (λ (f : Fault). Err f) is) k w (at.represents (word k)) (sym agree.root_is))

@@ -13,10 +13,13 @@ returns-clause-taken g c w at k =
     let s = c.args.self.now in
     let content = content_of g.D.Sectors s in
     let agree = c.kept_is_represented.ensures.agrees content w (s.loaded at.fine k) (at.represents k) in
-    let objects : c.sectors_of_objects-objects.result ≡ min (sum_by (object_sectors content) (object_ids (root_of w))) (2 ^ 64 - 1) =
+    let objects : c.sectors_of_objects-objects.result ≡ min (sum_by (object_sectors content) (object_ids (root_of w)))
+    (2 ^ 64 - 1) =
     c.sectors_of_objects-objects.ensures k
-    ∙ ap (λ (ids : List ℕ). min (sum_by (object_sectors content) ids) (2 ^ 64 - 1)) (c.as_slice.ensures.value ∙ c.in_ok-ids.ensures.ok ∙ ap object_ids (sym agree.root_is)) in
-    let catalogue : c.catalogue_sectors-catalogue.result ≡ sectors_of (catalogue_bytes (length content.objects) (length content.root)) =
+    ∙ ap (λ (ids : List ℕ). min (sum_by (object_sectors content) ids) (2 ^ 64 - 1))
+    (c.as_slice.ensures.value ∙ c.in_ok-ids.ensures.ok ∙ ap object_ids (sym agree.root_is)) in
+    let catalogue : c.catalogue_sectors-catalogue.result
+    ≡ sectors_of (catalogue_bytes (length content.objects) (length content.root)) =
     c.catalogue_sectors-catalogue.ensures
     ∙ ap (λ (n : ℕ). sectors_of (catalogue_bytes n (length c.root.result.now))) c.objects.ensures
     ∙ ap (λ (bytes : List ℕ). sectors_of (catalogue_bytes (length content.objects) (length bytes))) c.root.ensures in

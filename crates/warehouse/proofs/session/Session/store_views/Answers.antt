@@ -4,20 +4,29 @@ use Rattle.warehouse.proofs.Cuboids.{kept_at}
 use Rattle.warehouse.proofs.session.Session.store_views.Goals as goal
 
 pub returns-in-Ok-clause-leaves : goal.returns-in-Ok-clause-leaves
-returns-in-Ok-clause-leaves g c w at = c.set_views.ensures.leaves w (kept_at g.D.Sectors w c.args.self.now at c.kept_is_represented.ensures.agrees)
+returns-in-Ok-clause-leaves g c w at =
+    c.set_views.ensures.leaves w (kept_at g.D.Sectors w c.args.self.now at c.kept_is_represented.ensures.agrees)
 
 pub returns-in-Err-clause-leaves : goal.returns-in-Err-clause-leaves
-returns-in-Err-clause-leaves g c w at = c.set_views.ensures.leaves w (kept_at g.D.Sectors w c.args.self.now at c.kept_is_represented.ensures.agrees)
+returns-in-Err-clause-leaves g c w at =
+    c.set_views.ensures.leaves w (kept_at g.D.Sectors w c.args.self.now at c.kept_is_represented.ensures.agrees)
 
 pub returns-in-Ok-clause-ok : goal.returns-in-Ok-clause-ok
 returns-in-Ok-clause-ok g c w at =
-    let then_at = c.in-Ok.ensures.ok w (kept_at g.D.Sectors w c.args.self.now at c.kept_is_represented.ensures.agrees) in
+    let then_at =
+    c.in-Ok.ensures.ok w (kept_at g.D.Sectors w c.args.self.now at c.kept_is_represented.ensures.agrees) in
     (is_at g.D.Sectors _ (with_views w c.args.views.now) then_at.fine then_at.represents, c.in-Ok.ensures.once)
 
 pub returns-in-Err-clause-refused : goal.returns-in-Err-clause-refused
 returns-in-Err-clause-refused g c cause w at =
-    let then_at = c.in-Err.ensures.refused cause w (kept_at g.D.Sectors w c.args.self.now at c.kept_is_represented.ensures.agrees) in
-    (is_at g.D.Sectors _ w then_at.0.fine then_at.0.represents, (λ k. (c.in-Err.ensures.as_before cause).content), then_at.1)
+    let then_at =
+    c.in-Err.ensures.refused cause w
+    (kept_at g.D.Sectors w c.args.self.now at c.kept_is_represented.ensures.agrees) in (
+      is_at g.D.Sectors _ w then_at.0.fine then_at.0.represents,
+      (λ k. (c.in-Err.ensures.as_before cause).content),
+      then_at.1,
+    )
 
 pub returns-in-Err-clause-causes : goal.returns-in-Err-clause-causes
-returns-in-Err-clause-causes g c cause w at k = c.in-Err.ensures.causes cause w (kept_at g.D.Sectors w c.args.self.now at c.kept_is_represented.ensures.agrees) k
+returns-in-Err-clause-causes g c cause w at k =
+    c.in-Err.ensures.causes cause w (kept_at g.D.Sectors w c.args.self.now at c.kept_is_represented.ensures.agrees) k

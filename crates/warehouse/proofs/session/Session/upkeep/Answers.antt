@@ -10,46 +10,61 @@ use Rattle.warehouse.proofs.session.Session.upkeep.Goals as goal
 pub returns-in-None-clause-leaves : goal.returns-in-None-clause-leaves
 returns-in-None-clause-leaves g c w at =
     let tells = c.kept_is_represented.ensures.agrees in
-    c.keep_up.ensures.leaves w (kept_at g.D.Sectors w c.args.self.now at tells) (λ k. c.deref.ensures ∙ dims_are g.D.Sectors w c.args.self.now at tells k)
+    c.keep_up.ensures.leaves w (kept_at g.D.Sectors w c.args.self.now at tells)
+    (λ k. c.deref.ensures ∙ dims_are g.D.Sectors w c.args.self.now at tells k)
 
 pub returns-in-Some-clause-leaves : goal.returns-in-Some-clause-leaves
 returns-in-Some-clause-leaves g c w at =
     let tells = c.kept_is_represented.ensures.agrees in
-    c.keep_up.ensures.leaves w (kept_at g.D.Sectors w c.args.self.now at tells) (λ k. c.deref.ensures ∙ dims_are g.D.Sectors w c.args.self.now at tells k)
+    c.keep_up.ensures.leaves w (kept_at g.D.Sectors w c.args.self.now at tells)
+    (λ k. c.deref.ensures ∙ dims_are g.D.Sectors w c.args.self.now at tells k)
 
 pub returns-in-Err-clause-leaves : goal.returns-in-Err-clause-leaves
 returns-in-Err-clause-leaves g c w at =
     let tells = c.kept_is_represented.ensures.agrees in
-    c.keep_up.ensures.leaves w (kept_at g.D.Sectors w c.args.self.now at tells) (λ k. c.deref.ensures ∙ dims_are g.D.Sectors w c.args.self.now at tells k)
+    c.keep_up.ensures.leaves w (kept_at g.D.Sectors w c.args.self.now at tells)
+    (λ k. c.deref.ensures ∙ dims_are g.D.Sectors w c.args.self.now at tells k)
 
 pub returns-in-None-clause-stays : goal.returns-in-None-clause-stays
 returns-in-None-clause-stays g c other w at =
     let tells = c.kept_is_represented.ensures.agrees in
-    let then_at = c.in-Ok.ensures.stays (λ is. absurd cc) w (kept_at g.D.Sectors w c.args.self.now at tells) (λ k. c.deref.ensures ∙ dims_are g.D.Sectors w c.args.self.now at tells k) in
+    let then_at = c.in-Ok.ensures.stays (λ is. absurd cc) w (kept_at g.D.Sectors w c.args.self.now at tells)
+    (λ k. c.deref.ensures ∙ dims_are g.D.Sectors w c.args.self.now at tells k) in
     (then_at.0, then_at.1, is_at g.D.Sectors _ then_at.0 then_at.2.fine then_at.2.represents)
 
 pub returns-in-Some-clause-stays : goal.returns-in-Some-clause-stays
 returns-in-Some-clause-stays g c other w at =
     let tells = c.kept_is_represented.ensures.agrees in
-    let then_at = c.in-Ok.ensures.stays (λ is. absurd cc) w (kept_at g.D.Sectors w c.args.self.now at tells) (λ k. c.deref.ensures ∙ dims_are g.D.Sectors w c.args.self.now at tells k) in
+    let then_at = c.in-Ok.ensures.stays (λ is. absurd cc) w (kept_at g.D.Sectors w c.args.self.now at tells)
+    (λ k. c.deref.ensures ∙ dims_are g.D.Sectors w c.args.self.now at tells k) in
     (then_at.0, then_at.1, is_at g.D.Sectors _ then_at.0 then_at.2.fine then_at.2.represents)
 
 pub returns-in-Err-clause-stays : goal.returns-in-Err-clause-stays
 returns-in-Err-clause-stays g c other w at =
     let tells = c.kept_is_represented.ensures.agrees in
-    let then_at = c.in-Err.ensures.stays (λ is. let e : c.in-Err.fault ≡ Device = cc is in other (ap (λ f. Err f) e)) w (kept_at g.D.Sectors w c.args.self.now at tells) (λ k. c.deref.ensures ∙ dims_are g.D.Sectors w c.args.self.now at tells k) in
+    let then_at = c.in-Err.ensures.stays (λ is. let e : c.in-Err.fault ≡ Device = cc is in other (ap (λ f. Err f) e)) w
+    (kept_at g.D.Sectors w c.args.self.now at tells)
+    (λ k. c.deref.ensures ∙ dims_are g.D.Sectors w c.args.self.now at tells k) in
     (then_at.0, then_at.1, is_at g.D.Sectors _ then_at.0 then_at.2.fine then_at.2.represents)
 
 pub returns-in-None-clause-ok : goal.returns-in-None-clause-ok
 returns-in-None-clause-ok g c w at =
     let tells = c.kept_is_represented.ensures.agrees in
-    let then_at = c.in-Ok.ensures.ok w (kept_at g.D.Sectors w c.args.self.now at tells) (λ k. c.deref.ensures ∙ dims_are g.D.Sectors w c.args.self.now at tells k) in
-    (then_at.0, then_at.1, is_at g.D.Sectors _ then_at.0 then_at.2.fine then_at.2.represents, λ k. subst (λ (passed : Option View). AreWholeBut then_at.0 passed) c.in-None.is (then_at.3 k))
+    let then_at =
+    c.in-Ok.ensures.ok w (kept_at g.D.Sectors w c.args.self.now at tells)
+    (λ k. c.deref.ensures ∙ dims_are g.D.Sectors w c.args.self.now at tells k) in (
+      then_at.0,
+      then_at.1,
+      is_at g.D.Sectors _ then_at.0 then_at.2.fine then_at.2.represents,
+      λ k. subst (λ (passed : Option View). AreWholeBut then_at.0 passed) c.in-None.is (then_at.3 k),
+    )
 
 pub returns-in-Some-clause-refused : goal.returns-in-Some-clause-refused
 returns-in-Some-clause-refused g c cause w at =
     let tells = c.kept_is_represented.ensures.agrees in
-    let then_at = c.in-Ok.ensures.ok w (kept_at g.D.Sectors w c.args.self.now at tells) (λ k. c.deref.ensures ∙ dims_are g.D.Sectors w c.args.self.now at tells k) in (
+    let then_at =
+    c.in-Ok.ensures.ok w (kept_at g.D.Sectors w c.args.self.now at tells)
+    (λ k. c.deref.ensures ∙ dims_are g.D.Sectors w c.args.self.now at tells k) in (
       then_at.0,
       then_at.1,
       is_at g.D.Sectors _ then_at.0 then_at.2.fine then_at.2.represents,
@@ -61,5 +76,6 @@ returns-in-Some-clause-refused g c cause w at =
 pub returns-in-Err-clause-refused : goal.returns-in-Err-clause-refused
 returns-in-Err-clause-refused g c cause w at =
     let tells = c.kept_is_represented.ensures.agrees in
-    let then_at = c.in-Err.ensures.refused cause w (kept_at g.D.Sectors w c.args.self.now at tells) (λ k. c.deref.ensures ∙ dims_are g.D.Sectors w c.args.self.now at tells k) in
+    let then_at = c.in-Err.ensures.refused cause w (kept_at g.D.Sectors w c.args.self.now at tells)
+    (λ k. c.deref.ensures ∙ dims_are g.D.Sectors w c.args.self.now at tells k) in
     (then_at.0, then_at.1, is_at g.D.Sectors _ then_at.0 then_at.2.fine then_at.2.represents, λ k. inr (then_at.3 k))

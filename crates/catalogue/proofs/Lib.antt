@@ -1,4 +1,0 @@
-pub mod CallerLemmas
-mod Decoded
-mod Places
-mod Read

@@ -1,2 +1,0 @@
-pub mod Catalogue
-pub mod Reading

@@ -1,0 +1,162 @@
+//! What is said of a refusal of tables, from what they kept of it.
+ghost use Rattle.std.specs.Prelude.{IfOk};
+ghost use Rattle.cube_model.specs.Validity.{HaveShortTexts};
+
+use crate::files::{DimensionFiles, Reads, unread_table};
+use crate::refusal::Refusal;
+use crate::table_paths::table_name;
+use clap::ArgMatches;
+use cube_model::{Axis, DimRows, Fault};
+use dimensions::Dims;
+use ssb_eval::{DimensionTables, RefusedLine, Tables, UnknownKey};
+use std::alloc::Global;
+use std::io::Read;
+use table_hints::{KeyAt, Table, key_hint, limit_hint, line_hint, rows_hint};
+
+/// The tables of a star whose dimensions are files of one kind.
+pub type Star<F, L> = Tables<F, F, F, F, L>;
+
+/// The refusal of tables, with what they kept of it.
+pub fn refused_tables(
+    alloc: Global,
+    given: &ArgMatches<'_>,
+    reads: &Reads,
+    fault: Fault,
+    hint: Result<Option<String>, Fault>,
+) -> Refusal {
+    if fault == Fault::Input {
+        return unread_table(alloc, given, reads);
+    }
+    Refusal {
+        fault,
+        hint: hint.unwrap_or(None),
+    }
+}
+
+/// The rows of the tables of the dimensions.
+pub fn rows_over<F: Read + Drop>(
+    alloc: Global,
+    given: &ArgMatches<'_>,
+    files: DimensionFiles<F>,
+    reads: &Reads,
+) -> Result<DimRows, Refusal>
+    ensures short { IfOk result HaveShortTexts }
+{
+    let DimensionFiles {
+        customer,
+        supplier,
+        part,
+        date,
+    } = files;
+    let mut tables = DimensionTables::new(alloc, customer, supplier, part, date)?;
+    match tables.rows(alloc) {
+        Ok(rows) => Ok(rows),
+        Err(fault) => {
+            let hint = match tables.refused() {
+                Some(line) => refused_hint(alloc, given, line, fault),
+                None => Ok(None),
+            };
+            Err(refused_tables(alloc, given, reads, fault, hint))
+        }
+    }
+}
+
+/// The cause of a refusal of the five tables, as one line without its end. Nothing where they kept none. It fails only
+/// when out of memory.
+pub fn star_hint<F: Read + Drop, L: Read + Drop>(
+    alloc: Global,
+    given: &ArgMatches<'_>,
+    tables: &Star<F, L>,
+    fault: Fault,
+) -> Result<Option<String>, Fault> {
+    if let Some(line) = tables.refused() {
+        return refused_hint(alloc, given, line, fault);
+    }
+    if let Some(rows) = tables.broken() {
+        return broken_hint(alloc, given, rows, None, fault);
+    }
+    match key_for(fault, tables.unknown()) {
+        Some(unknown) => unknown_hint(alloc, given, unknown),
+        None => facts_hint(alloc, given, tables.fact_line(), fault),
+    }
+}
+
+/// The key that is kept of a batch, where that is why it is refused: a line may be refused after a key was kept.
+pub fn key_for(fault: Fault, unknown: Option<UnknownKey>) -> Option<UnknownKey> {
+    match fault {
+        Fault::UnknownCustomer { .. }
+        | Fault::UnknownSupplier { .. }
+        | Fault::UnknownPart { .. }
+        | Fault::UnknownDate { .. } => unknown,
+        _ => None,
+    }
+}
+
+fn refused_hint(
+    alloc: Global,
+    given: &ArgMatches<'_>,
+    line: RefusedLine<'_>,
+    fault: Fault,
+) -> Result<Option<String>, Fault> {
+    let table = Table::of(line.axis);
+    let path = table_name(alloc, given, table)?;
+    line_hint(alloc, path.as_str(), table, line.text, fault)
+}
+
+/// The rule that dimension rows break, which come after those of a warehouse, if there is one, as one line without its
+/// end.
+pub fn broken_hint(
+    alloc: Global,
+    given: &ArgMatches<'_>,
+    rows: &DimRows,
+    stored: Option<&Dims>,
+    fault: Fault,
+) -> Result<Option<String>, Fault> {
+    let path = match axis_of(fault) {
+        Some(axis) => table_name(alloc, given, Table::of(axis))?,
+        None => String::new(alloc),
+    };
+    rows_hint(alloc, path.as_str(), rows, stored, fault)
+}
+
+// The dimension whose rows a fault is of.
+fn axis_of(fault: Fault) -> Option<Axis> {
+    match fault {
+        Fault::DuplicateKey { axis, .. }
+        | Fault::HierarchyBroken { axis, .. }
+        | Fault::ReservedMember { axis, .. }
+        | Fault::TooManyMembers { axis, .. } => Some(axis),
+        _ => None,
+    }
+}
+
+fn unknown_hint(
+    alloc: Global,
+    given: &ArgMatches<'_>,
+    unknown: UnknownKey,
+) -> Result<Option<String>, Fault> {
+    let UnknownKey { axis, key, line } = unknown;
+    let path = table_name(alloc, given, Table::Lineorder)?;
+    let table = table_name(alloc, given, Table::of(axis))?;
+    let at = KeyAt {
+        axis,
+        key,
+        path: path.as_str(),
+        line,
+    };
+    Ok(Some(key_hint(alloc, at, table.as_str())?))
+}
+
+fn facts_hint(
+    alloc: Global,
+    given: &ArgMatches<'_>,
+    line: &[u8],
+    fault: Fault,
+) -> Result<Option<String>, Fault> {
+    let path = table_name(alloc, given, Table::Lineorder)?;
+    let said = line_hint(alloc, path.as_str(), Table::Lineorder, line, fault)?;
+    if said.is_some() {
+        return Ok(said);
+    }
+    limit_hint(alloc, path.as_str(), fault)
+}

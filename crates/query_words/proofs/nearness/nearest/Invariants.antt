@@ -1,0 +1,5 @@
+use Rattle.query_words.proofs.Least.{IsLeast}
+use Rattle.query_words.proofs.nearness.nearest.Given as goal
+
+abbrev pub invariant-loop-name : goal.invariant-loop-name
+invariant-loop-name l = IsLeast l.word l.names l.name-index l.least l.found

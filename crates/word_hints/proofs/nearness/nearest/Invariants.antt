@@ -1,5 +1,0 @@
-use Rattle.word_hints.proofs.Least.{IsLeast}
-use Rattle.word_hints.proofs.nearness.nearest.Given as goal
-
-abbrev pub invariant-loop-name : goal.invariant-loop-name
-invariant-loop-name l = IsLeast l.word l.names l.name-index l.least l.found
